@@ -1,5 +1,5 @@
 -- Symbols copied and written within one buffer.
-use Rattle.subst.proofs.Words.{◌≡◌, ℕ, ◌+◌, ◌-◌, ◌<◌, ◌≤◌, min, List, ◌++◌, length, take, drop, get_or, sym, ◌∙◌, ap, subst, arith, length-append, append_assoc, take-add, length-take-le, take-take, drop-drop, drop-take, take-append-add, take-append_seam, take_more_put_chunk, length-chunk, chunk, put_chunk, code_image, code_apply, ExpressionPlace, seen_at, images_at, AreInside, IsWritten, LacksRoom}
+use Rattle.subst.proofs.Words.{◌≡◌, ℕ, ◌+◌, ◌-◌, ◌<◌, ◌≤◌, min, List, ◌++◌, length, take, drop, get_or, sym, ◌∙◌, ap, subst, arith, length-append, append-nil, take_all, drop_all, append_assoc, take-add, length-take-le, take-take, drop-drop, drop-take, take-append-add, take-append_seam, take_more_put_chunk, length-chunk, chunk, put_chunk, code_image, code_apply, ExpressionPlace, seen_at, images_at, AreInside, IsWritten, LacksRoom}
 use Rattle.subst.proofs.WrittenImages.{apply-take, len-take, len-within}
 use Rattle.subst.proofs.ExpressionPlaceLemmas.{length-seen}
 use Rattle.subst.proofs.ImagePlacesLemmas.{image-more}
@@ -12,7 +12,7 @@ range-same x y at from k e h = range x ∙ (ap (λ s. drop from (take (from + k)
     range s = sym (drop-take from k s) ∙ ap (drop from) (sym (take-take (from + k) at s h))
 
 -- one more block of a run
-pub copy-on : (x x0 x' : List ℕ) (from len at done : ℕ) → from + len ≤ at → at + len + 8 ≤ length x → done < len
+pub copy-on : (x x0 x' : List ℕ) (from len at done : ℕ) → from + len ≤ at → at + len + 8 ≤ length x → done ≤ len
     → take (at + min done len) x ≡ take at x0 ++ take (min done len) (drop from x0) → at ≤ length x0 → x' ≡ put_chunk (at + done) x (chunk (from + done) 8 x)
     → take (at + min (done + 8) len) x' ≡ take at x0 ++ take (min (done + 8) len) (drop from x0)
 copy-on x x0 x' from len at done before room more sofar long put =
@@ -41,6 +41,16 @@ copy-on x x0 x' from len at done before room more sofar long put =
     (ap (λ s. take done (drop from x0) ++ s) (piece ∙ ap (take k) (sym (drop-drop done from x0)))
     ∙ (sym (take-add done k (drop from x0)) ∙ ap (λ n. take n (drop from x0)) (sym whole))))))))))
 
+pub copy-first : (x : List ℕ) (from len at : ℕ) → from + len ≤ at → at + len + 8 ≤ length x
+    → take (at + min 8 len) (put_chunk at x (chunk from 8 x)) ≡ take at x ++ take (min 8 len) (drop from x)
+copy-first x from len at before room =
+    let here : at ≡ at + 0 = omega arith in
+    let there : from ≡ from + 0 = omega arith in
+    let none : min 0 len ≡ 0 = omega arith in
+    copy-on x x _ from len at 0 before room (omega arith)
+    (subst (λ n. take (at + n) x ≡ take at x ++ take n (drop from x)) (sym none) (ap (λ n. take n x) (sym here) ∙ sym (append-nil (take at x))))
+    (omega (arith, room)) (ap (λ n. put_chunk n x (chunk from 8 x)) here ∙ ap (λ n. put_chunk (at + 0) x (chunk n 8 x)) there)
+
 -- the symbols at a place, as a run
 pub place-written : (x y : List ℕ) (at len : ℕ) (p : ExpressionPlace) → p.start ≤ p.end → p.end ≤ at → at ≤ length x → len ≡ p.end - p.start → at + len ≤ length y
     → take (at + len) y ≡ take at x ++ take len (drop p.start x) → IsWritten x y at (seen_at (take at x) p) (at + len)
@@ -66,20 +76,33 @@ written-kept x y e at end long w =
     sym (take-take at end y (omega (arith, moved)))
     ∙ (ap (take at) w.written ∙ (ap (λ n. take n (take at x ++ e)) (sym (length-take-le at x long)) ∙ take-append_seam (take at x) e))
 
--- written behind the same symbols
-pub written-from : (x x0 y e e' : List ℕ) (at end : ℕ) → take at x ≡ take at x0 → e ≡ e' → IsWritten x y at e end → IsWritten x0 y at e' end
-written-from x x0 y e e' at end same q w =
-    record { written = w.written ∙ (ap (λ s. s ++ e) same ∙ ap (λ s. take at x0 ++ s) q); moved = w.moved ∙ ap (λ s. at + length s) q; inside = w.inside }
-
 pub kept-on : (x0 x y : List ℕ) (at end : ℕ) → at ≤ end → take end y ≡ take end x → take at x ≡ take at x0 → take at y ≡ take at x0
 kept-on x0 x y at end h e f = sym (take-take at end y h) ∙ (ap (take at) e ∙ (take-take at end x h ∙ f))
 
+-- a vector whose slice was written whole
+pub whole : (n : ℕ) (s d items : List ℕ) → d ≡ items → length d ≡ n → length s ≡ length d → take n (s ++ drop (length s) items) ≡ s
+whole n s d items same long count =
+    let size = ap length same in
+    ap (λ r. take n (s ++ r)) (drop_all (length s) items (omega (arith, size, count))) ∙ (ap (take n) (append-nil s) ∙ take_all n s (omega (arith, count, long)))
+
+-- where the first symbols of that vector are those that count
+pub slice-kept : (n at : ℕ) (s d items now : List ℕ) → d ≡ items → length d ≡ n → length s ≡ length d → take at d ≡ now → take at s ≡ take at d → take at (take n (s ++ drop (length s) items)) ≡ now
+slice-kept n at s d items now same long count seen kept = ap (take at) (whole n s d items same long count) ∙ (kept ∙ seen)
+
+pub slice-filled : (n at end : ℕ) (s d items now : List ℕ) (ps : List (ℕ × ExpressionPlace)) (t : List ℕ) → d ≡ items → length d ≡ n → length s ≡ length d → take at d ≡ now
+    → IsWritten d s at (code_apply (images_at (take at d) ps) t) end
+    → (take end (take n (s ++ drop (length s) items)) ≡ now ++ code_apply (images_at now ps) t) × (end ≡ at + length (code_apply (images_at now ps) t))
+slice-filled n at end s d items now ps t same long count seen w = (
+  ap (take end) (whole n s d items same long count) ∙ (w.written ∙ ap (λ x. x ++ code_apply (images_at x ps) t) seen),
+  w.moved ∙ ap (λ x. at + length (code_apply (images_at x ps) t)) seen,
+)
+
 -- the image of one more symbol
-pub fill-on : (x0 x x' : List ℕ) (ps : List (ℕ × ExpressionPlace)) (t : List ℕ) (i at end e : ℕ) → AreInside at ps → at ≤ length x0 → i < length t
+pub fill-on : (x0 x x' image : List ℕ) (ps : List (ℕ × ExpressionPlace)) (t : List ℕ) (i at end e : ℕ) → AreInside at ps → at ≤ length x0 → i < length t
     → IsWritten x0 x at (code_apply (images_at (take at x0) ps) (take i t)) end
-    → IsWritten x x' end (code_image (images_at (take end x) ps) (get_or t i 0)) e
+    → code_image (images_at (take end x) ps) (get_or t i 0) ≡ image → IsWritten x x' end image e
     → IsWritten x0 x' at (code_apply (images_at (take at x0) ps) (take (i + 1) t)) e
-fill-on x0 x x' ps t i at end e within long more w v =
+fill-on x0 x x' image ps t i at end e within long more w is v =
     let seam : length (take at x0) ≡ at = length-take-le at x0 long in
     let σ = images_at (take at x0) ps in
     let n = get_or t i 0 in
@@ -88,22 +111,22 @@ fill-on x0 x x' ps t i at end e within long more w v =
     = ap (λ s. code_image (images_at s ps) n) w.written ∙ image-more (take at x0) front ps n (subst (λ m. AreInside m ps) (sym seam) within) in
     let next : List ℕ = code_apply σ (take (i + 1) t) in
     let whole : take e x' ≡ take at x0 ++ next
-    = v.written ∙ (ap (λ s. s ++ code_image (images_at (take end x) ps) n) w.written ∙ (append_assoc (take at x0) front (code_image (images_at (take end x) ps) n)
-    ∙ ap (λ s. take at x0 ++ s) (ap (λ s. front ++ s) same ∙ sym (apply-take σ t i more)))) in
+    = v.written ∙ (ap (λ s. s ++ image) w.written ∙ (append_assoc (take at x0) front image
+    ∙ ap (λ s. take at x0 ++ s) (ap (λ s. front ++ s) (sym is ∙ same) ∙ sym (apply-take σ t i more)))) in
     let inside = v.inside in
     let size = length-take-le e x' inside in
     record { written = whole; moved = omega (arith, ap length whole, length-append (take at x0) next, seam, size); inside = inside }
 
-pub fill-lacks : (x0 x : List ℕ) (ps : List (ℕ × ExpressionPlace)) (t : List ℕ) (i at end : ℕ) → AreInside at ps → at ≤ length x0 → i < length t → length x ≡ length x0
+pub fill-lacks : (x0 x image : List ℕ) (ps : List (ℕ × ExpressionPlace)) (t : List ℕ) (i at end : ℕ) → AreInside at ps → at ≤ length x0 → i < length t → length x ≡ length x0
     → IsWritten x0 x at (code_apply (images_at (take at x0) ps) (take i t)) end
-    → LacksRoom (length x) end (code_image (images_at (take end x) ps) (get_or t i 0))
+    → code_image (images_at (take end x) ps) (get_or t i 0) ≡ image → LacksRoom (length x) end image
     → LacksRoom (length x0) at (code_apply (images_at (take at x0) ps) t)
-fill-lacks x0 x ps t i at end within long more same w lacks =
+fill-lacks x0 x image ps t i at end within long more same w is lacks =
     let seam : length (take at x0) ≡ at = length-take-le at x0 long in
     let σ = images_at (take at x0) ps in
     let n = get_or t i 0 in
-    let image_same : length (code_image (images_at (take end x) ps) n) ≡ length (code_image σ n)
-    = ap length (ap (λ s. code_image (images_at s ps) n) w.written ∙ image-more (take at x0) (code_apply σ (take i t)) ps n (subst (λ m. AreInside m ps) (sym seam) within)) in
+    let image_same : length image ≡ length (code_image σ n)
+    = ap length (sym is ∙ (ap (λ s. code_image (images_at s ps) n) w.written ∙ image-more (take at x0) (code_apply σ (take i t)) ps n (subst (λ m. AreInside m ps) (sym seam) within))) in
     let moved = w.moved in
     let longer = len-within σ t (i + 1) in
     let one = len-take σ t i more in

@@ -8,6 +8,10 @@ use Rattle.subst.proofs.BitsLemmas.{zero-none, one-own, one-only, or-left, or-ri
 pub grows-own : (f : Found) → Grows f f
 grows-own f = record { each = λ j x at. at }
 
+-- a symbol more is no variable more
+pub grows-symbols : (old f : Found) (symbols : List FoundSymbol) → Grows old f → Grows old (record { symbols = symbols; variables = f.variables })
+grows-symbols old f symbols g = record { each = λ j x a. let b = g.each j x a in record { there = b.there; same = b.same } }
+
 pub grows-twice : (f g h : Found) → Grows f g → Grows g h → Grows f h
 grows-twice f g h a b = record { each = λ j x at. b.each j x (a.each j x at) }
 

@@ -1,5 +1,5 @@
 -- Images that are places in a buffer that grows.
-use Rattle.subst.proofs.Words.{◌≡◌, ℕ, ◌≤◌, Bool, true, false, cond, nat_eq, List, [], ◌∷◌, ◌++◌, length, Option, Some, None, refl, lookup, sym, ◌∙◌, ap, subst, arith, code_image, ExpressionPlace, seen_at, images_at, AreInside}
+use Rattle.subst.proofs.Words.{◌≡◌, ℕ, ◌≤◌, Bool, true, false, inl, inr, cases_Bool, cond, nat_eq, List, [], ◌∷◌, ◌++◌, length, Option, Some, None, refl, lookup, sym, ◌∙◌, ap, subst, arith, code_image, ExpressionPlace, seen_at, images_at, AreInside}
 use Rattle.subst.proofs.ExpressionPlaceLemmas.{seen-more}
 
 -- the image of a symbol, by the place that was found for it
@@ -9,12 +9,7 @@ by_place symbols x (Some p) = seen_at symbols p
 
 image-by_place : (symbols : List ℕ) (ps : List (ℕ × ExpressionPlace)) (x : ℕ) → code_image (images_at symbols ps) x ≡ by_place symbols x (lookup (nat_eq x) ps)
 image-by_place symbols [] x = refl
-image-by_place symbols (p ∷ ps) x = by (nat_eq x p.0) (image-by_place symbols ps x)
-  where
-    by : (b : Bool) → code_image (images_at symbols ps) x ≡ by_place symbols x (lookup (nat_eq x) ps)
-        → cond b (seen_at symbols p.1) (code_image (images_at symbols ps) x) ≡ by_place symbols x (cond b (Some p.1) (lookup (nat_eq x) ps))
-    by true rest = refl
-    by false rest = rest
+image-by_place symbols (p ∷ ps) x = elim (cases_Bool (nat_eq x p.0)) [ inl e ↦ rw e refl | inr e ↦ rw e (image-by_place symbols ps x) ]
 
 pub image-some : (symbols : List ℕ) (ps : List (ℕ × ExpressionPlace)) (x : ℕ) (p : ExpressionPlace) → lookup (nat_eq x) ps ≡ Some p → code_image (images_at symbols ps) x ≡ seen_at symbols p
 image-some symbols ps x p h = image-by_place symbols ps x ∙ ap (by_place symbols x) h
@@ -49,8 +44,5 @@ inside-set n ps qs s p w set low high = record { each = λ x q e. by x q (nat_eq
 pub image-set : (xs ys : List ℕ) (ps qs : List (ℕ × ExpressionPlace)) (s : ℕ) (p : ExpressionPlace) (x : ℕ) → AreInside (length xs) ps → ((y : ℕ) → lookup (nat_eq y) qs ≡ cond (nat_eq y s) (Some p) (lookup (nat_eq y) ps))
     → seen_at (xs ++ ys) p ≡ ys → code_image (images_at (xs ++ ys) qs) x ≡ cond (nat_eq x s) ys (code_image (images_at xs ps) x)
 image-set xs ys ps qs s p x w set seen =
-    image-by_place (xs ++ ys) qs x ∙ (ap (by_place (xs ++ ys) x) (set x) ∙ by (nat_eq x s))
-  where
-    by : (b : Bool) → by_place (xs ++ ys) x (cond b (Some p) (lookup (nat_eq x) ps)) ≡ cond b ys (code_image (images_at xs ps) x)
-    by true = seen
-    by false = sym (image-by_place (xs ++ ys) ps x) ∙ image-more xs ys ps x w
+    image-by_place (xs ++ ys) qs x
+    ∙ (ap (by_place (xs ++ ys) x) (set x) ∙ elim (cases_Bool (nat_eq x s)) [ inl e ↦ rw e seen | inr e ↦ rw e (sym (image-by_place (xs ++ ys) ps x) ∙ image-more xs ys ps x w) ])

@@ -1,5 +1,6 @@
 -- An expression with the images put in, against symbols that stand.
-use Rattle.subst.proofs.Words.{◌≡◌, ℕ, zero, suc, ◌+◌, ◌<◌, true, false, List, [], ◌∷◌, ◌++◌, length, take, drop, get_or, Option, Some, None, IfSome, IfNone, MatchOption, refl, bytes_eq, sym, ◌∙◌, ap, arith, append_assoc, Bor, drop-cons, take-append-drop, append_cancel_left, take-append_seam, CodeImages, code_image, code_apply}
+use Rattle.subst.proofs.Words.{◌≡◌, ℕ, zero, suc, ◌+◌, ◌-◌, ◌<◌, ◌==◌, take_all, true, false, List, [], ◌∷◌, ◌++◌, length, take, drop, get_or, Option, Some, None, IfSome, IfNone, MatchOption, refl, bytes_eq, sym, ◌∙◌, ap, arith, append_assoc, Bor, drop-cons, take-append-drop, append_cancel_left, take-append_seam, CodeImages, code_image, code_apply}
+use Rattle.std.proofs.lemmas.Bool.Decides.{nat_tests}
 use Rattle.std.proofs.lemmas.Slice.Eq.{bytes_eq-Decides}
 use Rattle.subst.proofs.WrittenImages.{apply-take}
 
@@ -27,6 +28,15 @@ pub strip-none : (r : Option (Bor (List ℕ))) (rest image given : List ℕ) →
     → IfNone r ((more : List ℕ) → rest ≡ given ++ more → ⊥)
 strip-none None rest image given e h = λ more f. strips-none rest image more h (f ∙ ap (λ s. s ++ more) (sym e))
 strip-none (Some x) rest image given e h = tt
+
+-- symbols that begin with this one
+pub head-goes : (rest image : List ℕ) (x : ℕ) → image ≡ x ∷ [] → (length rest == 0) ≡ false → get_or rest 0 0 ≡ x → rest ≡ image ++ take (length rest - 1) (drop 1 rest)
+head-goes [] image x e more h = let f : true ≡ false = more in cc
+head-goes (y ∷ rest) image x e more h = ap (λ z. z ∷ rest) h ∙ (ap (λ s. s ++ rest) (sym e) ∙ ap (λ s. image ++ s) (sym (take_all (length (y ∷ rest) - 1) rest (omega arith))))
+
+pub head-fails : (rest image more : List ℕ) (x : ℕ) → image ≡ x ∷ [] → ((length rest == 0) ≡ false → get_or rest 0 0 ≡ x → ⊥) → rest ≡ image ++ more → ⊥
+head-fails [] image more x e none h = let f : [] ≡ x ∷ more = h ∙ ap (λ s. s ++ more) e in cc
+head-fails (y ∷ rest) image more x e none h = none (grind (arith, nat_tests)) (let f : y ∷ rest ≡ x ∷ more = h ∙ ap (λ s. s ++ more) e in cc)
 
 apply-front : (σ : CodeImages) (e : List ℕ) (i : ℕ) → code_apply σ e ≡ code_apply σ (take i e) ++ code_apply σ (drop i e)
 apply-front σ e zero = refl

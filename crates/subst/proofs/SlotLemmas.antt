@@ -83,19 +83,7 @@ up_to-set round (r ∷ slots) (suc i) s u h = (u.0, up_to-set round slots i s u.
 
 pub slot-set : (round : ℕ) (slots : List Slot) (i : ℕ) (s : Slot) (x : ℕ) → i < length slots → s.round ≡ round → slot_of round (slice_set slots i s) x ≡ cond (x == i) (Some s.place) (slot_of round slots x)
 slot-set round [] i s x h e = absurd (omega (arith, h))
-slot-set round (r ∷ slots) zero s zero h e = ap (λ b. cond b (Some s.place) None) now
-  where
-    now : (s.round == round) ≡ true
-    now = grind (arith, nat_tests, e)
-slot-set round (r ∷ slots) zero s (suc x) h e = ap (λ b. cond b (Some s.place) (slot_of round slots x)) (sym other)
-  where
-    other : (suc x == zero) ≡ false
-    other = grind (arith, nat_tests)
-slot-set round (r ∷ slots) (suc i) s zero h e = ap (λ b. cond b (Some s.place) (cond (r.round == round) (Some r.place) None)) (sym other)
-  where
-    other : (zero == suc i) ≡ false
-    other = grind (arith, nat_tests)
-slot-set round (r ∷ slots) (suc i) s (suc x) h e = slot-set round slots i s x (omega (arith, h)) e ∙ ap (λ b. cond b (Some s.place) (slot_of round slots x)) (sym same)
-  where
-    same : (suc x == suc i) ≡ (x == i)
-    same = grind (arith, nat_tests)
+slot-set round (r ∷ slots) zero s zero h e = let now : (s.round == round) ≡ true = grind (arith, nat_tests, e) in ap (λ b. cond b (Some s.place) None) now
+slot-set round (r ∷ slots) zero s (suc x) h e = let other : (suc x == zero) ≡ false = grind (arith, nat_tests) in ap (λ b. cond b (Some s.place) (slot_of round slots x)) (sym other)
+slot-set round (r ∷ slots) (suc i) s zero h e = let other : (zero == suc i) ≡ false = grind (arith, nat_tests) in ap (λ b. cond b (Some s.place) (cond (r.round == round) (Some r.place) None)) (sym other)
+slot-set round (r ∷ slots) (suc i) s (suc x) h e = let same : (suc x == suc i) ≡ (x == i) = grind (arith, nat_tests) in slot-set round slots i s x (omega (arith, h)) e ∙ ap (λ b. cond b (Some s.place) (slot_of round slots x)) (sym same)

@@ -1,10 +1,6 @@
 //! Images that are kept apart as a cited assertion asks.
 ghost use Rattle.std.specs.Prelude.{◌≡◌, length};
-ghost use Rattle.names.specs.Codes.{decode};
-ghost use Rattle.frame.specs.Below.{AreBelow};
-ghost use Rattle.frame.specs.Disjoint.{are_apart, is_group_apart, are_groups_apart};
-ghost use Rattle.frame.specs.Substitution.{images_of_names, image};
-ghost use Rattle.subst.specs.Images.{AreOver, is_image_apart};
+ghost use Rattle.{names.specs.Codes.decode, frame.specs.Below.AreBelow, frame.specs.Disjoint.are_apart, frame.specs.Disjoint.is_group_apart, frame.specs.Disjoint.are_groups_apart, frame.specs.Substitution.images_of_names, frame.specs.Substitution.image, subst.specs.Images.AreOver, subst.specs.Images.is_image_apart};
 
 use crate::images::Subst;
 use frame::{Frame, Pairs};
@@ -47,21 +43,11 @@ fn variable_apart(subst: &Subst, pairs: &Pairs<'_>, x: &[u8], group: &Words) -> 
     requires { AreOver pairs.now.names subst.now }
     ensures { result ≡ is_image_apart pairs.now.statements (images_of_names pairs.now.names subst.now) group.now x.now (image (images_of_names pairs.now.names subst.now) x.now) }
 {
-    match pairs.number(x) {
-        Some(number) => {
-            let own = [number];
-            image_apart(subst, pairs, x, subst.image_or(number, &own), group)
-        }
-        None => true,
-    }
-}
-
-/// Whether the image of x is apart from those of the others.
-fn image_apart(subst: &Subst, pairs: &Pairs<'_>, x: &[u8], image: &[u32], group: &Words) -> bool
-    requires named { AreOver pairs.now.names subst.now }
-    requires image { AreBelow (length pairs.now.names) image.now }
-    ensures { result ≡ is_image_apart pairs.now.statements (images_of_names pairs.now.names subst.now) group.now x.now (decode pairs.now.names image.now) }
-{
+    let Some(number) = pairs.number(x) else {
+        return true;
+    };
+    let own = [number];
+    let image = subst.image_or(number, &own);
     for y in group.iter() {
         if x != y && !apart_from(subst, pairs, image, y) {
             return false;
@@ -71,25 +57,15 @@ fn image_apart(subst: &Subst, pairs: &Pairs<'_>, x: &[u8], image: &[u32], group:
 }
 
 /// Whether an image is apart from that of y.
-fn apart_from(subst: &Subst, pairs: &Pairs<'_>, other: &[u32], y: &[u8]) -> bool
+fn apart_from(subst: &Subst, pairs: &Pairs<'_>, left: &[u32], y: &[u8]) -> bool
     requires named { AreOver pairs.now.names subst.now }
-    requires other { AreBelow (length pairs.now.names) other.now }
-    ensures { result ≡ are_apart pairs.now.statements (decode pairs.now.names other.now) (image (images_of_names pairs.now.names subst.now) y.now) }
-{
-    match pairs.number(y) {
-        Some(number) => {
-            let own = [number];
-            images_apart(pairs, other, subst.image_or(number, &own))
-        }
-        None => true,
-    }
-}
-
-/// Whether no variable stands in both images, and each two variables, one from each, stand together in an active `$d`.
-fn images_apart(pairs: &Pairs<'_>, left: &[u32], right: &[u32]) -> bool
     requires left { AreBelow (length pairs.now.names) left.now }
-    requires right { AreBelow (length pairs.now.names) right.now }
-    ensures { result ≡ are_apart pairs.now.statements (decode pairs.now.names left.now) (decode pairs.now.names right.now) }
+    ensures { result ≡ are_apart pairs.now.statements (decode pairs.now.names left.now) (image (images_of_names pairs.now.names subst.now) y.now) }
 {
+    let Some(number) = pairs.number(y) else {
+        return true;
+    };
+    let own = [number];
+    let right = subst.image_or(number, &own);
     pairs.apart(left, right)
 }

@@ -1,14 +1,11 @@
 //! A list of symbols that keeps its bound.
-ghost use Rattle.std.specs.Prelude.{◌≡◌, [], ◌++◌, ◌+◌, ◌≤◌, ◌↔◌, length, take, IfOk, OnOk, OnErr, IsTrue};
-ghost use Rattle.frame.specs.Substitution.{code_apply};
-ghost use Rattle.subst.specs.ExpressionPlaces.{images_at, AreInside};
-ghost use Rattle.subst.specs.Stored.Written.{Appends};
+ghost use Rattle.std.specs.Prelude.{◌≡◌, [], ◌++◌, ◌+◌, ◌≤◌, length, take, IfOk, OnOk, OnErr};
+ghost use Rattle.{frame.specs.Substitution.code_apply, subst.specs.ExpressionPlaces.images_at, subst.specs.ExpressionPlaces.AreInside, subst.specs.Stored.Written.Appends};
 
 use crate::copies::put_expr;
-use crate::filling::{fill_growing, make_room};
+use crate::filling::{fill, filled_len, make_room};
 use crate::image_places::ImagePlaces;
-use crate::images::Subst;
-use crate::substitute::{applied_len, write};
+use crate::images::{Subst, write};
 use std::alloc::{AllocError, Global};
 use std::marker::Model;
 use std::ops::Range;
@@ -71,7 +68,9 @@ impl Buffer {
         ensures added { OnOk result (self.new ≡ self.old ++ more.now) }
         ensures same { OnErr result (self.new ≡ self.old) }
     {
-        make_room(&mut self.symbols, self.len, more.len())?;
+        if self.symbols.len() - self.len < more.len() {
+            make_room(&mut self.symbols, self.len, more.len())?;
+        }
         put_expr(&mut self.symbols, self.len, more);
         self.len += more.len();
         Ok(())
@@ -89,6 +88,7 @@ impl Buffer {
     ///
     /// Errors: where memory is refused the buffer is as before.
     /// Cost: the symbols read and written, each once; twice where the buffer has to grow.
+    #[inline(always)]
     pub fn add_applied(
         &mut self,
         images: &ImagePlaces,
@@ -100,8 +100,8 @@ impl Buffer {
         ensures ok { IfOk result (λ ok. Appends ok limit self.old self.new (code_apply (images_at self.old images.now) expr.now)) }
         ensures err { OnErr result (self.new ≡ self.old) }
     {
-        let Some(end) = fill_growing(&mut self.symbols, self.len, images, expr, limit)? else {
-            return Ok(false);
+        let Some(end) = fill(&mut self.symbols, self.len, images, expr) else {
+            return self.add_growing(images, expr, limit);
         };
         if end - self.len > limit {
             return Ok(false);
@@ -109,15 +109,31 @@ impl Buffer {
         self.len = end;
         Ok(true)
     }
-}
 
-/// Whether the buffer stays within its bound when the expression with all images put in is added.
-///
-/// Cost: one look-up for each symbol of the expression; nothing is written.
-pub fn has_room(subst: &Subst, expr: &[u32], buffer: &Buffer) -> bool
-    ensures { IsTrue result ↔ (length buffer.now + length (code_apply subst.now expr.now) ≤ SYMBOLS_LIMIT) }
-{
-    applied_len(subst, expr, SYMBOLS_LIMIT - buffer.len()).is_some()
+    /// The same where the room does not do.
+    #[cold]
+    #[inline(never)]
+    fn add_growing(
+        &mut self,
+        images: &ImagePlaces,
+        expr: &[u32],
+        limit: usize,
+    ) -> Result<bool, AllocError>
+        requires inside { AreInside (length self.old) images.now }
+        requires bound { length self.old + limit ≤ SYMBOLS_LIMIT }
+        ensures ok { IfOk result (λ ok. Appends ok limit self.old self.new (code_apply (images_at self.old images.now) expr.now)) }
+        ensures err { OnErr result (self.new ≡ self.old) }
+    {
+        let Some(len) = filled_len(self.as_slice(), images, expr, limit) else {
+            return Ok(false);
+        };
+        make_room(&mut self.symbols, self.len, len)?;
+        let Some(end) = fill(&mut self.symbols, self.len, images, expr) else {
+            unreachable!();
+        };
+        self.len = end;
+        Ok(true)
+    }
 }
 
 /// Adds the expression with all images put in at once at the end, and tells where it lies.

@@ -1,7 +1,6 @@
 //! Symbols copied within one buffer, eight at once.
 ghost use Rattle.std.specs.Prelude.{◌≡◌, ◌+◌, ◌≤◌, ◌++◌, ◌∷◌, [], length, take, drop, IfSome, IfNone};
-ghost use Rattle.subst.specs.ExpressionPlaces.{seen_at};
-ghost use Rattle.subst.specs.Stored.Written.{IsWritten, LacksRoom};
+ghost use Rattle.{subst.specs.ExpressionPlaces.seen_at, subst.specs.Stored.Written.IsWritten, subst.specs.Stored.Written.LacksRoom};
 
 use crate::expression_place::ExpressionPlace;
 use std::simd::prelude::*;
@@ -9,14 +8,16 @@ use std::simd::prelude::*;
 /// How many symbols are copied at once, and so how many may be written over behind what is written.
 pub const LANES: usize = 8;
 
-/// Copies symbols that lie before `at` to `at`.
+/// Copies symbols that lie before `at` to `at`. Most runs are copied by the first block.
+#[inline(always)]
 fn copy_run(symbols: &mut [u32], from: usize, len: usize, at: usize)
     requires before { from + len ≤ at }
     requires room { at + len + 8 ≤ length symbols.old }
     ensures copied { take (at + len) symbols.new ≡ take at symbols.old ++ take len (drop from symbols.old) }
     ensures count { length symbols.new ≡ length symbols.old }
 {
-    let mut done = 0;
+    u32x8::from_slice(&symbols[from..]).copy_to_slice(&mut symbols[at..]);
+    let mut done = LANES;
     while done < len {
         u32x8::from_slice(&symbols[from + done..]).copy_to_slice(&mut symbols[at + done..]);
         done += LANES;
@@ -24,6 +25,7 @@ fn copy_run(symbols: &mut [u32], from: usize, len: usize, at: usize)
 }
 
 /// Copies the symbols at a place to `at`, and tells where they end.
+#[inline(always)]
 pub fn copy_place(symbols: &mut [u32], at: usize, place: ExpressionPlace) -> Option<usize>
     requires place { (place.start ≤ place.end) × (place.end ≤ at) }
     requires inside { at ≤ length symbols.old }
@@ -41,6 +43,7 @@ pub fn copy_place(symbols: &mut [u32], at: usize, place: ExpressionPlace) -> Opt
 }
 
 /// Writes a symbol at `at`, and tells where it ends.
+#[inline(always)]
 pub fn put_symbol(symbols: &mut [u32], at: usize, symbol: u32) -> Option<usize>
     requires inside { at ≤ length symbols.old }
     ensures some { IfSome result (IsWritten symbols.old symbols.new at (symbol ∷ [])) }

@@ -1,7 +1,6 @@
 //! Where symbols lie in a buffer.
 ghost use Rattle.std.specs.Prelude.{◌≡◌, ◌≤◌, length};
-ghost use Rattle.subst.specs.ExpressionPlaces.{seen_at};
-ghost use Rattle.subst.specs.declared.buffer.TheConstants.{SYMBOLS_LIMIT};
+ghost use Rattle.{subst.specs.ExpressionPlaces.seen_at, subst.specs.declared.buffer.TheConstants.SYMBOLS_LIMIT};
 
 /// Where symbols lie.
 #[derive(Clone, Copy, Drop)]

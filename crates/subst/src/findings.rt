@@ -1,9 +1,6 @@
 //! What was found of the symbols of one proof: which are variables, and which two of them are kept apart.
 ghost use Rattle.std.specs.Prelude.{◌≡◌, ◌<◌, [], length, true, false, IfSome};
-ghost use Rattle.names.specs.Codes.{name_at};
-ghost use Rattle.scope.specs.Active.{is_variable};
-ghost use Rattle.frame.specs.Below.{AreBelow};
-ghost use Rattle.subst.specs.Findings.{IsKnown, IsAt, IsListed, Grows, IsSame, IsAmong, AreBits, HavePlaces, IsRowApart, AreWordsApart};
+ghost use Rattle.{names.specs.Codes.name_at, scope.specs.Active.is_variable, frame.specs.Below.AreBelow, subst.specs.Findings.IsKnown, subst.specs.Findings.IsAt, subst.specs.Findings.IsListed, subst.specs.Findings.Grows, subst.specs.Findings.IsSame, subst.specs.Findings.IsAmong, subst.specs.Findings.AreBits, subst.specs.Findings.HavePlaces, subst.specs.Findings.IsRowApart, subst.specs.Findings.AreWordsApart};
 
 use crate::bits::{lowest, without};
 use frame::Pairs;
@@ -97,7 +94,15 @@ impl Findings {
             return None;
         }
         let bit = self.new_bit(pairs, symbol)?;
-        self.add_symbol(pairs, symbol, bit)
+        let place = u32::try_from(self.symbols.len()).ok()?;
+        let number = symbol;
+        if self.symbols.push(FoundSymbol { number, bit }).is_err() {
+            return None;
+        }
+        if let Some(hint) = self.hints.get_mut(index) {
+            *hint = place;
+        }
+        Some(bit)
     }
 
     /// The bit of a symbol that was not found yet: a variable is given a place. None where there is none left.
@@ -117,27 +122,6 @@ impl Findings {
             return None;
         }
         Some(1u64 << place)
-    }
-
-    /// Notes a symbol with its bit. None where there is no room for it.
-    fn add_symbol(&mut self, pairs: &Pairs<'_>, number: u32, bit: u64) -> Option<u64>
-        requires known { IsKnown pairs.now self.old }
-        requires bit { AreBits pairs.now self.old bit (IsSame number) }
-        ensures known { IsKnown pairs.now self.new }
-        ensures grows { Grows self.old self.new }
-        ensures bits { IfSome result (λ bit. AreBits pairs.now self.new bit (IsSame number)) }
-    {
-        let _statement = pairs;
-        let Ok(place) = u32::try_from(self.symbols.len()) else {
-            return None;
-        };
-        if self.symbols.push(FoundSymbol { number, bit }).is_err() {
-            return None;
-        }
-        if let Some(hint) = self.hints.get_mut(number as usize) {
-            *hint = place;
-        }
-        Some(bit)
     }
 
     /// The variables of an image, as the bits of their places. None where there is no room for its symbols.
@@ -171,26 +155,13 @@ impl Findings {
         let mut rest = left;
         while rest != 0 {
             let place = lowest(rest);
-            if !self.row_apart(pairs, place, right) {
+            let noted = self.variables[place].apart;
+            if right & noted != right && !self.find_row(pairs, place, right) {
                 return false;
             }
             rest = without(rest, place);
         }
         true
-    }
-
-    /// Whether the variable at the place is kept apart from each of these.
-    #[inline(always)]
-    fn row_apart(&mut self, pairs: &Pairs<'_>, place: usize, bits: u64) -> bool
-        requires known { IsKnown pairs.now self.old }
-        requires place { place < length self.old.variables }
-        requires bits { HavePlaces self.old bits }
-        ensures known { IsKnown pairs.now self.new }
-        ensures grows { Grows self.old self.new }
-        ensures apart { result ≡ true → IsRowApart pairs.now self.old place bits }
-        ensures clash { result ≡ false → IsRowApart pairs.now self.old place bits → ⊥ }
-    {
-        bits & self.variables[place].apart == bits || self.find_row(pairs, place, bits)
     }
 
     /// Whether the variable at the place is kept apart from each of these, which is noted.
@@ -209,10 +180,7 @@ impl Findings {
         if !self.are_pairs(pairs, place, bits & !row.apart) {
             return false;
         }
-        self.variables[place] = Variable {
-            symbol: row.symbol,
-            apart: row.apart | bits,
-        };
+        self.variables[place].apart |= bits;
         true
     }
 

@@ -1,5 +1,5 @@
 //! Images that are places in a buffer, by the number of their symbol.
-ghost use Rattle.std.specs.Prelude.{◌≡◌, ℕ, ◌+◌, ◌<◌, ◌++◌, [], ◌==◌, ◌^◌, nat_eq, if◌then◌else◌, length, replicate, Some, OnOk, OnErr};
+ghost use Rattle.std.specs.Prelude.{◌≡◌, ℕ, ◌+◌, ◌<◌, ◌≤◌, ◌++◌, [], ◌==◌, ◌^◌, nat_eq, if◌then◌else◌, length, replicate, Some, OnOk, OnErr};
 ghost use Rattle.std.specs.Map.{lookup};
 
 use crate::expression_place::ExpressionPlace;
@@ -19,6 +19,35 @@ const UNSET: Slot = Slot {
     place: ExpressionPlace { start: 0, end: 0 },
 };
 
+/// A table of images as it is read: what makes it longer or takes them away needs the table itself.
+#[derive(Drop)]
+pub(crate) struct ImageTable<'a> {
+    slots: &'a [Slot],
+    round: u32,
+}
+
+impl<'a> Model for ImageTable<'a> {
+    ghost use Rattle.std.specs.Prelude.{ℕ, List};
+    ghost use Rattle.subst.{specs.declared.expression_place.ExpressionPlace.ExpressionPlace, specs.Stored.Slots.placed};
+
+    ghost Value = { List (ℕ × ExpressionPlace) };
+
+    ghost view = { λ a. placed a.round 0 a.slots.now };
+}
+
+impl<'a> ImageTable<'a> {
+    /// The place of a symbol's image, if it was given one.
+    #[inline(always)]
+    pub(crate) fn get(&self, symbol: u32) -> Option<ExpressionPlace>
+        ensures { result ≡ lookup (nat_eq symbol) self.now }
+    {
+        match self.slots.get(symbol as usize) {
+            Some(slot) if slot.round == self.round => Some(slot.place),
+            _ => None,
+        }
+    }
+}
+
 /// Images of symbols, each a place in a buffer that stands beside. Contracts see the symbols with their places.
 ///
 /// Cost: a place is set and found in one step, and all are taken away in one step. The table is as long as the
@@ -31,8 +60,7 @@ pub struct ImagePlaces {
 
 impl Model for ImagePlaces {
     ghost use Rattle.std.specs.Prelude.{ℕ, ◌≤◌, List};
-    ghost use Rattle.subst.specs.declared.expression_place.ExpressionPlace.{ExpressionPlace};
-    ghost use Rattle.subst.specs.Stored.Slots.{placed, AreUpTo};
+    ghost use Rattle.{subst.specs.declared.expression_place.ExpressionPlace.ExpressionPlace, subst.specs.Stored.Slots.placed, subst.specs.Stored.Slots.AreUpTo};
 
     ghost Value = { List (ℕ × ExpressionPlace) };
 
@@ -67,45 +95,49 @@ impl ImagePlaces {
     /// Gives the symbol the image at this place.
     ///
     /// Errors: where memory is refused all images are as before.
+    #[inline(always)]
     pub fn set(&mut self, symbol: u32, place: ExpressionPlace) -> Result<(), AllocError>
         ensures ok { OnOk result ((x : ℕ) → lookup (nat_eq x) self.new ≡ (if x == symbol then Some place else lookup (nat_eq x) self.old)) }
         ensures same { OnErr result (self.new ≡ self.old) }
     {
         let index = symbol as usize;
-        make_slot(&mut self.slots, index)?;
-        self.slots[index] = Slot {
-            round: self.round,
-            place,
-        };
+        if index >= self.slots.len() {
+            add_slots(&mut self.slots, index)?;
+        }
+        let round = self.round;
+        self.slots[index] = Slot { round, place };
         Ok(())
     }
 
     /// The place of a symbol's image, if it was given one.
+    #[inline(always)]
     pub fn get(&self, symbol: u32) -> Option<ExpressionPlace>
         ensures { result ≡ lookup (nat_eq symbol) self.now }
     {
-        let index = symbol as usize;
-        if index >= self.slots.len() {
-            return None;
-        }
-        let slot = self.slots[index];
-        if slot.round == self.round {
-            Some(slot.place)
-        } else {
-            None
+        self.table().get(symbol)
+    }
+
+    /// The table, to be read: in a loop its parts stay at hand.
+    #[inline(always)]
+    pub(crate) fn table(&self) -> ImageTable<'_>
+        ensures { result ≡ self.now }
+    {
+        ImageTable {
+            slots: &self.slots,
+            round: self.round,
         }
     }
 }
 
 /// Makes a slot of that index, and those before it.
-fn make_slot(slots: &mut Vec<Slot>, index: usize) -> Result<(), AllocError>
-    requires { index < 2 ^ 32 }
+#[cold]
+#[inline(never)]
+fn add_slots(slots: &mut Vec<Slot>, index: usize) -> Result<(), AllocError>
+    requires { (length slots.old.items ≤ index) × (index < 2 ^ 32) }
     ensures ok { OnOk result ((more : ℕ) × (slots.new.items ≡ slots.old.items ++ replicate more UNSET)) }
     ensures there { OnOk result (index < length slots.new.items) }
     ensures err { OnErr result (slots.new.items ≡ slots.old.items) }
 {
-    if index >= slots.len() {
-        slots.resize(index + 1, UNSET)?;
-    }
+    slots.resize(index + 1, UNSET)?;
     Ok(())
 }

@@ -1,9 +1,10 @@
 //! Images of symbols.
-ghost use Rattle.std.specs.Prelude.{◌≡◌, ℕ, [], ◌∷◌, ◌==◌, if◌then◌else◌, length, OnOk, OnErr, IfSome, IfNone};
-ghost use Rattle.frame.specs.Substitution.{code_image};
+ghost use Rattle.std.specs.Prelude.{◌≡◌, ℕ, [], ◌∷◌, ◌==◌, ◌++◌, ◌+◌, ◌≤◌, ◌↔◌, take, IsTrue, IfOk, if◌then◌else◌, length, OnOk, OnErr, IfSome, IfNone};
+ghost use Rattle.{frame.specs.Substitution.code_image, frame.specs.Substitution.code_apply, subst.specs.declared.buffer.TheConstants.SYMBOLS_LIMIT};
 
 use crate::buffer::{Buffer, SYMBOLS_LIMIT};
 use crate::expression_place::{place_between, symbols_at};
+use crate::filling::filled_len;
 use crate::image_places::ImagePlaces;
 use std::alloc::{AllocError, Global};
 use std::marker::Model;
@@ -69,10 +70,8 @@ impl Subst {
         ensures some { IfSome result (λ image. image.now ≡ code_image self.now symbol) }
         ensures none { IfNone result (code_image self.now symbol ≡ symbol ∷ []) }
     {
-        match self.images.get(symbol) {
-            Some(place) => Some(symbols_at(self.symbols.as_slice(), place)),
-            None => None,
-        }
+        let place = self.images.get(symbol)?;
+        Some(symbols_at(self.symbols.as_slice(), place))
     }
 
     /// The image of a symbol: its own, which is handed in, where it was given none.
@@ -85,14 +84,40 @@ impl Subst {
             None => own,
         }
     }
+}
 
-    /// How many symbols the image of a symbol has.
-    pub(crate) fn image_len(&self, symbol: u32) -> usize
-        ensures { result ≡ length (code_image self.now symbol) }
-    {
-        match self.image(symbol) {
-            Some(image) => image.len(),
-            None => 1,
+/// The expression with all images put in at once.
+///
+/// Cost: the symbols read and written, each once.
+/// Source: Metamath, 4.1: images are not looked through again.
+pub fn apply(alloc: Global, subst: &Subst, expr: &[u32]) -> Result<Vec<u32>, AllocError>
+    ensures { IfOk result (λ applied. applied.items ≡ code_apply subst.now expr.now) }
+{
+    let mut applied = Vec::new(alloc);
+    write(subst, expr, &mut applied)?;
+    Ok(applied)
+}
+
+/// Adds the expression with all images put in at the end.
+pub(crate) fn write(subst: &Subst, expr: &[u32], out: &mut Vec<u32>) -> Result<(), AllocError>
+    ensures ok { OnOk result (out.new.items ≡ out.old.items ++ code_apply subst.now expr.now) }
+    ensures kept { take (length out.old.items) out.new.items ≡ out.old.items }
+{
+    for symbol in expr {
+        match subst.image(*symbol) {
+            Some(image) => out.extend_from_slice(image)?,
+            None => out.push(*symbol)?,
         }
     }
+    Ok(())
+}
+
+/// Whether the buffer stays within its bound when the expression with all images put in is added.
+///
+/// Cost: one look-up for each symbol of the expression; nothing is written.
+pub fn has_room(subst: &Subst, expr: &[u32], buffer: &Buffer) -> bool
+    ensures { IsTrue result ↔ (length buffer.now + length (code_apply subst.now expr.now) ≤ SYMBOLS_LIMIT) }
+{
+    let room = SYMBOLS_LIMIT - buffer.len();
+    filled_len(subst.symbols.as_slice(), &subst.images, expr, room).is_some()
 }

@@ -4,7 +4,7 @@
 //! off its results, matches an expression under them without writing it, and adds one behind them. `Subst` is such a table with a
 //! buffer of its own, and `apply` puts all its images in at once. Symbols are numbers; that this is substitution over the names
 //! that they stand for is a law. Reading order: `expression_place`, `image_places`, `copies`, `filling`, `matching`, `buffer`,
-//! `images`, `substitute`, `asked_apart`, `bits`, `findings`, `numbers_apart`, `laws`.
+//! `images`, `asked_apart`, `bits`, `findings`, `numbers_apart`, `laws`.
 #![tactic(auto)]
 
 mod asked_apart;
@@ -19,15 +19,13 @@ mod images;
 mod laws;
 mod matching;
 mod numbers_apart;
-mod substitute;
 
 pub use asked_apart::disjoint;
-pub use buffer::{Buffer, SYMBOLS_LIMIT, apply_into, has_room};
+pub use buffer::{Buffer, SYMBOLS_LIMIT, apply_into};
 pub use expression_place::{ExpressionPlace, place_between, symbols_at};
 pub use findings::Findings;
 pub use image_places::ImagePlaces;
-pub use images::Subst;
+pub use images::{Subst, apply, has_room};
 pub use laws::{pair_clause, substitution_over_names};
 pub use matching::matches;
 pub use numbers_apart::groups_apart;
-pub use substitute::apply;

@@ -1,27 +1,15 @@
 //! An expression with the images put in, against symbols that stand, without writing it.
 ghost use Rattle.std.specs.Prelude.{◌≡◌, ℕ, ◌∷◌, ◌++◌, ◌↔◌, List, length, IfSome, IfNone, IsTrue};
-ghost use Rattle.frame.specs.Substitution.{code_image, code_apply};
-ghost use Rattle.subst.specs.ExpressionPlaces.{images_at, AreInside};
+ghost use Rattle.{frame.specs.Substitution.code_image, frame.specs.Substitution.code_apply, subst.specs.ExpressionPlaces.images_at, subst.specs.ExpressionPlaces.AreInside};
 
 use crate::expression_place::symbols_at;
-use crate::image_places::ImagePlaces;
-
-/// What stands behind a symbol.
-fn behind_symbol(symbol: u32, rest: &[u32]) -> Option<&[u32]>
-    ensures some { IfSome result (λ more. rest.now ≡ symbol ∷ more.now) }
-    ensures none { IfNone result ((more : List ℕ) → rest.now ≡ symbol ∷ more → ⊥) }
-{
-    if !rest.is_empty() && rest[0] == symbol {
-        Some(&rest[1..])
-    } else {
-        None
-    }
-}
+use crate::image_places::{ImagePlaces, ImageTable};
 
 /// What stands behind the image of a symbol.
+#[inline(always)]
 fn behind<'a>(
     symbols: &[u32],
-    images: &ImagePlaces,
+    images: &ImageTable<'_>,
     symbol: u32,
     rest: &'a [u32],
 ) -> Option<&'a [u32]>
@@ -31,20 +19,23 @@ fn behind<'a>(
 {
     match images.get(symbol) {
         Some(place) => rest.strip_prefix(symbols_at(symbols, place)),
-        None => behind_symbol(symbol, rest),
+        None if !rest.is_empty() && rest[0] == symbol => Some(&rest[1..]),
+        None => None,
     }
 }
 
 /// Whether the symbols are the expression with all images put in. The images lie in the first list of symbols.
 ///
 /// Cost: the symbols that agree, each once; nothing is written.
+#[inline(always)]
 pub fn matches(symbols: &[u32], images: &ImagePlaces, expr: &[u32], whole: &[u32]) -> bool
     requires { AreInside (length symbols.now) images.now }
     ensures { IsTrue result ↔ (whole.now ≡ code_apply (images_at symbols.now images.now) expr.now) }
 {
+    let table = images.table();
     let mut rest = whole;
     for symbol in expr {
-        match behind(symbols, images, *symbol, rest) {
+        match behind(symbols, &table, *symbol, rest) {
             Some(more) => rest = more,
             None => return false,
         }

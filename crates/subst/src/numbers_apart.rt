@@ -1,28 +1,22 @@
 //! Images of numbers that are kept apart.
 
 ghost use Rattle.std.specs.Prelude.{◌≡◌, ◌≤◌, ◌<◌, ◌∷◌, [], length, map};
-ghost use Rattle.names.specs.Codes.{decode, AreDistinct};
-ghost use Rattle.frame.specs.Below.{AllBelow, AreBelow};
-ghost use Rattle.frame.specs.Disjoint.{are_groups_apart};
-ghost use Rattle.frame.specs.Substitution.{code_image, images_of_names};
-ghost use Rattle.subst.specs.Images.{AreOver};
-ghost use Rattle.subst.specs.ExpressionPlaces.{images_at, AreInside};
-ghost use Rattle.subst.specs.Findings.{IsKnown};
-ghost use Rattle.subst.specs.Apart.{image_named, is_number_apart, are_numbers_apart};
+ghost use Rattle.{names.specs.Codes.decode, names.specs.Codes.AreDistinct, frame.specs.Below.AllBelow, frame.specs.Below.AreBelow, frame.specs.Disjoint.are_groups_apart, frame.specs.Substitution.code_image, frame.specs.Substitution.images_of_names, subst.specs.Images.AreOver, subst.specs.ExpressionPlaces.images_at, subst.specs.ExpressionPlaces.AreInside, subst.specs.Findings.IsKnown, subst.specs.Apart.image_named, subst.specs.Apart.is_number_apart, subst.specs.Apart.are_numbers_apart};
 
 use crate::expression_place::symbols_at;
 use crate::findings::Findings;
-use crate::image_places::ImagePlaces;
+use crate::image_places::{ImagePlaces, ImageTable};
 use entries::Groups;
 use frame::Pairs;
 
 /// The image of a number: its own, which is handed in, where it has none.
-fn image_or<'a>(symbols: &'a [u32], images: &ImagePlaces, number: u32, own: &'a [u32]) -> &'a [u32]
+#[inline(always)]
+fn image_or<'a>(symbols: &'a [u32], images: &ImageTable<'_>, k: u32, own: &'a [u32]) -> &'a [u32]
     requires inside { AreInside (length symbols.now) images.now }
-    requires own { own.now ≡ number ∷ [] }
-    ensures { result.now ≡ code_image (images_at symbols.now images.now) number }
+    requires own { own.now ≡ k ∷ [] }
+    ensures { result.now ≡ code_image (images_at symbols.now images.now) k }
 {
-    match images.get(number) {
+    match images.get(k) {
         Some(place) => symbols_at(symbols, place),
         None => own,
     }
@@ -44,9 +38,10 @@ fn number_apart(
     requires below { AreBelow (length pairs.now.names) others.now }
     ensures { result ≡ is_number_apart pairs.now.statements (image_named pairs.now.names (images_at symbols.now images.now)) others.now k }
 {
+    let table = images.table();
     for l in others {
         let own = [*l];
-        let other = image_or(symbols, images, *l, &own);
+        let other = image_or(symbols, &table, *l, &own);
         if k != *l && !pairs.apart(image, other) {
             return false;
         }
@@ -70,10 +65,11 @@ fn group_apart(
     ensures known { IsKnown pairs.now findings.new }
     ensures apart { result ≡ are_numbers_apart pairs.now.statements (image_named pairs.now.names (images_at symbols.now images.now)) group.now }
 {
+    let table = images.table();
     let mut before = Some(0);
     for (index, k) in group.iter().enumerate() {
         let own = [*k];
-        let image = image_or(symbols, images, *k, &own);
+        let image = image_or(symbols, &table, *k, &own);
         before = match (before, findings.bits_of(pairs, image)) {
             (Some(before), Some(bits)) => {
                 if !findings.words_apart(pairs, before, bits) && !group[..index].contains(k) {
@@ -99,6 +95,7 @@ fn group_apart(
 /// each other that of `Pairs::has`; where the proof has more than 64 variables, or memory is refused, for each two
 /// numbers of a group that of `Pairs::apart`.
 /// Source: Metamath, 4.2.6.
+#[inline(always)]
 pub fn groups_apart(
     pairs: &Pairs<'_>,
     groups: &Groups<'_>,

@@ -1,10 +1,8 @@
-use Rattle.subst.proofs.Words.{◌≡◌, ℕ, ◌++◌, List, IfSome, IfNone, sym, ◌∙◌, subst}
+use Rattle.subst.proofs.Words.{◌≡◌, true, false, sym, ◌∙◌}
 use Rattle.subst.proofs.ImagePlacesLemmas.{image-some, image-none}
-use Rattle.subst.proofs.MatchLemmas.{strip-some, strip-none}
+use Rattle.subst.proofs.MatchLemmas.{strip-some, strip-none, head-goes, head-fails}
 use Rattle.subst.proofs.matching.behind.Goals as goal
-
-pub symbols_at-requires : goal.symbols_at-requires
-symbols_at-requires c = c.requires.each c.args.symbol c.in-Some.place (sym c.get.ensures ∙ c.in-Some.is)
+use Rattle.subst.proofs.matching.behind.Goals.{then-not-is_empty+else-rest-symbol, else-not-is_empty}
 
 pub returns-in-Some-clause-some : goal.returns-in-Some-clause-some
 returns-in-Some-clause-some c =
@@ -18,8 +16,12 @@ returns-in-Some-clause-none c =
 
 pub returns-in-None-clause-some : goal.returns-in-None-clause-some
 returns-in-None-clause-some c =
-    subst (λ e. IfSome c.behind_symbol.result (λ more. c.args.rest.now ≡ e ++ more.now)) (sym (image-none c.args.symbols.now c.args.images.now c.args.symbol (sym c.get.ensures ∙ c.in-None.is))) c.behind_symbol.ensures.some
+    head-goes c.args.rest.now _ c.args.symbol (image-none c.args.symbols.now c.args.images.now c.args.symbol (sym c.get.ensures ∙ c.in-None.is)) (sym c.is_empty.ensures ∙ c.if-not-is_empty.true) c.if-rest-symbol.true
 
-pub returns-in-None-clause-none : goal.returns-in-None-clause-none
-returns-in-None-clause-none c =
-    subst (λ e. IfNone c.behind_symbol.result ((more : List ℕ) → c.args.rest.now ≡ e ++ more → ⊥)) (sym (image-none c.args.symbols.now c.args.images.now c.args.symbol (sym c.get.ensures ∙ c.in-None.is))) c.behind_symbol.ensures.none
+pub returns-in-None-2-clause-none : goal.returns-in-None-2-clause-none
+returns-in-None-2-clause-none c more =
+    head-fails c.args.rest.now _ more c.args.symbol (image-none c.args.symbols.now c.args.images.now c.args.symbol (sym c.get.ensures ∙ c.in-None.is))
+    (λ some first. elim c.if-not-is_empty.branch [
+      | then-not-is_empty+else-rest-symbol w ↦ w.if-rest-symbol.false first
+      | else-not-is_empty w ↦ let e : true ≡ false = sym w.if-not-is_empty.false ∙ (c.is_empty.ensures ∙ some) in cc
+    ])

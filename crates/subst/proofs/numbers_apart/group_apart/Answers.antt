@@ -8,7 +8,7 @@ use Rattle.subst.proofs.numbers_apart.group_apart.Goals.{in-Some-Some+else-not-w
 pub bits_of-requires-clause-image : goal.bits_of-requires-clause-image
 bits_of-requires-clause-image c =
     let n = length c.args.pairs.now.names in
-    rw c.image_or-image.ensures (c.requires.named (get_or c.args.group.now c.loop-index.index 0) (below-at n c.args.group.now c.loop-index.index 0 c.requires.below c.loop-index-test.true))
+    rw (c.image_or-image.ensures, c.table-table.ensures) (c.requires.named (get_or c.args.group.now c.loop-index.index 0) (below-at n c.args.group.now c.loop-index.index 0 c.requires.below c.loop-index-test.true))
 
 pub words_apart-requires-clause-left : goal.words_apart-requires-clause-left
 words_apart-requires-clause-left c =
@@ -23,7 +23,7 @@ returns-then-not-contains-clause-apart c =
     let l = c.loop-index in
     let f = c.bits_of.new.self in
     let before = bits-grown v l.findings f c.in-Some-Some.before (IsInImages σ c.args.group.now l.index) c.bits_of.ensures.grows (rw c.in-Some-Some.is-0 at l.invariant.1) in
-    let own = rw c.image_or-image.ensures at c.in-Some-Some.ensures.bits in
+    let own = rw (c.image_or-image.ensures, c.table-table.ensures) at c.in-Some-Some.ensures.bits in
     sym (next-clash v f c.bits_of.ensures.known σ c.args.group.now l.index c.in-Some-Some.before c.in-Some-Some.bits before own c.loop-index-test.true
     (sym c.contains.ensures.value ∙ c.if-not-contains.true) (c.words_apart.ensures.clash c.if-not-words_apart.true))
 
@@ -50,7 +50,7 @@ loop-index-preserved c =
       | in-Some-Some+else-not-words_apart w ↦
           let some = w.in-Some-Some in
           let before = bits-grown v l.findings f some.before (IsInImages σ group n) c.bits_of.ensures.grows (rw some.is-0 at l.invariant.1) in
-          let own = rw c.image_or-image.ensures at some.ensures.bits in
+          let own = rw (c.image_or-image.ensures, c.table-table.ensures) at some.ensures.bits in
           let next : (a : ℕ) → a < n → are_two_apart v.statements image (get_or group a 0) (get_or group n 0) ≡ true = elim w.else-not-words_apart.branch [
             | else-not-words_apart-via-then-not-words_apart+else-not-contains u ↦ repeat-apart v.statements image group n l.invariant.2 (sym u.contains.ensures.value ∙ u.if-not-contains.false)
             | else-not-words_apart-via-else-not-words_apart u ↦ next-apart v f c.bits_of.ensures.known σ group n some.before some.bits before own (w.words_apart.ensures.apart u.if-not-words_apart.false)

@@ -17,5 +17,5 @@ returns-clause-apart c = λ same.
 
 pub returns-clause-known : goal.returns-clause-known
 returns-clause-known c =
-    row-noted c.args.pairs.now c.args.self.now c.args.place c.args.bits _ _ c.index-row.result.now _ c.self.view_is c.requires.place c.index-row.ensures c.requires.known c.requires.bits
+    row-noted c.args.pairs.now c.args.self.now c.args.place c.args.bits _ _ c.index_mut.result.now _ c.self.view_is c.requires.place c.index_mut.ensures.value c.requires.known c.requires.bits
     (returns-clause-apart c refl)
