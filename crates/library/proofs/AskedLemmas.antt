@@ -1,7 +1,7 @@
 -- The `$p` of a label, and what is answered of it.
-use Rattle.library.proofs.Words.{◌≡◌, ◌↔◌, ℕ, Bool, List, Option, Some, None, Result, Ok, Err, IfOk, MatchResult, MatchOption, refl, sym, ◌∙◌, ap, subst, true≢false, Name, Stmt, Database, bare, bares, proof_of, stmt_at, is_provable, Carries, HasLabelsOnce, Item, Derivation, mandatory_labels, IsProvable, IsRight, Derives, Good, HasItems, IsUser, AreLabelsOf, HasNoLabel, NamesNoProof, NamesProof, IsNoProof, IsUsage, SpellsTree, IsTreeOf}
+use Rattle.library.proofs.Words.{◌≡◌, ◌↔◌, ◌⊎◌, ℕ, List, Option, Some, None, Result, Err, MatchOption, refl, inl, inr, sym, ◌∙◌, ap, subst, true≢false, Name, Stmt, Database, bare, bares, proof_of, stmt_at, is_provable, Carries, HasLabelsOnce, Item, Derivation, mandatory_labels, IsProvable, IsRight, Derives, Good, HasItems, HasNoLabel, NamesNoProof, NamesProof, SpellsTree, IsTreeOf}
 use Rattle.library.specs.declared.asked.AskFault.{AskFault}
-use Rattle.library.specs.declared.asked.AskFault.TheVariants.{NoLabel, NotProvable, Memory}
+use Rattle.library.specs.declared.asked.AskFault.TheVariants.{NoLabel, NotProvable, TooLarge, Memory}
 use Rattle.library.proofs.ProvingLemmas.{Found, has-items, written-of}
 use Rattle.library.proofs.CitationWalkLemmas.{carries-bare, carries-whole, labels-once, one-items}
 
@@ -31,10 +31,13 @@ module _ (S : Database) (good : Good S) (label : Name) where
   pub one-tree : (at : ℕ) (t : Derivation) → NamesProof S label at → IsTreeOf S label t → SpellsTree S at t
   one-tree at t p q = subst (λ j. SpellsTree S j t) (sym (same-place at q.0 p.stmt q.1.stmt p.carries q.1.carries)) q.2
 
-  pub no-tree : (fault : AskFault) (t : Derivation) → IsNoProof S label fault → IsTreeOf S label t → ⊥
-  no-tree NoLabel t n q = n q.0 q.1.stmt q.1.carries
-  no-tree NotProvable t n q = not-both q.0 q.1 n
-  no-tree fault t n q = n
+  -- where the label has a derivation, the limits and memory alone are faults
+  pub large-fault : {A B : Type 0} (fault : AskFault) (t : Derivation) → IsTreeOf S label t → (◌≡◌ {A = Result A AskFault} (Err fault) (Err NoLabel)) ↔ HasNoLabel S label → (◌≡◌ {A = Result A AskFault} (Err fault) (Err NotProvable)) ↔ NamesNoProof S label
+      → (◌≡◌ {A = Result B AskFault} (Err fault) (Err TooLarge)) ⊎ (◌≡◌ {A = Result B AskFault} (Err fault) (Err Memory))
+  large-fault NoLabel t q none other = absurd (none.0 refl q.0 q.1.stmt q.1.carries)
+  large-fault NotProvable t q none other = absurd (not-both q.0 q.1 (other.0 refl))
+  large-fault TooLarge t q none other = inl refl
+  large-fault Memory t q none other = inr refl
 
 module _ (S F : Database) (same : F ≡ bares S) where
   -- the items of a good `$p` are right
@@ -57,19 +60,8 @@ module _ (S F : Database) (same : F ≡ bares S) where
   derives-these at items t h p =
       subst (λ U. Derives U at items t) (sym same) (subst (λ is. Derives (bares S) at is t) (one-items S at p.0 items p.1 h) p.2)
 
--- ---- answers
-
-pub only-memory : {A : Type 0} (P : A → Type 0) (r : Result A AskFault) (fault : AskFault) → (fault ≡ Memory → ⊥) → MatchResult r P (λ f. f ≡ Memory) → r ≡ Err fault → ⊥
-only-memory P (Ok a) fault other m e = absurd (let f = e in cc)
-only-memory P (Err x) fault other m e = other (let f : x ≡ fault = (let g = e in cc) in sym f ∙ m)
-
 -- ---- who uses what has the label
 
 module _ (S F : Database) (same : F ≡ bares S) (label : Name) (at : ℕ) where
-  pub usage-labels : {A : Type 0} (all : Bool) (items : A → List Name) (r : Result A AskFault) → (s : Stmt) × Carries F at s label → MatchResult r (λ ls. AreLabelsOf S (IsUser S all at) (items ls)) (λ f. f ≡ Memory) → IfOk r (λ ls. IsUsage S label all (items ls))
-  usage-labels all items (Ok ls) c are = let n = named S F same label at c in (at, n.0, n.1, are)
-  usage-labels all items (Err x) c are = tt
-
-  pub usage-label : {A : Type 0} (P : A → Type 0) (r : Result A AskFault) → (s : Stmt) × Carries F at s label → MatchResult r P (λ f. f ≡ Memory) → (r ≡ Err NoLabel) ↔ HasNoLabel S label
-  usage-label P r c m =
-      ((λ e. absurd (only-memory P r NoLabel (λ f. let g = f in cc) m e)), λ none. absurd (let n = named S F same label at c in none at n.0 n.1))
+  pub usage-label : {P : Type 0} → (s : Stmt) × Carries F at s label → (P → ⊥) → P ↔ HasNoLabel S label
+  usage-label c other = ((λ p. absurd (other p)), λ none. absurd (let n = named S F same label at c in none at n.0 n.1))

@@ -29,10 +29,8 @@ module _ (L T : Database) where
   stands-behind : (n : ℕ) (s : Stmt) → IsProvable T n s → (length L < length L + n) × (length L + n ≤ length (L ++ T))
   stands-behind n s p =
       let w = stands-within T n s p.stands in
-      let low = w.0 in
-      let high = w.1 in
       let l = length-append L T in
-      (omega (arith, low), omega (arith, high, l))
+      (omega (arith, w.0), omega (arith, w.1, l))
 
   all-behind : IsLeastUnproved (L ++ T) (length L) None → (n : ℕ) (s : Stmt) → IsProvable T n s → IsProved (L ++ T) (length L + n)
   all-behind h n s p = let w = stands-behind n s p in h (length L + n) w.0 w.1 s (provable-behind L T n s p)
@@ -43,8 +41,7 @@ module _ (L T : Database) where
       by : (n : ℕ) → at - length L ≡ n → IsFirstUnproved L T n s
       by zero e = let low = least.0 in absurd (omega (arith, low, e))
       by (suc n) e =
-          let low = least.0 in
-          let here : at ≡ length L + suc n = omega (arith, low, e) in
+          let here : at ≡ length L + suc n = omega (arith, least.0, e) in
           record {
             here = record {
               stands = sym (stmt_at-behind L T n) ∙ (ap (stmt_at (L ++ T)) (sym here) ∙ stands);
@@ -66,10 +63,9 @@ module _ (S : Database) (front : ℕ) (within : front ≤ length S) where
 
   pub first-fault : (at : ℕ) (s : Stmt) → IsLeastUnproved S front (Some at) → s ≡ get_or S (at - 1) s → IsFirstUnproved (take front S) (drop front S) (at - front) s
   first-fault at s least is =
-      let low = least.0 in
       subst (λ n. IsFirstUnproved (take front S) (drop front S) (at - n) s) (length-take-le front S within)
       (first-behind (take front S) (drop front S) at s (least-cut (Some at) least)
-      (ap (λ U. stmt_at U at) (take-append-drop front S) ∙ stands-index S at s (omega (arith, low)) least.1 is))
+      (ap (λ U. stmt_at U at) (take-append-drop front S) ∙ stands-index S at s (omega (arith, least.0)) least.1 is))
 
 some-none : {A P : Type 0} {x : A} → Some x ≡ None → P
 some-none {x = x} e = absurd (let f : Some x ≡ None = e in cc)

@@ -1,5 +1,5 @@
 -- What a proof cites stands before it, and what citations lead to is what a walk down has marked.
-use Rattle.library.proofs.Words.{◌≡◌, ◌↔◌, ◌⊎◌, ℕ, zero, suc, ◌-◌, ◌<◌, ◌≤◌, Bool, true, false, List, [], ◌∷◌, ◌++◌, length, get_or, Some, option_map, slice_get, slice_set, replicate, Result, Ok, Err, OnOk, refl, sym, ◌∙◌, ap, subst, arith, inl, inr, cases_eq, get_or_default}
+use Rattle.library.proofs.Words.{◌≡◌, ◌↔◌, ◌⊎◌, ℕ, zero, suc, ◌-◌, ◌<◌, ◌≤◌, Bool, true, false, List, [], ◌∷◌, ◌++◌, length, get_or, Some, option_map, slice_get, slice_set, replicate, refl, sym, ◌∙◌, ap, subst, arith, inl, inr, cases_eq, get_or_default}
 use Rattle.library.proofs.Words.{Name, Stmt, Database, bare, bares, stmt_at, label_of, proof_of, stmt_at-bares, Carries, HasLabelsOnce, Item, Cite, Recall, Mark, one_list, Derivation, Derivations, Spells, SpellsAll, cites_hypothesis, cites_assertion, recalls, marks, spells_none, spells_more, mandatory_labels, IsRight, Good, HasItems, ItemsCite, Cites, RestsOn, directly, through, IsMarked, is_marked, Marks, label_of-bare}
 use Rattle.library.proofs.FrontLemmas.{active-below}
 use Rattle.library.proofs.UseMarkLemmas.{marked-within, one-marked, get-either}
@@ -74,8 +74,7 @@ cites-below S at a good c =
     let one = c.one in
     let e = right-earlier (bares S) at p.items p.right one.place one.label (ap (λ is. slice_get is one.place) same ∙ one.cites) in
     let here : a ≡ e.0 = labels-once S good a e.0 (bare one.cited) e.1 one.label (carries-bare S a one.cited one.label one.carries) e.2 in
-    let less = e.3 in
-    omega (arith, here, less)
+    omega (arith, here, e.3)
 
 -- ---- the marks of one proof
 
@@ -156,9 +155,7 @@ walk-step S j p ms ms' good positive m w =
     here b a e marked c =
         let d = subst (λ n. Cites S n a) e c in
         let less = cites-below S p a good d in
-        let l = w.below in
-        let n = w.count in
-        m.whole a (omega (arith, less, l, n)) (subst (IsMarked ms) e marked, d)
+        m.whole a (omega (arith, less, w.below, w.count)) (subst (IsMarked ms) e marked, d)
 
 pub walk-end : (S : Database) (j p : ℕ) (ms : List Bool) → p ≡ 0 → IsWalked S j p ms → (a : ℕ) → IsMarked ms a ↔ ((a ≡ j) ⊎ RestsOn S j a)
 walk-end S j p ms done w a = (w.sound a, reached)
@@ -174,12 +171,6 @@ walk-end S j p ms done w a = (w.sound a, reached)
     reached (inl same) = subst (IsMarked ms) (sym same) w.start
     reached (inr r) = from j w.start r
 
--- ---- results
-
-pub on-map : {A E P Q : Type 0} (r : Result A E) → (P → Q) → OnOk r P → OnOk r Q
-on-map (Ok a) f p = f p
-on-map (Err x) f p = p
-
 -- ---- one position of the walk
 
 -- what the test of a mark says
@@ -191,9 +182,7 @@ bit-marked ms (suc n) bit h within is =
 
 pub step-pass : (S : Database) (j p : ℕ) (ms ms' : List Bool) (bit : Bool) → Good S → 0 < p → ms' ≡ ms → bit ≡ get_or ms (p - 1) bit → bit ≡ false → IsWalked S j p ms → IsWalked S j (p - 1) ms'
 step-pass S j p ms ms' bit good h e is unset w =
-    let count = w.count in
-    let below = w.below in
-    let bit = bit-marked ms p bit h (omega (arith, count, below)) is in
+    let bit = bit-marked ms p bit h (omega (arith, w.count, w.below)) is in
     subst (IsWalked S j (p - 1)) (sym e)
     (walk-step S j p ms ms good h (marks-nothing (λ a. IsMarked ms p × Cites S p a) ms (λ a c. absurd (let f : true ≡ false = sym c.0 ∙ (bit ∙ unset) in cc))) w)
 
@@ -201,8 +190,7 @@ pub step-proof : (S : Database) (j p : ℕ) (ms lent ms' ms'' : List Bool) (bit 
     → Marks (Cites S p) lent ms' → IsWalked S j p ms → IsWalked S j (p - 1) ms''
 step-proof S j p ms lent ms' ms'' bit good h lending e is set done w =
     let count = w.count in
-    let below = w.below in
-    let marked : IsMarked ms p = bit-marked ms p bit h (omega (arith, count, below)) is ∙ set in
+    let marked : IsMarked ms p = bit-marked ms p bit h (omega (arith, count, w.below)) is ∙ set in
     let m = subst (λ l. Marks (Cites S p) l ms') lending done in
     subst (IsWalked S j (p - 1)) (sym e)
     (walk-step S j p ms ms' good h (record {

@@ -1,10 +1,15 @@
 -- The labels of the `$a` that are marked are those of the `$a` that a proof uses.
-use Rattle.library.proofs.Words.{◌≡◌, ◌↔◌, ◌⊎◌, ℕ, suc, ◌+◌, ◌≤◌, Bool, true, false, cond, List, [], ◌∷◌, ◌++◌, length, get_or, Some, slice_get, sym, ◌∙◌, ap, subst, arith, inl, inr, append-nil, Name, Stmt, Axiom, Database, stmt_at, is_provable, label_or_none, IsProvable, RestsOn, Uses, is_axiom, IsAxiomAt, AreLabelsOf, IsMarked, IsMarkedAxiom}
+use Rattle.library.proofs.Words.{◌≡◌, ◌↔◌, ◌⊎◌, ℕ, suc, ◌+◌, ◌≤◌, Bool, true, false, cond, List, [], ◌∷◌, ◌++◌, length, get_or, Some, slice_get, refl, sym, ◌∙◌, ap, subst, arith, inl, inr, append-nil, Name, Stmt, Axiom, Database, stmt_at, is_provable, label_or_none, IsProvable, RestsOn, Uses, is_axiom, IsAxiomAt, AreLabelsOf, IsMarked, IsMarkedAxiom}
 use Rattle.library.proofs.UseMarkLemmas.{marked-within}
 use Rattle.library.proofs.UsersLemmas.{Upto, labels-next, labels-none, labels-same}
 
 kind-of : (S : Database) (a : ℕ) (s : Stmt) → stmt_at S a ≡ Some s → IsAxiomAt S a → is_axiom s ≡ true
 kind-of S a s stands h = ap is_axiom (let e : Some s ≡ Some h.stmt = sym stands ∙ h.stands in let same : s ≡ h.stmt = cc in same) ∙ h.kind
+
+-- another statement adds no label
+pub no-axiom : (s : Stmt) (labels : List Name) → ((label : Name) (expr : List Name) → s ≡ Axiom label expr → ⊥) → labels ++ cond (is_axiom s) (label_or_none (Some s) ∷ []) [] ≡ labels
+no-axiom (Axiom label expr) labels other = absurd (other label expr refl)
+no-axiom s labels other = append-nil labels
 
 module _ (S : Database) (ms : List Bool) where
   -- the labels of the marked `$a` up to a position

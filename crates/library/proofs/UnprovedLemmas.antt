@@ -1,5 +1,6 @@
 -- The positions of the `$p` behind the first statements, and what their least that is not right says of all statements.
-use Rattle.library.proofs.Words.{◌≡◌, ℕ, zero, suc, ◌+◌, ◌<◌, ◌≤◌, List, [], ◌∷◌, ◌++◌, length, get_or, Option, Some, None, slice_get, sym, subst, arith, inl, inr, cases_eq, cases_order, Stmt, Database, stmt_at, is_provable, IsProvable, IsRightProof, AreProofs, AreBehind, StandsProved, IsLeastUnproved}
+use Rattle.library.proofs.Words.{◌≡◌, ℕ, zero, suc, ◌+◌, ◌-◌, ◌<◌, ◌≤◌, List, [], ◌∷◌, ◌++◌, length, get_or, Option, Some, None, slice_get, slice_get-get_or, get_or_default, ◌∙◌, ap, sym, subst, arith, inl, inr, cases_eq, cases_order, Stmt, Database, stmt_at, IsProvable, IsRightProof, AreProofs, AreBehind, StandsProved, IsLeastUnproved}
+use Rattle.library.proofs.FrontLemmas.{stands-index}
 use Rattle.verify_pool.specs.Least.{IsLeast}
 
 -- ---- one more statement
@@ -27,20 +28,30 @@ behind-more S front end (at ∷ ps) h are = let l = are.1 in (are.0, omega (arit
 
 -- ---- all positions
 
+pub all-behind : (S : Database) (front end : ℕ) (ps : List ℕ) → end ≤ length S → length S ≤ end → AreBehind S front end ps → AreBehind S front (length S) ps
+all-behind S front end ps within over are = subst (λ n. AreBehind S front n ps) (omega (arith, within, over)) are
+
 placed-behind : (S : Database) (front end : ℕ) (ps : List ℕ) → AreBehind S front end ps → (k at : ℕ) → slice_get ps k ≡ Some at → (front < at) × (at ≤ end)
 placed-behind S front end [] are k at e = absurd (let f = e in cc)
 placed-behind S front end (first ∷ ps) are zero at e = let is : first ≡ at = cc in let low = are.0 in let high = are.1 in (omega (arith, is, low), omega (arith, is, high))
 placed-behind S front end (first ∷ ps) are (suc k) at e =
     let rest = placed-behind S first end ps are.3 k at e in
-    let low = are.0 in
-    let above = rest.0 in
-    (omega (arith, low, above), rest.1)
+    (omega (arith, are.0, rest.0), rest.1)
 
 pub are-proofs : (S F : Database) (front : ℕ) (ps : List ℕ) → F ≡ Rattle.scope.specs.Active.bares S → AreBehind S front (length S) ps → AreProofs S F ps
 are-proofs S F front ps same are = record {
   same = same;
   placed = λ k at e. let w = placed-behind S front (length S) ps are k at e in let low = w.0 in (omega (arith, low), w.1);
 }
+
+-- the position of an index, and what stands there
+module _ (S F : Database) (ps : List ℕ) (are : AreProofs S F ps) (k at : ℕ) (s : Stmt) (less : k < length ps) (is : at ≡ get_or ps k at) (here : s ≡ get_or S (at - 1) s) where
+  pub proof-stands : stmt_at S at ≡ Some s
+  proof-stands = let p = are.placed k at (slice_get-get_or ps k at less ∙ ap Some (sym is)) in stands-index S at s p.0 p.1 here
+
+  -- what is said of that position is said of the index
+  pub proof-at : (P : ℕ → Type 0) → P at → P (get_or ps k 0)
+  proof-at P = subst P (is ∙ get_or_default ps k at 0 less)
 
 module _ (S : Database) where
   -- the first so many are proved
@@ -67,9 +78,8 @@ module _ (S : Database) where
   first-bad front end (first ∷ ps) zero are right less wrong = (are.0, are.1, wrong, (λ m above below s p. absurd (are.2 m s above below p)))
   first-bad front end (first ∷ ps) (suc i) are right less wrong =
       let r = first-bad first end ps i are.3 (λ k below. right (suc k) (omega (arith, below))) (omega (arith, less)) wrong in
-      let low = are.0 in
       let above = r.0 in (
-        omega (arith, low, above),
+        omega (arith, are.0, above),
         r.1,
         r.2,
         (λ m over below. elim (cases_order m first) [

@@ -1,7 +1,8 @@
 -- Who uses a statement: the positions behind it are walked up once, and what uses it is marked.
-use Rattle.library.proofs.Words.{◌≡◌, ◌↔◌, ◌⊎◌, ℕ, zero, suc, ◌+◌, ◌-◌, ◌<◌, ◌≤◌, Bool, true, false, cond, ◌&&◌, List, [], ◌∷◌, ◌++◌, length, replicate, Some, None, Option, slice_get, slice_set, refl, sym, ◌∙◌, ap, subst, arith, inl, inr, append-nil, cases_eq, map-append, slice_get_within}
-use Rattle.library.proofs.Words.{Name, Stmt, Prove, Database, bares, stmt_at, is_provable, stands-within, Item, label_or_none, Good, HasItems, Cites, RestsOn, directly, through, IsUser, Rises, IsIn, AreLabelsOf, IsMarked, mark, ItemsMeet, ProofMeets, NotesUser}
+use Rattle.library.proofs.Words.{◌≡◌, ◌↔◌, ◌⊎◌, ℕ, zero, suc, ◌+◌, ◌-◌, ◌<◌, ◌≤◌, Bool, true, false, cond, ◌&&◌, List, [], ◌∷◌, ◌++◌, length, replicate, get_or, false_from_ne_true, Some, None, Option, slice_get, slice_set, refl, sym, ◌∙◌, ap, subst, arith, inl, inr, append-nil, cases_eq, map-append, slice_get_within}
+use Rattle.library.proofs.Words.{Name, Stmt, Prove, Database, bares, stmt_at, is_provable, stands-within, Item, label_or_none, Good, HasItems, Cites, RestsOn, directly, through, IsUser, Rises, IsIn, AreLabelsOf, IsMarked, mark, ItemsMeet, ProofMeets}
 use Rattle.library.proofs.FrontLemmas.{get-front}
+use Rattle.library.proofs.ProvingLemmas.{not-there}
 use Rattle.library.proofs.UseMarkLemmas.{mark-count, mark-kept, mark-sound, mark-whole, one-marked, get-either}
 use Rattle.library.proofs.CitationWalkLemmas.{cites-below, cites-of, cited-of}
 
@@ -121,28 +122,30 @@ when-some : (found all : Bool) (at b : ℕ) → cond (found && all) (Some at) No
 when-some true true at b e = (refl, refl, let f = e in cc)
 when-some found all at b e = absurd (let f = e in cc)
 
-module _ (S : Database) (all : Bool) (a p : ℕ) (marks marks' : List Bool) (labels labels' : List Name) (good : Good S) (within : suc p ≤ length S) (w : IsSearched S all a p marks labels) (n : NotesUser S all (suc p) marks marks' labels labels') where
+-- where the proof cites a statement that is marked its label is added, and where all users are meant it is marked too
+module _ (S : Database) (all : Bool) (a p : ℕ) (marks marks' : List Bool) (labels labels' : List Name) (good : Good S) (within : suc p ≤ length S) (w : IsSearched S all a p marks labels) (found : Bool)
+    (meets : found ≡ true ↔ ProofMeets S (suc p) marks) (set : marks' ≡ mark (cond (found && all) (Some (suc p)) None) marks) (added : labels' ≡ labels ++ cond found (label_or_none (stmt_at S (suc p)) ∷ []) []) where
   abbrev Here : Option ℕ
-  Here = cond (n.found && all) (Some (suc p)) None
+  Here = cond (found && all) (Some (suc p)) None
 
-  uses : n.found ≡ true → IsUser S all a (suc p)
-  uses e = meets-user S all a p marks labels w (n.meets.0 e)
+  uses : found ≡ true → IsUser S all a (suc p)
+  uses e = meets-user S all a p marks labels w (meets.0 e)
 
-  met : IsUser S all a (suc p) → n.found ≡ true
-  met u = n.meets.1 (user-meets S all a p marks labels good w u)
+  met : IsUser S all a (suc p) → found ≡ true
+  met u = meets.1 (user-meets S all a p marks labels good w u)
 
   later : (b : ℕ) → IsSought S all a p b → IsSought S all a (suc p) b
   later b (inl same) = inl same
   later b (inr q) = inr (let h = q.0 in omega (arith, h), q.1, q.2)
 
   sought : (b : ℕ) → IsMarked marks' b → IsSought S all a (suc p) b
-  sought b m = elim (mark-sound Here marks b (subst (λ ms. IsMarked ms b) n.marks m)) [
+  sought b m = elim (mark-sound Here marks b (subst (λ ms. IsMarked ms b) set m)) [
     | inl before ↦ later b ((w.marked b).0 before)
-    | inr is ↦ (let q = when-some n.found all (suc p) b is in let same = q.2 in inr (omega (arith, same), q.1, subst (λ k. RestsOn S k a) same (user-rests S all a (suc p) q.1 (uses q.0))))
+    | inr is ↦ (let q = when-some found all (suc p) b is in let same = q.2 in inr (omega (arith, same), q.1, subst (λ k. RestsOn S k a) same (user-rests S all a (suc p) q.1 (uses q.0))))
   ]
 
   kept : (b : ℕ) → IsMarked marks b → IsMarked marks' b
-  kept b m = subst (λ ms. IsMarked ms b) (sym n.marks) (mark-kept Here marks b m)
+  kept b m = subst (λ ms. IsMarked ms b) (sym set) (mark-kept Here marks b m)
 
   marked : (b : ℕ) → IsSought S all a (suc p) b → IsMarked marks' b
   marked b (inl same) = kept b ((w.marked b).1 (inl same))
@@ -150,16 +153,16 @@ module _ (S : Database) (all : Bool) (a p : ℕ) (marks marks' : List Bool) (lab
     | inl same ↦ (
         let f = met (rests-user S all a (suc p) q.1 (subst (λ k. RestsOn S k a) same q.2)) in
         let which : Here ≡ Some (suc p) = ap (λ x. cond (x && all) (Some (suc p)) None) f ∙ ap (λ x. cond x (Some (suc p)) None) q.1 in
-        subst (IsMarked marks') (sym same) (subst (λ ms. IsMarked ms (suc p)) (sym (n.marks ∙ ap (λ o. mark o marks) which)) (mark-whole marks (suc p) (omega arith) (let c = w.count in omega (arith, within, c)))))
+        subst (IsMarked marks') (sym same) (subst (λ ms. IsMarked ms (suc p)) (sym (set ∙ ap (λ o. mark o marks) which)) (mark-whole marks (suc p) (omega arith) (let c = w.count in omega (arith, within, c)))))
     | inr apart ↦ kept b ((w.marked b).1 (inr (let h = q.0 in omega (arith, h, apart), q.1, q.2)))
   ]
 
   searched-next : IsSearched S all a (suc p) marks' labels'
   searched-next =
       record {
-        count = ap length n.marks ∙ (mark-count Here marks ∙ w.count);
+        count = ap length set ∙ (mark-count Here marks ∙ w.count);
         marked = λ b. (sought b, marked b);
-        listed = subst (AreLabelsOf S (Upto (IsUser S all a) (suc p))) (sym n.labels) (labels-next S (IsUser S all a) p labels w.listed n.found uses met);
+        listed = subst (AreLabelsOf S (Upto (IsUser S all a) (suc p))) (sym added) (labels-next S (IsUser S all a) p labels w.listed found uses met);
       }
 
 -- ---- its beginning and its end
@@ -198,22 +201,48 @@ module _ (S F : Database) (same : F ≡ bares S) (at : ℕ) (marks : List Bool) 
   pub proof-meets : (items : List Item) → HasItems S at items → ItemsMeet F items marks ↔ ProofMeets S at marks
   proof-meets items has = ((λ m. (m.0, m.1, cites-of S F same at items m.0 has m.2)), λ m. (m.0, m.1, cited-of S F same at items m.0 has m.2))
 
--- nothing is cited
-pub notes-nothing : (S : Database) (all : Bool) (at : ℕ) (marks : List Bool) (labels : List Name) → ((a : ℕ) → Cites S at a → ⊥) → NotesUser S all at marks marks labels labels
-notes-nothing S all at marks labels none =
-    record { found = false; meets = ((λ e. absurd (let f = e in cc)), λ m. absurd (none m.0 m.2)); marks = refl; labels = sym (append-nil labels) }
-
 pub not-provable : (s : Stmt) → ((label : Name) (expr proof : List Name) → s ≡ Prove label expr proof → ⊥) → is_provable s ≡ true → ⊥
 not-provable (Prove label expr proof) other h = other label expr proof refl
 not-provable s other h = let e = h in cc
 
--- one position of the walk, whose marks were lent
-pub search-step : (S : Database) (all : Bool) (a p : ℕ) (marks lent marks' marks'' : List Bool) (labels labels' : List Name) → Good S → p < length S → lent ≡ marks
-    → (length marks' ≡ length marks → marks'' ≡ marks') → IsSearched S all a p marks labels → NotesUser S all (p + 1) lent marks' labels labels' → IsSearched S all a (p + 1) marks'' labels'
-search-step S all a p marks lent marks' marks'' labels labels' good within is whole w n =
-    let next : p + 1 ≡ suc p = omega arith in
-    let m : NotesUser S all (suc p) marks marks' labels labels' = subst (λ k. NotesUser S all k marks marks' labels labels') next (subst (λ ms. NotesUser S all (p + 1) ms marks' labels labels') is n) in
-    let count : length marks' ≡ length marks = ap length m.marks ∙ mark-count (cond (m.found && all) (Some (suc p)) None) marks in
-    subst (λ k. IsSearched S all a k marks'' labels') (sym next)
-    (subst (λ ms. IsSearched S all a (suc p) ms labels') (sym (whole count))
-    (searched-next S all a p marks marks' labels labels' good (omega (arith, within)) w m))
+-- a place that is not marked is set
+set-false : (ms : List Bool) (k : ℕ) → get_or ms k false ≡ false → slice_set ms k false ≡ ms
+set-false [] k h = refl
+set-false (m ∷ ms) zero h = ap (λ b. b ∷ ms) (sym h)
+set-false (m ∷ ms) (suc k) h = ap (λ rest. m ∷ rest) (set-false ms k h)
+
+set-all : (all : Bool) (ms : List Bool) (k : ℕ) → get_or ms k false ≡ false → slice_set ms k all ≡ mark (cond all (Some (suc k)) None) ms
+set-all true ms k h = refl
+set-all false ms k h = set-false ms k h
+
+-- the statement behind position p is no `$p`, or its proof meets no mark, or it does
+module _ (S : Database) (all : Bool) (a p : ℕ) (marks : List Bool) (labels : List Name) (good : Good S) (within : p < length S) (w : IsSearched S all a p marks labels) where
+  next : p + 1 ≡ suc p
+  next = omega arith
+
+  noted : (marks' : List Bool) (labels' : List Name) (found : Bool) → (found ≡ true ↔ ProofMeets S (suc p) marks) → marks' ≡ mark (cond (found && all) (Some (suc p)) None) marks
+      → labels' ≡ labels ++ cond found (label_or_none (stmt_at S (suc p)) ∷ []) [] → IsSearched S all a (p + 1) marks' labels'
+  noted marks' labels' found meets set added = subst (λ k. IsSearched S all a k marks' labels') (sym next) (searched-next S all a p marks marks' labels labels' good (omega (arith, within)) w found meets set added)
+
+  misses : (false ≡ true ↔ ProofMeets S (suc p) marks) → IsSearched S all a (p + 1) marks labels
+  misses meets = noted marks labels false meets refl (sym (append-nil labels))
+
+  pub search-past : (s : Stmt) → stmt_at S (p + 1) ≡ Some s → ((label : Name) (expr proof : List Name) → s ≡ Prove label expr proof → ⊥) → IsSearched S all a (p + 1) marks labels
+  search-past s stands other = misses ((λ e. absurd (let f = e in cc)), λ m. absurd (none m.0 m.2))
+    where
+      none : (b : ℕ) → Cites S (suc p) b → ⊥
+      none b c = not-there S (suc p) s (subst (λ n. stmt_at S n ≡ Some s) next stands) (not-provable s other) c.has.stmt c.has.provable
+
+  module _ (found : Bool) (lent : List Bool) (same : lent ≡ marks) (meets : found ≡ true ↔ ProofMeets S (p + 1) lent) where
+    told : (b : Bool) → found ≡ b → b ≡ true ↔ ProofMeets S (suc p) marks
+    told b e = subst (λ b. b ≡ true ↔ ProofMeets S (suc p) marks) e (subst (λ ms. found ≡ true ↔ ProofMeets S (suc p) ms) same (subst (λ n. found ≡ true ↔ ProofMeets S n lent) next meets))
+
+    pub search-miss : found ≡ false → IsSearched S all a (p + 1) marks labels
+    search-miss e = misses (told false e)
+
+    pub search-user : (s : Stmt) (label : Name) → stmt_at S (p + 1) ≡ Some s → label_or_none (Some s) ≡ label → a ≤ p → found ≡ true → IsSearched S all a (p + 1) (slice_set marks p all) (labels ++ label ∷ [])
+    search-user s label stands is above e =
+        noted (slice_set marks p all) (labels ++ label ∷ []) true (told true e) (set-all all marks p unmarked) (ap (λ l. labels ++ l ∷ []) (sym (ap label_or_none (subst (λ n. stmt_at S n ≡ Some s) next stands) ∙ is)))
+      where
+        unmarked : get_or marks p false ≡ false
+        unmarked = false_from_ne_true (get_or marks p false) (λ m. elim ((w.marked (suc p)).0 m) [ inl is ↦ absurd (omega (arith, above, is)) | inr q ↦ absurd (let h = q.0 in omega (arith, h)) ])

@@ -13,7 +13,7 @@ pub use Rattle.library.specs.Ledger.{AreDecisions, IsDecision, decided_of}
 pub use Rattle.library.specs.LibraryOf.{Applies, AppliesAt, Decided, Decides, IsLibraryOf, Replica, Runs, decided_with, empty, status, status_of}
 pub use Rattle.library.specs.Listed.{listed, listed_of}
 pub use Rattle.library.specs.Unproved.{AreBehind, AreProofs, IsRightProof}
-pub use Rattle.library.specs.UseMarks.{AreWanted, IsMarked, IsMarkedAxiom, ItemsMeet, ListsNone, ListsSome, Marks, NotesUser, ProofMeets, is_marked, listed_in, mark, mark_items, place_of}
+pub use Rattle.library.specs.UseMarks.{AreWanted, IsMarked, IsMarkedAxiom, ItemsMeet, ListsNone, ListsSome, Marks, ProofMeets, is_marked, listed_in, mark, mark_items, place_of}
 pub use Rattle.library.specs.Uses.{AreLabelsOf, Cites, HasItems, IsAxiomAt, IsIn, IsUser, ItemsCite, RestsOn, Rises, Uses, directly, is_axiom, through}
 pub use Rattle.library.specs.declared.entry.Entry.TheVariants.{Charter, Text}
 pub use Rattle.library.specs.declared.submission.Submission.{Submission}

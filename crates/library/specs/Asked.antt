@@ -2,7 +2,7 @@
 -- Source: this project's profile; Metamath, 4.2.6 and appendix B.
 -- The code finds the label in a table.
 use Rattle.std.specs.Prelude.{ℕ, Bool, IsFalse, List}
-use Rattle.library.specs.Words.{Name, Stmt, Database, bares, is_provable, Carries, Item, IsProvable, IsRight, Derives, IsSmall}
+use Rattle.library.specs.Words.{Name, Stmt, Database, bares, is_provable, Carries, Item, IsProvable, IsRight, Derives}
 use Rattle.verify.specs.Derivations.{Derivation}
 use Rattle.library.specs.declared.asked.AskFault.{AskFault}
 use Rattle.library.specs.declared.asked.AskFault.TheVariants.{NoLabel, NotProvable}
@@ -48,10 +48,6 @@ IsNoProof S label fault = ⊥
 -- the proof of the `$p` at j spells the derivation
 abbrev pub SpellsTree : Database → ℕ → Derivation → Type 0
 SpellsTree S j t = (items : List Item) × HasItems S j items × Derives (bares S) j items t
-
--- it spells one that is over the limits
-abbrev pub SpellsLargeTree : Database → ℕ → Type 0
-SpellsLargeTree S j = (t : Derivation) × SpellsTree S j t × (¬ IsSmall t)
 
 -- the derivation that the proof of the label spells
 abbrev pub IsTreeOf : Database → Name → Derivation → Type 0

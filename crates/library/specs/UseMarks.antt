@@ -1,8 +1,8 @@
 -- Which positions a walk over citations has marked.
 -- Source: none; for the private functions of `uses` and `users`.
 -- The marks are a list with one place for each position, the first for position 1.
-use Rattle.std.specs.Prelude.{◌≡◌, ◌↔◌, ◌⊎◌, ℕ, zero, suc, ◌≤◌, Bool, true, false, List, [], ◌∷◌, ◌++◌, length, map, cond, ◌&&◌, if◌then◌else◌, Option, Some, None, slice_index_or, slice_set}
-use Rattle.library.specs.Words.{Name, name_eq, has_name, Stmt, Database, stmt_at, Carries, Item, finish, label_or_none}
+use Rattle.std.specs.Prelude.{◌≡◌, ◌⊎◌, ℕ, zero, suc, ◌≤◌, Bool, true, false, List, [], ◌∷◌, length, map, if◌then◌else◌, Option, Some, None, slice_index_or, slice_set}
+use Rattle.library.specs.Words.{Name, name_eq, has_name, Stmt, Database, Carries, Item, finish}
 use Rattle.frame.specs.AtPosition.{ArePositions}
 use Rattle.library.specs.Uses.{ItemsCite, Cites, IsAxiomAt}
 
@@ -54,13 +54,6 @@ ItemsMeet S items marks = (a : ℕ) × IsMarked marks a × ItemsCite S items a
 -- the same of the proof of the statement at a position
 abbrev pub ProofMeets : Database → ℕ → List Bool → Type 0
 ProofMeets S at marks = (a : ℕ) × IsMarked marks a × Cites S at a
-
--- where the proof cites a statement that is marked its label is added, and where all users are meant it is marked too
-pub record NotesUser (S : Database) (all : Bool) (at : ℕ) (old new : List Bool) (before after : List Name) : Type 0 where
-  pub found : Bool
-  pub meets : found ≡ true ↔ ProofMeets S at old
-  pub marks : new ≡ mark (cond (found && all) (Some at) None) old
-  pub labels : after ≡ before ++ cond found (label_or_none (stmt_at S at) ∷ []) []
 
 -- the tokens before `)`: those that a compressed proof lists, behind `(`, or all of a normal one
 abbrev pub listed_in : List Name → List Name

@@ -1,13 +1,6 @@
 //! Questions on a label: what the proof of a `$p` rests on, its items and the derivation that they spell; who uses a statement.
-ghost use Rattle.std.specs.Prelude.{◌≡◌, ◌≢◌, ◌↔◌, ◌⊎◌, Ok, Err, IfOk, IfErr, MatchResult};
-ghost use Rattle.mm_read.specs.declared.stmt.Stmt.{Stmt as Statement};
-ghost use Rattle.scope.specs.Active.{bares, is_provable};
-ghost use Rattle.verify.specs.Derivations.{Derivation, derivation_of};
-ghost use Rattle.verify.specs.Right.{IsProvable, IsRight, IsSmall};
-ghost use Rattle.frame.specs.AtPosition.{HasLabelsOnce};
-ghost use Rattle.library.specs.Good.{Good};
-ghost use Rattle.library.specs.Uses.{HasItems};
-ghost use Rattle.library.specs.Asked.{HasNoLabel, NamesProof, NamesNoProof, IsTrace, IsUsage, IsProofOf, IsTreeOf, IsNoProof, SpellsTree, SpellsLargeTree};
+ghost use Rattle.std.specs.Prelude.{◌≡◌, ◌≢◌, ◌↔◌, ◌⊎◌, Ok, Err, IfOk, MatchResult};
+ghost use Rattle.{scope.specs.Active.bares, scope.specs.Active.is_provable, verify.specs.Derivations.Derivation, verify.specs.Derivations.derivation_of, verify.specs.Right.IsSmall, frame.specs.AtPosition.HasLabelsOnce, library.specs.Good.Good, library.specs.Asked.HasNoLabel, library.specs.Asked.NamesProof, library.specs.Asked.NamesNoProof, library.specs.Asked.IsTrace, library.specs.Asked.IsUsage, library.specs.Asked.IsProofOf, library.specs.Asked.IsTreeOf, library.specs.Asked.IsNoProof};
 
 use crate::base::Base;
 use crate::library::Library;
@@ -59,7 +52,7 @@ impl Library {
     {
         let base = self.base();
         match proof_at(base, label) {
-            Ok(at) => axioms_used(base, at),
+            Ok(at) => Ok(axioms_used(base, at)?),
             Err(fault) => Err(fault),
         }
     }
@@ -78,7 +71,7 @@ impl Library {
     {
         let base = self.base();
         match base.frames().position(label) {
-            Some(at) => users(base, at, all),
+            Some(at) => Ok(users(base, at, all)?),
             None => Err(AskFault::NoLabel),
         }
     }
@@ -94,7 +87,10 @@ impl Library {
     {
         let base = self.base();
         match proof_at(base, label) {
-            Ok(at) => items_at(base, at),
+            Ok(at) => match items_of(base, at)? {
+                Some(items) => Ok((at, items)),
+                None => unreachable!(),
+            },
             Err(fault) => Err(fault),
         }
     }
@@ -122,8 +118,14 @@ impl Library {
         ensures only_large { result ≡ Err AskFault.TooLarge → (t : Derivation) × IsTreeOf self.now.replica.statements label.now t × (¬ IsSmall t) }
     {
         let base = self.base();
-        match proof_at(base, label) {
-            Ok(at) => tree_at(base, at),
+        let frames = base.frames();
+        match self.items(label) {
+            Ok((at, items)) => match derivation(base.alloc(), frames, at, &items) {
+                Ok(tree) => Ok(tree),
+                Err(TreeFault::TooLarge) => Err(AskFault::TooLarge),
+                Err(TreeFault::Memory) => Err(AskFault::Memory),
+                Err(TreeFault::Wrong) => unreachable!(),
+            },
             Err(fault) => Err(fault),
         }
     }
@@ -149,46 +151,4 @@ pub(crate) fn is_proof(statement: &Stmt) -> bool
     ensures { result ≡ is_provable statement.now }
 {
     matches!(statement, Stmt::Prove { .. })
-}
-
-/// The position and the items of the `$p` there.
-fn items_at(base: &Base, at: usize) -> Result<(usize, Items), AskFault>
-    requires { (s : Statement) × IsProvable base.now at s }
-    ensures { MatchResult result (λ found. (found.0 ≡ at) × HasItems base.now at found.1 × IsRight (bares base.now) at found.1) (λ fault. fault ≡ AskFault.Memory) }
-{
-    match items_of(base, at)? {
-        Some(items) => Ok((at, items)),
-        None => unreachable!(),
-    }
-}
-
-/// The derivation that the `$p` at a position spells.
-fn tree_at(base: &Base, at: usize) -> Result<Tree, AskFault>
-    requires provable { (s : Statement) × IsProvable base.now at s }
-    ensures tree { IfOk result (λ tree. SpellsTree base.now at (derivation_of tree)) }
-    ensures small { IfOk result (λ tree. IsSmall (derivation_of tree)) }
-    ensures fault { IfErr result (λ fault. (fault ≡ AskFault.TooLarge) ⊎ (fault ≡ AskFault.Memory)) }
-    ensures large { SpellsLargeTree base.now at → (result ≡ Err AskFault.TooLarge) ⊎ (result ≡ Err AskFault.Memory) }
-    ensures only_large { result ≡ Err AskFault.TooLarge → SpellsLargeTree base.now at }
-{
-    match items_at(base, at) {
-        Ok(found) => ask_tree(derivation(base.alloc(), base.frames(), at, &found.1)),
-        Err(fault) => Err(fault),
-    }
-}
-
-/// What is answered of a derivation whose proof is right.
-fn ask_tree(tree: Result<Tree, TreeFault>) -> Result<Tree, AskFault>
-    requires { tree ≢ Err TreeFault.Wrong }
-    ensures ok { IfOk result (λ found. tree ≡ Ok found) }
-    ensures fault { IfErr result (λ fault. (fault ≡ AskFault.TooLarge) ⊎ (fault ≡ AskFault.Memory)) }
-    ensures large { (result ≡ Err AskFault.TooLarge) ↔ (tree ≡ Err TreeFault.TooLarge) }
-    ensures memory { (result ≡ Err AskFault.Memory) ↔ (tree ≡ Err TreeFault.Memory) }
-{
-    match tree {
-        Ok(tree) => Ok(tree),
-        Err(TreeFault::TooLarge) => Err(AskFault::TooLarge),
-        Err(TreeFault::Memory) => Err(AskFault::Memory),
-        Err(TreeFault::Wrong) => unreachable!(),
-    }
 }

@@ -1,14 +1,8 @@
 //! Good statements, with what judges those that come behind them.
 ghost use Rattle.std.specs.Prelude.{◌≡◌, ◌+◌, ◌*◌, ◌≤◌, ◌++◌, [], length, take, drop, Ok, Some, None, IfOk, OnOk, OnErr};
-ghost use Rattle.std.specs.Fn.{FnReturnsAt};
-ghost use Rattle.mm_read.specs.Statements.{AreShaped};
-ghost use Rattle.scope.specs.Active.{bares, stmt_at};
-ghost use Rattle.frame.specs.AtPosition.{HasLabelsOnce};
-ghost use Rattle.library.specs.Good.{Good};
-ghost use Rattle.library.specs.Judging.{Begins, IsPlaced, Extends};
-ghost use Rattle.library.specs.Unproved.{FindsLeast};
+ghost use Rattle.{std.specs.Fn.FnReturnsAt, mm_read.specs.Statements.AreShaped, scope.specs.Active.bares, scope.specs.Active.stmt_at, frame.specs.AtPosition.HasLabelsOnce, library.specs.Good.Good, library.specs.Judging.Begins, library.specs.Judging.IsPlaced, library.specs.Judging.Extends, library.specs.Unproved.FindsLeast};
 
-use crate::entering::{enter, make_room};
+use crate::entering::enter;
 use crate::read_items::is_unfinished;
 use crate::unproved::{Proofs, least_unproved};
 use crate::verdict::Cause;
@@ -28,8 +22,7 @@ pub(crate) struct Base {
 }
 
 impl Model for Base {
-    ghost use Rattle.mm_read.specs.Statements.{Database};
-    ghost use Rattle.library.specs.Judging.{IsBase};
+    ghost use Rattle.{mm_read.specs.Statements.Database, library.specs.Judging.IsBase};
 
     ghost Value = { Database };
 
@@ -169,7 +162,6 @@ fn judge<F: Fn(&Proofs<'_>) -> Result<Option<usize>, AllocError>>(
     ensures marked { rules.new.marked ≡ rules.old.marked }
     ensures counted { steps.new.count ≤ steps.old.count + 2 * length (drop front statements.now) }
 {
-    make_room(frames, &statements[front..]);
     match enter(rules, frames, &statements[front..], steps)? {
         None => {}
         Some((statement, rule)) => return Ok(Some(Cause::Rule { statement, rule })),

@@ -50,8 +50,7 @@ impl Names {
     pub fn into_vec(self) -> Vec<u64>
         ensures { result.items ≡ self }
     {
-        let Names { numbers } = self;
-        numbers
+        self.numbers
     }
 
     /// Whether the author is named.

@@ -1,41 +1,15 @@
 //! The statements of a text behind those that stand: rules and frames take them, up to the first that breaks a rule.
-ghost use Rattle.std.specs.Prelude.{◌≡◌, ◌+◌, ◌*◌, ◌≤◌, ◌∷◌, [], ◌++◌, length, Some, None, IfOk, IsTrue, is_some};
-ghost use Rattle.mm_read.specs.Statements.{IsShaped, AreShaped};
-ghost use Rattle.scope.specs.Active.{bare, bares, is_closed, label_of};
-ghost use Rattle.scope.specs.Legal.{broken_rule, first_broken};
-ghost use Rattle.library.specs.Judging.{Begins};
+ghost use Rattle.std.specs.Prelude.{◌≡◌, ◌+◌, ◌*◌, ◌≤◌, ◌++◌, length, Some, None, IfOk, IsTrue};
+ghost use Rattle.{mm_read.specs.Statements.AreShaped, scope.specs.Active.bares, scope.specs.Active.is_closed, scope.specs.Legal.first_broken, library.specs.Judging.Begins};
 
 use frame::Frames;
 use mm_read::Stmt;
 use scope::{Rule, Rules, Steps};
 use std::alloc::AllocError;
 
-/// Makes room for the labels of the statements, where there is memory for it.
-pub(crate) fn make_room(frames: &mut Frames, statements: &[Stmt])
-    ensures { frames.new ≡ frames.old }
-{
-    let labels = statements
-        .iter()
-        .filter(|statement| has_label(statement))
-        .count();
-    frames.reserve(labels);
-}
-
-/// Whether the statement carries a label.
-fn has_label(statement: &Stmt) -> bool
-    ensures { result ≡ is_some (label_of statement.now) }
-{
-    match statement {
-        Stmt::Float { .. } => true,
-        Stmt::Ess { .. } => true,
-        Stmt::Axiom { .. } => true,
-        Stmt::Prove { .. } => true,
-        _ => false,
-    }
-}
-
 /// Adds the statements to the frames and the rules, up to the first that breaks a rule, and answers its number, counted
-/// from 1, and its least rule. A block that is open at the end breaks G10 one above the last statement.
+/// from 1, and its least rule. A block that is open at the end breaks G10 one above the last statement. Room for their
+/// labels is made first, where there is memory for it.
 ///
 /// Errors: a growth was refused. Cost: that of the statements, one step each.
 pub(crate) fn enter(
@@ -54,6 +28,13 @@ pub(crate) fn enter(
     ensures marked { rules.new.marked ≡ rules.old.marked }
     ensures counted { steps.new.count ≤ steps.old.count + 2 * length statements.now }
 {
+    let labelled = statements.iter().filter(|statement| {
+        matches!(
+            statement,
+            Stmt::Float { .. } | Stmt::Ess { .. } | Stmt::Axiom { .. } | Stmt::Prove { .. }
+        )
+    });
+    frames.reserve(labelled.count());
     for (index, statement) in statements.iter().enumerate() {
         match frames.add(rules, statement, steps) {
             Ok(()) => {}

@@ -1,9 +1,6 @@
 //! What a text reads as, and what the charter that is there forbids its author.
-ghost use Rattle.std.specs.Prelude.{◌≡◌, IfErr, IfOk};
-ghost use Rattle.std.specs.Fn.{FnReturnsAt};
-ghost use Rattle.mm_read.specs.Reads.{Reads, IsReadFault};
-ghost use Rattle.library.specs.Charters.{first_declaration, forbidden, is_declaration, may_declare};
-ghost use Rattle.library.specs.Judging.{IsReading, ReadsTexts};
+ghost use Rattle.std.specs.Prelude.{◌≡◌, IfOk};
+ghost use Rattle.{std.specs.Fn.FnReturnsAt, library.specs.Charters.forbidden, library.specs.Charters.is_declaration, library.specs.Charters.may_declare, library.specs.Judging.IsReading, library.specs.Judging.ReadsTexts};
 
 use crate::charter::Names;
 use crate::submission::{MOST_BYTES, Submission};
@@ -28,7 +25,7 @@ pub(crate) fn read_text<T: Fn(&[u8]) -> Result<Vec<Stmt>, ReadFault>>(
     if text.len() > MOST_BYTES {
         return Ok(Err(Cause::TooLong));
     }
-    match statements_of(text, read) {
+    match read(text) {
         Ok(statements) => match forbidden(charter, submission.author, &statements) {
             Some(statement) => Ok(Err(Cause::NotChartered { statement })),
             None => Ok(Ok(statements)),
@@ -37,19 +34,6 @@ pub(crate) fn read_text<T: Fn(&[u8]) -> Result<Vec<Stmt>, ReadFault>>(
         Err(ReadFault::Shape { .. }) => Ok(Err(Cause::Shape)),
         Err(ReadFault::Memory) => Err(AllocError),
     }
-}
-
-/// What `read` answers of the text.
-fn statements_of<T: Fn(&[u8]) -> Result<Vec<Stmt>, ReadFault>>(
-    text: &[u8],
-    read: &T,
-) -> Result<Vec<Stmt>, ReadFault>
-    requires callable { T.IsAlwaysCallable read.now }
-    requires reads { ReadsTexts (FnReturnsAt T.Fn read.now) }
-    ensures found { IfOk result (λ statements. Reads text.now statements.items) }
-    ensures fault { IfErr result (IsReadFault text.now) }
-{
-    read(text)
 }
 
 /// Whether the author may declare constants and axioms: where a charter is there, it names him.
@@ -67,16 +51,8 @@ fn forbidden(charter: &Option<Names>, author: u64, statements: &[Stmt]) -> Optio
     ensures { result ≡ forbidden charter.now author statements.now }
 {
     if may_declare(charter, author) {
-        None
-    } else {
-        first_declaration(statements)
+        return None;
     }
-}
-
-/// The number of the least `$c` or `$a`, counted from 1.
-fn first_declaration(statements: &[Stmt]) -> Option<usize>
-    ensures { result ≡ first_declaration 1 statements.now }
-{
     for (index, statement) in statements.iter().enumerate() {
         if is_declaration(statement) {
             return Some(index + 1);

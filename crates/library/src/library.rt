@@ -1,13 +1,6 @@
 //! One replica: the statements that the entries of a log validly add, and the verdicts on them.
 ghost use Rattle.std.specs.Prelude.{◌≡◌, None, Some, IfOk, IfSome, OnErr, option_map};
-ghost use Rattle.std.specs.Fn.{FnReturnsAt};
-ghost use Rattle.mm_read.specs.Statements.{AreShaped};
-ghost use Rattle.library.specs.Good.{Good};
-ghost use Rattle.library.specs.LibraryOf.{Applies, empty, status};
-ghost use Rattle.library.specs.Ledger.{IsDecision};
-ghost use Rattle.library.specs.LibraryState.{IsWithinSteps, IsWithinEntry};
-ghost use Rattle.library.specs.Judging.{Judges, ReadsTexts};
-ghost use Rattle.library.specs.Unproved.{FindsLeast};
+ghost use Rattle.{std.specs.Fn.FnReturnsAt, mm_read.specs.Statements.AreShaped, library.specs.Good.Good, library.specs.LibraryOf.Applies, library.specs.LibraryOf.empty, library.specs.LibraryOf.status, library.specs.Ledger.IsDecision, library.specs.LibraryState.IsWithinSteps, library.specs.Judging.ReadsTexts, library.specs.Unproved.FindsLeast};
 
 use crate::base::Base;
 use crate::charter::Names;
@@ -28,7 +21,6 @@ use verify_pool::{Gate, Workers, judge_all, judge_here};
 /// count of the steps that the library took.
 #[derive(Drop)]
 pub struct Library {
-    alloc: Global,
     base: Base,
     verdicts: Verdicts,
     charter: Option<Names>,
@@ -50,7 +42,6 @@ impl Library {
         ensures steps { result.steps ≡ 0 }
     {
         Library {
-            alloc,
             base: Base::new(alloc),
             verdicts: Verdicts::new(alloc),
             charter: None,
@@ -67,7 +58,7 @@ impl Library {
         ensures same { OnErr result (self.new.replica ≡ self.old.replica) }
         ensures counted { IsWithinSteps self.old.replica (option_map (λ e. e.now) next.entry) self.old.steps self.new.steps }
     {
-        let alloc = self.alloc;
+        let alloc = self.base.alloc();
         self.apply_by(
             next,
             &|text: &[u8]| read(alloc, text),
@@ -90,7 +81,7 @@ impl Library {
         ensures same { OnErr result (self.new.replica ≡ self.old.replica) }
         ensures counted { IsWithinSteps self.old.replica (option_map (λ e. e.now) next.entry) self.old.steps self.new.steps }
     {
-        let alloc = self.alloc;
+        let alloc = self.base.alloc();
         let count = workers.count();
         self.apply_by(
             next,
@@ -100,7 +91,8 @@ impl Library {
     }
 
     /// Applies the next entry, where `read` answers of a text the statements that it writes, and `least` of proofs the
-    /// index of the least that is not right.
+    /// index of the least that is not right. The statements of a text are added where they are good; a charter counts from
+    /// now on where it is added.
     fn apply_by<
         T: Fn(&[u8]) -> Result<Vec<Stmt>, ReadFault>,
         F: Fn(&Proofs<'_>) -> Result<Option<usize>, AllocError>,
@@ -121,14 +113,23 @@ impl Library {
             None => {}
         }
         self.verdicts.reserve()?;
-        let verdict = judge(
-            &mut self.base,
-            &mut self.charter,
-            entry,
-            &mut self.steps,
-            read,
-            least,
-        )?;
+        let verdict = match entry {
+            Entry::Text(submission) => match read_text(&self.charter, submission, read)? {
+                Ok(statements) => match self.base.extend(statements, &mut self.steps, least)? {
+                    None => Verdict::Added,
+                    Some(cause) => Verdict::Refused(cause),
+                },
+                Err(cause) => Verdict::Refused(cause),
+            },
+            Entry::Charter { author, names, .. } => {
+                if !may_declare(&self.charter, *author) {
+                    Verdict::Refused(Cause::NotChartered { statement: 0 })
+                } else {
+                    self.charter = Some(names.copy()?);
+                    Verdict::Added
+                }
+            }
+        };
         self.verdicts.push(entry.author(), entry.serial(), verdict);
         Ok(verdict)
     }
@@ -162,46 +163,5 @@ impl Library {
         ensures { option_map (λ names. names.now) result ≡ self.now.replica.charter }
     {
         self.charter.as_ref()
-    }
-}
-
-/// The verdict on an entry that was not decided before. The statements of a text are added where they are good; a charter
-/// counts from now on where it is added.
-fn judge<
-    T: Fn(&[u8]) -> Result<Vec<Stmt>, ReadFault>,
-    F: Fn(&Proofs<'_>) -> Result<Option<usize>, AllocError>,
->(
-    base: &mut Base,
-    charter: &mut Option<Names>,
-    entry: &Entry,
-    steps: &mut Steps,
-    read: &T,
-    least: &F,
-) -> Result<Verdict, AllocError>
-    requires readable { T.IsAlwaysCallable read.now }
-    requires reads { ReadsTexts (FnReturnsAt T.Fn read.now) }
-    requires callable { F.IsAlwaysCallable least.now }
-    requires finds { FindsLeast (FnReturnsAt F.Fn least.now) }
-    ensures judged { IfOk result (λ verdict. Judges base.old charter.old entry.now verdict base.new charter.new) }
-    ensures decided { IfOk result IsDecision }
-    ensures base { OnErr result (base.new ≡ base.old) }
-    ensures charter { OnErr result (charter.new ≡ charter.old) }
-    ensures counted { IsWithinEntry entry.now steps.old.count steps.new.count }
-{
-    match entry {
-        Entry::Text(submission) => match read_text(charter, submission, read)? {
-            Ok(statements) => match base.extend(statements, steps, least)? {
-                None => Ok(Verdict::Added),
-                Some(cause) => Ok(Verdict::Refused(cause)),
-            },
-            Err(cause) => Ok(Verdict::Refused(cause)),
-        },
-        Entry::Charter { author, names, .. } => {
-            if !may_declare(charter, *author) {
-                return Ok(Verdict::Refused(Cause::NotChartered { statement: 0 }));
-            }
-            *charter = Some(names.copy()?);
-            Ok(Verdict::Added)
-        }
     }
 }

@@ -1,13 +1,11 @@
 //! The assertions of a library, and its statements as a text.
-ghost use Rattle.std.specs.Prelude.{◌≡◌, ◌∷◌, ◌++◌, [], IfOk, OnOk};
-ghost use Rattle.mm_read.specs.Export.{export_of};
-ghost use Rattle.mm_read.specs.Reads.{Reads};
-ghost use Rattle.library.specs.Listed.{listed};
+ghost use Rattle.std.specs.Prelude.{◌≡◌, IfOk};
+ghost use Rattle.{mm_read.specs.Export.export_of, mm_read.specs.Reads.Reads, library.specs.Listed.listed};
 
 use crate::library::Library;
 use mm_lex::Word;
 use mm_read::{Stmt, spell};
-use std::alloc::{AllocError, Global};
+use std::alloc::AllocError;
 
 /// An assertion of a library.
 #[derive(Drop)]
@@ -27,7 +25,12 @@ impl Library {
         let alloc = self.base().alloc();
         let mut list = Vec::new(alloc);
         for statement in self.statements() {
-            push_assertion(alloc, &mut list, statement)?;
+            let (label, proved) = match statement {
+                Stmt::Axiom { label, .. } => (label.copy(alloc)?, false),
+                Stmt::Prove { label, .. } => (label.copy(alloc)?, true),
+                _ => continue,
+            };
+            list.push(Listed { label, proved })?;
         }
         Ok(list)
     }
@@ -41,28 +44,4 @@ impl Library {
     {
         spell(self.base().alloc(), self.statements())
     }
-}
-
-/// Adds the statement to the list, where it is an assertion.
-fn push_assertion(alloc: Global, list: &mut Vec<Listed>, statement: &Stmt) -> Result<(), AllocError>
-    ensures { OnOk result (list.new.items ≡ list.old.items ++ listed (statement.now ∷ [])) }
-{
-    match statement {
-        Stmt::Axiom { label, .. } => push_listed(alloc, list, label, false),
-        Stmt::Prove { label, .. } => push_listed(alloc, list, label, true),
-        _ => Ok(()),
-    }
-}
-
-fn push_listed(
-    alloc: Global,
-    list: &mut Vec<Listed>,
-    label: &Word,
-    proved: bool,
-) -> Result<(), AllocError>
-    ensures { OnOk result (list.new.items ≡ list.old.items ++ record { label = label.now; proved = proved } ∷ []) }
-{
-    let label = label.copy(alloc)?;
-    list.push(Listed { label, proved })?;
-    Ok(())
 }

@@ -1,13 +1,6 @@
 //! The items that the tokens of a proof write.
-ghost use Rattle.std.specs.Prelude.{◌≡◌, ◌≤◌, Some, length, IfOk, MatchOption, IsTrue};
-ghost use Rattle.mm_lex.specs.Words.{is_word};
-ghost use Rattle.mm_read.specs.declared.stmt.Stmt.{Stmt as Statement};
-ghost use Rattle.scope.specs.Active.{bares, proof_of, stmt_at};
-ghost use Rattle.frame.specs.Citations.{is_hypothesis_kind};
-ghost use Rattle.proof_code.specs.Writes.{is_unfinished};
-ghost use Rattle.verify.specs.Proves.{label_or_none, mandatory_labels};
-ghost use Rattle.verify.specs.Right.{IsProvable, IsRight};
-ghost use Rattle.library.specs.Uses.{HasItems};
+ghost use Rattle.std.specs.Prelude.{◌≡◌, ◌≤◌, length, IfOk, MatchOption};
+ghost use Rattle.{mm_read.specs.declared.stmt.Stmt.Stmt as Statement, scope.specs.Active.bares, scope.specs.Active.proof_of, proof_code.specs.Writes.is_unfinished, verify.specs.Right.IsProvable, verify.specs.Right.IsRight, library.specs.Uses.HasItems};
 
 use crate::base::Base;
 use mm_lex::Words;
@@ -24,40 +17,19 @@ pub(crate) fn items_of(base: &Base, at: usize) -> Result<Option<Items>, AllocErr
     let Stmt::Prove { proof, .. } = base.statement(at) else {
         return Ok(None);
     };
-    if is_compressed(proof) {
-        let labels = labels_of(base, at)?;
-        written(packed(base.alloc(), proof, &labels))
-    } else {
-        written(normal(base.alloc(), proof))
+    if !is_compressed(proof) {
+        return written(normal(base.alloc(), proof));
     }
-}
-
-/// The labels of the mandatory hypotheses of the `$p` at a position, in order.
-fn labels_of(base: &Base, at: usize) -> Result<Words, AllocError>
-    requires { (s : Statement) × IsProvable base.now at s }
-    ensures { IfOk result (λ labels. (s : Statement) → IsProvable base.now at s → labels ≡ mandatory_labels (bares base.now) at s) }
-{
     let mut mandatory = Vec::new(base.alloc());
     base.frames().mandatory(at, &mut mandatory)?;
     let mut labels = Words::new(base.alloc());
     for position in mandatory.as_slice() {
-        labels.push(hypothesis_label(base, *position as usize))?;
+        match base.statement(*position as usize) {
+            Stmt::Float { label, .. } | Stmt::Ess { label, .. } => labels.push(label.as_bytes())?,
+            _ => unreachable!(),
+        }
     }
-    Ok(labels)
-}
-
-/// The label of the `$f` or `$e` at a position.
-fn hypothesis_label(base: &Base, position: usize) -> &[u8]
-    requires place { (1 ≤ position) × (position ≤ length base.now) }
-    requires kind { (s : Statement) → stmt_at base.now position ≡ Some s → IsTrue (is_hypothesis_kind s) }
-    ensures label { result.now ≡ label_or_none (stmt_at base.now position) }
-    ensures word { IsTrue (is_word result.now) }
-{
-    match base.statement(position) {
-        Stmt::Float { label, .. } => label.as_bytes(),
-        Stmt::Ess { label, .. } => label.as_bytes(),
-        _ => unreachable!(),
-    }
+    written(packed(base.alloc(), proof, &labels))
 }
 
 /// Whether some token of the statement's proof has the byte `?`.

@@ -1,10 +1,6 @@
 //! The least `$p` that is not proved, by one thread or by several.
-ghost use Rattle.std.specs.Prelude.{◌≡◌, ℕ, ◌<◌, ◌≤◌, length, IfOk};
-ghost use Rattle.std.specs.Fn.{FnReturnsAt};
-ghost use Rattle.scope.specs.Active.{bares};
-ghost use Rattle.verify.specs.Right.{Says};
-ghost use Rattle.library.specs.Judging.{StandsProved, IsLeastUnproved};
-ghost use Rattle.library.specs.Unproved.{AreBehind, FindsLeast};
+ghost use Rattle.std.specs.Prelude.{◌≡◌, ◌≤◌, length, IfOk};
+ghost use Rattle.{std.specs.Fn.FnReturnsAt, scope.specs.Active.bares, library.specs.Judging.IsLeastUnproved, library.specs.Unproved.FindsLeast};
 
 use crate::asked::is_proof;
 use frame::Frames;
@@ -45,7 +41,11 @@ impl<'a> Work for Proofs<'a> {
     }
 
     fn judge(&self, index: usize, checker: &mut Checker) -> Result<Answer, AllocError> {
-        judge_at(self.frames, self.statements, self.positions[index], checker)
+        let at = self.positions[index];
+        match &self.statements[at - 1] {
+            Stmt::Prove { proof, .. } => checker.prove(self.frames, at, proof),
+            _ => Ok(Answer::Proved),
+        }
     }
 }
 
@@ -66,7 +66,12 @@ pub(crate) fn least_unproved<F: Fn(&Proofs<'_>) -> Result<Option<usize>, AllocEr
     requires finds { FindsLeast (FnReturnsAt F.Fn least.now) }
     ensures { IfOk result (IsLeastUnproved statements.now front) }
 {
-    let positions = positions_behind(alloc, statements, front)?;
+    let mut positions = Vec::new(alloc);
+    for index in front..statements.len() {
+        if is_proof(&statements[index]) {
+            positions.push(index + 1)?;
+        }
+    }
     let proofs = Proofs {
         frames,
         statements,
@@ -76,39 +81,4 @@ pub(crate) fn least_unproved<F: Fn(&Proofs<'_>) -> Result<Option<usize>, AllocEr
         Some(index) => Ok(Some(proofs.positions[index])),
         None => Ok(None),
     }
-}
-
-/// The positions of the `$p` behind the first `front` statements.
-fn positions_behind(
-    alloc: Global,
-    statements: &[Stmt],
-    front: usize,
-) -> Result<Vec<usize>, AllocError>
-    requires { front ≤ length statements.now }
-    ensures { IfOk result (λ positions. AreBehind statements.now front (length statements.now) positions.items) }
-{
-    let mut positions = Vec::new(alloc);
-    for index in front..statements.len() {
-        if is_proof(&statements[index]) {
-            positions.push(index + 1)?;
-        }
-    }
-    Ok(positions)
-}
-
-/// Whether the statement at a position is proved, where it is a `$p`.
-fn judge_at(
-    frames: &Frames,
-    statements: &[Stmt],
-    at: usize,
-    checker: &mut Checker,
-) -> Result<Answer, AllocError>
-    requires same { frames.now.statements ≡ bares statements.now }
-    requires place { (1 ≤ at) × (at ≤ length statements.now) }
-    ensures { IfOk result (λ answer. Says answer (StandsProved statements.now at)) }
-{
-    let Stmt::Prove { proof, .. } = &statements[at - 1] else {
-        return Ok(Answer::Proved);
-    };
-    checker.prove(frames, at, proof)
 }

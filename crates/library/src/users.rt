@@ -1,65 +1,42 @@
 //! Who uses a statement: the `$p` that cite it, and those that cite one which rests on it.
-ghost use Rattle.std.specs.Prelude.{◌≡◌, ◌≤◌, ◌↔◌, ◌++◌, List, true, false, Some, length, map, take, IfOk, OnOk, MatchResult};
-ghost use Rattle.std.specs.List.{list_any};
-ghost use Rattle.mm_lex.specs.Alphabet.{Name};
-ghost use Rattle.mm_read.specs.declared.stmt.Stmt.{Stmt as Statement};
-ghost use Rattle.scope.specs.Active.{proof_of};
-ghost use Rattle.frame.specs.AtPosition.{HasLabelsOnce};
-ghost use Rattle.proof_code.specs.ItemNumbers.{items_of};
-ghost use Rattle.verify.specs.Right.{IsProvable};
-ghost use Rattle.library.specs.Uses.{IsUser, AreLabelsOf};
-ghost use Rattle.library.specs.UseMarks.{is_marked, AreWanted, ItemsMeet, ProofMeets, ListsNone, ListsSome, NotesUser};
+ghost use Rattle.std.specs.Prelude.{◌≡◌, ◌≤◌, ◌↔◌, ◌++◌, List, true, false, Some, length, map, take, IfOk};
+ghost use Rattle.{std.specs.List.list_any, mm_lex.specs.Alphabet.Name, mm_read.specs.declared.stmt.Stmt.Stmt as Statement, scope.specs.Active.proof_of, frame.specs.AtPosition.HasLabelsOnce, proof_code.specs.ItemNumbers.items_of, verify.specs.Right.IsProvable, library.specs.Uses.IsUser, library.specs.Uses.AreLabelsOf, library.specs.UseMarks.is_marked, library.specs.UseMarks.AreWanted, library.specs.UseMarks.ItemsMeet, library.specs.UseMarks.ProofMeets, library.specs.UseMarks.ListsNone, library.specs.UseMarks.ListsSome};
 
-use crate::asked::AskFault;
 use crate::base::Base;
-use crate::uses::mark_position;
 use frame::Frames;
 use mm_lex::{Word, Words};
 use mm_read::Stmt;
 use proof_code::{Heading, Reader, is_compressed};
-use std::alloc::{AllocError, Global};
+use std::alloc::AllocError;
 
 /// The labels of the `$p` that cite the statement at a position, each once, in order; with `all` of those too that cite one
 /// of them, and so on.
 ///
 /// Errors: a growth was refused. Cost: that of the proofs behind the position, each read once, and once more where it lists what is
 /// sought, and a byte a statement.
-pub(crate) fn users(base: &Base, at: usize, all: bool) -> Result<Vec<Word>, AskFault>
+pub(crate) fn users(base: &Base, at: usize, all: bool) -> Result<Vec<Word>, AllocError>
     requires { (1 ≤ at) × (at ≤ length base.now) }
-    ensures { MatchResult result (λ labels. AreLabelsOf base.now (IsUser base.now all at) labels.items) (λ fault. fault ≡ AskFault.Memory) }
+    ensures { IfOk result (λ labels. AreLabelsOf base.now (IsUser base.now all at) labels.items) }
 {
     let statements = base.statements();
-    let mut sought = vec![in base.alloc(); false; statements.len()]?;
+    let alloc = base.alloc();
+    let mut sought = vec![in alloc; false; statements.len()]?;
     sought[at - 1] = true;
-    let mut labels = Vec::new(base.alloc());
-    let mut search = Search::new(base.alloc());
+    let mut labels = Vec::new(alloc);
+    let mut search = Search {
+        reader: Reader::new(alloc),
+        mandatory: Vec::new(alloc),
+        wanted: Vec::new(alloc),
+    };
     for index in at..statements.len() {
-        note_user(&mut search, base, index + 1, all, &mut sought, &mut labels)?;
+        if let Stmt::Prove { label, proof, .. } = base.statement(index + 1) {
+            if search.meets(base, index + 1, proof, &sought)? {
+                labels.push(label.copy(alloc)?)?;
+                sought[index] = all;
+            }
+        }
     }
     Ok(labels)
-}
-
-/// Adds the label of the statement at a position, where it is a `$p` whose proof cites what is sought; with `all` it is sought
-/// from then on.
-fn note_user(
-    search: &mut Search,
-    base: &Base,
-    at: usize,
-    all: bool,
-    sought: &mut [bool],
-    labels: &mut Vec<Word>,
-) -> Result<(), AllocError>
-    requires { (1 ≤ at) × (at ≤ length base.now) }
-    ensures { OnOk result (NotesUser base.now all at sought.old sought.new labels.old.items labels.new.items) }
-{
-    let Stmt::Prove { label, proof, .. } = base.statement(at) else {
-        return Ok(());
-    };
-    if search.meets(base, at, proof, sought)? {
-        labels.push(label.copy(base.alloc())?)?;
-        mark_position(sought, if all { Some(at) } else { None });
-    }
-    Ok(())
 }
 
 /// Reads proofs, one after another, for what they cite, and keeps its buffers.
@@ -73,15 +50,6 @@ struct Search {
 }
 
 impl Search {
-    /// A search with empty buffers. Takes no memory.
-    fn new(alloc: Global) -> Search {
-        Search {
-            reader: Reader::new(alloc),
-            mandatory: Vec::new(alloc),
-            wanted: Vec::new(alloc),
-        }
-    }
-
     /// Whether the proof of the `$p` at a position, whose tokens these are, cites a statement that is marked. A normal proof
     /// cites what it lists. Of a compressed one, where no mandatory hypothesis is marked and it lists none that is, the
     /// letters need not be read.
@@ -110,46 +78,36 @@ impl Search {
         let Some(heading) = self.reader.read(tokens, count)? else {
             return Ok(false);
         };
-        test_mandatory(&self.mandatory, marks, &mut self.wanted)?;
         listed_meet(
             frames,
             heading,
             self.reader.numbers(),
+            &self.mandatory,
             marks,
             &mut self.wanted,
         )
     }
 }
 
-/// Fills the list with whether each of the positions is marked.
-fn test_mandatory(
-    positions: &[u32],
-    marks: &[bool],
-    wanted: &mut Vec<bool>,
-) -> Result<(), AllocError>
-    ensures { OnOk result (wanted.new.items ≡ map (λ position. is_marked marks.now (Some position)) positions.now) }
-{
-    wanted.clear();
-    for position in positions {
-        wanted.push(is_marked(marks, Some(*position as usize)))?;
-    }
-    Ok(())
-}
-
-/// Whether one of the numbers cites what is marked, by a list with a test of each mandatory label, to which those of the listed
-/// labels are added. The first of them that is marked is mostly cited, so the numbers are tried there once before the end.
+/// Whether one of the numbers cites what is marked, by a list with a test of each mandatory hypothesis and then of each listed
+/// label. The first of them that is marked is mostly cited, so the numbers are tried there once before the end.
 fn listed_meet(
     frames: &Frames,
     heading: Heading<'_>,
     numbers: &[u32],
+    mandatory: &[u32],
     marks: &[bool],
     wanted: &mut Vec<bool>,
 ) -> Result<bool, AllocError>
     requires once { HasLabelsOnce frames.now.statements }
     requires listed { heading.count ≤ length heading.words }
-    ensures { IfOk result (λ found. (front : List Name) → AreWanted frames.now.statements front marks.now wanted.old.items
+    ensures { IfOk result (λ found. (front : List Name) → AreWanted frames.now.statements front marks.now (map (λ position. is_marked marks.now (Some position)) mandatory.now)
         → found ≡ true ↔ ItemsMeet frames.now.statements (items_of (front ++ take heading.entry.count heading.entry.words) numbers.now) marks.now) }
 {
+    wanted.clear();
+    for position in mandatory {
+        wanted.push(is_marked(marks, Some(*position as usize)))?;
+    }
     let mut words = heading.words;
     let mut tried = false;
     for _ in 0..heading.count {

@@ -1,7 +1,6 @@
 //! The verdicts decided, by author and number.
 ghost use Rattle.std.specs.Prelude.{◌≡◌, ◌<◌, [], ◌∷◌, ◌++◌, None, IfSome, OnOk};
-ghost use Rattle.library.specs.Ledger.{IsDecision};
-ghost use Rattle.library.specs.LibraryOf.{status};
+ghost use Rattle.{library.specs.Ledger.IsDecision, library.specs.LibraryOf.status};
 
 use crate::verdict::Verdict;
 use indexmap::IndexMap;
@@ -15,8 +14,7 @@ pub(crate) struct Verdicts {
 }
 
 impl Model for Verdicts {
-    ghost use Rattle.indexmap.specs.IndexMap.{spare};
-    ghost use Rattle.library.specs.Ledger.{Ledger, decided_of, AreDecisions};
+    ghost use Rattle.{indexmap.specs.IndexMap.spare, library.specs.Ledger.Ledger, library.specs.Ledger.decided_of, library.specs.Ledger.AreDecisions};
 
     ghost Value = { Ledger };
 

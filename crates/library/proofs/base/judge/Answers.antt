@@ -8,7 +8,7 @@ returns-in-Some-clause-placed g c =
 
 pub least_unproved-requires-clause-same : goal.least_unproved-requires-clause-same
 least_unproved-requires-clause-same g c =
-    frames-all c.args.statements.now _ _ c.args.front (ap (λ k. k.statements) c.make_room.ensures ∙ c.requires.frames) (c.in_ok-enter.ensures.frames (ap Ok c.in-None.is))
+    frames-all c.args.statements.now _ _ c.args.front c.requires.frames (c.in_ok-enter.ensures.frames (ap Ok c.in-None.is))
 
 pub returns-in-None-2-clause-placed : goal.returns-in-None-2-clause-placed
 returns-in-None-2-clause-placed g c =
@@ -19,7 +19,7 @@ returns-in-None-2-clause-placed g c =
         all-proved c.args.statements.now c.args.front c.requires.within (subst (IsLeastUnproved c.args.statements.now c.args.front) c.in-None-2.is c.in_ok-least_unproved.ensures),
       );
       rules_are = λ e. frames-whole c.args.statements.now _ _ c.args.front c.requires.rules (c.in_ok-enter.ensures.rules known);
-      frames_are = λ e. frames-whole c.args.statements.now _ _ c.args.front (ap (λ k. k.statements) c.make_room.ensures ∙ c.requires.frames) (c.in_ok-enter.ensures.frames known);
+      frames_are = λ e. frames-whole c.args.statements.now _ _ c.args.front c.requires.frames (c.in_ok-enter.ensures.frames known);
       closed = λ e. c.in_ok-enter.ensures.closed known;
     }
 

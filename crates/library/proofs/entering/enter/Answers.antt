@@ -17,15 +17,13 @@ loop-index-preserved c =
     let e = c.in-Ok.ensures in
     let s = c.index-statements-index in
     let less = c.loop-index-test.true in
-    let same = i.frames_are ∙ (ap (λ U. U ++ bares (take c.loop-index.index c.args.statements.now)) c.requires.same ∙ sym i.rules_are) in
-    let steps = e.counted in
-    let so_far = i.counted in
+    let same = i.frames_are ∙ (ap (λ U. U ++ bares (take c.loop-index.index c.args.statements.now)) (ap (λ k. k.statements) c.reserve.ensures ∙ c.requires.same) ∙ sym i.rules_are) in
     record {
       rules_are = kept-more _ _ _ _ c.loop-index.index s.result less s.is i.rules_are e.accepted;
       frames_are = kept-more _ _ _ _ c.loop-index.index s.result less s.is i.frames_are e.added;
       left = left-more _ _ _ _ c.loop-index.index s.result less s.is (sym (subst (λ U. IsLegal U s.result) same e.legal)) e.accepted i.left;
       mark = e.marked ∙ i.mark;
-      counted = omega (arith, steps, so_far);
+      counted = omega (arith, e.counted, i.counted);
     }
 
 pub returns-in-Err-clause-found : goal.returns-in-Err-clause-found
@@ -35,7 +33,7 @@ returns-in-Err-clause-found c =
     let S = c.args.statements.now in
     let s = c.index-statements-index in
     let cur = c.loop-index.rules.statements in
-    let same = i.frames_are ∙ (ap (λ U. U ++ bares (take index S)) c.requires.same ∙ sym i.rules_are) in
+    let same = i.frames_are ∙ (ap (λ U. U ++ bares (take index S)) (ap (λ k. k.statements) c.reserve.ensures ∙ c.requires.same) ∙ sym i.rules_are) in
     let broken = rule-is (broken_rule c.loop-index.frames.statements s.result) c.in-Err.rule c.in-Err.ensures.broken c.in-Err.ensures.only_memory
     (λ e. let same : false ≡ true = subst (λ r. false ≡ sameb the_type r Memory) e c.if-eq.ensures in cc) in
     sym (i.left ∙ (left-at cur S index s.result c.loop-index-test.true s.is

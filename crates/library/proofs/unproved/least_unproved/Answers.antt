@@ -1,34 +1,46 @@
-use Rattle.library.proofs.Words.{Ok, Some, subst, sym, ◌∙◌, arith, get_or_default, says_at, IsLeastUnproved}
-use Rattle.library.proofs.UnprovedLemmas.{are-proofs, none-unproved, some-unproved, some-within}
+use Rattle.library.proofs.Words.{◌≡◌, ◌+◌, Ok, Some, refl, suc, subst, sym, ◌∙◌, arith, true≢false, get_or_default, says_at, slice_get_read, stmt_at, IsLeastUnproved}
+use Rattle.library.proofs.UnprovedLemmas.{all-behind, are-proofs, behind-more, behind-pass, none-unproved, some-unproved, some-within}
+use Rattle.library.proofs.ProvingLemmas.{not-there}
 use Rattle.library.proofs.unproved.least_unproved.Goals as goal
+use Rattle.library.proofs.unproved.least_unproved.Goals.{then-is_proof+in_ok-push, else-is_proof}
+
+pub loop-index-preserved : goal.loop-index-preserved
+loop-index-preserved g c =
+    let S = c.args.statements.now in
+    let front = c.args.front in
+    let index = c.loop-index.index in
+    let s = c.index-statements-index.result in
+    let next : suc index ≡ index + 1 = omega arith in
+    elim c.if-is_proof.branch [
+      | then-is_proof+in_ok-push w ↦ rw (w.positions-is, w.in_ok-push.ensures.items)
+          (behind-more S front index c.loop-index.positions.items c.loop-index.auto.index c.loop-index.invariant)
+      | else-is_proof w ↦ rw w.positions-is
+          (behind-pass S front index c.loop-index.positions.items c.loop-index.invariant (not-there S (index + 1) s (subst (λ n. stmt_at S n ≡ Some s) next (slice_get_read S _ index s refl c.loop-index-test.true c.index-statements-index.is))
+          (λ f. true≢false (sym f ∙ (sym c.is_proof.ensures ∙ w.if-is_proof.false)))))
+    ]
 
 pub invariant_of-proofs : goal.invariant_of-proofs
 invariant_of-proofs g c =
-    are-proofs c.args.statements.now c.args.frames.now.statements c.args.front c.in_ok-positions.positions.items c.requires.same c.in_ok-positions.ensures
+    are-proofs c.args.statements.now c.args.frames.now.statements c.args.front c.loop-index.positions.items c.requires.same (all-behind c.args.statements.now c.args.front c.loop-index.index c.loop-index.positions.items (c.loop-index.auto.index-end c.requires.within) c.loop-index-test.false c.loop-index.invariant)
 
 pub index-requires : goal.index-requires
 index-requires g c =
-    let ps = c.in_ok-positions.positions.items in
-    let answer = c.in_ok-index.field-0 in
-    let least = c.requires.finds (record { statements = c.args.statements.now; positions = ps }) (Ok answer) (says_at g.F.Fn c.least.ensures c.in_ok-index.was) in
-    let within = some-within c.args.statements.now c.args.front ps c.in_ok-positions.ensures answer least c.in-Some.index c.in-Some.is in
-    let ok = c.in_ok-positions.positions.ok in
-    omega (arith, within, ok.0)
+    let least = c.requires.finds (record { statements = c.args.statements.now; positions = c.loop-index.positions.items }) (Ok c.in_ok-index.field-0) (says_at g.F.Fn c.least.ensures c.in_ok-index.was) in
+    let within = some-within c.args.statements.now c.args.front c.loop-index.positions.items (all-behind c.args.statements.now c.args.front c.loop-index.index c.loop-index.positions.items (c.loop-index.auto.index-end c.requires.within) c.loop-index-test.false c.loop-index.invariant) c.in_ok-index.field-0 least c.in-Some.index c.in-Some.is in
+    omega (arith, within, c.loop-index.positions.ok.0)
 
 pub returns-in-Some : goal.returns-in-Some
 returns-in-Some g c =
     let S = c.args.statements.now in
-    let ps = c.in_ok-positions.positions.items in
+    let ps = c.loop-index.positions.items in
     let answer = c.in_ok-index.field-0 in
     let least = c.requires.finds (record { statements = S; positions = ps }) (Ok answer) (says_at g.F.Fn c.least.ensures c.in_ok-index.was) in
-    let within = some-within S c.args.front ps c.in_ok-positions.ensures answer least c.in-Some.index c.in-Some.is in
+    let within = some-within S c.args.front ps (all-behind c.args.statements.now c.args.front c.loop-index.index c.loop-index.positions.items (c.loop-index.auto.index-end c.requires.within) c.loop-index-test.false c.loop-index.invariant) answer least c.in-Some.index c.in-Some.is in
     let at = c.index.ensures ∙ get_or_default ps c.in-Some.index c.index.result.now 0 within in
-    subst (λ n. IsLeastUnproved S c.args.front (Some n)) (sym at) (some-unproved S c.args.front ps c.in_ok-positions.ensures answer least c.in-Some.index c.in-Some.is)
+    subst (λ n. IsLeastUnproved S c.args.front (Some n)) (sym at) (some-unproved S c.args.front ps (all-behind c.args.statements.now c.args.front c.loop-index.index c.loop-index.positions.items (c.loop-index.auto.index-end c.requires.within) c.loop-index-test.false c.loop-index.invariant) answer least c.in-Some.index c.in-Some.is)
 
 pub returns : goal.returns
 returns g c =
-    let ps = c.in_ok-positions.positions.items in
-    let answer = c.in_ok-index.field-0 in
-    none-unproved c.args.statements.now c.args.front ps c.in_ok-positions.ensures answer
-    (c.requires.finds (record { statements = c.args.statements.now; positions = ps }) (Ok answer) (says_at g.F.Fn c.least.ensures c.in_ok-index.was))
+    none-unproved c.args.statements.now c.args.front c.loop-index.positions.items (all-behind c.args.statements.now c.args.front c.loop-index.index c.loop-index.positions.items (c.loop-index.auto.index-end c.requires.within) c.loop-index-test.false c.loop-index.invariant) c.in_ok-index.field-0
+    (c.requires.finds (record { statements = c.args.statements.now; positions = c.loop-index.positions.items }) (Ok c.in_ok-index.field-0) (says_at g.F.Fn c.least.ensures c.in_ok-index.was))
     c.in-None.is

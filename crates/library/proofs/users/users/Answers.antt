@@ -1,6 +1,7 @@
-use Rattle.library.proofs.Words.{sym, ap, subst, ◌-◌, ◌∙◌, true, false, replicate, length, slice_set, arith, lent-whole}
-use Rattle.library.proofs.UsersLemmas.{IsSearched, search-start, search-step, search-end}
+use Rattle.library.proofs.Words.{◌<◌, sym, ap, subst, ◌-◌, ◌∙◌, Some, true, false, replicate, length, slice_set, arith, proof_of, is_provable, label_or_none}
+use Rattle.library.proofs.UsersLemmas.{IsSearched, search-start, search-past, search-miss, search-user, search-end}
 use Rattle.library.proofs.users.users.Goals as goal
+use Rattle.library.proofs.users.users.Goals.{in-Prove+in_ok-meets+then-branch+in_ok-copy+in_ok-push, in-Prove+in_ok-meets+else-branch, in_default}
 
 pub loop-index-init : goal.loop-index-init
 loop-index-init c =
@@ -9,23 +10,31 @@ loop-index-init c =
     (search-start c.args.base.now c.args.all c.args.at marks c.statements-statements.ensures.good c.requires.0 c.requires.1
     (ap (λ ms. slice_set ms (c.args.at - 1) true) (c.in_ok-sought.ensures.items_if_clones_equal (λ y e. e) ∙ ap (λ S. replicate (length S) false) c.statements-statements.ensures.statements)))
 
-pub note_user-requires : goal.note_user-requires
-note_user-requires c =
-    let all = ap length c.statements-statements.ensures.statements in
-    let less = c.loop-index-test.true in
-    (omega arith, omega (arith, less, all))
+pub statement-requires : goal.statement-requires
+statement-requires c =
+    (omega arith, omega (arith, c.loop-index-test.true, ap length c.statements-statements.ensures.statements))
+
+pub meets-requires : goal.meets-requires
+meets-requires c = (c.statement.result.now, record { stands = c.statement.ensures.stands; provable = ap is_provable c.in-Prove.is }, ap proof_of c.in-Prove.is)
 
 pub loop-index-preserved : goal.loop-index-preserved
 loop-index-preserved c =
-    let all = ap length c.statements-statements.ensures.statements in
-    let less = c.loop-index-test.true in
-    search-step c.args.base.now c.args.all c.args.at c.loop-index.index c.loop-index.sought.items c.deref_mut.result.now c.note_user.new.sought _ c.loop-index.labels.items _
-    c.statements-statements.ensures.good (omega (arith, less, all)) c.deref_mut.ensures.value
-    (λ count. lent-whole c.loop-index.sought.len c.note_user.new.sought c.loop-index.sought.items count (let ok = c.loop-index.sought.ok in omega (arith, ok.0)))
-    c.loop-index.invariant c.in_ok-note_user.ensures
+    let S = c.args.base.now in
+    let p = c.loop-index.index in
+    let ms = c.loop-index.sought.items in
+    let labels = c.loop-index.labels.items in
+    let s = c.statement.result.now in
+    let good = c.statements-statements.ensures.good in
+    let within : p < length S = omega (arith, c.loop-index-test.true, ap length c.statements-statements.ensures.statements) in
+    elim c.match-statement.branch [
+      | in-Prove+in_ok-meets+then-branch+in_ok-copy+in_ok-push w ↦ rw (w.sought-is, w.labels-is, w.in_ok-push.ensures.items)
+          (search-user S c.args.all c.args.at p ms labels good within c.loop-index.invariant w.in_ok-meets.field-0 w.deref.result.now w.deref.ensures.value w.in_ok-meets.ensures s _ c.statement.ensures.stands
+          (ap (λ r. label_or_none (Some r)) w.in-Prove.is ∙ sym w.in_ok-copy.ensures) c.loop-index.auto.index w.if-branch.true)
+      | in-Prove+in_ok-meets+else-branch w ↦ rw (w.sought-is, w.labels-is)
+          (search-miss S c.args.all c.args.at p ms labels good within c.loop-index.invariant w.in_ok-meets.field-0 w.deref.result.now w.deref.ensures.value w.in_ok-meets.ensures w.if-branch.false)
+      | in_default w ↦ rw (w.sought-is, w.labels-is) (search-past S c.args.all c.args.at p ms labels good within c.loop-index.invariant s c.statement.ensures.stands w.in_default.not-Prove)
+    ]
 
 pub returns : goal.returns
 returns c =
-    let all = ap length c.statements-statements.ensures.statements in
-    let over = c.loop-index-test.false in
-    search-end c.args.base.now c.args.all c.args.at c.loop-index.index c.loop-index.sought.items c.loop-index.labels.items (omega (arith, over, all)) c.loop-index.invariant
+    search-end c.args.base.now c.args.all c.args.at c.loop-index.index c.loop-index.sought.items c.loop-index.labels.items (omega (arith, c.loop-index-test.false, ap length c.statements-statements.ensures.statements)) c.loop-index.invariant

@@ -1,4 +1,5 @@
 use Rattle.library.proofs.CitationWalkLemmas.{IsWalked}
+use Rattle.library.proofs.TraceLemmas.{AreListed}
 use Rattle.library.proofs.uses.axioms_used.Given as goal
 
 abbrev pub invariant-loop-position : goal.invariant-loop-position
@@ -6,3 +7,6 @@ invariant-loop-position l = IsWalked l.base l.at l.position l.marks.items
 
 abbrev pub decreases-loop-position : goal.decreases-loop-position
 decreases-loop-position l = l.position
+
+abbrev pub invariant-loop-index : goal.invariant-loop-index
+invariant-loop-index l = AreListed l.statements l.marked-items l.index l.labels.items

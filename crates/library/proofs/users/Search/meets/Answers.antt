@@ -1,4 +1,4 @@
-use Rattle.library.proofs.Words.{◌≡◌, ◌↔◌, ◌++◌, ◌∙◌, true, false, Some, take, sym, ap, subst, list_any, bare, items_of, mandatory_labels, is_marked, ItemsMeet, on_ok}
+use Rattle.library.proofs.Words.{◌≡◌, ◌↔◌, ◌++◌, ◌∙◌, true, false, Some, take, refl, sym, ap, subst, list_any, bare, items_of, mandatory_labels, is_marked, ItemsMeet, on_ok}
 use Rattle.library.proofs.WrittenItemsLemmas.{has-assertion, stands-bare}
 use Rattle.library.proofs.MayCiteLemmas.{meets-nothing}
 use Rattle.library.proofs.MeetingLemmas.{labels-long, mandatory-wanted, tells-heading, tells-nothing, told-meets, listed-meets}
@@ -16,9 +16,8 @@ mandatory-requires-clause-assertion c = has-assertion c.args.base.now c.frames-f
 pub returns-then-not-lists_marked : goal.returns-then-not-lists_marked
 returns-then-not-lists_marked c =
     let p = c.requires in
-    let F = c.frames-frames.result.now.statements in
-    let listed = c.in_ok-mandatory.ensures.listed (bare p.0) (stands-bare c.args.base.now F c.args.at p.0 c.frames-frames.ensures.same p.1) in
-    meets-nothing c.args.base.now F c.frames-frames.ensures.same c.frames-frames.ensures.once c.args.at p.0 p.1 c.args.marks.now c.args.tokens.now p.2
+    let listed = c.in_ok-mandatory.ensures.listed (bare p.0) (stands-bare c.args.base.now c.frames-frames.result.now.statements c.args.at p.0 c.frames-frames.ensures.same p.1) in
+    meets-nothing c.args.base.now c.frames-frames.result.now.statements c.frames-frames.ensures.same c.frames-frames.ensures.once c.args.at p.0 p.1 c.args.marks.now c.args.tokens.now p.2
     (ap (list_any (λ position. is_marked c.args.marks.now (Some position))) (sym (c.deref.ensures.value ∙ listed)) ∙ (sym c.has_marked.ensures ∙ c.if-not-has_marked.true))
     (c.lists_marked-then-not-has_marked.ensures.none c.if-not-lists_marked.true)
 
@@ -43,5 +42,5 @@ returns c =
     (tells-heading c.args.tokens.now _ _ _ _ (rw c.in-Some.is at c.in_ok-heading.ensures.read) F labels marks found
     (labels-long F c.args.at (bare p.0) c.as_slice-count.result.now (c.as_slice-count.ensures.value ∙ listed))
     (subst (λ ns. found ≡ true ↔ ItemsMeet F (items_of (labels ++ take c.in-Some.heading.count c.in-Some.heading.words) ns) marks) c.numbers.ensures
-    (told labels (mandatory-wanted F marks c.args.at (bare p.0) c.deref-2.result.now c.test_mandatory.new.wanted.items (c.deref-2.ensures.value ∙ listed) c.in_ok-test_mandatory.ensures)))))
+    (told labels (mandatory-wanted F marks c.args.at (bare p.0) c.deref-2.result.now _ (c.deref-2.ensures.value ∙ listed) refl)))))
     c.listed_meet.ensures

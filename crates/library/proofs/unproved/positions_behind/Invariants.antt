@@ -1,5 +1,0 @@
-use Rattle.library.specs.Unproved.{AreBehind}
-use Rattle.library.proofs.unproved.positions_behind.Given as goal
-
-abbrev pub invariant-loop-index : goal.invariant-loop-index
-invariant-loop-index l = AreBehind l.statements l.front l.index l.positions.items
