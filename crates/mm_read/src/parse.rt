@@ -13,6 +13,12 @@ use crate::stmt::Stmt;
 use mm_lex::{LexFault, count_tokens, first_bad_byte, next_token};
 use std::alloc::Global;
 
+/// How many bytes of text are read between two times that room is asked for.
+const STRETCH: usize = 32_768;
+
+/// How many bytes of room are asked for: more than the statements of a stretch mostly take.
+const ROOM: usize = 60_000;
+
 /// The statements that the text writes.
 ///
 /// Errors: `Text`, a fault of the tokens, found however little memory there is; else `Shape`, the first token that fits
@@ -74,7 +80,17 @@ fn add_next(
     };
     let (statement, next) = statement(alloc, text, first)?;
     statements.push(statement)?;
+    ask_for_room(alloc, at, next);
     Ok(Some(next))
+}
+
+/// Asks for room and gives it back, once a stretch of the text. The pieces of the statements behind come out of it: so a heap
+/// that grows by no more than it must, as that of a thread may, grows once for some hundred of them. Where the room is
+/// refused nothing is lost.
+fn ask_for_room(alloc: Global, at: usize, next: usize) {
+    if at / STRETCH != next / STRETCH {
+        let _ = Vec::<u8>::with_capacity(alloc, ROOM);
+    }
 }
 
 /// What the whole text is refused for, where statements end at `at` and this hinders the next one.
