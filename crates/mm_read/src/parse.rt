@@ -14,10 +14,10 @@ use mm_lex::{LexFault, count_tokens, first_bad_byte, next_token};
 use std::alloc::Global;
 
 /// How many bytes of text are read between two times that room is asked for.
-const STRETCH: usize = 32_768;
+const STRETCH: usize = 90_000;
 
 /// How many bytes of room are asked for: more than the statements of a stretch mostly take.
-const ROOM: usize = 60_000;
+const ROOM: usize = 120_000;
 
 /// The statements that the text writes.
 ///
