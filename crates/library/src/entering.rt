@@ -8,8 +8,8 @@ use scope::{Rule, Rules, Steps};
 use std::alloc::AllocError;
 
 /// Adds the statements to the frames and the rules, up to the first that breaks a rule, and answers its number, counted
-/// from 1, and its least rule. A block that is open at the end breaks G10 one above the last statement. Room for their
-/// labels is made first, where there is memory for it.
+/// from 1, and its least rule. A block that is open at the end breaks G10 one above the last statement. Room for
+/// labels of half as many is made first, where there is memory for it.
 ///
 /// Errors: a growth was refused. Cost: that of the statements, one step each.
 pub(crate) fn enter(
@@ -28,13 +28,7 @@ pub(crate) fn enter(
     ensures marked { rules.new.marked ≡ rules.old.marked }
     ensures counted { steps.new.count ≤ steps.old.count + 2 * length statements.now }
 {
-    let labelled = statements.iter().filter(|statement| {
-        matches!(
-            statement,
-            Stmt::Float { .. } | Stmt::Ess { .. } | Stmt::Axiom { .. } | Stmt::Prove { .. }
-        )
-    });
-    frames.reserve(labelled.count());
+    frames.reserve(statements.len() / 2);
     for (index, statement) in statements.iter().enumerate() {
         match frames.add(rules, statement, steps) {
             Ok(()) => {}
