@@ -1,12 +1,12 @@
 -- One statement more or less: its numbers and groups stand behind those of the others.
 use Rattle.entries.proofs.Words.{◌≡◌, ℕ, ◌+◌, ◌-◌, ◌<◌, ◌^◌, true, false, Bool, List, [], ◌∷◌, ◌++◌, length, slice_get, slice_range, take, drop, Some, None, refl, Result, Ok, Err, OnOk, OnErr, is_err, ◌∙◌, ap, sym, subst, arith, length-append, length-take-le, take-append-drop, drop_more, nil_from_length, slice_get_within, get_or_from_slice_get, take-append_seam, take-length}
-use Rattle.entries.proofs.Words.{BufferPart, StatementRecord, Layout, AreShapedParts, assertion_of, made, AreSpansIn, Extends, counts_of, has_parts, run_of, record_by, layout_in, run_by, spans_by, entry_of, entries_of, IsKept, AreKept, ArePacked}
+use Rattle.entries.proofs.Words.{BufferPart, StatementRecord, Layout, AreShapedParts, assertion_of, AreSpansIn, Extends, counts_of, has_parts, run_of, record_by, layout_in, run_by, spans_by, body_of, bodies_of, IsKept, AreKept, ArePacked}
 use Rattle.std.proofs.lemmas.Bool.{ltb-false}
-use Rattle.entries.specs.declared.head.Head.{Head}
+use Rattle.entries.specs.declared.kind.Kind.{Kind}
 use Rattle.entries.specs.declared.parts.AssertionParts.{AssertionParts}
 use Rattle.entries.proofs.SpanLemmas.{range-behind, extends-refl, extends-take, extends-trans}
-use Rattle.entries.proofs.StatementRecordLemmas.{entries-length, at-index}
-use Rattle.entries.proofs.BufferPlaceLemmas.{entries-before, kept-before, kept-cut}
+use Rattle.entries.proofs.StatementRecordLemmas.{bodies-length, kept-at}
+use Rattle.entries.proofs.BufferPlaceLemmas.{bodies-before, kept-before, kept-cut}
 
 -- ---- one more
 
@@ -16,7 +16,7 @@ pub record IsLaid (at : Layout) (run : List ℕ) (spans : List BufferPart) : Typ
   pub count : at.groups ≡ length spans
   pub grouped : AreSpansIn (at.end - at.places) spans
 
-module _ (ns ms : List ℕ) (gs hs : List BufferPart) (rs qs : List StatementRecord) (h : Head) (t whole : Bool) (run : List ℕ) (spans : List BufferPart)
+module _ (ns ms : List ℕ) (gs hs : List BufferPart) (rs qs : List StatementRecord) (h : Kind) (t whole : Bool) (run : List ℕ) (spans : List BufferPart)
     (packed : ArePacked ns gs rs) (numbers : ms ≡ ns ++ run) (groups : hs ≡ gs ++ spans) (records : qs ≡ rs ++ record_by h t whole (length ns) (length gs) ∷ []) where
   abbrev last : StatementRecord
   last = record_by h t whole (length ns) (length gs)
@@ -27,11 +27,11 @@ module _ (ns ms : List ℕ) (gs hs : List BufferPart) (rs qs : List StatementRec
   last-spans : spans_by hs last None ≡ spans
   last-spans = range-behind gs spans hs hs (length gs) (length hs) refl groups refl (extends-refl hs)
 
-  pub entries-push : entries_of ms hs qs ≡ entries_of ns gs rs ++ entry_of last run spans ∷ []
-  entries-push =
-      ap (entries_of ms hs) records
-      ∙ (entries-before ns ms gs hs last [] (run, numbers) (spans, groups) refl refl rs packed.kept
-      ∙ ap (λ e. entries_of ns gs rs ++ e ∷ []) (let e = last-run in let f = last-spans in cc))
+  pub bodies-push : bodies_of ms hs qs ≡ bodies_of ns gs rs ++ body_of last run spans ∷ []
+  bodies-push =
+      ap (bodies_of ms hs) records
+      ∙ (bodies-before ns ms gs hs last [] (run, numbers) (spans, groups) refl refl rs packed.kept
+      ∙ ap (λ e. bodies_of ns gs rs ++ e ∷ []) (let e = last-run in let f = last-spans in cc))
 
   pub packed-push : IsLaid (layout_in t run) run spans → length rs + 2 < 2 ^ 32 → ArePacked ms hs qs
   packed-push laid few =
@@ -71,8 +71,8 @@ run-laid p false shaped e =
     let b = bare p shaped e in
     record { whole = omega arith; count = sym (ap length b.groups); grouped = rw b.groups tt }
 
-pub run-entry : (h : Head) (p : AssertionParts) (from groups : ℕ) (t : Bool) → AreShapedParts p → has_parts p ≡ t → entry_of (record_by h t p.whole from groups) (run_of t p) p.groups.now ≡ made h p.symbols.now (assertion_of p)
-run-entry h p from groups true shaped e =
+pub run-body : (h : Kind) (p : AssertionParts) (from groups : ℕ) (t : Bool) → AreShapedParts p → has_parts p ≡ t → body_of (record_by h t p.whole from groups) (run_of t p) p.groups.now ≡ record { kind = h; symbols = p.symbols.now; assertion = assertion_of p }
+run-body h p from groups true shaped e =
     let s = shaped in
     let heads = counts_of p ++ p.heads.now in
     let asked = heads ++ p.asked.now in
@@ -92,7 +92,7 @@ run-entry h p from groups true shaped e =
     let x = range-behind symbols p.hypotheses.now hypotheses run l.hypotheses l.places (omega arith) refl (omega arith) to_hypotheses in
     let y = range-behind hypotheses p.places.now run run l.places l.end (omega arith) refl (omega arith) (extends-refl run) in
     cc
-run-entry h p from groups false shaped e =
+run-body h p from groups false shaped e =
     let b = bare p shaped e in
     let at = layout_in false p.symbols.now in
     let n : at.hypotheses - 0 ≡ length p.symbols.now = omega arith in
@@ -116,10 +116,10 @@ module _ (ms : List ℕ) (hs : List BufferPart) (us : List StatementRecord) (n :
       ∙ take-append-drop n us
 
   from-length : s.from ≡ length a
-  from-length = let k = (at-index ms hs us (entries_of ms hs us) n s packed.kept refl refl here).kept.placed in sym (length-take-le s.from ms (omega arith))
+  from-length = let k = (kept-at ms hs s us n packed.kept here).placed in sym (length-take-le s.from ms (omega arith))
 
   groups-length : s.groups ≡ length g
-  groups-length = let k = (at-index ms hs us (entries_of ms hs us) n s packed.kept refl refl here).kept.grouped in sym (length-take-le s.groups hs (omega arith))
+  groups-length = let k = (kept-at ms hs s us n packed.kept here).grouped in sym (length-take-le s.groups hs (omega arith))
 
   kept-fewer : AreKept a g (take n us)
   kept-fewer = kept-cut a ms g hs s (drop (n + 1) us) (extends-take s.from ms) (extends-take s.groups hs) from-length groups-length (take n us) (subst (AreKept ms hs) (sym split) packed.kept)
@@ -130,12 +130,12 @@ module _ (ms : List ℕ) (hs : List BufferPart) (us : List StatementRecord) (n :
   pub packed-fewer : ArePacked a g (take n us)
   packed-fewer = record { kept = kept-fewer; few = let m = packed.few in let w = slice_get_within us n s here in let l = fewer-length in omega arith }
 
-  pub entries-fewer : entries_of a g (take n us) ≡ take n (entries_of ms hs us)
-  entries-fewer =
-      let es = entries_of a g (take n us) in
-      let more = entries_of ms hs (s ∷ drop (n + 1) us) in
-      let e = entries-before a ms g hs s (drop (n + 1) us) (extends-take s.from ms) (extends-take s.groups hs) from-length groups-length (take n us) kept-fewer in
-      sym (ap (λ xs. take n (entries_of ms hs xs)) (sym split) ∙ (ap (take n) e ∙ (ap (λ k. take k (es ++ more)) (sym (entries-length a g (take n us) ∙ fewer-length)) ∙ take-append_seam es more)))
+  pub bodies-fewer : bodies_of a g (take n us) ≡ take n (bodies_of ms hs us)
+  bodies-fewer =
+      let es = bodies_of a g (take n us) in
+      let more = bodies_of ms hs (s ∷ drop (n + 1) us) in
+      let e = bodies-before a ms g hs s (drop (n + 1) us) (extends-take s.from ms) (extends-take s.groups hs) from-length groups-length (take n us) kept-fewer in
+      sym (ap (λ xs. take n (bodies_of ms hs xs)) (sym split) ∙ (ap (take n) e ∙ (ap (λ k. take k (es ++ more)) (sym (bodies-length a g (take n us) ∙ fewer-length)) ∙ take-append_seam es more)))
 
 -- ---- what a growth answered
 

@@ -1,6 +1,6 @@
 //! The statements of a database as numbers, by position.
 ghost use Rattle.std.specs.Prelude.{◌≡◌, ◌≤◌, ◌<◌, ◌+◌, ◌^◌, ◌++◌, ◌∷◌, [], length, take, slice_get, Some, OnOk, OnErr, IfOk, IfSome, true};
-ghost use Rattle.{entries.specs.Entries.Entry, entries.specs.Entries.IsEntry, entries.specs.Entries.AreWhole, entries.specs.Entries.AreShapedParts, entries.specs.Entries.assertion_of, entries.specs.Entries.made, entries.specs.Entries.plain, entries.specs.Stored.Records.IsPlaced, entries.specs.Stored.Records.IsStored, entries.specs.Stored.Records.has_parts, entries.specs.Stored.Records.layout_in, entries.specs.Stored.Records.record_by, entries.specs.Stored.Records.run_by, entries.specs.Stored.Records.run_of, entries.specs.Stored.Spans.Extends};
+ghost use Rattle.{entries.specs.Entries.Entry, entries.specs.Entries.IsEntry, entries.specs.Entries.AreWhole, entries.specs.Entries.AreShapedParts, entries.specs.Entries.assertion_of, entries.specs.Entries.made, entries.specs.Entries.plain, entries.specs.Stored.Records.IsPlaced, entries.specs.Stored.Records.background_of, entries.specs.Stored.Records.IsStored, entries.specs.Stored.Records.has_parts, entries.specs.Stored.Records.layout_in, entries.specs.Stored.Records.record_by, entries.specs.Stored.Records.run_by, entries.specs.Stored.Records.run_of, entries.specs.Stored.Spans.Extends};
 
 use crate::buffer_part::{BufferPart, item, part, place};
 use crate::cited_parts::{Cited, Hypotheses};
@@ -9,39 +9,42 @@ use crate::groups::Groups;
 use crate::head::Head;
 use crate::layout::{Layout, assertion_layout, counts, lay};
 use crate::parts::AssertionParts;
-use crate::statement_record::StatementRecord;
+use crate::statement_record::{Background, StatementRecord};
 use std::alloc::{AllocError, Global};
 use std::marker::Model;
 
 /// Statements as numbers. Contracts see the list of them, with plain lists for their parts.
 ///
-/// Inside, a statement is one record of fixed size, and the numbers of all stand in one buffer: so what a citation reads
-/// of an assertion lies side by side. Groups are kept beside, since few assertions have them.
+/// Inside, a statement is one small record, and the numbers of all stand in one buffer: so what a citation reads of an
+/// assertion lies side by side. Groups are kept beside, since few assertions have them, and what no citation reads too.
 #[derive(Drop)]
 pub struct Entries {
     records: Vec<StatementRecord>,
+    backgrounds: Vec<Background>,
     numbers: Vec<u32>,
     groups: Vec<BufferPart>,
 }
 
-/// What is kept of one statement: its record, its numbers, where its parts stand among them, and its groups.
+/// What is kept of one statement: its record, what was there before it, its numbers, where its parts stand among them, and
+/// its groups. What is not used of it is not read.
 #[derive(Clone, Copy, Drop)]
 struct Stored<'a> {
     kept: StatementRecord,
+    behind: Background,
     numbers: &'a [u32],
     at: Layout,
     groups: &'a [BufferPart],
 }
 
 impl Model for Entries {
-    ghost use Rattle.std.specs.Prelude.{List};
-    ghost use Rattle.{entries.specs.Entries.Entry, entries.specs.Stored.Records.entries_of, entries.specs.Stored.Records.ArePacked};
+    ghost use Rattle.std.specs.Prelude.{List, length, ◌≡◌};
+    ghost use Rattle.{entries.specs.Entries.Entry, entries.specs.Stored.Records.bodies_of, entries.specs.Stored.Records.with_backgrounds, entries.specs.Stored.Records.ArePacked};
 
     ghost Value = { List Entry };
 
-    ghost view = { λ a. entries_of a.numbers.items a.groups.items a.records.items };
+    ghost view = { λ a. with_backgrounds (bodies_of a.numbers.items a.groups.items a.records.items) a.backgrounds.items };
 
-    ghost invariant = { λ a. ArePacked a.numbers.items a.groups.items a.records.items };
+    ghost invariant = { λ a. ArePacked a.numbers.items a.groups.items a.records.items × (length a.backgrounds.items ≡ length a.records.items) };
 }
 
 impl Entries {
@@ -51,12 +54,14 @@ impl Entries {
     {
         Entries {
             records: Vec::new(alloc),
+            backgrounds: Vec::new(alloc),
             numbers: Vec::new(alloc),
             groups: Vec::new(alloc),
         }
     }
 
     /// How many statements there are.
+    #[tactic(auto, using(crate::proofs::StatementRecordLemmas::within))]
     pub fn len(&self) -> usize
         ensures len { result ≡ length self.now }
         ensures few { result + 1 < 2 ^ 32 }
@@ -65,21 +70,23 @@ impl Entries {
     }
 
     /// The statement at an index, from 0.
+    #[inline(always)]
     pub fn entry(&self, index: usize) -> EntryRef<'_>
         requires { index < length self.now }
         ensures { IsEntry self.now index result }
     {
         let Stored {
             kept,
+            behind,
             numbers,
             at,
             ..
         } = self.stored(index);
         EntryRef {
             kind: kept.kind,
-            label: kept.label,
-            names: kept.names,
-            links: kept.links,
+            label: behind.label,
+            names: behind.names,
+            links: behind.links,
             symbols: part(numbers, at.symbols, at.hypotheses),
         }
     }
@@ -111,6 +118,7 @@ impl Entries {
             numbers,
             at,
             groups,
+            ..
         } = self.stored(index);
         if !kept.whole {
             return None;
@@ -133,8 +141,10 @@ impl Entries {
         let (numbers, at) = run_at(&self.records, &self.numbers, index, kept);
         let from = kept.groups as usize;
         let groups = part(&self.groups, from, from + at.groups);
+        let behind = item(&self.backgrounds, index);
         Stored {
             kept,
+            behind,
             numbers,
             at,
             groups,
@@ -155,12 +165,14 @@ impl Entries {
         let groups = self.groups.len();
         let added = add(
             &mut self.records,
+            &mut self.backgrounds,
             &mut self.numbers,
             &mut self.groups,
             head,
             parts,
         );
         if added.is_err() {
+            self.backgrounds.truncate(count);
             self.numbers.truncate(from);
             self.groups.truncate(groups);
         }
@@ -191,9 +203,10 @@ impl Entries {
     {
         if len < self.records.len() {
             let first = item(&self.records, len);
-            self.numbers.truncate(first.from);
+            self.numbers.truncate(first.from as usize);
             self.groups.truncate(first.groups as usize);
             self.records.truncate(len);
+            self.backgrounds.truncate(len);
         }
     }
 }
@@ -212,23 +225,22 @@ fn run_at<'a>(
     ensures at { result.1 ≡ layout_in kept.has_parts result.0.now }
 {
     if kept.has_parts {
-        let rest = part(numbers, kept.from, numbers.len());
+        let rest = part(numbers, kept.from as usize, numbers.len());
         let at = assertion_layout(rest);
         return (part(rest, 0, at.end), at);
     }
     let end = match records.get(index + 1) {
-        Some(next) => next.from,
+        Some(next) => next.from as usize,
         None => numbers.len(),
     };
-    (
-        part(numbers, kept.from, end),
-        lay(0, 0, end - kept.from, 0, 0),
-    )
+    let from = kept.from as usize;
+    (part(numbers, from, end), lay(0, 0, end - from, 0, 0))
 }
 
 /// Adds a statement's parts behind the others, and its record.
 fn add(
     records: &mut Vec<StatementRecord>,
+    backgrounds: &mut Vec<Background>,
     numbers: &mut Vec<u32>,
     groups: &mut Vec<BufferPart>,
     head: Head,
@@ -236,24 +248,31 @@ fn add(
 ) -> Result<(), AllocError>
     ensures added { OnOk result (numbers.new.items ≡ numbers.old.items ++ run_of (has_parts parts.now) parts.now) }
     ensures groups { OnOk result (groups.new.items ≡ groups.old.items ++ parts.now.groups.now) }
-    ensures last { OnOk result (records.new.items ≡ records.old.items ++ record_by head (has_parts parts.now) parts.now.whole (length numbers.old.items) (length groups.old.items) ∷ []) }
+    ensures last { OnOk result (records.new.items ≡ records.old.items ++ record_by head.kind (has_parts parts.now) parts.now.whole (length numbers.old.items) (length groups.old.items) ∷ []) }
+    ensures background { OnOk result (backgrounds.new.items ≡ backgrounds.old.items ++ background_of head ∷ []) }
     ensures same { OnErr result (records.new.items ≡ records.old.items) }
+    ensures more_backgrounds { Extends backgrounds.old.items backgrounds.new.items }
     ensures more { Extends numbers.old.items numbers.new.items }
     ensures more_groups { Extends groups.old.items groups.new.items }
 {
-    let from = numbers.len();
+    let from = place(numbers.len())?;
     let first = place(groups.len())?;
     let has_parts = parts.hypotheses.len() + parts.groups.len() > 0;
     append(groups, parts.groups)?;
     add_numbers(numbers, parts, has_parts)?;
     append(
+        backgrounds,
+        &[Background {
+            label: head.label,
+            names: head.names,
+            links: head.links,
+        }],
+    )?;
+    append(
         records,
         &[StatementRecord {
             from,
             groups: first,
-            label: head.label,
-            names: head.names,
-            links: head.links,
             kind: head.kind,
             has_parts,
             whole: parts.whole,

@@ -3,19 +3,24 @@
 use crate::kind::Kind;
 use crate::links::Links;
 
-/// A statement: what is in its head, and where its numbers and its groups begin. They end where those of the next
-/// statement begin.
+/// What is looked at first of a statement: its kind, and where its numbers and its groups begin. They end where those of
+/// the next statement begin.
 #[derive(Clone, Copy, Drop)]
 pub struct StatementRecord {
-    pub from: usize,
+    pub from: u32,
     /// How many groups there were before.
     pub groups: u32,
-    pub label: u32,
-    pub names: u32,
-    pub links: Links,
     pub kind: Kind,
     /// Whether its numbers are those of an assertion with its parts; else they are its symbols alone.
     pub has_parts: bool,
     /// Whether its parts are whole.
     pub whole: bool,
+}
+
+/// What was there before a statement, as its head has it.
+#[derive(Clone, Copy, Drop)]
+pub struct Background {
+    pub label: u32,
+    pub names: u32,
+    pub links: Links,
 }

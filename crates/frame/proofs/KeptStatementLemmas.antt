@@ -70,7 +70,7 @@ module _ (es : List Entry) (names labels : List Name) (m a : ℕ) (e : Entry) (d
   one-asked : (p : ℕ) → IsHyp front_of own p → IsAsked all names p (head_at es p) (asked_at es p)
   one-asked p h =
       let x = hyp-at p h in
-      let k = asked-kind names x.entry.kind (name_at labels x.entry.label) x.entry.symbols p front_of own x.codes x.two (sym (ap (is_hypothesis front_of own) x.same) ∙ h.is) in
+      let k = asked-kind names x.entry.kind (name_at labels x.entry.label) x.entry.symbols p front_of own x.codes x.two (sym (ap (is_hypothesis front_of own) x.same) ∙ h.passes) in
       record {
         stmt = h.stmt;
         stands = ap (stmt_at all) h.at ∙ x.stands_at;

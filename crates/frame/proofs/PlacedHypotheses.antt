@@ -1,7 +1,7 @@
 -- Where the active statements that pass a test stand, and with them the mandatory hypotheses of a statement.
 use Rattle.frame.proofs.Words.{list_any, sym, ◌∙◌, ap, subst, arith, inl, inr, ◌≡◌, ℕ, suc, ◌+◌, ◌&&◌, Bool, true, ◌⊎◌, List, [], ◌∷◌, ◌++◌, length, map, filter, refl, ⊎_map, or_right, or_cases, Name, has_name, Stmt, Database, stays_open, active, expr_of, is_essential, is_used, is_hypothesis, hypotheses, In}
 use Rattle.frame.proofs.ActiveBehind.{Stands, active-stands, stands-active}
-use Rattle.frame.proofs.ActivePositions.{active-members, members-active}
+use Rattle.frame.proofs.ActivePositions.{IsActiveAt, active-members, members-active}
 
 -- an active statement that passes the test is among the positions of those that do
 pub members : (S : Database) (q : Stmt → Bool) (p : ℕ) (A : Database) (t : Stmt) (B : Database) → S ≡ A ++ t ∷ B → p ≡ suc (length A) → stays_open 0 B ≡ true → q t ≡ true → In p (map (λ y. y.0) (filter (λ y. q y.1) (active S)))
@@ -24,14 +24,8 @@ used-cases S s x h = ⊎_map (λ e. e) (active-stands (λ t. is_essential t && h
 -- ---- the mandatory hypotheses
 
 -- a hypothesis of s stands at p
-pub record IsHyp (S : Database) (s : Stmt) (p : ℕ) : Type 0 where
-  pub front : Database
-  pub stmt : Stmt
-  pub rest : Database
-  pub whole : S ≡ front ++ stmt ∷ rest
-  pub at : p ≡ suc (length front)
-  pub stays : stays_open 0 rest ≡ true
-  pub is : is_hypothesis S s stmt ≡ true
+abbrev pub IsHyp : Database → Stmt → ℕ → Type 0
+IsHyp S s p = IsActiveAt S (is_hypothesis S s) p
 
 abbrev pub AreHyps : Database → Stmt → List ℕ → Type 0
 AreHyps S s [] = Unit {0}
@@ -43,6 +37,4 @@ listed S s (p ∷ ps) h = (h p (inl refl), listed S s ps (λ q i. h q (inr i)))
 
 -- each mandatory hypothesis stands at its position, and is active there
 pub hyps : (S : Database) (s : Stmt) → AreHyps S s (hypotheses S s)
-hyps S s = listed S s (hypotheses S s) (λ p i.
-    let h = active-members S (is_hypothesis S s) p [] S 1 refl refl i in
-    record { front = h.front; stmt = h.stmt; rest = h.rest; whole = h.whole; at = h.at; stays = h.stays; is = h.passes })
+hyps S s = listed S s (hypotheses S s) (λ p i. active-members S (is_hypothesis S s) p [] S 1 refl refl i)

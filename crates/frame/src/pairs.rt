@@ -1,6 +1,6 @@
 //! The variables that are kept apart at a position.
-ghost use Rattle.std.specs.Prelude.{◌≡◌, ◌==◌, ◌&&◌, ◌<◌, false, length, IfNone};
-ghost use Rattle.{std.specs.List.list_any, names.specs.Codes.name_at, names.specs.Codes.code_of, scope.specs.Active.is_variable, frame.specs.FrameOf.is_pair};
+ghost use Rattle.std.specs.Prelude.{◌≡◌, ◌==◌, ◌&&◌, ◌||◌, ◌<◌, ℕ, not, false, length, IfNone, IfSome};
+ghost use Rattle.{std.specs.List.list_any, mm_lex.specs.Alphabet.Name, names.specs.Codes.name_at, names.specs.Codes.code_of, scope.specs.Active.is_variable, frame.specs.FrameOf.is_pair};
 
 use crate::at_position::{is_active_at, links_at};
 use crate::storage::Stock;
@@ -38,15 +38,39 @@ impl<'a> Pairs<'a> {
         if x == y {
             return false;
         }
-        let mut last = links_at(self.stock, self.at).disjoint;
-        while last != 0 {
-            let entry = self.stock.entries.entry(last as usize - 1);
-            if contains_both(entry.symbols, x, y) {
+        let mut before = self.copy();
+        while let Some(list) = before.take_last() {
+            if contains_both(list, x, y) {
                 return true;
             }
-            last = entry.links.disjoint;
         }
         false
+    }
+
+    /// The same `$d` once more.
+    #[inline(always)]
+    pub fn copy(&self) -> Pairs<'a>
+        ensures { result ≡ self.now }
+    {
+        Pairs { ..*self }
+    }
+
+    /// Goes back to the last active `$d`, and gives its list. None where none is active.
+    ///
+    /// Cost: two look-ups.
+    #[inline(always)]
+    pub fn take_last(&mut self) -> Option<&'a [u32]>
+        ensures names { self.new.names ≡ self.old.names }
+        ensures fewer { IfSome result (λ list. length self.new.statements < length self.old.statements) }
+        ensures pairs { IfSome result (λ list. (x y : ℕ) → x < length self.old.names → y < length self.old.names → is_pair self.old.statements (name_at self.old.names x) (name_at self.old.names y) ≡ (not (x == y) && (list_any (λ c. x == c) list.now && list_any (λ c. y == c) list.now) || is_pair self.new.statements (name_at self.old.names x) (name_at self.old.names y))) }
+        ensures none { IfNone result ((x y : Name) → is_pair self.old.statements x y ≡ false) }
+    {
+        let last = links_at(self.stock, self.at).disjoint as usize;
+        if last == 0 {
+            return None;
+        }
+        self.at = last;
+        Some(self.stock.entries.entry(last - 1).symbols)
     }
 
     /// The number of a name, where it has one. A name with none is no variable there.
@@ -83,6 +107,7 @@ impl<'a> Pairs<'a> {
     }
 }
 
+/// Whether x stands in the list. Cost: the list.
 pub fn contains(codes: &[u32], x: u32) -> bool
     ensures { result ≡ list_any (λ y. x == y) codes.now }
 {

@@ -57,7 +57,7 @@ hypotheses-stand S s = by (hypotheses S s) (hyps S s)
     one p h =
         let there : stmt_at S (suc (length h.front)) ≡ slice_get (h.front ++ h.stmt ∷ h.rest) (length h.front) = ap (λ U. slice_get U (length h.front)) h.whole in
         let last : length h.front ≡ length h.front + 0 = omega arith in
-        record { stmt = h.stmt; stands = ap (stmt_at S) h.at ∙ (there ∙ (ap (slice_get (h.front ++ h.stmt ∷ h.rest)) last ∙ get-behind h.front (h.stmt ∷ h.rest) 0)); kind = hypothesis-kinds S s h.stmt h.is }
+        record { stmt = h.stmt; stands = ap (stmt_at S) h.at ∙ (there ∙ (ap (slice_get (h.front ++ h.stmt ∷ h.rest)) last ∙ get-behind h.front (h.stmt ∷ h.rest) 0)); kind = hypothesis-kinds S s h.stmt h.passes }
 
     by : (ps : List ℕ) → AreHyps S s ps → AreHypothesesAt S ps
     by [] h = tt

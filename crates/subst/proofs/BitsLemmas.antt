@@ -1,9 +1,12 @@
 -- Places as the bits of a word.
-use Rattle.subst.proofs.Words.{◌≡◌, ℕ, ◌*◌, ◌%◌, ◌^◌, ◌<◌, ◌⊎◌, bit_at, bit_not, sym, ◌∙◌, ap, arith, inl, inr, bit_and, bit_or, w64, cases_eq, cases_lt, bit_at_and, bit_at_or, bit_at_not, bit_at-zero, bit_at-lt, bit_at_above, bit_at-pow_same, bit_at-pow_other, bit_at_clear_same, bit_at_clear_other}
+use Rattle.subst.proofs.Words.{◌≡◌, ℕ, ◌*◌, ◌%◌, ◌^◌, ◌<◌, ◌⊎◌, bit_at, bit_not, sym, ◌∙◌, ap, arith, inl, inr, bit_and, bit_or, w64, cases_eq, cases_lt, bit_at_and, bit_at_or, bit_at_not, bit_at-zero, bit_at-lt, bit_at-trailing_zeros, trailing_zeros, bit_at_above, bit_at-pow_same, bit_at-pow_other, bit_at_clear_same, bit_at_clear_other}
 use Rattle.std.proofs.lemmas.Nat.{one_shl, and_le_l}
 
 pub zero-none : (j : ℕ) → bit_at 0 j ≡ 1 → ⊥
 zero-none j b = let z = bit_at-zero j in omega (arith, z, b)
+
+pub some-bit : (a : ℕ) → a < 2 ^ 64 → (a ≡ 0 → ⊥) → (j : ℕ) × (bit_at a j ≡ 1)
+some-bit a fits some = (trailing_zeros w64 a, (bit_at-trailing_zeros w64 a (omega (arith, some)) fits).1)
 
 -- ---- a place alone
 

@@ -1,9 +1,9 @@
 -- What was found of the symbols of a proof, and how more of it is noted.
-use Rattle.subst.proofs.Words.{if◌then◌else◌, ◌≡◌, ℕ, ◌+◌, ◌*◌, ◌%◌, ◌^◌, ◌<◌, ◌≤◌, ◌⊎◌, true, false, List, [], ◌∷◌, ◌++◌, length, get_or, slice_set, Result, Ok, Err, is_ok, is_err, refl, bit_at, bit_not, All, sym, ◌∙◌, ap, subst, arith, inl, inr, bit_and, bit_or, w64, cases_eq, get_or-set_same, get_or-set_other, length-set, get_or_default, get_or_append_left, get_or_push, length_push}
+use Rattle.subst.proofs.Words.{Bool, not, ◌&&◌, ◌||◌, ◌==◌, list_any, is_pair, and_right, if◌then◌else◌, ◌≡◌, ℕ, ◌+◌, ◌*◌, ◌%◌, ◌^◌, ◌<◌, ◌≤◌, ◌⊎◌, true, false, List, [], ◌∷◌, ◌++◌, length, get_or, slice_set, Result, Ok, Err, is_ok, is_err, refl, bit_at, bit_not, All, sym, ◌∙◌, ap, subst, arith, inl, inr, bit_and, bit_or, w64, cases_eq, get_or-set_same, get_or-set_other, length-set, get_or_default, get_or_append_left, get_or_push, length_push}
 use Rattle.subst.proofs.Words.{is_variable, name_at, Numbered, FoundSymbol, Found, variable_at, no_variable, is_kept, IsRow, IsKnown, IsAt, IsListed, Grows, IsNoted, AreBits, IsSame, IsAmong, HavePlaces, IsRowApart}
 use Rattle.std.proofs.lemmas.List.Elements.{All-nil, All-push, All-weaker, All-set, All-contains}
 use Rattle.subst.specs.declared.findings.Variable.{Variable}
-use Rattle.subst.proofs.BitsLemmas.{zero-none, one-own, one-only, or-left, or-right, or-either, and-left, and-all, and-not}
+use Rattle.subst.proofs.BitsLemmas.{zero-none, one-own, one-only, or-left, or-right, or-either, and-left, and-all, and-not, IsTaken}
 
 pub grows-own : (f : Found) → Grows f f
 grows-own f = record { each = λ j x at. at }
@@ -165,19 +165,10 @@ module _ (v : Numbered) (f : Found) (known : IsKnown v f) (i : ℕ) (there : i <
 -- a row that was read, and what is noted of it
 module _ (v : Numbered) (f : Found) (i bits : ℕ) (symbols : List FoundSymbol) (variables : List Variable) (r d : Variable)
     (same : record { symbols = symbols; variables = variables } ≡ f) (there : i < length f.variables) (read : r ≡ get_or variables i d) where
-  row-read : r ≡ variable_at f i
+  pub row-read : r ≡ variable_at f i
   row-read =
       let n = ap (λ (g : Found). length g.variables) same in
       read ∙ (get_or_default variables i d no_variable (omega (arith, n, there)) ∙ ap (λ (g : Found). variable_at g i) same)
-
-  abbrev left : ℕ
-  left = bit_and bits (bit_not w64 r.apart)
-
-  pub places-left : HavePlaces f bits → HavePlaces f left
-  places-left h = record { each = λ j b. h.each j (and-left bits (bit_not w64 r.apart) j b) }
-
-  pub row-left : IsRowApart v f i bits → IsRowApart v f i left
-  row-left all = record { each = λ j b. all.each j (and-left bits (bit_not w64 r.apart) j b) }
 
   module _ (known : IsKnown v f) where
     noted : (j : ℕ) → bit_at r.apart j ≡ 1 → (j < length f.variables) × (is_kept v f i j ≡ true)
@@ -187,8 +178,8 @@ module _ (v : Numbered) (f : Found) (i bits : ℕ) (symbols : List FoundSymbol) 
     pub row-covered : bit_and bits r.apart ≡ bits → IsRowApart v f i bits
     row-covered all = record { each = λ j b. (noted j (and-all bits r.apart j all b)).1 }
 
-    pub row-whole : bits < 2 ^ 64 → r.apart < 2 ^ 64 → IsRowApart v f i left → IsRowApart v f i bits
-    row-whole fits small new = record { each = λ j b. elim (and-not bits r.apart j fits small b) [ inl old ↦ (noted j old).1 | inr more ↦ new.each j more ] }
+    pub row-start : bits < 2 ^ 64 → r.apart < 2 ^ 64 → IsTaken (λ j. is_kept v f i j ≡ true) bits (bit_and bits (bit_not w64 r.apart))
+    row-start fits small = record { only = λ j b. and-left bits (bit_not w64 r.apart) j b; done = λ j b. elim (and-not bits r.apart j fits small b) [ inl old ↦ inr (noted j old).1 | inr left ↦ inl left ] }
 
     pub row-noted : HavePlaces f bits → IsRowApart v f i bits → IsKnown v (record { symbols = symbols; variables = slice_set variables i (record { symbol = r.symbol; apart = bit_or r.apart bits }) })
     row-noted places all =
@@ -202,6 +193,23 @@ row-back v f g i bits grows there places row = record { each = λ j b. sym (kept
 
 pub row-on : (v : Numbered) (f g : Found) (i bits : ℕ) → Grows f g → i < length f.variables → HavePlaces f bits → IsRowApart v f i bits → IsRowApart v g i bits
 row-on v f g i bits grows there places row = record { each = λ j b. kept-grown v f g i j grows there (places.each j b) ∙ row.each j b }
+
+-- ---- the variables at two places are different and stand in the list
+abbrev pub are_in : List ℕ → Found → ℕ → ℕ → Bool
+are_in list f i j = not ((variable_at f i).symbol == (variable_at f j).symbol) && (list_any (λ c. (variable_at f i).symbol == c) list && list_any (λ c. (variable_at f j).symbol == c) list)
+
+module _ (list : List ℕ) (f : Found) (i j x y : ℕ) (own : x ≡ (variable_at f i).symbol) (other : y ≡ (variable_at f j).symbol) where
+  pub in-both : (x ≡ y → ⊥) → list_any (λ c. x == c) list ≡ true → list_any (λ c. y == c) list ≡ true → are_in list f i j ≡ true
+  in-both differ p q = let t : (x == y) ≡ false = grind (arith, differ) in rw (← own, ← other, t, p, q) refl
+
+  pub not-in : (x ≡ y) ⊎ ((list_any (λ c. x == c) list && list_any (λ c. y == c) list) ≡ false) → are_in list f i j ≡ false
+  not-in (inl e) = let t : (x == y) ≡ true = grind (arith, e) in rw (← own, ← other, t) refl
+  not-in (inr h) = rw (← own, ← other) (and_right (not (x == y)) (list_any (λ c. x == c) list && list_any (λ c. y == c) list) h)
+
+-- kept apart by the `$d` of u: by the list, or by those of w
+pub kept-back : (v u w : Numbered) (f : Found) (i j : ℕ) (list : List ℕ) → IsKnown v f → u.names ≡ v.names → w.names ≡ u.names → i < length f.variables → j < length f.variables
+    → ((x y : ℕ) → x < length u.names → y < length u.names → is_pair u.statements (name_at u.names x) (name_at u.names y) ≡ (not (x == y) && (list_any (λ c. x == c) list && list_any (λ c. y == c) list) || is_pair w.statements (name_at u.names x) (name_at u.names y))) → is_kept u f i j ≡ (are_in list f i j || is_kept w f i j)
+kept-back v u w f i j list known un wn hi hj tells = rw wn (tells (variable_at f i).symbol (variable_at f j).symbol (rw un (known.rows i no_variable hi).named) (rw un (known.rows j no_variable hj).named))
 
 -- ---- nothing found
 

@@ -1,33 +1,21 @@
 -- An expression with the images put in, against symbols that stand.
-use Rattle.subst.proofs.Words.{◌≡◌, ℕ, zero, suc, ◌+◌, ◌-◌, ◌<◌, ◌==◌, take_all, true, false, List, [], ◌∷◌, ◌++◌, length, take, drop, get_or, Option, Some, None, IfSome, IfNone, MatchOption, refl, bytes_eq, sym, ◌∙◌, ap, arith, append_assoc, Bor, drop-cons, take-append-drop, append_cancel_left, take-append_seam, CodeImages, code_image, code_apply}
+use Rattle.subst.proofs.Words.{◌≡◌, ℕ, zero, suc, ◌+◌, ◌-◌, ◌<◌, ◌==◌, take_all, true, false, List, [], ◌∷◌, ◌++◌, length, take, drop, get_or, refl, bytes_eq, sym, ◌∙◌, ap, arith, append_assoc, drop-cons, length-drop, take-append-drop, append_cancel_left, take-append_seam, CodeImages, code_image, code_apply}
 use Rattle.std.proofs.lemmas.Bool.Decides.{nat_tests}
 use Rattle.std.proofs.lemmas.Slice.Eq.{bytes_eq-Decides}
 use Rattle.subst.proofs.WrittenImages.{apply-take}
 
 -- symbols that begin with an image are the image and the rest
-strips : (rest image : List ℕ) → bytes_eq (take (length image) rest) image ≡ true → rest ≡ image ++ drop (length image) rest
-strips rest image h = sym (take-append-drop (length image) rest) ∙ ap (λ s. s ++ drop (length image) rest) ((bytes_eq-Decides (take (length image) rest) image).0 h)
+pub image_goes : (rest image : List ℕ) → bytes_eq (take (length image) rest) image ≡ true → rest ≡ image ++ take (length rest - length image) (drop (length image) rest)
+image_goes rest image h =
+    sym (take-append-drop (length image) rest)
+    ∙ (ap (λ s. s ++ drop (length image) rest) ((bytes_eq-Decides (take (length image) rest) image).0 h)
+    ∙ ap (λ s. image ++ s) (sym (take_all (length rest - length image) (drop (length image) rest) (let l = length-drop (length image) rest in omega arith))))
 
-bytes-refl : (x : List ℕ) → bytes_eq x x ≡ true
-bytes-refl x = grind (arith, bytes_eq-Decides)
-
-strips-none : (rest image more : List ℕ) → bytes_eq (take (length image) rest) image ≡ false → rest ≡ image ++ more → ⊥
-strips-none rest image more h e =
+pub image_fails : (rest image more : List ℕ) → bytes_eq (take (length image) rest) image ≡ false → rest ≡ image ++ more → ⊥
+image_fails rest image more h e =
     let t : take (length image) rest ≡ image = ap (take (length image)) e ∙ take-append_seam image more in
-    let b : bytes_eq (take (length image) rest) image ≡ true = ap (λ s. bytes_eq s image) t ∙ bytes-refl image in
+    let b : bytes_eq (take (length image) rest) image ≡ true = ap (λ s. bytes_eq s image) t ∙ grind (arith, bytes_eq-Decides) in
     let c : true ≡ false = sym b ∙ h in cc
-
-pub strip-some : (r : Option (Bor (List ℕ))) (rest image given : List ℕ) → image ≡ given
-    → MatchOption r (bytes_eq (take (length image) rest) image ≡ false) (λ x. (bytes_eq (take (length image) rest) image ≡ true) × (x.now ≡ drop (length image) rest) × (length x.now + length image ≡ length rest))
-    → IfSome r (λ more. rest ≡ given ++ more.now)
-strip-some None rest image given e h = tt
-strip-some (Some x) rest image given e h = strips rest image h.0 ∙ (ap (λ s. s ++ drop (length image) rest) e ∙ ap (λ s. given ++ s) (sym h.1))
-
-pub strip-none : (r : Option (Bor (List ℕ))) (rest image given : List ℕ) → image ≡ given
-    → MatchOption r (bytes_eq (take (length image) rest) image ≡ false) (λ x. (bytes_eq (take (length image) rest) image ≡ true) × (x.now ≡ drop (length image) rest) × (length x.now + length image ≡ length rest))
-    → IfNone r ((more : List ℕ) → rest ≡ given ++ more → ⊥)
-strip-none None rest image given e h = λ more f. strips-none rest image more h (f ∙ ap (λ s. s ++ more) (sym e))
-strip-none (Some x) rest image given e h = tt
 
 -- symbols that begin with this one
 pub head-goes : (rest image : List ℕ) (x : ℕ) → image ≡ x ∷ [] → (length rest == 0) ≡ false → get_or rest 0 0 ≡ x → rest ≡ image ++ take (length rest - 1) (drop 1 rest)

@@ -18,6 +18,7 @@ pub fn without(word: u64, place: usize) -> u64
     requires low { place < 64 }
     requires set { bit_at word place ≡ 1 }
     ensures less { result < word }
+    ensures gone { bit_at result place ≡ 1 → ⊥ }
     ensures only { (j : ℕ) → bit_at result j ≡ 1 → bit_at word j ≡ 1 }
     ensures others { (j : ℕ) → bit_at word j ≡ 1 → (j ≡ place) ⊎ (bit_at result j ≡ 1) }
 {

@@ -3,7 +3,7 @@ ghost use Rattle.std.specs.Prelude.{◌≡◌, ◌<◌, [], length, true, false,
 ghost use Rattle.{names.specs.Codes.name_at, scope.specs.Active.is_variable, frame.specs.Below.AreBelow, subst.specs.Findings.IsKnown, subst.specs.Findings.IsAt, subst.specs.Findings.IsListed, subst.specs.Findings.Grows, subst.specs.Findings.IsSame, subst.specs.Findings.IsAmong, subst.specs.Findings.AreBits, subst.specs.Findings.HavePlaces, subst.specs.Findings.IsRowApart, subst.specs.Findings.AreWordsApart};
 
 use crate::bits::{lowest, without};
-use frame::Pairs;
+use frame::{Pairs, contains};
 use std::alloc::Global;
 use std::marker::Model;
 
@@ -164,7 +164,7 @@ impl Findings {
         true
     }
 
-    /// Whether the variable at the place is kept apart from each of these, which is noted.
+    /// Whether the variable at the place is kept apart from each of these, which is noted. One walk over the active `$d`.
     #[cold]
     #[inline(never)]
     fn find_row(&mut self, pairs: &Pairs<'_>, place: usize, bits: u64) -> bool
@@ -176,30 +176,26 @@ impl Findings {
         ensures apart { result ≡ true → IsRowApart pairs.now self.old place bits }
         ensures clash { result ≡ false → IsRowApart pairs.now self.old place bits → ⊥ }
     {
-        let row = self.variables[place];
-        if !self.are_pairs(pairs, place, bits & !row.apart) {
-            return false;
+        let Variable { symbol, apart } = self.variables[place];
+        let mut wanted = bits & !apart;
+        let mut before = pairs.copy();
+        while wanted != 0 {
+            let Some(list) = before.take_last() else {
+                return false;
+            };
+            if contains(list, symbol) {
+                let mut rest = wanted;
+                while rest != 0 {
+                    let at = lowest(rest);
+                    let other = self.variables[at].symbol;
+                    if symbol != other && contains(list, other) {
+                        wanted = without(wanted, at);
+                    }
+                    rest = without(rest, at);
+                }
+            }
         }
         self.variables[place].apart |= bits;
-        true
-    }
-
-    /// Whether the variable at the place and each of these stand together in an active `$d`.
-    fn are_pairs(&self, pairs: &Pairs<'_>, place: usize, bits: u64) -> bool
-        requires known { IsKnown pairs.now self.now }
-        requires place { place < length self.now.variables }
-        requires bits { HavePlaces self.now bits }
-        ensures apart { result ≡ true → IsRowApart pairs.now self.now place bits }
-        ensures clash { result ≡ false → IsRowApart pairs.now self.now place bits → ⊥ }
-    {
-        let mut rest = bits;
-        while rest != 0 {
-            let other = lowest(rest);
-            if !pairs.has(self.variables[place].symbol, self.variables[other].symbol) {
-                return false;
-            }
-            rest = without(rest, other);
-        }
         true
     }
 }

@@ -5,6 +5,24 @@ ghost use Rattle.{frame.specs.Substitution.code_image, frame.specs.Substitution.
 use crate::expression_place::symbols_at;
 use crate::image_places::{ImagePlaces, ImageTable};
 
+/// What stands behind these symbols, where the others begin with them.
+#[inline(always)]
+#[tactic(auto, using(crate::proofs::MatchLemmas::image_goes, crate::proofs::MatchLemmas::image_fails))]
+fn behind_image<'a>(image: &[u32], rest: &'a [u32]) -> Option<&'a [u32]>
+    ensures some { IfSome result (λ more. rest.now ≡ image.now ++ more.now) }
+    ensures none { IfNone result ((more : List ℕ) → rest.now ≡ image.now ++ more → ⊥) }
+{
+    let len = image.len();
+    if rest.len() < len {
+        return None;
+    }
+    if &rest[..len] == image {
+        Some(&rest[len..])
+    } else {
+        None
+    }
+}
+
 /// What stands behind the image of a symbol.
 #[inline(always)]
 fn behind<'a>(
@@ -18,7 +36,7 @@ fn behind<'a>(
     ensures none { IfNone result ((more : List ℕ) → rest.now ≡ code_image (images_at symbols.now images.now) symbol ++ more → ⊥) }
 {
     match images.get(symbol) {
-        Some(place) => rest.strip_prefix(symbols_at(symbols, place)),
+        Some(place) => behind_image(symbols_at(symbols, place), rest),
         None if !rest.is_empty() && rest[0] == symbol => Some(&rest[1..]),
         None => None,
     }

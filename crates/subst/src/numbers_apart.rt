@@ -91,9 +91,9 @@ fn group_apart(
 /// Whether the images of each two numbers of each group are apart at the statement of the pairs. The images lie in the
 /// symbols. What is found of these is noted, and asked for again in the same proof.
 ///
-/// Cost: the symbols of the images of a group, its variables for each of its numbers, and for each two that are new to
-/// each other that of `Pairs::has`; where the proof has more than 64 variables, or memory is refused, for each two
-/// numbers of a group that of `Pairs::apart`.
+/// Cost: the symbols of the images of a group, its variables for each of its numbers, and for each variable with others
+/// that are new to it the symbols of the active `$d`; where the proof has more than 64 variables, or memory is refused,
+/// for each two numbers of a group that of `Pairs::apart`.
 /// Source: Metamath, 4.2.6.
 #[inline(always)]
 pub fn groups_apart(

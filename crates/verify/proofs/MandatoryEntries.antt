@@ -35,7 +35,7 @@ mandatory-is : (S : Database) (at : ℕ) (s : Stmt) (p : ℕ) → 1 ≤ at → a
 mandatory-is S at s p low high h =
     let whole : S ≡ (h.front ++ h.stmt ∷ h.rest) ++ drop (at - 1) S = sym (take-append-drop (at - 1) S) ∙ ap (λ u. u ++ drop (at - 1) S) h.whole in
     let stands : stmt_at S p ≡ Some h.stmt = ap (stmt_at S) h.at ∙ (ap (λ u. slice_get u (length h.front)) whole ∙ get-middle h.front h.stmt h.rest (drop (at - 1) S)) in
-    let kind : is_hypothesis_kind h.stmt ≡ true = hypothesis-kinds (before S at) s h.stmt h.is in
+    let kind : is_hypothesis_kind h.stmt ≡ true = hypothesis-kinds (before S at) s h.stmt h.passes in
     let long : at - 1 ≡ length h.front + suc (length h.rest) = sym (length-take-le (at - 1) S (omega (arith, high))) ∙ (ap length h.whole ∙ length-append h.front (h.stmt ∷ h.rest)) in
     let between : take (at - 1 - p) (drop p S) ≡ h.rest =
     ap (λ k. take (at - 1 - k) (drop k S)) h.at ∙ (ap (λ u. take (at - 1 - suc (length h.front)) (drop (suc (length h.front)) u)) whole ∙ between-middle h.front h.stmt h.rest (drop (at - 1) S) (at - 1 - suc (length h.front)) (omega (arith, long))) in

@@ -6,11 +6,13 @@ use Rattle.entries.specs.declared.layout.Layout.{Layout}
 use Rattle.entries.specs.declared.layout.TheConstants.{COUNTS}
 use Rattle.entries.specs.declared.entries.Stored.{Stored}
 use Rattle.entries.specs.declared.statement_record.StatementRecord.{StatementRecord}
+use Rattle.entries.specs.declared.statement_record.Background.{Background}
+use Rattle.entries.specs.declared.kind.Kind.{Kind}
 use Rattle.entries.specs.declared.buffer_part.BufferPart.{BufferPart}
 use Rattle.entries.specs.declared.head.Head.{Head}
 use Rattle.entries.specs.declared.parts.AssertionParts.{AssertionParts}
 use Rattle.entries.specs.Hypotheses.{told}
-use Rattle.entries.specs.Entries.{Entry}
+use Rattle.entries.specs.Entries.{Entry, Assertion}
 use Rattle.entries.specs.Stored.Spans.{cut, AreSpansIn}
 
 -- ---- the numbers of one statement
@@ -44,15 +46,18 @@ abbrev pub run_of : Bool → AssertionParts → List ℕ
 run_of true p = ((((counts_of p ++ p.heads.now) ++ p.asked.now) ++ p.symbols.now) ++ p.hypotheses.now) ++ p.places.now
 run_of false p = p.symbols.now
 
-abbrev pub record_by : Head → Bool → Bool → ℕ → ℕ → StatementRecord
-record_by h has_parts whole from groups = record { from = from; groups = groups; label = h.label; names = h.names; links = h.links; kind = h.kind; has_parts = has_parts; whole = whole }
+abbrev pub record_by : Kind → Bool → Bool → ℕ → ℕ → StatementRecord
+record_by kind has_parts whole from groups = record { from = from; groups = groups; kind = kind; has_parts = has_parts; whole = whole }
 
-abbrev pub entry_by : StatementRecord → List ℕ → List BufferPart → Layout → Entry
-entry_by r run spans at = record {
+-- a statement without what was there before it
+pub record Body : Type 0 where
+  pub kind : Kind
+  pub symbols : List ℕ
+  pub assertion : Assertion
+
+abbrev pub body_by : StatementRecord → List ℕ → List BufferPart → Layout → Body
+body_by r run spans at = record {
   kind = r.kind;
-  label = r.label;
-  names = r.names;
-  links = r.links;
   symbols = slice_range run at.symbols at.hypotheses;
   assertion = record {
     whole = r.whole;
@@ -63,8 +68,14 @@ entry_by r run spans at = record {
   };
 }
 
-abbrev pub entry_of : StatementRecord → List ℕ → List BufferPart → Entry
-entry_of r run spans = entry_by r run spans (layout_in r.has_parts run)
+abbrev pub body_of : StatementRecord → List ℕ → List BufferPart → Body
+body_of r run spans = body_by r run spans (layout_in r.has_parts run)
+
+abbrev pub background_of : Head → Background
+background_of h = record { label = h.label; names = h.names; links = h.links }
+
+abbrev pub with_background : Body → Background → Entry
+with_background b k = record { kind = b.kind; label = k.label; names = k.names; links = k.links; symbols = b.symbols; assertion = b.assertion }
 
 -- ---- all statements
 
@@ -83,9 +94,15 @@ run_by numbers r next = slice_range numbers r.from (end_by numbers next)
 abbrev pub spans_by : List BufferPart → StatementRecord → Option StatementRecord → List BufferPart
 spans_by groups r next = slice_range groups r.groups (groups_by groups next)
 
-abbrev pub entries_of : List ℕ → List BufferPart → List StatementRecord → List Entry
-entries_of numbers groups [] = []
-entries_of numbers groups (r ∷ rs) = entry_of r (run_by numbers r (slice_get rs 0)) (spans_by groups r (slice_get rs 0)) ∷ entries_of numbers groups rs
+abbrev pub bodies_of : List ℕ → List BufferPart → List StatementRecord → List Body
+bodies_of numbers groups [] = []
+bodies_of numbers groups (r ∷ rs) = body_of r (run_by numbers r (slice_get rs 0)) (spans_by groups r (slice_get rs 0)) ∷ bodies_of numbers groups rs
+
+-- the statements, each with what was there before it
+abbrev pub with_backgrounds : List Body → List Background → List Entry
+with_backgrounds [] ks = []
+with_backgrounds (b ∷ bs) [] = []
+with_backgrounds (b ∷ bs) (k ∷ ks) = with_background b k ∷ with_backgrounds bs ks
 
 -- a statement's numbers are within the buffer, as many as it says
 pub record IsPlaced (numbers : List ℕ) (r : StatementRecord) (next : Option StatementRecord) : Type 0 where
@@ -126,4 +143,4 @@ pub record IsStored (found : Option Entry) (s : Stored) : Type 0 where
   pub ordered : IsOrdered s.at
   pub whole : s.at.end ≡ length s.numbers.now
   pub grouped : AreSpansIn (s.at.end - s.at.places) s.groups.now
-  pub entry : found ≡ Some (entry_by s.kept s.numbers.now s.groups.now s.at)
+  pub entry : found ≡ Some (with_background (body_by s.kept s.numbers.now s.groups.now s.at) s.behind)

@@ -1,9 +1,12 @@
-use Rattle.std.proofs.Common.{rules}
+use Rattle.subst.proofs.Words.{rules, arith, w64, bit_at_clear_same}
 use Rattle.subst.proofs.BitsLemmas.{cleared-less, cleared-others, and-left}
 use Rattle.subst.proofs.bits.without.Goals as goal
 
 pub returns-clause-less : goal.returns-clause-less
 returns-clause-less c = cleared-less c.args.word c.args.place c.requires.low c.requires.set
+
+pub returns-clause-gone : goal.returns-clause-gone
+returns-clause-gone c = λ b. omega (arith, bit_at_clear_same w64 c.args.word c.args.place c.requires.low, b)
 
 pub returns-clause-only : goal.returns-clause-only
 returns-clause-only c = λ j b. and-left c.args.word _ j b

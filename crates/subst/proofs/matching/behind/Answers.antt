@@ -1,18 +1,18 @@
-use Rattle.subst.proofs.Words.{◌≡◌, true, false, sym, ◌∙◌}
+use Rattle.subst.proofs.Words.{◌≡◌, ℕ, ◌++◌, List, IfSome, IfNone, true, false, subst, sym, ◌∙◌}
 use Rattle.subst.proofs.ImagePlacesLemmas.{image-some, image-none}
-use Rattle.subst.proofs.MatchLemmas.{strip-some, strip-none, head-goes, head-fails}
+use Rattle.subst.proofs.MatchLemmas.{head-goes, head-fails}
 use Rattle.subst.proofs.matching.behind.Goals as goal
 use Rattle.subst.proofs.matching.behind.Goals.{then-not-is_empty+else-rest-symbol, else-not-is_empty}
 
 pub returns-in-Some-clause-some : goal.returns-in-Some-clause-some
 returns-in-Some-clause-some c =
-    strip-some c.strip_prefix.result c.args.rest.now c.symbols_at.result.now _
-    (c.symbols_at.ensures ∙ sym (image-some c.args.symbols.now c.args.images.now c.args.symbol c.in-Some.place (sym c.get.ensures ∙ c.in-Some.is))) c.strip_prefix.ensures.cases
+    subst (λ image. IfSome c.behind_image.result (λ more. c.args.rest.now ≡ image ++ more.now))
+    (c.symbols_at.ensures ∙ sym (image-some c.args.symbols.now c.args.images.now c.args.symbol c.in-Some.place (sym c.get.ensures ∙ c.in-Some.is))) c.behind_image.ensures.some
 
 pub returns-in-Some-clause-none : goal.returns-in-Some-clause-none
 returns-in-Some-clause-none c =
-    strip-none c.strip_prefix.result c.args.rest.now c.symbols_at.result.now _
-    (c.symbols_at.ensures ∙ sym (image-some c.args.symbols.now c.args.images.now c.args.symbol c.in-Some.place (sym c.get.ensures ∙ c.in-Some.is))) c.strip_prefix.ensures.cases
+    subst (λ image. IfNone c.behind_image.result ((more : List ℕ) → c.args.rest.now ≡ image ++ more → ⊥))
+    (c.symbols_at.ensures ∙ sym (image-some c.args.symbols.now c.args.images.now c.args.symbol c.in-Some.place (sym c.get.ensures ∙ c.in-Some.is))) c.behind_image.ensures.none
 
 pub returns-in-None-clause-some : goal.returns-in-None-clause-some
 returns-in-None-clause-some c =
