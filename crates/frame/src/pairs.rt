@@ -1,6 +1,6 @@
 //! The variables that are kept apart at a position.
 ghost use Rattle.std.specs.Prelude.{◌≡◌, ◌==◌, ◌&&◌, ◌||◌, ◌<◌, ℕ, not, false, length, IfNone, IfSome};
-ghost use Rattle.{std.specs.List.list_any, mm_lex.specs.Alphabet.Name, names.specs.Codes.name_at, names.specs.Codes.code_of, scope.specs.Active.is_variable, frame.specs.FrameOf.is_pair};
+ghost use Rattle.{std.specs.List.list_any, mm_lex.specs.Alphabet.Name, names.specs.Codes.name_at, names.specs.Codes.code_of, scope.specs.Active.is_variable, frame.specs.Below.AreBelow, frame.specs.FrameOf.is_pair};
 
 use crate::at_position::{is_active_at, links_at};
 use crate::storage::Stock;
@@ -62,6 +62,7 @@ impl<'a> Pairs<'a> {
     pub fn take_last(&mut self) -> Option<&'a [u32]>
         ensures names { self.new.names ≡ self.old.names }
         ensures fewer { IfSome result (λ list. length self.new.statements < length self.old.statements) }
+        ensures below { IfSome result (λ list. AreBelow (length self.new.names) list.now) }
         ensures pairs { IfSome result (λ list. (x y : ℕ) → x < length self.old.names → y < length self.old.names → is_pair self.old.statements (name_at self.old.names x) (name_at self.old.names y) ≡ (not (x == y) && (list_any (λ c. x == c) list.now && list_any (λ c. y == c) list.now) || is_pair self.new.statements (name_at self.old.names x) (name_at self.old.names y))) }
         ensures none { IfNone result ((x y : Name) → is_pair self.old.statements x y ≡ false) }
     {

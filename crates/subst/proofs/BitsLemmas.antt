@@ -1,12 +1,9 @@
 -- Places as the bits of a word.
-use Rattle.subst.proofs.Words.{◌≡◌, ℕ, ◌*◌, ◌%◌, ◌^◌, ◌<◌, ◌⊎◌, bit_at, bit_not, sym, ◌∙◌, ap, arith, inl, inr, bit_and, bit_or, w64, cases_eq, cases_lt, bit_at_and, bit_at_or, bit_at_not, bit_at-zero, bit_at-lt, bit_at-trailing_zeros, trailing_zeros, bit_at_above, bit_at-pow_same, bit_at-pow_other, bit_at_clear_same, bit_at_clear_other}
+use Rattle.subst.proofs.Words.{◌≡◌, ℕ, ◌*◌, ◌%◌, ◌^◌, ◌<◌, ◌⊎◌, bit_at, bit_not, sym, ◌∙◌, ap, arith, inl, inr, bit_and, bit_or, w64, cases_eq, cases_lt, bit_at_and, bit_at_or, bit_at-zero, bit_at-lt, bit_at_above, bit_at-pow_same, bit_at-pow_other, bit_at_clear_same, bit_at_clear_other}
 use Rattle.std.proofs.lemmas.Nat.{one_shl, and_le_l}
 
 pub zero-none : (j : ℕ) → bit_at 0 j ≡ 1 → ⊥
 zero-none j b = let z = bit_at-zero j in omega (arith, z, b)
-
-pub some-bit : (a : ℕ) → a < 2 ^ 64 → (a ≡ 0 → ⊥) → (j : ℕ) × (bit_at a j ≡ 1)
-some-bit a fits some = (trailing_zeros w64 a, (bit_at-trailing_zeros w64 a (omega (arith, some)) fits).1)
 
 -- ---- a place alone
 
@@ -40,12 +37,6 @@ and-all a b j all h = let e = sym (bit_at_and a b j) ∙ (ap (λ n. bit_at n j) 
 
 below-64 : (a j : ℕ) → a < 2 ^ 64 → bit_at a j ≡ 1 → j < 64
 below-64 a j fits h = elim (cases_lt j 64) [ inl low ↦ low | inr high ↦ absurd (omega (arith, bit_at_above a 64 j fits high, h)) ]
-
-pub and-not : (a b j : ℕ) → a < 2 ^ 64 → b < 2 ^ 64 → bit_at a j ≡ 1 → (bit_at b j ≡ 1) ⊎ (bit_at (bit_and a (bit_not w64 b)) j ≡ 1)
-and-not a b j fits small h = elim (cases_eq (bit_at b j) 1) [
-  | inl there ↦ inl there
-  | inr none ↦ inr (omega (arith, bit_at_not w64 b j small (below-64 a j fits h), bit_at_and a (bit_not w64 b) j, bit_at-lt b j, h, none))
-]
 
 -- ---- a place taken away
 

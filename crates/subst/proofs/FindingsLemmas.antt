@@ -1,9 +1,14 @@
 -- What was found of the symbols of a proof, and how more of it is noted.
-use Rattle.subst.proofs.Words.{Bool, not, ◌&&◌, ◌||◌, ◌==◌, list_any, is_pair, and_right, if◌then◌else◌, ◌≡◌, ℕ, ◌+◌, ◌*◌, ◌%◌, ◌^◌, ◌<◌, ◌≤◌, ◌⊎◌, true, false, List, [], ◌∷◌, ◌++◌, length, get_or, slice_set, Result, Ok, Err, is_ok, is_err, refl, bit_at, bit_not, All, sym, ◌∙◌, ap, subst, arith, inl, inr, bit_and, bit_or, w64, cases_eq, get_or-set_same, get_or-set_other, length-set, get_or_default, get_or_append_left, get_or_push, length_push}
-use Rattle.subst.proofs.Words.{is_variable, name_at, Numbered, FoundSymbol, Found, variable_at, no_variable, is_kept, IsRow, IsKnown, IsAt, IsListed, Grows, IsNoted, AreBits, IsSame, IsAmong, HavePlaces, IsRowApart}
+use Rattle.subst.proofs.Words.{not, ◌&&◌, ◌||◌, ◌==◌, list_any, is_pair, and_from, or_left, or_right, both_ways, eq-eqb, list_any_at, cases_lt, if◌then◌else◌, ◌≡◌, ℕ, ◌+◌, ◌*◌, ◌%◌, ◌^◌, ◌<◌, ◌≤◌, ◌⊎◌, true, false, List, [], ◌∷◌, ◌++◌, length, get_or, slice_set, Option, Some, None, IfSome, Result, Ok, Err, is_ok, is_err, refl, bit_at, All, sym, ◌∙◌, ap, subst, arith, inl, inr, bit_or, cases_eq, get_or-set_same, get_or-set_other, length-set, get_or_default, get_or_append_left, get_or_push, length_push}
+use Rattle.subst.proofs.Words.{AreListed, AreOnce, name_at, Numbered, FoundSymbol, Found, variable_at, no_variable, is_kept, IsRow, IsKnown, IsAt, IsListed, Grows, IsNoted, AreBits, IsSame, IsAmong, AreNoted, AreWordsApart}
+use Rattle.std.specs.Option.{unwrap_or}
 use Rattle.std.proofs.lemmas.List.Elements.{All-nil, All-push, All-weaker, All-set, All-contains}
 use Rattle.subst.specs.declared.findings.Variable.{Variable}
-use Rattle.subst.proofs.BitsLemmas.{zero-none, one-own, one-only, or-left, or-right, or-either, and-left, and-all, and-not, IsTaken}
+use Rattle.subst.proofs.BitsLemmas.{zero-none, one-own, one-only, or-left, or-right, or-either}
+
+-- a test for equality fails on different numbers
+pub differ : (k l : ℕ) → (k ≡ l → ⊥) → (k == l) ≡ false
+differ k l ne = grind (arith, ne)
 
 pub grows-own : (f : Found) → Grows f f
 grows-own f = record { each = λ j x at. at }
@@ -34,12 +39,6 @@ bits-grown v f g bits P grows b = record {
   each = λ x p. noted-more v f g bits bits x grows (λ j h. h) (b.each x p);
   only = λ j h. (let o = b.only j h in (o.0, o.1, grows.each j o.0 o.2));
 }
-
-pub places-of : (v : Numbered) (f : Found) (bits : ℕ) (P : ℕ → Type 0) → AreBits v f bits P → HavePlaces f bits
-places-of v f bits P b = record { each = λ j h. (b.only j h).2.there }
-
-pub places-grown : (f g : Found) (bits : ℕ) → Grows f g → HavePlaces f bits → HavePlaces g bits
-places-grown f g bits grows h = record { each = λ j b. (place-grown f g j grows (h.each j b)).there }
 
 -- no symbol has no bit
 pub bits-none : (v : Numbered) (f : Found) (P : ℕ → Type 0) → ((x : ℕ) → P x → ⊥) → AreBits v f 0 P
@@ -82,13 +81,13 @@ pub listed-bits : (v : Numbered) (f : Found) (x bit : ℕ) → IsKnown v f → I
 listed-bits v f x bit known at = All-contains (λ s. AreBits v f s.bit (IsSame s.number)) f.symbols (record { number = x; bit = bit }) known.symbols at
 
 -- what was found stays so where all that stands there now was so before
-known-grown : (v : Numbered) (f g : Found) → Grows f g → length g.variables ≤ 64 → All (λ s. AreBits v f s.bit (IsSame s.number)) g.symbols → All (IsRow v f) g.variables → IsKnown v g
-known-grown v f g grows few symbols rows = record {
+known-grown : (v : Numbered) (f g : Found) → Grows f g → length g.variables ≤ 64 → AreOnce g → All (λ s. AreBits v f s.bit (IsSame s.number)) g.symbols → All (IsRow v f) g.variables → IsKnown v g
+known-grown v f g grows few once symbols rows = record {
   few = few;
+  once = once;
   symbols = All-weaker (λ s. AreBits v f s.bit (IsSame s.number)) (λ s. AreBits v g s.bit (IsSame s.number)) (λ s own. bits-grown v f g s.bit (IsSame s.number) grows own) g.symbols symbols;
   rows = All-weaker (IsRow v f) (IsRow v g) (λ r is. record {
     named = is.named;
-    variable = is.variable;
     apart = λ j b. let k = is.apart j b in let at = place-grown f g j grows k.0 in (at.there, rw at.same k.1);
   }) g.variables rows;
 }
@@ -103,7 +102,7 @@ pushed (Err f) x a b e h = cc
 pub symbol-added : (v : Numbered) (f : Found) (s : FoundSymbol) → IsKnown v f → AreBits v f s.bit (IsSame s.number) → IsKnown v (record { symbols = f.symbols ++ s ∷ []; variables = f.variables })
 symbol-added v f s known own =
     known-grown v f (record { symbols = f.symbols ++ s ∷ []; variables = f.variables }) (record { each = λ j x at. record { there = at.there; same = at.same } })
-    known.few (All-push (λ s. AreBits v f s.bit (IsSame s.number)) f.symbols s known.symbols own) known.rows
+    known.few known.once (All-push (λ s. AreBits v f s.bit (IsSame s.number)) f.symbols s known.symbols own) known.rows
 
 module _ (v : Numbered) (f : Found) (x : ℕ) (low : length f.variables < 64) where
   abbrev row : Variable
@@ -117,16 +116,24 @@ module _ (v : Numbered) (f : Found) (x : ℕ) (low : length f.variables < 64) wh
       rw count (bits-variable v with_variable x (length f.variables) low
       (record { there = omega (arith, length_push f.variables row); same = ap (λ (r : Variable). r.symbol) (get_or_push f.variables row no_variable (length f.variables) refl) }))
 
-  pub variable-known : IsKnown v f → x < length v.names → is_variable v.statements (name_at v.names x) ≡ true → IsKnown v with_variable
-  variable-known known named variable =
-      known-grown v f with_variable
-      (record {
-        each = λ j y at. record {
-          there = omega (arith, at.there, length_push f.variables row);
-          same = ap (λ (r : Variable). r.symbol) (get_or_append_left f.variables (row ∷ []) no_variable j at.there) ∙ at.same;
-        };
-      })
-      (omega (arith, length_push f.variables row, low)) known.symbols (All-push (IsRow v f) f.variables row known.rows (record { named = named; variable = variable; apart = λ j b. absurd (zero-none j b) }))
+  old : (j : ℕ) → j < length f.variables → (variable_at with_variable j).symbol ≡ (variable_at f j).symbol
+  old j h = ap (λ (r : Variable). r.symbol) (get_or_append_left f.variables (row ∷ []) no_variable j h)
+
+  last : (j : ℕ) → j < length with_variable.variables → length f.variables ≤ j → (variable_at with_variable j).symbol ≡ x
+  last j h high = ap (λ (r : Variable). r.symbol) (get_or_push f.variables row no_variable j (omega (arith, length_push f.variables row, h, high)))
+
+  variable-once : AreOnce f → list_any (λ (r : Variable). r.symbol == x) f.variables ≡ false → AreOnce with_variable
+  variable-once once none i j hi hj same =
+      let new = λ (k : ℕ) (h : k < length f.variables) (e : (variable_at f k).symbol ≡ x). both_ways (list_any (λ (r : Variable). r.symbol == x) f.variables) none (list_any_at (λ (r : Variable). r.symbol == x) f.variables k no_variable h (eq-eqb _ x e)) in
+      elim (cases_lt i (length f.variables)) [
+        | inl a ↦ elim (cases_lt j (length f.variables)) [ inl b ↦ once i j a b (sym (old i a) ∙ (same ∙ old j b)) | inr b ↦ absurd (new i a (sym (old i a) ∙ (same ∙ last j hj b))) ]
+        | inr a ↦ elim (cases_lt j (length f.variables)) [ inl b ↦ absurd (new j b (sym (old j b) ∙ (sym same ∙ last i hi a))) | inr b ↦ omega (arith, length_push f.variables row, hi, hj, a, b) ]
+      ]
+
+  pub variable-known : IsKnown v f → x < length v.names → list_any (λ (r : Variable). r.symbol == x) f.variables ≡ false → IsKnown v with_variable
+  variable-known known named none =
+      known-grown v f with_variable (record { each = λ j y at. record { there = omega (arith, at.there, length_push f.variables row); same = old j at.there ∙ at.same } })
+      (omega (arith, length_push f.variables row, low)) (variable-once known.once none) known.symbols (All-push (IsRow v f) f.variables row known.rows (record { named = named; apart = λ j b. absurd (zero-none j b) }))
 
 -- ---- variables that were found to be kept apart
 
@@ -159,59 +166,92 @@ module _ (v : Numbered) (f : Found) (known : IsKnown v f) (i : ℕ) (there : i <
   pub known-row : ((j : ℕ) → bit_at row.apart j ≡ 1 → (j < length f.variables) × (is_kept v f i j ≡ true)) → IsKnown v with_row
   known-row good =
       let old = known.rows i no_variable there in
-      known-grown v f with_row grows-row (omega (arith, known.few, count)) known.symbols
-      (All-set (IsRow v f) f.variables i row (record { named = rw symbol old.named; variable = rw symbol old.variable; apart = λ j b. rw symbol (good j b) }) known.rows)
+      known-grown v f with_row grows-row (omega (arith, known.few, count)) (λ a b ha hb same. known.once a b (omega (arith, ha, count)) (omega (arith, hb, count)) (sym (symbols a) ∙ (same ∙ symbols b))) known.symbols
+      (All-set (IsRow v f) f.variables i row (record { named = rw symbol old.named; apart = λ j b. rw symbol (good j b) }) known.rows)
 
--- a row that was read, and what is noted of it
-module _ (v : Numbered) (f : Found) (i bits : ℕ) (symbols : List FoundSymbol) (variables : List Variable) (r d : Variable)
-    (same : record { symbols = symbols; variables = variables } ≡ f) (there : i < length f.variables) (read : r ≡ get_or variables i d) where
-  pub row-read : r ≡ variable_at f i
-  row-read =
-      let n = ap (λ (g : Found). length g.variables) same in
-      read ∙ (get_or_default variables i d no_variable (omega (arith, n, there)) ∙ ap (λ (g : Found). variable_at g i) same)
+-- what is noted is so
+pub words_noted : (v : Numbered) (f : Found) (left right : ℕ) → IsKnown v f → AreNoted f left right → AreWordsApart v f left right
+words_noted v f left right known noted = record { each = λ i j a b. let n = noted.each i j a b in ((known.rows i no_variable n.0).apart j n.1).1 }
 
-  module _ (known : IsKnown v f) where
-    noted : (j : ℕ) → bit_at r.apart j ≡ 1 → (j < length f.variables) × (is_kept v f i j ≡ true)
-    noted j b = (known.rows i no_variable there).apart j (rw row-read at b)
+-- ---- what the active `$d` tell
 
-    -- a row that has all the bits
-    pub row-covered : bit_and bits r.apart ≡ bits → IsRowApart v f i bits
-    row-covered all = record { each = λ j b. (noted j (and-all bits r.apart j all b)).1 }
+-- the pairs of u are pairs of v
+pub record ArePairsOf (v u : Numbered) : Type 0 where
+  pub names : u.names ≡ v.names
+  pub each : (x y : ℕ) → x < length v.names → y < length v.names → is_pair u.statements (name_at v.names x) (name_at v.names y) ≡ true → is_pair v.statements (name_at v.names x) (name_at v.names y) ≡ true
 
-    pub row-start : bits < 2 ^ 64 → r.apart < 2 ^ 64 → IsTaken (λ j. is_kept v f i j ≡ true) bits (bit_and bits (bit_not w64 r.apart))
-    row-start fits small = record { only = λ j b. and-left bits (bit_not w64 r.apart) j b; done = λ j b. elim (and-not bits r.apart j fits small b) [ inl old ↦ inr (noted j old).1 | inr left ↦ inl left ] }
+-- each two variables of the word are kept apart
+pub record AreKept (v : Numbered) (f : Found) (word : ℕ) : Type 0 where
+  pub there : (j : ℕ) → bit_at word j ≡ 1 → j < length f.variables
+  pub each : (i j : ℕ) → bit_at word i ≡ 1 → bit_at word j ≡ 1 → (i ≡ j → ⊥) → is_kept v f i j ≡ true
 
-    pub row-noted : HavePlaces f bits → IsRowApart v f i bits → IsKnown v (record { symbols = symbols; variables = slice_set variables i (record { symbol = r.symbol; apart = bit_or r.apart bits }) })
-    row-noted places all =
-        subst (λ (h : Found). IsKnown v (record { symbols = h.symbols; variables = slice_set h.variables i (record { symbol = r.symbol; apart = bit_or r.apart bits }) })) (sym same)
-        (known-row v f known i there (record { symbol = r.symbol; apart = bit_or r.apart bits }) (ap (λ (q : Variable). q.symbol) row-read)
-        (λ j b. elim (or-either r.apart bits j b) [ inl old ↦ noted j old | inr more ↦ (places.each j more, all.each j more) ]))
+module _ (v u w : Numbered) (list : List ℕ) (pairs : ArePairsOf v u)
+    (tells : (x y : ℕ) → x < length u.names → y < length u.names → is_pair u.statements (name_at u.names x) (name_at u.names y) ≡ (not (x == y) && (list_any (λ c. x == c) list && list_any (λ c. y == c) list) || is_pair w.statements (name_at u.names x) (name_at u.names y))) where
+  pub pairs-fewer : w.names ≡ u.names → ArePairsOf v w
+  pairs-fewer same = record { names = same ∙ pairs.names; each = λ x y hx hy h. pairs.each x y hx hy ((rw pairs.names at tells) x y hx hy ∙ or_right _ _ h) }
 
--- what is told of places that stay
-pub row-back : (v : Numbered) (f g : Found) (i bits : ℕ) → Grows f g → i < length f.variables → HavePlaces f bits → IsRowApart v g i bits → IsRowApart v f i bits
-row-back v f g i bits grows there places row = record { each = λ j b. sym (kept-grown v f g i j grows there (places.each j b)) ∙ row.each j b }
+  pub listed-kept : (f : Found) (word : ℕ) → IsKnown v f → AreListed f word list → AreKept v f word
+  listed-kept f word known listed = record {
+    there = λ j b. (listed.each j b).0;
+    each = λ i j a b differ_places.
+        let one = listed.each i a in
+        let two = listed.each j b in
+        let other = differ (variable_at f i).symbol (variable_at f j).symbol (λ e. differ_places (known.once i j one.0 two.0 e)) in
+        let low = (known.rows i no_variable one.0).named in
+        let high = (known.rows j no_variable two.0).named in
+        pairs.each _ _ low high ((rw pairs.names at tells) _ _ low high ∙ or_left _ _ (and_from _ _ (ap not other) (and_from _ _ one.1 two.1)));
+  }
 
-pub row-on : (v : Numbered) (f g : Found) (i bits : ℕ) → Grows f g → i < length f.variables → HavePlaces f bits → IsRowApart v f i bits → IsRowApart v g i bits
-row-on v f g i bits grows there places row = record { each = λ j b. kept-grown v f g i j grows there (places.each j b) ∙ row.each j b }
+pub keep-grown : (v : Numbered) (f g : Found) (word : ℕ) → Grows f g → AreKept v f word → AreKept v g word
+keep-grown v f g word grows kept = record {
+  there = λ j b. (place-grown f g j grows (kept.there j b)).there;
+  each = λ i j a b other. kept-grown v f g i j grows (kept.there i a) (kept.there j b) ∙ kept.each i j a b other;
+}
 
--- ---- the variables at two places are different and stand in the list
-abbrev pub are_in : List ℕ → Found → ℕ → ℕ → Bool
-are_in list f i j = not ((variable_at f i).symbol == (variable_at f j).symbol) && (list_any (λ c. (variable_at f i).symbol == c) list && list_any (λ c. (variable_at f j).symbol == c) list)
+-- a row that was read, and the others of the word noted in it
+module _ (v : Numbered) (f : Found) (known : IsKnown v f) (word less i : ℕ) (kept : AreKept v f word) (here : bit_at word i ≡ 1) (only : (j : ℕ) → bit_at less j ≡ 1 → bit_at word j ≡ 1) (gone : bit_at less i ≡ 1 → ⊥)
+    (r d : Variable) (read : r ≡ get_or f.variables i d) where
+  abbrev pub more : Variable
+  more = record { symbol = r.symbol; apart = bit_or r.apart less }
 
-module _ (list : List ℕ) (f : Found) (i j x y : ℕ) (own : x ≡ (variable_at f i).symbol) (other : y ≡ (variable_at f j).symbol) where
-  pub in-both : (x ≡ y → ⊥) → list_any (λ c. x == c) list ≡ true → list_any (λ c. y == c) list ≡ true → are_in list f i j ≡ true
-  in-both differ p q = let t : (x == y) ≡ false = grind (arith, differ) in rw (← own, ← other, t, p, q) refl
+  abbrev pub there : i < length f.variables
+  there = kept.there i here
 
-  pub not-in : (x ≡ y) ⊎ ((list_any (λ c. x == c) list && list_any (λ c. y == c) list) ≡ false) → are_in list f i j ≡ false
-  not-in (inl e) = let t : (x == y) ≡ true = grind (arith, e) in rw (← own, ← other, t) refl
-  not-in (inr h) = rw (← own, ← other) (and_right (not (x == y)) (list_any (λ c. x == c) list && list_any (λ c. y == c) list) h)
+  abbrev pub own : r ≡ variable_at f i
+  own = read ∙ get_or_default f.variables i d no_variable there
 
--- kept apart by the `$d` of u: by the list, or by those of w
-pub kept-back : (v u w : Numbered) (f : Found) (i j : ℕ) (list : List ℕ) → IsKnown v f → u.names ≡ v.names → w.names ≡ u.names → i < length f.variables → j < length f.variables
-    → ((x y : ℕ) → x < length u.names → y < length u.names → is_pair u.statements (name_at u.names x) (name_at u.names y) ≡ (not (x == y) && (list_any (λ c. x == c) list && list_any (λ c. y == c) list) || is_pair w.statements (name_at u.names x) (name_at u.names y))) → is_kept u f i j ≡ (are_in list f i j || is_kept w f i j)
-kept-back v u w f i j list known un wn hi hj tells = rw wn (tells (variable_at f i).symbol (variable_at f j).symbol (rw un (known.rows i no_variable hi).named) (rw un (known.rows j no_variable hj).named))
+  noted : (j : ℕ) → bit_at more.apart j ≡ 1 → (j < length f.variables) × (is_kept v f i j ≡ true)
+  noted j b = elim (or-either r.apart less j b) [ inl old ↦ (known.rows i no_variable there).apart j (rw own at old) | inr new ↦ (kept.there j (only j new), kept.each i j here (only j new) (λ e. gone (rw e new))) ]
+
+  abbrev pub same : more.symbol ≡ (variable_at f i).symbol
+  same = ap (λ (q : Variable). q.symbol) own
+
+  pub more-grows : Grows f (with_row v f known i there more same)
+  more-grows = grows-row v f known i there more same
+
+  pub more-known : IsKnown v (with_row v f known i there more same)
+  more-known = known-row v f known i there more same noted
+
+pub listed-grown : (f g : Found) (bits : ℕ) (list : List ℕ) → Grows f g → AreListed f bits list → AreListed g bits list
+listed-grown f g bits list grows listed = record { each = λ j b. let o = listed.each j b in let at = place-grown f g j grows o.0 in (at.there, rw at.same o.1) }
+
+pub listed-more : (f : Found) (bits bit n : ℕ) (list : List ℕ) → n < length list → AreListed f bits list → ((j : ℕ) → bit_at bit j ≡ 1 → IsAt f j (get_or list n 0)) → AreListed f (bit_or bits bit) list
+listed-more f bits bit n list low listed own = record {
+  each = λ j b. elim (or-either bits bit j b) [
+    | inl old ↦ listed.each j old
+    | inr new ↦ let at = own j new in (at.there, list_any_at (λ c. (variable_at f j).symbol == c) list n 0 low (eq-eqb _ _ at.same))
+  ];
+}
+
+-- the one symbol that has a bit
+pub bit-at : (v : Numbered) (f : Found) (bit x j : ℕ) → AreBits v f bit (IsSame x) → bit_at bit j ≡ 1 → IsAt f j x
+bit-at v f bit x j own b = let o = own.only j b in subst (IsAt f j) o.1 o.2
+
+pub found-bit : (v : Numbered) (f : Found) (r : Option ℕ) (bit x j : ℕ) → bit ≡ unwrap_or r 0 → IfSome r (λ bit. AreBits v f bit (IsSame x)) → bit_at bit j ≡ 1 → IsAt f j x
+found-bit v f (Some n) bit x j e own b = bit-at v f n x j own (rw e at b)
+found-bit v f None bit x j e own b = absurd (zero-none j (rw e at b))
 
 -- ---- nothing found
 
 pub known-none : (v : Numbered) (f : Found) → f.symbols ≡ [] → f.variables ≡ [] → IsKnown v f
-known-none v f ss vs = record { few = omega (arith, ap (λ (xs : List Variable). length xs) vs); symbols = rw ss (All-nil _); rows = rw vs (All-nil _) }
+known-none v f ss vs = let none = ap (λ (xs : List Variable). length xs) vs in record { few = omega (arith, none); once = λ i j hi. absurd (omega (arith, none, hi)); symbols = rw ss (All-nil _); rows = rw vs (All-nil _) }

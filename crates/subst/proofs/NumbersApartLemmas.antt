@@ -1,10 +1,10 @@
 -- The images of each two numbers of a group, each held against those before it.
-use Rattle.subst.proofs.Words.{◌≡◌, ℕ, zero, suc, ◌+◌, ◌<◌, ◌≤◌, Bool, true, false, not, ◌||◌, ◌&&◌, ◌==◌, List, [], ◌∷◌, length, map, take, drop, get_or, slice_get, Some, refl, list_all, list_any, position_or_len, sym, ◌∙◌, ap, subst, arith, inl, inr, bit_or, true≢false, lt-ltb, and_from, or_right, cases_eq, both_ways, eqb-true, or_cases, or_left, cases_Bool, false_from_ne_true, list_all-map, list_all_at, list_all_more, list_any_at, get_or-take, length-take}
+use Rattle.subst.proofs.Words.{◌≡◌, ℕ, zero, suc, ◌+◌, ◌<◌, ◌≤◌, Bool, true, false, not, ◌||◌, ◌&&◌, ◌==◌, List, [], ◌∷◌, length, map, take, drop, get_or, slice_get, Some, refl, list_all, list_any, position_or_len, sym, ◌∙◌, ap, subst, arith, inl, inr, bit_or, true≢false, lt-ltb, and_from, or_right, cases_eq, or_cases, or_left, cases_Bool, false_from_ne_true, list_all-map, list_all_at, list_all_more, get_or-take, length-take}
 use Rattle.subst.proofs.Words.{Name, name_eq, has_name, Expr, Database, name_at, decode, AreDistinct, name_same, same_name, name_eq-comm, is_pair, groups, Numbered, CodeImages, code_image, image, images_of_names, are_apart, is_group_apart, are_groups_apart, AreBelow, AllBelow, image_named, are_two_apart, is_number_apart, are_numbers_apart, Found, IsKnown, IsAmong, AreBits, AreWordsApart, pair_at, apart-from}
 use Rattle.std.proofs.lemmas.Option.{get_or_from_slice_get, slice_get_within}
 use Rattle.std.proofs.Math.Bool.{and_comm}
-use Rattle.subst.proofs.FindingsLemmas.{bits-joined}
-use Rattle.subst.proofs.WordsApartLemmas.{good-from, words-from, apart-from_good, good-at, all-at, at-all}
+pub use Rattle.subst.proofs.FindingsLemmas.{differ, bits-joined}
+use Rattle.subst.proofs.WordsApartLemmas.{good-from, apart-from_good, all-at, at-all}
 use Rattle.subst.proofs.SubstitutionLemmas.{place-of, image-decode}
 
 -- ---- lists
@@ -27,10 +27,6 @@ group-stops p groups i g h e =
 pub group-goes_on : (p : List ℕ → Bool) (groups : List (List ℕ)) (i : ℕ) (g : List ℕ) → slice_get groups i ≡ Some g → list_all p (take i groups) ≡ true → p g ≡ true → list_all p (take (i + 1) groups) ≡ true
 group-goes_on p groups i g h before here =
     list_all_more p groups i [] (slice_get_within groups i g h) ∙ and_from _ _ before (ap p (get_or_from_slice_get groups i g [] h) ∙ here)
-
--- a test for equality fails on different numbers
-pub differ : (k l : ℕ) → (k ≡ l → ⊥) → (k == l) ≡ false
-differ k l ne = grind (arith, ne)
 
 any-same : {A : Type 0} (p q : A → Bool) (xs : List A) → ((x : A) → p x ≡ q x) → list_any p xs ≡ list_any q xs
 any-same p q [] h = refl
@@ -61,18 +57,6 @@ module _ (D : Database) (image_of : ℕ → Expr) where
 
 -- ---- each held against those before it
 
-any-at : (p : ℕ → Bool) (n : ℕ) (xs : List ℕ) → list_any p (take n xs) ≡ true → (c : ℕ) × (c < n) × (p (get_or xs c 0) ≡ true)
-any-at p zero xs h = cc
-any-at p (suc n) [] h = cc
-any-at p (suc n) (x ∷ xs) h = elim (or_cases (p x) (list_any p (take n xs)) h) [
-  | inl e ↦ (0, omega arith, e)
-  | inr more ↦ let r = any-at p n xs more in (suc r.0, omega (arith, r.1), r.2)
-]
-
-none-at : (p : ℕ → Bool) (n : ℕ) (xs : List ℕ) (c : ℕ) → list_any p (take n xs) ≡ false → c < n → c < length xs → p (get_or xs c 0) ≡ false
-none-at p n xs c h low there =
-    false_from_ne_true (p (get_or xs c 0)) (λ e. both_ways (list_any p (take n xs)) h (list_any_at p (take n xs) c 0 (omega (arith, length-take n xs, low, there)) (rw (get_or-take n xs c 0 low) e)))
-
 module _ (D : Database) (image_of : ℕ → Expr) (group : List ℕ) where
   abbrev two : ℕ → ℕ → Bool
   two a b = are_two_apart D image_of (get_or group a 0) (get_or group b 0)
@@ -92,13 +76,6 @@ module _ (D : Database) (image_of : ℕ → Expr) (group : List ℕ) where
     ];
   }
 
-  -- a number that stood before
-  pub repeat-apart : (n : ℕ) → ArePairwise n → list_any (λ l. l == get_or group n 0) (take n group) ≡ true → (a : ℕ) → a < n → two a n ≡ true
-  repeat-apart n all found a h =
-      let r = any-at (λ l. l == get_or group n 0) n group found in
-      let same : get_or group n 0 ≡ get_or group r.0 0 = sym (eqb-true (get_or group r.0 0) (get_or group n 0) r.2) in
-      ap (are_two_apart D image_of (get_or group a 0)) same ∙ all.each a r.0 h r.1
-
   -- a number that is held against each before it by itself
   pub held-apart : (n : ℕ) → is_number_apart D image_of (take n group) (get_or group n 0) ≡ true → n < length group → (a : ℕ) → a < n → two a n ≡ true
   held-apart n all there a h =
@@ -114,13 +91,6 @@ module _ (D : Database) (image_of : ℕ → Expr) (group : List ℕ) where
   pairwise-end n long all =
       all-at (is_number_apart D image_of group) group
       (λ a h. all-at (are_two_apart D image_of (get_or group a 0)) group (λ b l. all.each a b (omega (arith, h, long)) (omega (arith, l, long))))
-
-  -- two that are not one
-  numbers-at : are_numbers_apart D image_of group ≡ true → (a b : ℕ) → a < length group → b < length group → (get_or group a 0 == get_or group b 0) ≡ false
-      → are_apart D (image_of (get_or group a 0)) (image_of (get_or group b 0)) ≡ true
-  numbers-at all a b h l differ =
-      rw differ
-      at (at-all (are_two_apart D image_of (get_or group a 0)) group b (at-all (is_number_apart D image_of group) group a all h) l)
 
 -- x stands in one of the images of the first n numbers
 abbrev pub IsInImages : CodeImages → List ℕ → ℕ → ℕ → Type 0
@@ -141,21 +111,11 @@ module _ (v : Numbered) (f : Found) (known : IsKnown v f) (σ : CodeImages) (gro
       (λ x p. (p.0, omega (arith, p.1), p.2))
       (λ x q. (n, omega arith, q))
 
-  -- words that are apart
   pub next-apart : AreWordsApart v f before bits → (a : ℕ) → a < n → are_two_apart v.statements (image_named v.names σ) (get_or group a 0) (get_or group n 0) ≡ true
   next-apart apart a h =
       or_right (get_or group a 0 == get_or group n 0) _
       (apart-from_good v (code_image σ (get_or group a 0)) last_image
       (λ x y p q. good-from v f known before bits (IsInImages σ group n) (IsAmong (length last_image) last_image) first own apart x y (a, h, p) q))
-
-  -- words that are not
-  pub next-clash : n < length group → list_any (λ l. l == get_or group n 0) (take n group) ≡ false → (AreWordsApart v f before bits → ⊥) → are_numbers_apart v.statements (image_named v.names σ) group ≡ false
-  next-clash there none clash =
-      false_from_ne_true (are_numbers_apart v.statements (image_named v.names σ) group)
-      (λ all. clash (words-from v f known before bits (IsInImages σ group n) (IsAmong (length last_image) last_image) first own
-      (λ x y p q. let low : p.0 < length group = omega (arith, p.1, there) in
-      good-at v (code_image σ (get_or group p.0 0)) last_image
-      (numbers-at v.statements (image_named v.names σ) group all p.0 n low there (none-at (λ l. l == get_or group n 0) n group p.0 none p.1 low)) x y p.2 q)))
 
 -- ---- numbers for names
 

@@ -23,7 +23,7 @@ pub use Rattle.std.specs.Map.{lookup}
 pub use Rattle.std.specs.Prelude.{Err, IfNone, IfSome, MatchOption, None, Ok, Option, Result, Some, [], bytes_eq, codes, cond, if◌then◌else◌, is_err, is_ok, map, min, nat_eq, nat_lt, not, replicate, slice_get, slice_set, suc, zero, ◌%◌, ◌&&◌, ◌*◌, ◌||◌, ◌∷◌, ◌≤◌, ◌⊎◌}
 pub use Rattle.subst.specs.Apart.{are_numbers_apart, are_two_apart, image_named, is_number_apart}
 pub use Rattle.subst.specs.ExpressionPlaces.{AreInside, AreWithin, images_at, seen_at}
-pub use Rattle.subst.specs.Findings.{AreBits, AreWordsApart, Found, Grows, HavePlaces, IsAmong, IsAt, IsKnown, IsListed, IsNoted, IsRow, IsRowApart, IsSame, is_kept, no_variable, variable_at, variable_name}
+pub use Rattle.subst.specs.Findings.{AreBits, AreListed, AreNoted, AreOnce, AreWordsApart, Found, Grows, IsAmong, IsAt, IsKnown, IsListed, IsNoted, IsRow, IsSame, is_kept, no_variable, variable_at, variable_name}
 pub use Rattle.subst.specs.Images.{is_image_apart}
 pub use Rattle.subst.specs.Laws.{KeepApart, PairClause, SubstitutionOverNames}
 pub use Rattle.subst.specs.Stored.Slots.{AreUpTo, placed}

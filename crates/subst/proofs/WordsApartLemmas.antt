@@ -1,11 +1,7 @@
 -- Two words of variables, and the two images that they stand for: whether they are kept apart.
-use Rattle.subst.proofs.Words.{◌≡◌, ℕ, suc, ◌<◌, Bool, true, not, ◌||◌, List, [], ◌∷◌, length, get_or, refl, list_all, sym, ◌∙◌, ap, arith, inl, inr, and_from, or_left, or_right, both_ways, true_from_ne_false, list_all-map, list_all_at, last_part, is_variable, name_at, decode, are_apart, is_pair, Numbered, Found, no_variable, is_kept, IsKnown, IsAt, IsNoted, AreBits, IsAmong, AreWordsApart}
+use Rattle.subst.proofs.Words.{◌≡◌, ℕ, suc, ◌<◌, Bool, true, not, ◌||◌, List, [], ◌∷◌, length, get_or, refl, list_all, sym, ◌∙◌, ap, arith, inl, inr, and_from, or_left, or_right, both_ways, true_from_ne_false, list_all-map, list_all_at, is_variable, name_at, decode, are_apart, is_pair, Numbered, Found, is_kept, IsKnown, IsAt, IsNoted, AreBits, IsAmong, AreWordsApart}
 
 -- ---- two words
-
--- what a symbol at a place is
-pub is-variable : (v : Numbered) (f : Found) (j x : ℕ) → IsKnown v f → IsAt f j x → is_variable v.statements (name_at v.names x) ≡ true
-is-variable v f j x known at = ap (λ m. is_variable v.statements (name_at v.names m)) (sym at.same) ∙ (known.rows j no_variable at.there).variable
 
 abbrev pub is_good : Numbered → ℕ → ℕ → Bool
 is_good v x y = not (is_variable v.statements (name_at v.names x)) || not (is_variable v.statements (name_at v.names y)) || is_pair v.statements (name_at v.names x) (name_at v.names y)
@@ -20,17 +16,7 @@ module _ (v : Numbered) (f : Found) (known : IsKnown v f) (left right : ℕ) (P 
       by : IsNoted v f left x → IsNoted v f right y → is_good v x y ≡ true
       by (inl none) other = or_left _ _ (or_left _ _ (ap not none))
       by (inr one) (inl none) = or_left _ _ (or_right _ _ (ap not none))
-      by (inr one) (inr two) = or_right _ _ (sym (at-names v f one.0 two.0 x y one.1 two.1) ∙ (apart.each one.0 one.2).each two.0 two.2)
-
-  pub words-from : ((x y : ℕ) → P x → Q y → is_good v x y ≡ true) → AreWordsApart v f left right
-  words-from good = record {
-    each = λ i a. record {
-      each = λ j b.
-          let o = ls.only i a in
-          let u = rs.only j b in
-          at-names v f i j o.0 u.0 o.2 u.2 ∙ last_part _ _ _ (is-variable v f i o.0 known o.2) (is-variable v f j u.0 known u.2) (good o.0 u.0 o.1 u.1);
-    };
-  }
+      by (inr one) (inr two) = or_right _ _ (sym (at-names v f one.0 two.0 x y one.1 two.1) ∙ apart.each one.0 two.0 one.2 two.2)
 
 -- ---- two images
 
@@ -48,8 +34,3 @@ module _ (v : Numbered) (xs ys : List ℕ) where
 
   pub apart-from_good : ((x y : ℕ) → IsAmong (length xs) xs x → IsAmong (length ys) ys y → is_good v x y ≡ true) → are_apart v.statements (decode v.names xs) (decode v.names ys) ≡ true
   apart-from_good good = good_rows ∙ all-at (λ x. list_all (is_good v x) ys) xs (λ k h. all-at (is_good v (get_or xs k 0)) ys (λ l g. good (get_or xs k 0) (get_or ys l 0) (k, h, refl) (l, g, refl)))
-
-  pub good-at : are_apart v.statements (decode v.names xs) (decode v.names ys) ≡ true → (x y : ℕ) → IsAmong (length xs) xs x → IsAmong (length ys) ys y → is_good v x y ≡ true
-  good-at apart x y p q =
-      ap (λ z. is_good v z y) (sym p.2) ∙ (ap (λ z. is_good v (get_or xs p.0 0) z) (sym q.2)
-      ∙ at-all (is_good v (get_or xs p.0 0)) ys q.0 (at-all (λ z. list_all (is_good v z) ys) xs p.0 (sym good_rows ∙ apart) p.1) q.1)

@@ -1,9 +1,9 @@
 //! What was found of the symbols of one proof: which are variables, and which two of them are kept apart.
-ghost use Rattle.std.specs.Prelude.{◌≡◌, ◌<◌, [], length, true, false, IfSome};
-ghost use Rattle.{names.specs.Codes.name_at, scope.specs.Active.is_variable, frame.specs.Below.AreBelow, subst.specs.Findings.IsKnown, subst.specs.Findings.IsAt, subst.specs.Findings.IsListed, subst.specs.Findings.Grows, subst.specs.Findings.IsSame, subst.specs.Findings.IsAmong, subst.specs.Findings.AreBits, subst.specs.Findings.HavePlaces, subst.specs.Findings.IsRowApart, subst.specs.Findings.AreWordsApart};
+ghost use Rattle.std.specs.Prelude.{◌≡◌, ◌==◌, ◌<◌, [], length, true, false, IfSome};
+ghost use Rattle.{std.specs.List.list_any, names.specs.Codes.name_at, scope.specs.Active.is_variable, frame.specs.Below.AreBelow, subst.specs.Findings.IsKnown, subst.specs.Findings.IsAt, subst.specs.Findings.IsListed, subst.specs.Findings.Grows, subst.specs.Findings.IsSame, subst.specs.Findings.IsAmong, subst.specs.Findings.AreBits, subst.specs.Findings.AreNoted, subst.specs.Findings.AreWordsApart, subst.specs.Findings.AreListed};
 
 use crate::bits::{lowest, without};
-use frame::{Pairs, contains};
+use frame::Pairs;
 use std::alloc::Global;
 use std::marker::Model;
 
@@ -117,8 +117,9 @@ impl Findings {
             return Some(0);
         }
         let place = self.variables.len();
+        let there = has_place(&self.variables, symbol);
         let variable = Variable { symbol, apart: 0 };
-        if place >= MOST || self.variables.push(variable).is_err() {
+        if there || place >= MOST || self.variables.push(variable).is_err() {
             return None;
         }
         Some(1u64 << place)
@@ -142,60 +143,81 @@ impl Findings {
         Some(bits)
     }
 
-    /// Whether each variable of the one word is kept apart from each of the other.
+    /// Whether each variable of the one word is found to be kept apart from each of the other.
+    #[tactic(auto, using(crate::proofs::FindingsLemmas::words_noted))]
+    #[inline(always)]
     pub(crate) fn words_apart(&mut self, pairs: &Pairs<'_>, left: u64, right: u64) -> bool
         requires known { IsKnown pairs.now self.old }
-        requires left { HavePlaces self.old left }
-        requires right { HavePlaces self.old right }
         ensures known { IsKnown pairs.now self.new }
         ensures grows { Grows self.old self.new }
-        ensures apart { result ≡ true → AreWordsApart pairs.now self.old left right }
-        ensures clash { result ≡ false → AreWordsApart pairs.now self.old left right → ⊥ }
+        ensures apart { result ≡ true → AreWordsApart pairs.now self.new left right }
+    {
+        if self.are_noted(left, right) {
+            return true;
+        }
+        self.find_rows(pairs);
+        self.are_noted(left, right)
+    }
+
+    /// Whether each variable of the one word has those of the other noted.
+    #[inline(always)]
+    fn are_noted(&self, left: u64, right: u64) -> bool
+        ensures { result ≡ true → AreNoted self.now left right }
     {
         let mut rest = left;
         while rest != 0 {
             let place = lowest(rest);
-            let noted = self.variables[place].apart;
-            if right & noted != right && !self.find_row(pairs, place, right) {
-                return false;
+            match self.variables.get(place) {
+                Some(variable) if right & variable.apart == right => rest = without(rest, place),
+                _ => return false,
             }
-            rest = without(rest, place);
         }
         true
     }
 
-    /// Whether the variable at the place is kept apart from each of these, which is noted. One walk over the active `$d`.
+    /// Notes what the active `$d` tell of their variables, in one walk.
     #[cold]
     #[inline(never)]
-    fn find_row(&mut self, pairs: &Pairs<'_>, place: usize, bits: u64) -> bool
+    fn find_rows(&mut self, pairs: &Pairs<'_>)
         requires known { IsKnown pairs.now self.old }
-        requires place { place < length self.old.variables }
-        requires bits { HavePlaces self.old bits }
         ensures known { IsKnown pairs.now self.new }
         ensures grows { Grows self.old self.new }
-        ensures apart { result ≡ true → IsRowApart pairs.now self.old place bits }
-        ensures clash { result ≡ false → IsRowApart pairs.now self.old place bits → ⊥ }
     {
-        let Variable { symbol, apart } = self.variables[place];
-        let mut wanted = bits & !apart;
         let mut before = pairs.copy();
-        while wanted != 0 {
-            let Some(list) = before.take_last() else {
-                return false;
-            };
-            if contains(list, symbol) {
-                let mut rest = wanted;
-                while rest != 0 {
-                    let at = lowest(rest);
-                    let other = self.variables[at].symbol;
-                    if symbol != other && contains(list, other) {
-                        wanted = without(wanted, at);
-                    }
-                    rest = without(rest, at);
-                }
+        while let Some(list) = before.take_last() {
+            let word = self.listed(pairs, list);
+            let mut rest = word;
+            while rest != 0 {
+                let place = lowest(rest);
+                self.variables[place].apart |= without(word, place);
+                rest = without(rest, place);
             }
         }
-        self.variables[place].apart |= bits;
-        true
     }
+
+    /// Variables of a list, as the bits of their places. New ones are given one while half of the places are free.
+    fn listed(&mut self, pairs: &Pairs<'_>, list: &[u32]) -> u64
+        requires known { IsKnown pairs.now self.old }
+        requires list { AreBelow (length pairs.now.names) list.now }
+        ensures known { IsKnown pairs.now self.new }
+        ensures grows { Grows self.old self.new }
+        ensures listed { AreListed self.new result list.now }
+    {
+        let mut bits = 0;
+        for symbol in list {
+            bits |= match self.known(*symbol) {
+                Some(bit) => bit,
+                None if self.variables.len() < MOST / 2 => self.find(pairs, *symbol).unwrap_or(0),
+                None => 0,
+            };
+        }
+        bits
+    }
+}
+
+/// Whether the symbol is one of the variables.
+fn has_place(variables: &[Variable], symbol: u32) -> bool
+    ensures { result ≡ list_any (λ r. r.symbol == symbol) variables.now }
+{
+    variables.iter().any(|variable| variable.symbol == symbol)
 }

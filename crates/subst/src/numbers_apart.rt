@@ -50,7 +50,7 @@ fn number_apart(
 }
 
 /// Whether the images of each two numbers of the group are apart. Each image is read once, and its variables are held
-/// against those of all images before it; from where there is no room for its symbols, each two images by themselves.
+/// against those of all images before it; from where these are not found to be apart, each two images by themselves.
 fn group_apart(
     pairs: &Pairs<'_>,
     findings: &mut Findings,
@@ -71,18 +71,11 @@ fn group_apart(
         let own = [*k];
         let image = image_or(symbols, &table, *k, &own);
         before = match (before, findings.bits_of(pairs, image)) {
-            (Some(before), Some(bits)) => {
-                if !findings.words_apart(pairs, before, bits) && !group[..index].contains(k) {
-                    return false;
-                }
+            (Some(before), Some(bits)) if findings.words_apart(pairs, before, bits) => {
                 Some(before | bits)
             }
-            _ => {
-                if !number_apart(pairs, symbols, images, *k, image, &group[..index]) {
-                    return false;
-                }
-                None
-            }
+            _ if number_apart(pairs, symbols, images, *k, image, &group[..index]) => None,
+            _ => return false,
         };
     }
     true
@@ -91,9 +84,9 @@ fn group_apart(
 /// Whether the images of each two numbers of each group are apart at the statement of the pairs. The images lie in the
 /// symbols. What is found of these is noted, and asked for again in the same proof.
 ///
-/// Cost: the symbols of the images of a group, its variables for each of its numbers, and for each variable with others
-/// that are new to it the symbols of the active `$d`; where the proof has more than 64 variables, or memory is refused,
-/// for each two numbers of a group that of `Pairs::apart`.
+/// Cost: the symbols of the images of a group and its variables, for each of its numbers, and in each proof the symbols of
+/// the active `$d`, once more where variables come that were not noted; where the proof has more than 64 variables, or
+/// memory is refused, for each two numbers of a group that of `Pairs::apart`.
 /// Source: Metamath, 4.2.6.
 #[inline(always)]
 pub fn groups_apart(

@@ -14,4 +14,4 @@ returns-clause-known c =
     let f : Found = record { symbols = c.self.inside.symbols.items; variables = c.self.inside.variables.items } in
     let low : length f.variables < 64 = omega (arith, c.len-place.ensures, c.if-place-ge-MOST.false) in
     rw (pushed c.push.result c.push.new.self.items _ _ (sym c.is_err.ensures.value ∙ c.if-is_err.false) c.push.ensures.items)
-    (variable-known v f c.args.symbol low (subst (IsKnown v) (sym c.self.view_is) c.requires.known) c.requires.named (sym c.variable.ensures ∙ c.if-not-variable.false))
+    (variable-known v f c.args.symbol low (subst (IsKnown v) (sym c.self.view_is) c.requires.known) c.requires.named (rw c.deref.ensures.value at (sym c.has_place-there.ensures ∙ c.if-there.false)))
