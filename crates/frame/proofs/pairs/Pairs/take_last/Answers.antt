@@ -18,11 +18,11 @@ pub returns-clause-fewer : goal.returns-clause-fewer
 returns-clause-fewer c =
     let b = (back c.self.inside.stock.now (c.self.inside.at - 1) c.links_at-last.result c.links_at-last.ensures c.if-last-eq0.false).1 in rw (← c.self.view_is) (omega (arith, b.above, b.within, c.self.invariant.3, length-take {A = Stmt}))
 
+pub returns-clause-pairs : goal.returns-clause-pairs
+returns-clause-pairs c =
+    rw (← c.self.view_is) (λ x y. pairs-back c.self.inside.stock.now (c.self.inside.at - 1) c.links_at-last.result c.links_at-last.ensures c.if-last-eq0.false (seen c.entry.result c.entry.ensures.0) x y c.self.invariant.0 c.self.invariant.1 c.entry.ensures.1)
+
 pub returns-clause-below : goal.returns-clause-below
 returns-clause-below c =
     let k = c.self.inside.stock.now in
     numbered-at (length (names_in k)) (length (labels_in k)) k.entries c.self.invariant.0.kept.coded (c.links_at-last.result.disjoint - 1) (seen c.entry.result c.entry.ensures.0) c.entry.ensures.1
-
-pub returns-clause-pairs : goal.returns-clause-pairs
-returns-clause-pairs c =
-    rw (← c.self.view_is) (λ x y. pairs-back c.self.inside.stock.now (c.self.inside.at - 1) c.links_at-last.result c.links_at-last.ensures c.if-last-eq0.false (seen c.entry.result c.entry.ensures.0) x y c.self.invariant.0 c.self.invariant.1 c.entry.ensures.1)
