@@ -91,6 +91,11 @@ ordered xs ys zs moved sorted is = subst (AreThose (λ p. In p xs)) (sym is) (re
 pub appended : (old more new : List ℕ) → new ≡ old ++ more → HasMore (λ p. In p more) old new
 appended old more new is = subst (HasMore (λ p. In p more) old) (sym is) (record { stays = λ p i. in-left p old more i; all = λ p i. in-right p old more i; only = λ p i. in-either p old more i })
 
+-- one is put behind a list, and then others
+pub pushed-more : {q : ℕ} {old pushed new : List ℕ} (ys : List ℕ) → pushed ≡ old ++ q ∷ [] → HasMore (λ p. In p ys) pushed new → HasMore (λ p. In p (q ∷ ys)) old new
+pushed-more {q = q} {old = old} {new = new} ys is more = let put = subst (λ l. HasMore (λ p. In p ys) l new) is more in
+    record { stays = λ p i. put.stays p (in-left p old (q ∷ []) i); all = λ p. ⊎_elim (λ e. put.stays p (last-in p q old (inl e))) (put.all p); only = λ p i. ⊎_elim (λ j. ⊎_elim (λ e. inr (inl e)) inl (last-out p q old j)) (λ k. inr (inr k)) (put.only p i) }
+
 -- ---- the `$f` of a symbol
 
 -- the last `$f` was added, where it is active

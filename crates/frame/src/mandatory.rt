@@ -1,6 +1,6 @@
 //! The mandatory hypotheses of an assertion, found by the symbols that it uses.
-ghost use Rattle.std.specs.Prelude.{◌≡◌, ◌+◌, ◌-◌, ◌≤◌, ◌<◌, [], length, take, OnOk};
-ghost use Rattle.{frame.specs.Below.AreBelow, frame.specs.Stored.Whole.AreStored, frame.specs.Stored.Hypotheses.In, frame.specs.Stored.Hypotheses.AreThose, frame.specs.Stored.Hypotheses.HasMore, frame.specs.Stored.Hypotheses.IsFloatOf, frame.specs.Stored.Hypotheses.AreLooked, frame.specs.Stored.Hypotheses.AreFloats, frame.specs.Stored.Hypotheses.AreWith, frame.specs.Stored.EntryMeanings.names_in, frame.specs.Stored.EntryMeanings.statements_of};
+ghost use Rattle.std.specs.Prelude.{◌≡◌, ◌+◌, ◌-◌, ◌≤◌, ◌<◌, ◌==◌, [], length, take, OnOk};
+ghost use Rattle.{std.specs.List.list_all, std.specs.List.list_any, frame.specs.Below.AreBelow, frame.specs.Stored.Whole.AreStored, frame.specs.Stored.Hypotheses.In, frame.specs.Stored.Hypotheses.AreThose, frame.specs.Stored.Hypotheses.HasMore, frame.specs.Stored.Hypotheses.IsFloatOf, frame.specs.Stored.Hypotheses.AreLooked, frame.specs.Stored.Hypotheses.AreFloats, frame.specs.Stored.Hypotheses.AreWith, frame.specs.Stored.EntryMeanings.names_in, frame.specs.Stored.EntryMeanings.statements_of};
 
 use crate::at_position::{is_active_at, links_at};
 use crate::places::Places;
@@ -61,6 +61,24 @@ pub fn find_floats(
     Ok(())
 }
 
+/// Whether the list has each of the positions.
+fn has_each(list: &[u32], positions: &[u32]) -> bool
+    ensures { result ≡ list_all (λ p. list_any (λ q. q == p) list.now) positions.now }
+{
+    positions.iter().all(|position| list.contains(position))
+}
+
+/// Adds the positions, unless the list is short and has each of them.
+fn add_new(list: &mut Vec<u32>, positions: &[u32]) -> Result<(), AllocError>
+    ensures { OnOk result (HasMore (λ p. In p positions.now) list.old.items list.new.items) }
+{
+    if list.len() < FEW && has_each(list, positions) {
+        return Ok(());
+    }
+    list.extend_from_slice(positions)?;
+    Ok(())
+}
+
 /// Adds the `$e` that are active at `at`, and the `$f` that are kept with them, all in order.
 ///
 /// Cost: that of these, and of putting them in order.
@@ -73,7 +91,7 @@ pub fn add_essentials(stock: &Stock, at: usize, list: &mut Vec<u32>) -> Result<(
     while essential != 0 {
         let index = essential as usize - 1;
         list.push(essential)?;
-        list.extend_from_slice(stock.entries.hypotheses(index))?;
+        add_new(list, stock.entries.hypotheses(index))?;
         essential = stock.entries.entry(index).links.essential;
     }
     order(list);

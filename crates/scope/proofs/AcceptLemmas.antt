@@ -1,5 +1,5 @@
 -- Each kind of legal statement keeps what the rules keep.
-use Rattle.std.specs.Prelude.{◌≡◌, ℕ, ◌+◌, ◌<◌, ◌==◌, Bool, true, false, ◌||◌, List, [], ◌∷◌, ◌++◌, cond, nat_lt, length, None, is_some, refl}
+use Rattle.std.specs.Prelude.{◌≡◌, ℕ, ◌+◌, ◌<◌, ◌==◌, Bool, true, false, not, ◌&&◌, ◌||◌, List, [], ◌∷◌, ◌++◌, cond, nat_lt, length, None, is_some, refl}
 use Rattle.std.proofs.Common.{Result, Ok, Err, OnOk}
 use Rattle.std.specs.Result.{is_err}
 use Rattle.std.specs.List.{list_any, list_all}
@@ -11,7 +11,8 @@ use Rattle.mm_read.specs.declared.stmt.Stmt.{Stmt}
 use Rattle.mm_read.specs.declared.stmt.Stmt.TheVariants.{Open, Close, Const, Var, Disj, Float, Ess, Axiom, Prove}
 use Rattle.mm_read.specs.Statements.{Database}
 use Rattle.scope.specs.Active.{bare, has_float, active_variables, typed_variables}
-use Rattle.scope.specs.Legal.{broken_rule}
+use Rattle.scope.specs.Legal.{all_different, broken_rule}
+use Rattle.scope.specs.Stored.Noted.{numbers_differ}
 use Rattle.names.specs.Codes.{name_at, decode, with_names, numbers_in, number_in, AreNamed, AreCodes, AreDistinct}
 use Rattle.scope.specs.Kinds.{Declared, kind_in, with_kind, with_kinds}
 use Rattle.scope.specs.Stored.Stacks.{IsKept, IsPlain, can_push}
@@ -64,6 +65,20 @@ numbers-of names numbers xs distinct codes stand = ap (numbers_in names) (sym st
     by [] h = refl
     by (n ∷ ns) h = let p = and_parts (nat_lt n (length names)) (list_all (λ m. nat_lt m (length names)) ns) h in
         ap (λ m. m ∷ numbers_in names (decode names ns)) (one n (ltb-true n (length names) p.0)) ∙ ap (λ ms. n ∷ ms) (by ns p.1)
+
+-- they differ where the names do
+pub numbers-differ : (names : List Name) (numbers : List ℕ) (xs : List Name) → AreDistinct names → AreNumbers names xs numbers → numbers_differ numbers ≡ all_different xs
+numbers-differ names numbers xs distinct are = by numbers are.0 ∙ ap all_different are.1
+  where
+    by : (ns : List ℕ) → AreCodes names ns → numbers_differ ns ≡ all_different (decode names ns)
+    by [] h = refl
+    by (n ∷ ns) h =
+        let p = and_parts (nat_lt n (length names)) (list_all (λ m. nat_lt m (length names)) ns) h in
+        let x = name_at names n in
+        let f = found-number names x n (sym (code-at names x n distinct (ltb-true n (length names) p.0) refl)) in
+        let one : list_any (λ m. m == n) ns ≡ has_name x (decode names ns) =
+        ap (λ k. list_any (λ m. m == k) ns) (sym f.1) ∙ (ap (list_any (λ m. m == number_in names x)) (sym (numbers-of names ns (decode names ns) distinct p.1 refl)) ∙ numbers-has names x (decode names ns) f.0) in
+        ap (λ b. not b && numbers_differ ns) one ∙ ap (λ b. not (has_name x (decode names ns)) && b) (by ns p.1)
 
 -- the second of the numbers of a `$f` is that of its variable
 pub float-number : (S : Database) (l c v : Name) (numbers : List ℕ) → AreNumbers (with_names (symbols_of S) []) (c ∷ v ∷ []) numbers → (a : ℕ) × (b : ℕ) × (numbers ≡ a ∷ b ∷ []) × (number_in (symbols_of S) v ≡ b)

@@ -6,7 +6,7 @@ ghost use Rattle.mm_read.specs.Statements.{Expr};
 ghost use Rattle.mm_read.specs.declared.stmt.Stmt.TheVariants as stmt;
 ghost use Rattle.scope.specs.Active.{is_constant, is_variable, was_label, was_symbol};
 ghost use Rattle.scope.specs.Legal.{all_different, are_typed, starts_with_constant, broken_rule};
-ghost use Rattle.scope.specs.Stored.Noted.{AreNoted};
+ghost use Rattle.scope.specs.Stored.Noted.{AreNoted, numbers_differ};
 ghost use Rattle.scope.specs.Stored.Ordered.{DifferNext, IsTwice};
 ghost use Rattle.scope.specs.Kinds.{IsNumberOf};
 ghost use Rattle.scope.specs.Sorts.{IsSort, is_symbol_sort, sorts_rule};
@@ -129,10 +129,10 @@ impl<'a> Judge<'a> {
         ensures rule { result ≡ broken_rule self.now.statements (stmt.Disj symbols.now) }
         ensures noted { result ≡ None → AreNoted (symbols_of self.now.statements) symbols.now noted.new }
     {
-        if !are_different(self.alloc, symbols) {
+        if !self.are_active(symbols, noted) {
             return Some(Rule::G8);
         }
-        if !self.are_active(symbols, noted) {
+        if !self.are_apart(symbols, noted) {
             return Some(Rule::G8);
         }
         None
@@ -230,6 +230,19 @@ impl<'a> Judge<'a> {
         true
     }
 
+    /// Whether no symbol stands twice in the list. Where it is short the numbers that were noted tell it.
+    fn are_apart(&self, symbols: &Words, noted: &Noted) -> bool
+        requires { AreNoted (symbols_of self.now.statements) symbols.now noted.now }
+        ensures { result ≡ all_different symbols.now }
+    {
+        if let Some(numbers) = noted.numbers() {
+            if numbers.len() < FEW {
+                return numbers_differ(numbers);
+            }
+        }
+        are_different(self.alloc, symbols)
+    }
+
     /// What a name is.
     pub(crate) fn sort(&self, name: &[u8]) -> Sort
         ensures { IsSort self.now.statements name.now result }
@@ -294,6 +307,20 @@ fn broken_by_sorts(constant: Sort, variable: Sort) -> Option<Rule>
         return Some(Rule::G7);
     }
     None
+}
+
+/// Whether no number stands twice. Cost: the square of their count.
+fn numbers_differ(numbers: &[u32]) -> bool
+    ensures { result ≡ numbers_differ numbers.now }
+{
+    let mut left = numbers;
+    while let [first, others @ ..] = left {
+        if others.contains(first) {
+            return false;
+        }
+        left = others;
+    }
+    true
 }
 
 /// Whether no word stands twice in the list. Cost: where memory can be had, that of putting the list in order.
