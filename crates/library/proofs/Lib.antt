@@ -12,7 +12,6 @@ pub mod GoodLemmas
 pub mod JoinedRulesLemmas
 pub mod CausesLemmas
 pub mod LibraryLemmas
-pub mod VerdictsLemmas
 pub mod EnteringLemmas
 pub mod WrittenItemsLemmas
 pub mod ProvingLemmas

@@ -8,12 +8,9 @@ use Rattle.mm_read.specs.declared.fault.ReadFault.{ReadFault}
 use Rattle.scope.specs.Accepted.{Accepted}
 use Rattle.frame.specs.Parts.{Numbered}
 use Rattle.library.specs.declared.verdict.Cause.{Cause}
-use Rattle.library.specs.declared.verdict.Verdict.{Verdict}
 use Rattle.library.specs.declared.submission.Submission.{Submission}
-use Rattle.library.specs.declared.entry.Entry.{Entry}
 use Rattle.library.specs.Good.{Good, IsProved}
 use Rattle.library.specs.Causes.{IsAllowed, IsCause, IsFault}
-use Rattle.library.specs.LibraryOf.{Decided, Replica, decided_with, Decides}
 
 -- the list begins with these statements
 abbrev pub Begins : Database → Database → Type 0
@@ -54,13 +51,6 @@ pub record IsPlaced (L T : Database) (rules : Accepted) (frames : Numbered) (fou
 abbrev pub Extends : Database → Database → Option Cause → Database → Type 0
 Extends L T None new = Good (L ++ T) × (new ≡ L ++ T)
 Extends L T (Some cause) new = IsFault L T cause × (new ≡ L)
-
--- an entry that was not decided before, judged behind these statements under this charter: what it makes of them, whatever was
--- decided
-abbrev pub Judges : Database → Option (List ℕ) → Entry → Verdict → Database → Option (List ℕ) → Type 0
-Judges L charter entry verdict L' charter' =
-    (ds : List Decided) → let old : Replica = record { statements = L; decided = ds; charter = charter } in
-    Decides old entry verdict (record { statements = L'; decided = decided_with old entry verdict; charter = charter' })
 
 -- what is returned of a text are the statements that it writes, or a fault that it has
 abbrev pub ReadsTexts : (List ℕ → Result (Vec Stmt Global) ReadFault → Type 0) → Type 0

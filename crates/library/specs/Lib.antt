@@ -3,7 +3,6 @@ pub mod Charters
 pub mod Good
 pub mod Causes
 pub mod LibraryOf
-pub mod Ledger
 pub mod PlainLibraryOf
 pub mod Laws
 pub mod Judging

@@ -1,17 +1,34 @@
 -- What contracts see of a library: its replica, and the count of its steps.
 -- Source: this project's profile.
 -- The code has the statements three times: as they were read, as the state of the rules, and as frames.
-use Rattle.std.specs.Prelude.{◌≡◌, ℕ, ◌+◌, ◌*◌, ◌≤◌, length, Option, Some, None}
+use Rattle.std.specs.Prelude.{◌≡◌, ℕ, ◌+◌, ◌*◌, ◌≤◌, List, length, map, Option, Some, None, ⊤}
 use Rattle.library.specs.Words.{Database, Reads}
 use Rattle.library.specs.declared.submission.Submission.{Submission}
 use Rattle.library.specs.declared.entry.Entry.{Entry}
 use Rattle.library.specs.declared.entry.Entry.TheVariants.{Text, Charter}
+use Rattle.library.specs.declared.verdict.Cause.{Cause}
 use Rattle.library.specs.declared.verdict.Verdict.{Verdict}
-use Rattle.library.specs.LibraryOf.{Replica, status_of}
+use Rattle.library.specs.declared.verdict.Verdict.TheVariants.{Added, Refused}
+use Rattle.library.specs.LibraryOf.{Decided, Replica, status_of}
 
 pub record Kept : Type 0 where
   pub replica : Replica
   pub steps : ℕ
+
+-- what was decided: added, or refused for this cause
+abbrev pub verdict_of : Option Cause → Verdict
+verdict_of None = Added
+verdict_of (Some cause) = Refused cause
+
+-- the entries of the table, by author and number, as verdicts
+abbrev pub decided_of : List ((ℕ × ℕ) × Option Cause) → List Decided
+decided_of entries = map (λ p. record { author = p.0.0; serial = p.0.1; verdict = verdict_of p.1 }) entries
+
+-- what is decided is added or refused
+abbrev pub IsDecision : Verdict → Type 0
+IsDecision Added = ⊤
+IsDecision (Refused cause) = ⊤
+IsDecision verdict = ⊥
 
 -- the judging of a text takes at most three steps a statement, and none where the text reads as nothing
 pub record IsWithinText (submission : Submission) (before after : ℕ) : Type 0 where

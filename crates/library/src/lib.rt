@@ -4,7 +4,7 @@
 //! memory decides nothing.
 //!
 //! Reading order: `submission`, `charter`, `entry` (what a log holds), `verdict`; `library`; `entry_text` (a text and its
-//! charter), `base` (all or nothing), `entering` (the rules), `unproved` (the proofs), `verdicts`; `asked` (traces, uses, items
+//! charter), `base` (all or nothing), `entering` (the rules), `unproved` (the proofs); `asked` (traces, uses, items
 //! and trees), `read_items`, `uses`, `users`; `listed`; `laws`.
 #![tactic(auto)]
 
@@ -23,7 +23,6 @@ mod unproved;
 mod users;
 mod uses;
 mod verdict;
-mod verdicts;
 
 pub use asked::AskFault;
 pub use charter::{MOST_NAMES, Names};

@@ -1,6 +1,6 @@
 //! One replica: the statements that the entries of a log validly add, and the verdicts on them.
 ghost use Rattle.std.specs.Prelude.{◌≡◌, None, Some, IfOk, IfSome, OnErr, option_map};
-ghost use Rattle.{std.specs.Fn.FnReturnsAt, mm_read.specs.Statements.AreShaped, library.specs.Good.Good, library.specs.LibraryOf.Applies, library.specs.LibraryOf.empty, library.specs.LibraryOf.status, library.specs.Ledger.IsDecision, library.specs.LibraryState.IsWithinSteps, library.specs.Judging.ReadsTexts, library.specs.Unproved.FindsLeast};
+ghost use Rattle.{std.specs.Fn.FnReturnsAt, mm_read.specs.Statements.AreShaped, library.specs.Good.Good, library.specs.LibraryOf.Applies, library.specs.LibraryOf.empty, library.specs.LibraryOf.status, library.specs.LibraryState.IsDecision, library.specs.LibraryState.IsWithinSteps, library.specs.LibraryState.verdict_of, library.specs.Judging.ReadsTexts, library.specs.Unproved.FindsLeast};
 
 use crate::base::Base;
 use crate::charter::Names;
@@ -8,7 +8,7 @@ use crate::entry::Entry;
 use crate::entry_text::{may_declare, read_text};
 use crate::unproved::Proofs;
 use crate::verdict::{Cause, Verdict};
-use crate::verdicts::Verdicts;
+use indexmap::IndexMap;
 use mm_read::{ReadFault, Stmt, read};
 use read_pool::read_by;
 use scope::Steps;
@@ -17,22 +17,22 @@ use std::marker::Model;
 use std::thread::Threads;
 use verify_pool::{Gate, Workers, judge_all, judge_here};
 
-/// The statements added, the verdicts decided, and the charter that is there. Contracts see them as a replica, and the
-/// count of the steps that the library took.
+/// The statements added, the entries decided, by author and number in the order of the log, with the cause where one was
+/// refused, and the charter that is there. Contracts see them as a replica, and the count of the steps that the library took.
 #[derive(Drop)]
 pub struct Library {
     base: Base,
-    verdicts: Verdicts,
+    decided: IndexMap<(u64, u64), Option<Cause>>,
     charter: Option<Names>,
     steps: Steps,
 }
 
 impl Model for Library {
-    ghost use Rattle.library.specs.LibraryState.{Kept};
+    ghost use Rattle.library.specs.LibraryState.{Kept, decided_of};
 
     ghost Value = { Kept };
 
-    ghost view = { λ a. record { replica = record { statements = a.base; decided = a.verdicts.decided; charter = a.charter }; steps = a.steps.count } };
+    ghost view = { λ a. record { replica = record { statements = a.base; decided = decided_of a.decided.entries; charter = a.charter }; steps = a.steps.count } };
 }
 
 impl Library {
@@ -43,7 +43,7 @@ impl Library {
     {
         Library {
             base: Base::new(alloc),
-            verdicts: Verdicts::new(alloc),
+            decided: IndexMap::new(alloc),
             charter: None,
             steps: Steps::new(),
         }
@@ -108,30 +108,30 @@ impl Library {
         let Some(entry) = next else {
             return Ok(Verdict::Nothing);
         };
-        match self.verdicts.status(entry.author(), entry.serial()) {
+        match self.status(entry.author(), entry.serial()) {
             Some(_) => return Ok(Verdict::Repeat),
             None => {}
         }
-        self.verdicts.reserve()?;
-        let verdict = match entry {
+        self.decided.reserve(1)?;
+        let cause = match entry {
             Entry::Text(submission) => match read_text(&self.charter, submission, read)? {
-                Ok(statements) => match self.base.extend(statements, &mut self.steps, least)? {
-                    None => Verdict::Added,
-                    Some(cause) => Verdict::Refused(cause),
-                },
-                Err(cause) => Verdict::Refused(cause),
+                Ok(statements) => self.base.extend(statements, &mut self.steps, least)?,
+                Err(cause) => Some(cause),
             },
             Entry::Charter { author, names, .. } => {
                 if !may_declare(&self.charter, *author) {
-                    Verdict::Refused(Cause::NotChartered { statement: 0 })
+                    Some(Cause::NotChartered { statement: 0 })
                 } else {
                     self.charter = Some(names.copy()?);
-                    Verdict::Added
+                    None
                 }
             }
         };
-        self.verdicts.push(entry.author(), entry.serial(), verdict);
-        Ok(verdict)
+        let key = (entry.author(), entry.serial());
+        if self.decided.insert(key, cause).is_err() {
+            unreachable!();
+        }
+        Ok(verdict_of(cause))
     }
 
     /// The verdict first decided on the author's text or charter of that number: Added or Refused. Takes no memory.
@@ -139,7 +139,10 @@ impl Library {
         ensures first { result ≡ status self.now.replica.decided author serial }
         ensures decided { IfSome result IsDecision }
     {
-        self.verdicts.status(author, serial)
+        match self.decided.get(&(author, serial)) {
+            Some(cause) => Some(verdict_of(*cause)),
+            None => None,
+        }
     }
 
     /// All statements, in order.
@@ -163,5 +166,16 @@ impl Library {
         ensures { option_map (λ names. names.now) result ≡ self.now.replica.charter }
     {
         self.charter.as_ref()
+    }
+}
+
+/// What was decided: added, or refused for this cause.
+fn verdict_of(cause: Option<Cause>) -> Verdict
+    ensures is { result ≡ verdict_of cause }
+    ensures decided { IsDecision result }
+{
+    match cause {
+        None => Verdict::Added,
+        Some(cause) => Verdict::Refused(cause),
     }
 }
