@@ -67,12 +67,9 @@ module _ (S : Database) (front : ℕ) (within : front ≤ length S) where
       (first-behind (take front S) (drop front S) at s (least-cut (Some at) least)
       (ap (λ U. stmt_at U at) (take-append-drop front S) ∙ stands-index S at s (omega (arith, least.0)) least.1 is))
 
-some-none : {A P : Type 0} {x : A} → Some x ≡ None → P
-some-none {x = x} e = absurd (let f : Some x ≡ None = e in cc)
-
 -- where a fault was found, nothing is said of where rules and frames stand
 pub placed-fault : (L T : Database) (rules : Accepted) (frames : Numbered) (cause : Cause) → IsFault L T cause → IsPlaced L T rules frames (Some cause)
-placed-fault L T rules frames cause fault = record { judged = fault; rules_are = λ e. some-none e; frames_are = λ e. some-none e; closed = λ e. some-none e }
+placed-fault L T rules frames cause fault = record { judged = fault; rules_are = λ e. cc; frames_are = λ e. cc; closed = λ e. cc }
 
 bares-join : (S old next : Database) (front : ℕ) → old ≡ bares (take front S) → next ≡ old ++ bares (drop front S) → next ≡ bares (take front S ++ drop front S)
 bares-join S old next front before after = after ∙ (ap (λ U. U ++ bares (drop front S)) before ∙ sym (map-append bare (take front S) (drop front S)))

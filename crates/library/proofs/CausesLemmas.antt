@@ -8,6 +8,7 @@ use Rattle.mm_lex.proofs.TokensLemmas.{AreTokens-no_comment_fault}
 use Rattle.mm_read.proofs.OneSpelling.{one_spelling}
 use Rattle.library.specs.declared.submission.TheConstants.{MOST_BYTES}
 use Rattle.library.specs.declared.verdict.Cause.TheVariants.{Text}
+use Rattle.frame.proofs.FoundByNumber.{some-same}
 use Rattle.library.proofs.GoodLemmas.{provable-behind}
 use Rattle.library.proofs.JoinedRulesLemmas.{legal-text}
 use Rattle.mm_read.proofs.OneReading.{same_tokens}
@@ -26,9 +27,6 @@ none-or-reading : (text : List ℕ) (tokens : List Name) (T : Database) → HasT
 none-or-reading text tokens T has none reads = none T reads.shaped (same_tokens text (spelled T) tokens reads.tokens has)
 
 -- ---- the least `$p` that is not proved
-
-one-statement : (T : Database) (m n : ℕ) (s r : Stmt) → m ≡ n → IsProvable T m s → IsProvable T n r → s ≡ r
-one-statement T m n s r same p q = let e : Some s ≡ Some r = sym p.stands ∙ (ap (λ k. Rattle.scope.specs.Active.stmt_at T k) same ∙ q.stands) in cc
 
 one-unproved : (L T : Database) (m n : ℕ) (s r : Stmt) → IsFirstUnproved L T m s → IsFirstUnproved L T n r → m ≡ n
 one-unproved L T m n s r p q = by (m - n) refl (n - m) refl
@@ -60,7 +58,7 @@ module _ (L : Database) (charter : Option (List ℕ)) (submission : Submission) 
 
     not-both : (m n : ℕ) (s r : Stmt) → IsFirstUnproved L T m s → IsFirstUnproved L T n r → IsFalse (is_unfinished (proof_of s)) → IsTrue (is_unfinished (proof_of r)) → ⊥
     not-both m n s r p q no_mark has_mark =
-        let same = one-statement T m n s r (one-unproved L T m n s r p q) p.here q.here in
+        let same = some-same p.here.stands (ap (Rattle.scope.specs.Active.stmt_at T) (one-unproved L T m n s r p q) ∙ q.here.stands) in
         absurd (let e : false ≡ true = sym no_mark ∙ (ap (λ t. is_unfinished (proof_of t)) same ∙ has_mark) in cc)
 
     one-fault : (c d : Cause) → IsFault L T c → IsFault L T d → c ≡ d

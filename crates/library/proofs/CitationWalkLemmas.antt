@@ -38,9 +38,6 @@ module _ (S : Database) (at : ℕ) where
   abbrev AllEarlier : List Item → Type 0
   AllEarlier items = (k : ℕ) (label : Name) → slice_get items k ≡ Some (Cite label) → (i : ℕ) × (s : Stmt) × Carries S i s label × (i < at)
 
-  earlier-none : AllEarlier []
-  earlier-none k label e = absurd (let f = e in cc)
-
   earlier-append : (front rest : List Item) → AllEarlier front → AllEarlier rest → AllEarlier (front ++ rest)
   earlier-append front rest p q k label e = elim (get-either front rest k (Cite label) e) [ inl there ↦ p there.0 label there.1 | inr behind ↦ q behind.0 label behind.1 ]
 
@@ -60,7 +57,7 @@ module _ (S : Database) (at : ℕ) where
     spells-earlier (marks front between one whole added) = subst AllEarlier (sym whole) (earlier-append front (Mark ∷ []) (spells-earlier one) (earlier-one Mark (λ label e. absurd (let f = e in cc))))
 
     spells-all-earlier : {marked after : List Derivation} {items : List Item} {kids : Derivations} {weight : ℕ} → SpellsAll S at marked items kids after weight → AllEarlier items
-    spells-all-earlier spells_none = earlier-none
+    spells-all-earlier spells_none = λ k label e. absurd (let f = e in cc)
     spells-all-earlier (spells_more first rest between first_weight rest_weight one all whole weighs) =
         subst AllEarlier (sym whole) (earlier-append first rest (spells-earlier one) (spells-all-earlier all))
 

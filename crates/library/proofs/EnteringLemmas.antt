@@ -1,11 +1,6 @@
 -- Statements entered one by one: what is left to judge behind those that were taken.
-use Rattle.library.proofs.Words.{◌≡◌, ℕ, ◌+◌, ◌<◌, [], ◌∷◌, ◌++◌, length, take, drop, get_or, None, Result, Ok, Err, OnOk, is_err, false, sym, ◌∙◌, ap, append_assoc, map_more, drop_more, Stmt, Database, bare, bares, broken_rule, first_broken}
+use Rattle.library.proofs.Words.{◌≡◌, ℕ, ◌+◌, ◌<◌, [], ◌∷◌, ◌++◌, length, take, drop, get_or, None, sym, ◌∙◌, ap, append_assoc, map_more, drop_more, Stmt, Database, bare, bares, broken_rule, first_broken}
 use Rattle.library.proofs.JoinedRulesLemmas.{first_broken-taken}
-
--- what a result says, once it is known to be one
-pub on-ok : {A E P : Type 0} (r : Result A E) → is_err r ≡ false → OnOk r P → P
-on-ok (Ok a) e p = p
-on-ok (Err x) e p = absurd (let f : Rattle.std.specs.Prelude.true ≡ false = e in cc)
 
 pub taken-more : (S : Database) (i : ℕ) (s : Stmt) → i < length S → s ≡ get_or S i s → bares (take (i + 1) S) ≡ bares (take i S) ++ bare s ∷ []
 taken-more S i s less is = map_more bare S i s less ∙ ap (λ r. bares (take i S) ++ bare r ∷ []) (sym is)

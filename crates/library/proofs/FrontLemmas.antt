@@ -77,10 +77,10 @@ hypotheses-at S at s =
     subst (λ U. AreHypothesesAt U (hypotheses (before S at) s)) (take-append-drop (at - 1) S)
     (hypotheses-later (before S at) (drop (at - 1) S) (hypotheses (before S at) s) (hypotheses-stand (before S at) s))
 
-pub one-hypothesis : (S : Database) (ps : List ℕ) (k p d : ℕ) → AreHypothesesAt S ps → k < length ps → p ≡ get_or ps k d → IsHypothesisAt S p
-one-hypothesis S [] k p d h less e = absurd (omega (arith, less))
-one-hypothesis S (q ∷ ps) zero p d h less e = subst (IsHypothesisAt S) (sym e) h.0
-one-hypothesis S (q ∷ ps) (suc k) p d h less e = one-hypothesis S ps k p d h.1 (omega (arith, less)) e
+pub hypothesis-there : (S : Database) (ps : List ℕ) (k i : ℕ) → slice_get ps k ≡ Some i → AreHypothesesAt S ps → IsHypothesisAt S i
+hypothesis-there S [] k i e h = absurd (let f = e in cc)
+hypothesis-there S (p ∷ ps) zero i e h = let same : p ≡ i = (let f = e in cc) in subst (IsHypothesisAt S) same h.0
+hypothesis-there S (p ∷ ps) (suc k) i e h = hypothesis-there S ps k i e h.1
 
 -- ---- statements without their proofs
 

@@ -12,9 +12,6 @@ none-later : (at : ℕ) (rule : Option Rule) (later : Option (ℕ × Rule)) → 
 none-later at None later h = (refl, h)
 none-later at (Some rule) later h = cc
 
-legal-later : (at : ℕ) (rule : Option Rule) (later : Option (ℕ × Rule)) → rule ≡ None → or_later at rule later ≡ later
-legal-later at rule later h = ap (λ r. or_later at r later) h
-
 none-numbered : (m n : ℕ) (rule : Option Rule) → numbered m rule ≡ None → numbered n rule ≡ None
 none-numbered m n None h = refl
 none-numbered m n (Some rule) h = cc
@@ -24,7 +21,7 @@ pub none-broken : (m n : ℕ) (S T : Database) → first_broken m S T ≡ None �
 none-broken m n S [] h = none-numbered m n (end_rule S) h
 none-broken m n S (s ∷ T) h =
     let p = none-later m (broken_rule S s) (first_broken (m + 1) (S ++ s ∷ []) T) h in
-    legal-later n (broken_rule S s) (first_broken (n + 1) (S ++ s ∷ []) T) p.0 ∙ none-broken (m + 1) (n + 1) (S ++ s ∷ []) T p.1
+    ap (λ r. or_later n r (first_broken (n + 1) (S ++ s ∷ []) T)) p.0 ∙ none-broken (m + 1) (n + 1) (S ++ s ∷ []) T p.1
 
 pub none-split : (m n : ℕ) (S A T : Database) → first_broken m S (A ++ T) ≡ None → AreLegal S A × (first_broken n (S ++ A) T ≡ None)
 none-split m n S [] T h = (tt, ap (λ U. first_broken n U T) (append-nil S) ∙ none-broken m n S T h)
@@ -36,7 +33,7 @@ none-split m n S (s ∷ A) T h =
 pub none-join : (m n : ℕ) (S A T : Database) → AreLegal S A → first_broken n (S ++ A) T ≡ None → first_broken m S (A ++ T) ≡ None
 none-join m n S [] T legal h = none-broken n m S T (ap (λ U. first_broken n U T) (sym (append-nil S)) ∙ h)
 none-join m n S (s ∷ A) T legal h =
-    legal-later m (broken_rule S s) (first_broken (m + 1) (S ++ s ∷ []) (A ++ T)) legal.0
+    ap (λ r. or_later m r (first_broken (m + 1) (S ++ s ∷ []) (A ++ T))) legal.0
     ∙ none-join (m + 1) n (S ++ s ∷ []) A T legal.1 (ap (λ U. first_broken n U T) (append_assoc S (s ∷ []) A) ∙ h)
 
 -- a legal list with a text behind it is legal where the text breaks no rule
@@ -77,5 +74,5 @@ bare-bare s = refl
 -- one legal statement taken, the others decide
 pub first_broken-taken : (at : ℕ) (S : Database) (s : Stmt) (T : Database) → IsLegal S s → first_broken at S (s ∷ T) ≡ first_broken (at + 1) (S ++ bare s ∷ []) T
 first_broken-taken at S s T legal =
-    legal-later at (broken_rule S s) (first_broken (at + 1) (S ++ s ∷ []) T) legal
+    ap (λ r. or_later at r (first_broken (at + 1) (S ++ s ∷ []) T)) legal
     ∙ first_broken-bares (at + 1) (S ++ s ∷ []) (S ++ bare s ∷ []) T (map-append bare S (s ∷ []) ∙ (ap (λ v. map bare S ++ v ∷ []) (sym (bare-bare s)) ∙ sym (map-append bare S (bare s ∷ []))))

@@ -2,8 +2,9 @@
 use Rattle.library.proofs.Words.{◌≡◌, ◌↔◌, ◌⊎◌, ℕ, zero, suc, ◌+◌, Bool, true, false, ◌||◌, if◌then◌else◌, List, [], ◌∷◌, ◌++◌, Option, Some, None, slice_get, refl, list_all, list_any, sym, ◌∙◌, ap, subst, inl, inr, true≢false, append-nil, bytes_eq-Decides, or_right, and_parts, false_from_ne_true, any_passes_from_place}
 use Rattle.library.proofs.Words.{Name, name_eq, has_name, is_label, Stmt, Float, Ess, Database, bare, bares, before, stmt_at, label_of, proof_of, hypotheses, Carries, is_hypothesis_kind, HasLabelsOnce, IsPosition, Item, Cite, Recall, Mark, AreItems, Writes, begin, finish, label_or_none, mandatory_labels, IsProvable, IsMarked, is_marked, listed_in, ListsNone, ListsSome, ProofMeets, Cites}
 use Rattle.mm_lex.proofs.NameLemmas.{name_same}
-use Rattle.library.proofs.FrontLemmas.{IsHypothesisAt, AreHypothesesAt, hypotheses-at, hypotheses-bare}
-use Rattle.library.proofs.UseMarkLemmas.{get-map, get-either, position-is}
+use Rattle.frame.proofs.FoundByNumber.{map-back}
+use Rattle.library.proofs.FrontLemmas.{hypothesis-there, hypotheses-at, hypotheses-bare}
+use Rattle.library.proofs.UseMarkLemmas.{get-either, position-is}
 use Rattle.library.proofs.CitationWalkLemmas.{carries-bare}
 use Rattle.library.proofs.ProvingLemmas.{written-of}
 
@@ -51,7 +52,7 @@ cited-label tokens mandatory items (inl packed) place label e =
     ]
 cited-label tokens mandatory items (inr plain) place label e =
     let w = plain.1.1 in
-    let at = get-map (λ token. Cite token) tokens place (Cite label) (ap (λ is. slice_get is place) (sym w.cites) ∙ e) in
+    let at = map-back (λ token. Cite token) tokens place (Cite label) (ap (λ is. slice_get is place) (sym w.cites) ∙ e) in
     let token = at.0 in
     let same : token ≡ label = (let h = at.2 in cc) in
     inr (subst (λ ts. has_name label (listed_in ts) ≡ true) (append-nil tokens) (labels-listed tokens [] w.labels place label (at.1 ∙ ap Some same)))
@@ -97,11 +98,6 @@ module _ (F : Database) (once : HasLabelsOnce F) (marks : List Bool) where
                 ∙ ap (λ b. b || has_name token (listed_in rest)) (name_same token)));
           }
 
-hypothesis-there : (S : Database) (ps : List ℕ) (k i : ℕ) → slice_get ps k ≡ Some i → AreHypothesesAt S ps → IsHypothesisAt S i
-hypothesis-there S [] k i e h = absurd (let f = e in cc)
-hypothesis-there S (p ∷ ps) zero i e h = let same : p ≡ i = (let f = e in cc) in subst (IsHypothesisAt S) same h.0
-hypothesis-there S (p ∷ ps) (suc k) i e h = hypothesis-there S ps k i e h.1
-
 pub kind-labelled : (t : Stmt) → is_hypothesis_kind t ≡ true → label_of t ≡ Some (label_or_none (Some t))
 kind-labelled (Float label constant variable) h = refl
 kind-labelled (Ess label expr) h = refl
@@ -112,11 +108,11 @@ module _ (S F : Database) (same : F ≡ bares S) (once : HasLabelsOnce F) (at : 
   hypothesis-cited : (k : ℕ) (label : Name) (a : ℕ) (r : Stmt) → slice_get (mandatory_labels (bares S) at s) k ≡ Some label → Carries F a r label
       → slice_get (hypotheses (before F at) (bare s)) k ≡ Some a
   hypothesis-cited k label a r e c =
-      let m = get-map (λ i. label_or_none (stmt_at (bares S) i)) (hypotheses (before (bares S) at) s) k label e in
+      let m = map-back (λ i. label_or_none (stmt_at (bares S) i)) (hypotheses (before (bares S) at) s) k label e in
       let i = m.0 in
       let there : slice_get (hypotheses (before F at) (bare s)) k ≡ Some i = ap (λ ps. slice_get ps k) (hypotheses-bare (before F at) s ∙ ap (λ U. hypotheses (before U at) s) same) ∙ m.1 in
       let h = hypothesis-there F (hypotheses (before F at) (bare s)) k i there (hypotheses-at F at (bare s)) in
-      let labelled : label_or_none (Some h.stmt) ≡ label = ap label_or_none (sym h.stands ∙ ap (λ U. stmt_at U i) same) ∙ m.2 in
+      let labelled : label_or_none (Some h.stmt) ≡ label = ap label_or_none (sym h.stands ∙ ap (λ U. stmt_at U i) same) ∙ sym m.2 in
       there ∙ ap Some (once i a h.stmt r label (record { stands = h.stands; carried = kind-labelled h.stmt h.kind ∙ ap Some labelled }) c)
 
   -- where neither a mandatory hypothesis nor what a token names is marked, the proof cites nothing that is

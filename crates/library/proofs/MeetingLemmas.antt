@@ -2,6 +2,8 @@
 use Rattle.library.proofs.Words.{◌≡◌, ◌↔◌, ℕ, zero, suc, ◌+◌, ◌-◌, ◌<◌, ◌≤◌, Bool, true, false, ◌||◌, if◌then◌else◌, List, [], ◌∷◌, ◌++◌, length, map, get_or, slice_index_or, take, drop, Option, Some, None, option_map, slice_get, refl, list_any, true≢false, length-append, sym, ◌∙◌, ap, subst, arith, append_assoc, inl, inr, slice_get-map, bytes_eq-Decides, map-append, length-map, length-drop, take_more, drop_more, get_or_append_left, both_ways, true_from_ne_false, cases_lt, take-append_seam}
 use Rattle.library.proofs.Words.{Name, name_eq, has_name, Stmt, Database, bare, bares, before, stmt_at, proof_of, hypotheses, HasLabelsOnce, IsPosition, Item, Cite, Recall, item_of, items_of, finish, Writes, WritesCompressed, WritesPacked, WritesPlain, is_compressed, label_or_none, mandatory_labels, IsProvable, Good, HasItems, is_marked, place_of, AreWanted, ItemsMeet, ProofMeets, listed_in, ListsNone, ListsSome}
 use Rattle.std.proofs.Math.ListN.{get_or-map}
+use Rattle.std.proofs.Math.Seq.{take-add}
+use Rattle.std.proofs.lemmas.Simd.{map-map}
 use Rattle.proof_code.specs.Reading.{IsHeading, share_label}
 use Rattle.library.proofs.FrontLemmas.{AreHypothesesAt, hypotheses-at}
 use Rattle.frame.proofs.PositionLemmas.{positions-end}
@@ -28,16 +30,12 @@ module _ (S : Database) (marks : List Bool) where
       (one.stmt, record { stands = one.stands; carried = kind-labelled one.stmt one.kind ∙ ap (λ o. Some (label_or_none o)) (sym one.stands) })
   named-all (p ∷ ps) h (suc k) less = named-all ps h.1 k (omega (arith, less))
 
-  tests-all : (ps : List ℕ) → map (λ p. is_marked marks (Some p)) ps ≡ map (is_marked marks) (map (λ i. Some i) ps)
-  tests-all [] = refl
-  tests-all (p ∷ ps) = ap (λ bs. is_marked marks (Some p) ∷ bs) (tests-all ps)
-
   hypotheses-wanted : (ps : List ℕ) → AreHypothesesAt S ps → AreWanted S (map (λ i. label_or_none (stmt_at S i)) ps) marks (map (λ p. is_marked marks (Some p)) ps)
   hypotheses-wanted ps h =
       record {
         places = map (λ i. Some i) ps;
         named = record { count = length-map ps (λ i. Some i) ∙ sym (length-map ps (λ i. label_or_none (stmt_at S i))); each = named-all ps h };
-        tests = tests-all ps;
+        tests = sym (map-map (is_marked marks) (λ i. Some i) ps);
       }
 
   -- the mandatory hypotheses of the assertion s
@@ -108,10 +106,7 @@ front-meets S labels rest marks numbers m =
     by (n ∷ ns) (suc k) e = by ns k e
 
 take-split : (words : List Name) (n m : ℕ) → n ≤ m → (rest : List Name) × (take m words ≡ take n words ++ rest)
-take-split words zero m h = (take m words, refl)
-take-split words (suc n) zero h = absurd (omega (arith, h))
-take-split [] (suc n) (suc m) h = ([], refl)
-take-split (x ∷ words) (suc n) (suc m) h = let r = take-split words n m (omega (arith, h)) in (r.0, ap (λ l. x ∷ l) r.1)
+take-split words n m h = (take (m - n) (drop n words), let e : m ≡ n + (m - n) = omega (arith, h) in ap (λ k. take k words) e ∙ take-add n (m - n) words)
 
 -- the numbers meet by the first n labels, so they meet by all
 pub early-meets : (S : Database) (marks : List Bool) (words left : List Name) (n count : ℕ) (old wanted : List Bool) (numbers : List ℕ) → AreTested S marks words left n old wanted → n ≤ count → HasLabelsOnce S

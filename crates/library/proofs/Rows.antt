@@ -1,8 +1,9 @@
 -- Verdicts, worked out.
 use Rattle.library.proofs.Words.{◌≡◌, ℕ, zero, suc, ◌+◌, ◌<◌, Bool, true, false, List, [], ◌∷◌, ◌++◌, codes, refl, length, Option, Some, None, list_all, true≢false, sym, ◌∙◌, ap, arith, inl, inr, lit≤, append-nil}
-use Rattle.library.proofs.Words.{Name, is_allowed, runs, word, Stmt, Const, Var, Axiom, Prove, Database, AreShaped, spelled, Reads, proof_of, is_provable, G4, Writes, is_unfinished, IsProvable, Submission, Text, Charter, Rule, Unfinished, NotChartered, Added, Nothing, Repeat, Refused, is_rising, forbidden, IsProved, IsCause, Replica, empty, Applies}
+use Rattle.library.proofs.Words.{Name, is_allowed, runs, word, Stmt, Const, Var, Axiom, Prove, Database, AreShaped, spelled, Reads, proof_of, stmt_at, is_provable, G4, Writes, is_unfinished, IsProvable, Submission, Text, Charter, Rule, Unfinished, NotChartered, Added, Nothing, Repeat, Refused, is_rising, forbidden, IsProved, IsCause, Replica, empty, Applies}
 use Rattle.mm_lex.specs.Tokens.{is_plain, words}
 use Rattle.scope.proofs.Databases.{w}
+use Rattle.frame.proofs.FoundByNumber.{some-same}
 use Rattle.library.proofs.LibraryLemmas.{good-empty}
 
 -- a text without comments
@@ -31,25 +32,13 @@ not_chartered = (taken_twice, record { short = lit≤ tt; read = plain_reads _ t
 abbrev doubted : Database
 doubted = Const (w (codes "|- o")) ∷ Prove (codes "th") (w (codes "|- o")) (w (codes "?")) ∷ []
 
-abbrev is_doubted : Option Stmt → Bool
-is_doubted None = true
-is_doubted (Some s) = is_unfinished (proof_of s)
-
-abbrev is_none_here : Option Stmt → Bool
-is_none_here None = true
-is_none_here (Some s) = false
-
-abbrev is_provable_here : Option Stmt → Bool
-is_provable_here None = false
-is_provable_here (Some s) = is_provable s
-
 -- tokens that write items have no byte `?`
 writes_finished : (tokens mandatory : List Name) (items : _) → Writes tokens mandatory items → is_unfinished tokens ≡ false
 writes_finished tokens mandatory items h = elim h [ inl p ↦ p.1.0 | inr p ↦ p.1.0 ]
 
 -- a `$p` with `?` for its proof is not proved
 not_proved : IsProved doubted 2 → ⊥
-not_proved p = true≢false (ap is_doubted p.provable.stands ∙ writes_finished _ _ _ p.written)
+not_proved p = true≢false (ap (λ s. is_unfinished (proof_of s)) (some-same {o = stmt_at doubted 2} refl p.provable.stands) ∙ writes_finished _ _ _ p.written)
 
 -- it is refused as unfinished, by its number in the text
 unfinished : IsCause [] None (by_author 7 (codes "$c |- o $. th $p |- o $= ? $.")) (Unfinished 2)
@@ -60,12 +49,9 @@ unfinished = (
 )
   where
     earlier : (m : ℕ) (r : Stmt) → m < 2 → IsProvable doubted m r → IsProved ([] ++ doubted) (length {A = Stmt} [] + m)
-    earlier zero r below p = absurd (true≢false (ap is_none_here p.stands))
-    earlier (suc zero) r below p = absurd (true≢false (sym p.provable ∙ sym (ap is_provable_here p.stands)))
-    earlier (suc (suc m)) r below p = absurd (past below)
-      where
-        past : suc (suc m) < 2 → ⊥
-        past h = omega (arith, h)
+    earlier zero r below p = absurd (let e = p.stands in cc)
+    earlier (suc zero) r below p = absurd (true≢false (sym p.provable ∙ ap is_provable (some-same {o = stmt_at doubted 1} p.stands refl)))
+    earlier (suc (suc m)) r below p = absurd (omega (arith, below))
 
 -- ---- the rows of verdicts
 

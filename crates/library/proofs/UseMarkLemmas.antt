@@ -1,6 +1,8 @@
 -- The positions of labels, and the marks of what items cite.
-use Rattle.library.proofs.Words.{◌≡◌, ◌↔◌, ◌||◌, ◌⊎◌, ℕ, zero, suc, ◌-◌, ◌<◌, ◌≤◌, Bool, true, false, cond, nat_lt, List, [], ◌∷◌, ◌++◌, length, map, replicate, get_or, slice_set, Option, Some, None, option_map, slice_get, refl, list_any, sym, ◌∙◌, ap, subst, arith, inl, inr, cases_eq, cases_lt, nat_tests, any_passes_from_place, slice_get-map, length-set, length-replicate, get_or-set_same, get_or-set_other, get_or_past}
+use Rattle.library.proofs.Words.{◌≡◌, ◌↔◌, ◌||◌, ◌⊎◌, ℕ, zero, suc, ◌-◌, ◌<◌, ◌≤◌, Bool, true, false, cond, nat_lt, List, [], ◌∷◌, ◌++◌, length, map, replicate, get_or, slice_set, Option, Some, None, option_map, slice_get, refl, list_any, sym, ◌∙◌, ap, subst, arith, inl, inr, cases_eq, cases_lt, nat_tests, any_passes_from_place, slice_get-map, slice_get_read, length-set, length-replicate, get_or-set_same, get_or-set_other, get_or_past}
 use Rattle.library.proofs.Words.{Name, Stmt, Database, Carries, IsPosition, ArePositions, HasLabelsOnce, Item, Cite, Recall, item_of, items_of, IsMarked, is_marked, mark, place_of, mark_items, ItemsMeet, Marks, ItemsCite, stands-within, no-mark}
+use Rattle.frame.proofs.FoundByNumber.{map-back}
+use Rattle.std.proofs.lemmas.List.Folds.{Any-from_list_any}
 
 -- ---- one mark
 
@@ -58,25 +60,11 @@ one-marked n (suc k) ms h w is = (ap length same ∙ (mark-count (Some (suc k)) 
 
 -- ---- the items of numbers
 
--- where one of the list's values stands
-pub get-map : {A B : Type 0} (f : A → B) (xs : List A) (k : ℕ) (y : B) → slice_get (map f xs) k ≡ Some y → (x : A) × (slice_get xs k ≡ Some x) × (f x ≡ y)
-get-map f [] k y e = absurd (let h = e in cc)
-get-map f (x ∷ xs) zero y e = (x, refl, let h = e in cc)
-get-map f (x ∷ xs) (suc k) y e = get-map f xs k y e
-
 -- a place of two lists is one of the first or of the second
 pub get-either : {A : Type 0} (xs ys : List A) (k : ℕ) (x : A) → slice_get (xs ++ ys) k ≡ Some x → ((i : ℕ) × (slice_get xs i ≡ Some x)) ⊎ ((i : ℕ) × (slice_get ys i ≡ Some x))
 get-either [] ys k x e = inr (k, e)
 get-either (y ∷ xs) ys zero x e = inl (0, e)
 get-either (y ∷ xs) ys (suc k) x e = elim (get-either xs ys k x e) [ inl there ↦ inl (suc there.0, there.1) | inr behind ↦ inr behind ]
-
-any-place : {A : Type 0} (f : A → Bool) (xs : List A) → list_any f xs ≡ true → (k : ℕ) × (x : A) × (slice_get xs k ≡ Some x) × (f x ≡ true)
-any-place f [] h = absurd (let e = h in cc)
-any-place f (x ∷ xs) h = by (f x) refl (any-place f xs)
-  where
-    by : (b : Bool) → f x ≡ b → (list_any f xs ≡ true → (k : ℕ) × (y : _) × (slice_get xs k ≡ Some y) × (f y ≡ true)) → (k : ℕ) × (y : _) × (slice_get (x ∷ xs) k ≡ Some y) × (f y ≡ true)
-    by true e rest = (0, x, refl, e)
-    by false e rest = let r = rest (sym (ap (λ b. b || list_any f xs) e) ∙ h) in (suc r.0, r.1, r.2, r.3)
 
 -- the item of a number is a citation of a label, or lies past the labels
 pub cite-within : (labels : List Name) (n : ℕ) → n < length labels → item_of labels (suc n) ≡ Cite (get_or labels n [])
@@ -134,8 +122,8 @@ module _ (S : Database) (labels : List Name) (places : List (Option ℕ)) (are :
 
   cites-number : (numbers : List ℕ) (a : ℕ) → ItemsCite S (items_of labels numbers) a → HasNumber numbers a
   cites-number numbers a c =
-      let m = get-map (item_of labels) numbers c.place (Cite c.label) c.cites in
-      (c.place, m.0, m.1, place-whole m.0 a (record { label = c.label; cited = c.cited; cites = m.2; carries = c.carries }))
+      let m = map-back (item_of labels) numbers c.place (Cite c.label) c.cites in
+      (c.place, m.0, m.1, place-whole m.0 a (record { label = c.label; cited = c.cited; cites = sym m.2; carries = c.carries }))
 
   number-cites : (numbers : List ℕ) (a : ℕ) → HasNumber numbers a → ItemsCite S (items_of labels numbers) a
   number-cites numbers a h =
@@ -183,9 +171,9 @@ module _ (S : Database) (labels : List Name) (places : List (Option ℕ)) (are :
     where
       forth : found ≡ true → ItemsMeet S (items_of labels numbers) marks
       forth e =
-          let h = any-place (Hits marks) numbers (sym is ∙ e) in
-          let m = marked-some marks (place_of places h.1) h.3 in
-          (m.0, m.2, number-cites numbers m.0 (h.0, h.1, h.2, m.1))
+          let h = Any-from_list_any (Hits marks) numbers (sym is ∙ e) in
+          let m = marked-some marks (place_of places h.1) h.4 in
+          (m.0, m.2, number-cites numbers m.0 (h.0, h.1, slice_get_read numbers _ h.0 h.1 refl h.2 (sym h.3), m.1))
 
       back : ItemsMeet S (items_of labels numbers) marks → found ≡ true
       back m =

@@ -1,10 +1,11 @@
 -- Who uses a statement: the positions behind it are walked up once, and what uses it is marked.
 use Rattle.library.proofs.Words.{◌≡◌, ◌↔◌, ◌⊎◌, ℕ, zero, suc, ◌+◌, ◌-◌, ◌<◌, ◌≤◌, Bool, true, false, cond, ◌&&◌, List, [], ◌∷◌, ◌++◌, length, replicate, get_or, false_from_ne_true, Some, None, Option, slice_get, slice_set, refl, sym, ◌∙◌, ap, subst, arith, inl, inr, append-nil, cases_eq, map-append, slice_get_within}
 use Rattle.library.proofs.Words.{Name, Stmt, Prove, Database, bares, stmt_at, is_provable, stands-within, Item, label_or_none, Good, HasItems, Cites, RestsOn, directly, through, IsUser, Rises, IsIn, AreLabelsOf, IsMarked, mark, ItemsMeet, ProofMeets}
-use Rattle.library.proofs.FrontLemmas.{get-front}
+use Rattle.verify_pool.proofs.JobsLemmas.{get-last, get-more}
 use Rattle.library.proofs.ProvingLemmas.{not-there}
 use Rattle.library.proofs.UseMarkLemmas.{mark-count, mark-kept, mark-sound, mark-whole, one-marked, get-either}
 use Rattle.library.proofs.CitationWalkLemmas.{cites-below, cites-of, cited-of}
+use Rattle.std.proofs.lemmas.List.{set-get_or}
 
 -- ---- one more label
 
@@ -13,11 +14,7 @@ rises-last above n [] below h r = (h, tt)
 rises-last above n (m ∷ ns) below h r = (r.0, rises-last m n ns (λ k i. below k (suc i.0, i.1)) (below m (0, refl)) r.1)
 
 in-front : (k : ℕ) (ns ms : List ℕ) → IsIn k ns → IsIn k (ns ++ ms)
-in-front k ns ms i = (i.0, get-front ns ms i.0 (slice_get_within ns i.0 k i.1) ∙ i.1)
-
-in-last : (n : ℕ) (ns : List ℕ) → IsIn n (ns ++ n ∷ [])
-in-last n [] = (0, refl)
-in-last n (m ∷ ns) = let i = in-last n ns in (suc i.0, i.1)
+in-front k ns ms i = (i.0, get-more ns ms i.0 k i.1)
 
 in-either : (k n : ℕ) (ns : List ℕ) → IsIn k (ns ++ n ∷ []) → IsIn k ns ⊎ (k ≡ n)
 in-either k n ns i = elim (get-either ns (n ∷ []) i.0 k i.1) [ inl there ↦ inl there | inr last ↦ inr (only last.0 last.1) ]
@@ -52,7 +49,7 @@ module _ (S : Database) (P : ℕ → Type 0) (p : ℕ) (labels : List Name) (are
 
       back : (k : ℕ) → Upto P (suc p) k → IsIn k (are.positions ++ suc p ∷ [])
       back k u = elim (cases_eq k (suc p)) [
-        | inl same ↦ subst (λ n. IsIn n (are.positions ++ suc p ∷ [])) (sym same) (in-last (suc p) are.positions)
+        | inl same ↦ subst (λ n. IsIn n (are.positions ++ suc p ∷ [])) (sym same) (length are.positions, get-last are.positions (suc p))
         | inr apart ↦ in-front k are.positions (suc p ∷ []) ((are.passing k).1 (let h = u.0 in omega (arith, h, apart), u.1))
       ]
 
@@ -109,14 +106,6 @@ meets-user S all a p marks labels w (b, m, c) = by all ((w.marked b).0 m)
     by false (inl same) = subst (Cites S (suc p)) same c
     by false (inr q) = absurd (let e = q.1 in cc)
 
-rests-user : (S : Database) (all : Bool) (a j : ℕ) → all ≡ true → RestsOn S j a → IsUser S all a j
-rests-user S true a j e r = r
-rests-user S false a j e r = absurd (let f = e in cc)
-
-user-rests : (S : Database) (all : Bool) (a j : ℕ) → all ≡ true → IsUser S all a j → RestsOn S j a
-user-rests S true a j e u = u
-user-rests S false a j e u = absurd (let f = e in cc)
-
 -- which position is marked
 when-some : (found all : Bool) (at b : ℕ) → cond (found && all) (Some at) None ≡ Some b → (found ≡ true) × (all ≡ true) × (at ≡ b)
 when-some true true at b e = (refl, refl, let f = e in cc)
@@ -141,7 +130,7 @@ module _ (S : Database) (all : Bool) (a p : ℕ) (marks marks' : List Bool) (lab
   sought : (b : ℕ) → IsMarked marks' b → IsSought S all a (suc p) b
   sought b m = elim (mark-sound Here marks b (subst (λ ms. IsMarked ms b) set m)) [
     | inl before ↦ later b ((w.marked b).0 before)
-    | inr is ↦ (let q = when-some found all (suc p) b is in let same = q.2 in inr (omega (arith, same), q.1, subst (λ k. RestsOn S k a) same (user-rests S all a (suc p) q.1 (uses q.0))))
+    | inr is ↦ (let q = when-some found all (suc p) b is in let same = q.2 in inr (omega (arith, same), q.1, subst (λ k. RestsOn S k a) same (subst (λ b. IsUser S b a (suc p)) q.1 (uses q.0))))
   ]
 
   kept : (b : ℕ) → IsMarked marks b → IsMarked marks' b
@@ -151,7 +140,7 @@ module _ (S : Database) (all : Bool) (a p : ℕ) (marks marks' : List Bool) (lab
   marked b (inl same) = kept b ((w.marked b).1 (inl same))
   marked b (inr q) = elim (cases_eq b (suc p)) [
     | inl same ↦ (
-        let f = met (rests-user S all a (suc p) q.1 (subst (λ k. RestsOn S k a) same q.2)) in
+        let f = met (subst (λ b. IsUser S b a (suc p)) (sym q.1) (subst (λ k. RestsOn S k a) same q.2)) in
         let which : Here ≡ Some (suc p) = ap (λ x. cond (x && all) (Some (suc p)) None) f ∙ ap (λ x. cond x (Some (suc p)) None) q.1 in
         subst (IsMarked marks') (sym same) (subst (λ ms. IsMarked ms (suc p)) (sym (set ∙ ap (λ o. mark o marks) which)) (mark-whole marks (suc p) (omega arith) (let c = w.count in omega (arith, within, c)))))
     | inr apart ↦ kept b ((w.marked b).1 (inr (let h = q.0 in omega (arith, h, apart), q.1, q.2)))
@@ -206,14 +195,9 @@ not-provable (Prove label expr proof) other h = other label expr proof refl
 not-provable s other h = let e = h in cc
 
 -- a place that is not marked is set
-set-false : (ms : List Bool) (k : ℕ) → get_or ms k false ≡ false → slice_set ms k false ≡ ms
-set-false [] k h = refl
-set-false (m ∷ ms) zero h = ap (λ b. b ∷ ms) (sym h)
-set-false (m ∷ ms) (suc k) h = ap (λ rest. m ∷ rest) (set-false ms k h)
-
 set-all : (all : Bool) (ms : List Bool) (k : ℕ) → get_or ms k false ≡ false → slice_set ms k all ≡ mark (cond all (Some (suc k)) None) ms
 set-all true ms k h = refl
-set-all false ms k h = set-false ms k h
+set-all false ms k h = ap (slice_set ms k) (sym h) ∙ set-get_or ms k false
 
 -- the statement behind position p is no `$p`, or its proof meets no mark, or it does
 module _ (S : Database) (all : Bool) (a p : ℕ) (marks : List Bool) (labels : List Name) (good : Good S) (within : p < length S) (w : IsSearched S all a p marks labels) where

@@ -1,6 +1,6 @@
 -- The labels of mandatory hypotheses, and the items that a proof's tokens write with them.
-use Rattle.library.proofs.Words.{◌≡◌, ℕ, ◌+◌, ◌<◌, true, IsTrue, List, [], ◌∷◌, ◌++◌, length, map, take, get_or, Option, Some, None, option_map, unwrap_or, refl, sym, ◌∙◌, ap, subst, map_more, Name, Stmt, Float, Ess, Prove, Database, bare, bares, before, stmt_at, is_assertion, is_provable, stmt_at-bares, hypotheses, is_hypothesis_kind, mandatory_labels, label_or_none, IsProvable, label_of-bare}
-use Rattle.library.proofs.FrontLemmas.{IsHypothesisAt, hypotheses-bare, kind-bare, hypotheses-at, one-hypothesis}
+use Rattle.library.proofs.Words.{◌≡◌, ℕ, ◌+◌, ◌<◌, true, IsTrue, List, [], ◌∷◌, ◌++◌, length, map, take, get_or, Option, Some, None, option_map, slice_get, slice_get-get_or, unwrap_or, refl, sym, ◌∙◌, ap, subst, map_more, Name, Stmt, Float, Ess, Prove, Database, bare, bares, before, stmt_at, is_assertion, is_provable, stmt_at-bares, hypotheses, is_hypothesis_kind, mandatory_labels, label_or_none, IsProvable, label_of-bare}
+use Rattle.library.proofs.FrontLemmas.{IsHypothesisAt, hypotheses-bare, kind-bare, hypotheses-at, hypothesis-there}
 
 bare-assertion : (s : Stmt) → is_provable s ≡ true → is_assertion (bare s) ≡ true
 bare-assertion (Prove label expr proof) h = refl
@@ -21,7 +21,7 @@ pub hypothesis-of : (S F : Database) (at : ℕ) (s : Stmt) (ps : List ℕ) (k p 
     → k < length ps → p ≡ get_or ps k d → IsHypothesisAt S p
 hypothesis-of S F at s ps k p d same provable are less is =
     let e : ps ≡ hypotheses (before F at) (bare s) = are (bare s) (stands-bare S F at s same provable) in
-    let h = one-hypothesis F (hypotheses (before F at) (bare s)) k p d (hypotheses-at F at (bare s)) (subst (λ qs. k < length qs) e less) (is ∙ ap (λ qs. get_or qs k d) e) in
+    let h = hypothesis-there F (hypotheses (before F at) (bare s)) k p (ap (λ qs. slice_get qs k) (sym e) ∙ (slice_get-get_or ps k d less ∙ ap Some (sym is))) (hypotheses-at F at (bare s)) in
     let u = unbare (stmt_at S p) h.stmt (sym (stmt_at-bares S p) ∙ (ap (λ U. stmt_at U p) (sym same) ∙ h.stands)) in
     record { stmt = u.0; stands = u.1; kind = sym (kind-bare u.0) ∙ (ap is_hypothesis_kind u.2 ∙ h.kind) }
 

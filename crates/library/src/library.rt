@@ -128,9 +128,9 @@ impl Library {
             }
         };
         let key = (entry.author(), entry.serial());
-        if self.decided.insert(key, cause).is_err() {
+        let Ok(_) = self.decided.insert(key, cause) else {
             unreachable!();
-        }
+        };
         Ok(verdict_of(cause))
     }
 

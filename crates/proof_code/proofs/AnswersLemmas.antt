@@ -53,8 +53,8 @@ compressed_finished tokens mandatory items w =
     ∙ rw (labels_finished w.listed w.labels, row_finished (mandatory ++ w.listed) w.rest items w.letters) refl)
 
 -- the tokens' text tells whether there is a `?`
-pub is_unfinished-text : (tokens : List Name) (text : List ℕ) (r : Bool) → text ≡ spaced tokens → r ≡ list_any (λ b. b == question_mark) text → is_unfinished tokens ≡ r
-is_unfinished-text tokens text r is h = sym (list_any-spaced question_mark tokens refl) ∙ (ap (list_any (λ b. b == question_mark)) (sym is) ∙ sym h)
+pub is_unfinished_text : (tokens : List Name) (text : List ℕ) (r : Bool) → text ≡ spaced tokens → r ≡ list_any (λ b. b == question_mark) text → is_unfinished tokens ≡ r
+is_unfinished_text tokens text r is h = sym (list_any-spaced question_mark tokens refl) ∙ (ap (list_any (λ b. b == question_mark)) (sym is) ∙ sym h)
 
 -- ---- the numbers of a normal proof
 

@@ -18,6 +18,7 @@ pub enum CodeFault {
 }
 
 /// Whether some token has the byte `?`.
+#[tactic(auto, using(crate::proofs::AnswersLemmas::is_unfinished_text))]
 pub fn is_unfinished(tokens: &Words) -> bool
     ensures { result ≡ is_unfinished tokens.now }
 {

@@ -27,6 +27,7 @@ impl<'a> Mandatory<'a> {
 }
 
 /// The names of the labels, `None` where a growth was refused. Cost: the size of the labels.
+#[tactic(auto, using(crate::proofs::LabelNameLemmas::names_more))]
 pub(crate) fn names_of<'a>(alloc: Global, labels: &'a Words) -> Option<HashSet<&'a [u8]>>
     ensures { IfSome result (λ names. AreNames names labels.entry.now) }
 {

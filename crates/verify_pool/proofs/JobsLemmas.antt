@@ -3,7 +3,7 @@ use Rattle.verify_pool.proofs.Words.{◌≡◌, ℕ, zero, suc, ◌++◌, ◌⊎
 use Rattle.std.proofs.lemmas.List.{length-append}
 use Rattle.mm_read.specs.declared.stmt.Stmt.{Stmt}
 use Rattle.scope.specs.Active.{stmt_at, is_provable}
-use Rattle.entries.proofs.StatementRecordLemmas.{get-more, get-last}
+pub use Rattle.entries.proofs.StatementRecordLemmas.{get-more, get-last}
 
 -- an element of the longer list is one of the old ones or the new one
 get_added : {X : Type 0} (xs : List X) (x y : X) (k : ℕ) → slice_get (xs ++ x ∷ []) k ≡ Some y → (slice_get xs k ≡ Some y) ⊎ (x ≡ y)

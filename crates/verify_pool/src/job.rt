@@ -28,6 +28,7 @@ pub struct Job {
 /// The jobs are dealt out to the workers in turn, each worker runs on a thread of its own where one can be made, and
 /// passes `Place::Job(index)` of the gate before the job of that index. A worker stops at its first job that is not right.
 /// Errors: a growth was refused. Cost: that of the proofs, over the workers.
+#[tactic(auto, using(crate::proofs::LeastLemmas::least_bad))]
 pub fn check_all<G: Gate + Sync, R: Threads + Sync>(
     rt: &R,
     alloc: Global,

@@ -36,6 +36,7 @@ pub fn judge_all<W: Work + Sync, G: Gate + Sync, R: Threads + Sync>(
 }
 
 /// The same on the calling thread.
+#[tactic(auto, using(crate::proofs::StripeLemmas::one_stripe_is_all))]
 pub fn judge_here<W: Work>(alloc: Global, work: &W) -> Result<Option<usize>, AllocError>
     ensures { IfOk result (IsLeast (W.right work.now) (W.count work.now)) }
 {

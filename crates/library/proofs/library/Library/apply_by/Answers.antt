@@ -2,7 +2,6 @@ use Rattle.library.proofs.Words.{◌≡◌, ℕ, ◌+◌, ◌*◌, ◌≤◌, Li
 use Rattle.library.specs.LibraryOf.{author_of, serial_of}
 use Rattle.library.specs.LibraryState.{IsWithinText, IsWithinEntry, verdict_of, decided_of}
 use Rattle.library.proofs.CausesLemmas.{one-reading}
-use Rattle.library.proofs.EnteringLemmas.{on-ok}
 use Rattle.library.proofs.LibraryLemmas.{decided_of-insert}
 use Rattle.library.proofs.library.Library.apply_by.Goals as goal
 use Rattle.library.proofs.library.Library.apply_by.Goals.{in-Text+in_ok-statements-in-Text+in-Ok+in_ok-cause-in-Ok, in-Text+in_ok-statements-in-Text+in-Err, in-Charter+then-not-may_declare, in-Charter+else-not-may_declare+in_ok-copy-in-Charter}
@@ -51,8 +50,7 @@ pub returns-clause-step : goal.returns-clause-step
 returns-clause-step g c =
     let told = settled g c in
     let new : status c.args.self.now.replica.decided (author_of c.in-Some.entry.now) (serial_of c.in-Some.entry.now) ≡ None = sym (rw (c.author.ensures, c.serial.ensures) at c.in-None.ensures.first) in
-    let kept = on-ok c.insert.result (sym c.is_err.ensures.value ∙ c.if-is_err.false) c.insert.ensures.entries in
-    let same = ap decided_of (rw (told.1, c.author-2.ensures, c.serial-2.ensures) at kept) ∙ decided_of-insert _ _ _ _ (rw (← c.self.view_is) at new) in
+    let same = ap decided_of (rw (told.1, c.author-2.ensures, c.serial-2.ensures) at c.in-Ok-insert.ensures.entries) ∙ decided_of-insert _ _ _ _ (rw (← c.self.view_is) at new) in
     rw (c.in-Some.is, new, ← c.self.view_is, c.verdict_of.ensures.is, same) told.0
 
 pub returns-clause-counted : goal.returns-clause-counted
