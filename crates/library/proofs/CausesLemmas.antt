@@ -45,12 +45,12 @@ module _ (L : Database) (charter : Option (List ℕ)) (submission : Submission) 
   IsVerdict (Refused cause) = IsCause L charter submission cause
   IsVerdict verdict = ⊥
 
-  -- what decides on a text that reads as T
-  abbrev Late : Database → Verdict → Type 0
-  Late T Added = (forbidden charter submission.author T ≡ None) × Good (L ++ T)
-  Late T (Refused (NotChartered n)) = forbidden charter submission.author T ≡ Some n
-  Late T (Refused cause) = (forbidden charter submission.author T ≡ None) × IsFault L T cause
-  Late T verdict = ⊥
+  -- what decides on a text that reads as T, where its author may not declare this statement of it, or may declare all
+  abbrev Late : Database → Option ℕ → Verdict → Type 0
+  Late T (Some n) verdict = verdict ≡ Refused (NotChartered n)
+  Late T None Added = Good (L ++ T)
+  Late T None (Refused cause) = IsFault L T cause
+  Late T None verdict = ⊥
 
   module _ (T : Database) where
     some-or-none : {A : Type 0} (o : Option A) (a : A) → o ≡ Some a → o ≡ None → ⊥
@@ -82,20 +82,15 @@ module _ (L : Database) (charter : Option (List ℕ)) (submission : Submission) 
     good-or-fault good (Unfinished n) p = p.2.unproved (good.proved (length L + n) p.0 (provable-behind L T n p.0 p.2.here))
     good-or-fault good c p = p
 
-    one-late : (v w : Verdict) → Late T v → Late T w → v ≡ w
-    one-late Added Added l m = refl
-    one-late Added (Refused (NotChartered k)) l m = absurd (some-or-none (forbidden charter submission.author T) k m l.0)
-    one-late Added (Refused d) l m = absurd (good-or-fault l.1 d m.1)
-    one-late (Refused (NotChartered n)) Added l m = absurd (some-or-none (forbidden charter submission.author T) n l m.0)
-    one-late (Refused (NotChartered n)) (Refused (NotChartered k)) l m = ap (λ i. Refused (NotChartered i)) (let e : Some n ≡ Some k = sym l ∙ m in cc)
-    one-late (Refused (NotChartered n)) (Refused d) l m = absurd (some-or-none (forbidden charter submission.author T) n l m.0)
-    one-late (Refused c) Added l m = absurd (good-or-fault m.1 c l.1)
-    one-late (Refused c) (Refused (NotChartered k)) l m = absurd (some-or-none (forbidden charter submission.author T) k m l.0)
-    one-late (Refused c) (Refused d) l m = ap Refused (one-fault c d l.1 m.1)
-    one-late Added w l m = absurd m
-    one-late (Refused (NotChartered n)) w l m = absurd m
-    one-late (Refused c) w l m = absurd m
-    one-late v w l m = absurd l
+    one-late : (o : Option ℕ) (v w : Verdict) → Late T o v → Late T o w → v ≡ w
+    one-late (Some n) v w l m = l ∙ sym m
+    one-late None Added Added l m = refl
+    one-late None Added (Refused d) l m = absurd (good-or-fault l d m)
+    one-late None (Refused c) Added l m = absurd (good-or-fault m c l)
+    one-late None (Refused c) (Refused d) l m = ap Refused (one-fault c d l m)
+    one-late None Added w l m = absurd m
+    one-late None (Refused c) w l m = absurd m
+    one-late None v w l m = absurd l
 
   abbrev IsLong : Type 0
   IsLong = MOST_BYTES < length submission.text
@@ -111,16 +106,16 @@ module _ (L : Database) (charter : Option (List ℕ)) (submission : Submission) 
     long : v ≡ Refused TooLong → IsLong → Reason v
     faulty : v ≡ Refused Text → IsFaulty → Reason v
     shapeless : v ≡ Refused Shape → IsShapeless → Reason v
-    late : (T : Database) → IsReadable submission.text T → Late T v → Reason v
+    late : (T : Database) → IsReadable submission.text T → Late T (forbidden charter submission.author T) v → Reason v
 
   -- each verdict on a text is reached at one of these stages
   reason : (v : Verdict) → IsVerdict v → Reason v
-  reason Added p = late p.0 p.1.readable (p.1.allowed, p.2)
+  reason Added p = late p.0 p.1.readable (subst (λ o. Late p.0 o Added) (sym p.1.allowed) p.2)
   reason (Refused TooLong) p = long refl p
   reason (Refused Text) p = faulty refl p
   reason (Refused Shape) p = shapeless refl p
-  reason (Refused (NotChartered n)) p = late p.0 p.1 p.2
-  reason (Refused cause) p = late p.0 p.1.readable (p.1.allowed, p.2)
+  reason (Refused (NotChartered n)) p = late p.0 p.1 (subst (λ o. Late p.0 o (Refused (NotChartered n))) (sym p.2) refl)
+  reason (Refused cause) p = late p.0 p.1.readable (subst (λ o. Late p.0 o (Refused cause)) (sym p.1.allowed) p.2)
   reason v p = absurd p
 
   too-long : {A : Type 0} → IsLong → length submission.text ≤ MOST_BYTES → A
@@ -142,7 +137,7 @@ module _ (L : Database) (charter : Option (List ℕ)) (submission : Submission) 
   one-reason v w (late T r l) (long f q) = too-long q r.short
   one-reason v w (late T r l) (faulty f q) = absurd (fault-or-tokens submission.text (spelled T) q.1.0 q.1.1 q.1.2 r.read.tokens)
   one-reason v w (late T r l) (shapeless f q) = absurd (none-or-reading submission.text q.1.0 T q.1.1 q.1.2 r.read)
-  one-reason v w (late T r l) (late U r' m) = one-late U v w (subst (λ V. Late V v) (one-reading submission.text T U r.read r'.read) l) m
+  one-reason v w (late T r l) (late U r' m) = one-late U (forbidden charter submission.author U) v w (subst (λ V. Late V (forbidden charter submission.author V) v) (one-reading submission.text T U r.read r'.read) l) m
 
   -- a text has one verdict
   pub one-verdict : (v w : Verdict) → IsVerdict v → IsVerdict w → v ≡ w

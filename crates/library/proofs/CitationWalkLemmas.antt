@@ -3,8 +3,7 @@ use Rattle.library.proofs.Words.{◌≡◌, ◌↔◌, ◌⊎◌, ℕ, zero, suc
 use Rattle.library.proofs.Words.{Name, Stmt, Database, bare, bares, stmt_at, label_of, proof_of, stmt_at-bares, Carries, HasLabelsOnce, Item, Cite, Recall, Mark, one_list, Derivation, Derivations, Spells, SpellsAll, cites_hypothesis, cites_assertion, recalls, marks, spells_none, spells_more, mandatory_labels, IsRight, Good, HasItems, ItemsCite, Cites, RestsOn, directly, through, IsMarked, is_marked, Marks, label_of-bare}
 use Rattle.library.proofs.FrontLemmas.{active-below}
 use Rattle.library.proofs.UseMarkLemmas.{marked-within, one-marked, get-either}
-use Rattle.library.proofs.ProvingLemmas.{written-of}
-use Rattle.library.proofs.WrittenItemsLemmas.{unbare}
+use Rattle.library.proofs.ProvingLemmas.{unbare, written-of}
 use Rattle.frame.proofs.LegalLabels.{legal-labels}
 use Rattle.library.proofs.JoinedRulesLemmas.{legal-each}
 

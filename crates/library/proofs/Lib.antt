@@ -13,7 +13,6 @@ pub mod JoinedRulesLemmas
 pub mod CausesLemmas
 pub mod LibraryLemmas
 pub mod EnteringLemmas
-pub mod WrittenItemsLemmas
 pub mod ProvingLemmas
 pub mod BaseLemmas
 mod PlainLibraryLemmas

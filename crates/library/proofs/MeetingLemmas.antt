@@ -3,11 +3,14 @@ use Rattle.library.proofs.Words.{◌≡◌, ◌↔◌, ℕ, zero, suc, ◌+◌, 
 use Rattle.library.proofs.Words.{Name, name_eq, has_name, Stmt, Database, bare, bares, before, stmt_at, proof_of, hypotheses, HasLabelsOnce, IsPosition, Item, Cite, Recall, item_of, items_of, finish, Writes, WritesCompressed, WritesPacked, WritesPlain, is_compressed, label_or_none, mandatory_labels, IsProvable, Good, HasItems, is_marked, place_of, AreWanted, ItemsMeet, ProofMeets, listed_in, ListsNone, ListsSome}
 use Rattle.std.proofs.Math.ListN.{get_or-map}
 use Rattle.std.proofs.Math.Seq.{take-add}
+use Rattle.std.proofs.lemmas.Bool.{cases_Bool}
 use Rattle.std.proofs.lemmas.Simd.{map-map}
 use Rattle.proof_code.specs.Reading.{IsHeading, share_label}
 use Rattle.library.proofs.FrontLemmas.{AreHypothesesAt, hypotheses-at}
 use Rattle.frame.proofs.PositionLemmas.{positions-end}
-use Rattle.library.proofs.UseMarkLemmas.{meets-items, cite-within, recall-past}
+use Rattle.library.proofs.UseMarkLemmas.{meets-items}
+use Rattle.proof_code.proofs.ReadProofLemmas.{apart-written, shared-none}
+use Rattle.proof_code.proofs.RowOfNumbers.{item-cite, item-recall}
 use Rattle.library.proofs.MayCiteLemmas.{kind-labelled, cited-label}
 use Rattle.library.proofs.ProvingLemmas.{has-items, written-of, labels-bare}
 use Rattle.library.proofs.UsersLemmas.{proof-meets}
@@ -91,8 +94,8 @@ item-front labels rest zero label e = absurd (let f = e in cc)
 item-front labels rest (suc n) label e = elim (cases_lt n (length labels)) [
   | inl less ↦ (
       let l = length-append labels rest in
-      cite-within (labels ++ rest) n (omega (arith, less, l)) ∙ (ap Cite (get_or_append_left labels rest [] n less) ∙ (sym (cite-within labels n less) ∙ e)))
-  | inr more ↦ absurd (let f : Recall (suc (n - length labels)) ≡ Cite label = sym (recall-past labels n more) ∙ e in cc)
+      item-cite (labels ++ rest) (suc n) n refl (omega (arith, less, l)) ∙ (ap Cite (get_or_append_left labels rest [] n less) ∙ (sym (item-cite labels (suc n) n refl less) ∙ e)))
+  | inr more ↦ absurd (let f : Recall (suc (n - length labels)) ≡ Cite label = sym (item-recall labels (suc n) n refl more) ∙ e in cc)
 ]
 
 front-meets : (S : Database) (labels rest : List Name) (marks : List Bool) (numbers : List ℕ) → ItemsMeet S (items_of labels numbers) marks → ItemsMeet S (items_of (labels ++ rest) numbers) marks
@@ -133,21 +136,12 @@ TellsMeeting S mandatory tokens marks found =
     (other : List Item) → WritesCompressed tokens mandatory other → (items : List Item) × WritesCompressed tokens mandatory items × (found ≡ true ↔ ItemsMeet S items marks)
 
 module _ (tokens words : List Name) (mandatory count : ℕ) (numbers : List ℕ) (h : IsHeading tokens mandatory words count numbers) where
-  listed-is : take count words ≡ h.listed
-  listed-is = ap (λ n. take n words) (sym h.many) ∙ (ap (take (length h.listed)) h.whole ∙ take-append_seam h.listed (finish ∷ h.rest))
-
   pub tells-heading : (S : Database) (labels : List Name) (marks : List Bool) (found : Bool) → length labels ≡ mandatory
       → (found ≡ true ↔ ItemsMeet S (items_of (labels ++ take count words) numbers) marks) → TellsMeeting S labels tokens marks found
-  tells-heading S labels marks found long meets = λ other written. by other written (share_label labels h.listed) refl
-    where
-      by : (other : List Item) → WritesCompressed tokens labels other → (b : Bool) → share_label labels h.listed ≡ b
-          → (items : List Item) × WritesCompressed tokens labels items × (found ≡ true ↔ ItemsMeet S items marks)
-      by other written true q = absurd (h.shared labels q other written)
-      by other written false q = (
-        items_of (labels ++ h.listed) numbers,
-        h.apart labels long q,
-        subst (λ ls. found ≡ true ↔ ItemsMeet S (items_of (labels ++ ls) numbers) marks) listed-is meets,
-      )
+  tells-heading S labels marks found long meets = λ other written. elim (cases_Bool (share_label labels (take count words))) [
+    | inl q ↦ absurd (shared-none tokens labels words mandatory count numbers (sym long) h q other written)
+    | inr q ↦ (items_of (labels ++ take count words) numbers, apart-written tokens labels words mandatory count numbers (sym long) h q, meets)
+  ]
 
 pub tells-nothing : (S : Database) (tokens labels : List Name) (mandatory : ℕ) (marks : List Bool) (found : Bool) → length labels ≡ mandatory
     → ((labels : List Name) → length labels ≡ mandatory → (items : List Item) → WritesCompressed tokens labels items → ⊥) → TellsMeeting S labels tokens marks found

@@ -2,6 +2,7 @@
 use Rattle.library.proofs.Words.{◌≡◌, ◌↔◌, ◌||◌, ◌⊎◌, ℕ, zero, suc, ◌-◌, ◌<◌, ◌≤◌, Bool, true, false, cond, nat_lt, List, [], ◌∷◌, ◌++◌, length, map, replicate, get_or, slice_set, Option, Some, None, option_map, slice_get, refl, list_any, sym, ◌∙◌, ap, subst, arith, inl, inr, cases_eq, cases_lt, nat_tests, any_passes_from_place, slice_get-map, slice_get_read, length-set, length-replicate, get_or-set_same, get_or-set_other, get_or_past}
 use Rattle.library.proofs.Words.{Name, Stmt, Database, Carries, IsPosition, ArePositions, HasLabelsOnce, Item, Cite, Recall, item_of, items_of, IsMarked, is_marked, mark, place_of, mark_items, ItemsMeet, Marks, ItemsCite, stands-within, no-mark}
 use Rattle.frame.proofs.FoundByNumber.{map-back}
+use Rattle.proof_code.proofs.RowOfNumbers.{item-cite, item-recall}
 use Rattle.std.proofs.lemmas.List.Folds.{Any-from_list_any}
 
 -- ---- one mark
@@ -66,17 +67,6 @@ get-either [] ys k x e = inr (k, e)
 get-either (y ∷ xs) ys zero x e = inl (0, e)
 get-either (y ∷ xs) ys (suc k) x e = elim (get-either xs ys k x e) [ inl there ↦ inl (suc there.0, there.1) | inr behind ↦ inr behind ]
 
--- the item of a number is a citation of a label, or lies past the labels
-pub cite-within : (labels : List Name) (n : ℕ) → n < length labels → item_of labels (suc n) ≡ Cite (get_or labels n [])
-cite-within labels n h =
-    let q : nat_lt n (length labels) ≡ true = grind (arith, nat_tests) in
-    ap (λ b. cond b (Cite (get_or labels n [])) (Recall (suc (n - length labels)))) q
-
-pub recall-past : (labels : List Name) (n : ℕ) → length labels ≤ n → item_of labels (suc n) ≡ Recall (suc (n - length labels))
-recall-past labels n h =
-    let q : nat_lt n (length labels) ≡ false = grind (arith, nat_tests) in
-    ap (λ b. cond b (Cite (get_or labels n [])) (Recall (suc (n - length labels)))) q
-
 pub position-is : (S : Database) (label : Name) (o : Option ℕ) (a : ℕ) (s : Stmt) → HasLabelsOnce S → IsPosition S label o → Carries S a s label → o ≡ Some a
 position-is S label None a s once p c = absurd (p a s c)
 position-is S label (Some i) a s once p c = ap Some (once i a p.0 s label p.1 c)
@@ -94,7 +84,7 @@ module _ (S : Database) (labels : List Name) (places : List (Option ℕ)) (are :
   place-sound (suc n) a e = elim (cases_lt n (length labels)) [
     | inl less ↦ (
         let p = subst (IsPosition S (get_or labels n [])) e (are.each n less) in
-        record { label = get_or labels n []; cited = p.0; cites = cite-within labels n less; carries = p.1 })
+        record { label = get_or labels n []; cited = p.0; cites = item-cite labels (suc n) n refl less; carries = p.1 })
     | inr more ↦ absurd (let c = are.count in let f : None ≡ Some a = sym (get_or_past places n None (omega (arith, more, c))) ∙ e in cc)
   ]
 
@@ -102,10 +92,10 @@ module _ (S : Database) (labels : List Name) (places : List (Option ℕ)) (are :
   place-whole zero a c = absurd (let e = c.cites in cc)
   place-whole (suc n) a c = elim (cases_lt n (length labels)) [
     | inl less ↦ (
-        let e : Cite (get_or labels n []) ≡ Cite c.label = sym (cite-within labels n less) ∙ c.cites in
+        let e : Cite (get_or labels n []) ≡ Cite c.label = sym (item-cite labels (suc n) n refl less) ∙ c.cites in
         let same : get_or labels n [] ≡ c.label = cc in
         position-is S (get_or labels n []) (get_or places n None) a c.cited once (are.each n less) (subst (Carries S a c.cited) (sym same) c.carries))
-    | inr more ↦ absurd (let e : Recall (suc (n - length labels)) ≡ Cite c.label = sym (recall-past labels n more) ∙ c.cites in cc)
+    | inr more ↦ absurd (let e : Recall (suc (n - length labels)) ≡ Cite c.label = sym (item-recall labels (suc n) n refl more) ∙ c.cites in cc)
   ]
 
   items-count : (numbers : List ℕ) (old : List Bool) → length (mark_items places numbers old) ≡ length old

@@ -1,8 +1,7 @@
 use Rattle.library.proofs.Words.{◌∙◌, Some, ap, arith, bares, inl, inr, is_provable, label_or_none, on_ok, proof_of, refl, stands-within, subst, sym, take_all}
 use Rattle.library.proofs.AskedLemmas.{found-good}
-use Rattle.library.proofs.ProvingLemmas.{Found, packed-found, normal-found, not-there}
+use Rattle.library.proofs.ProvingLemmas.{Found, packed-found, normal-found, not-there, has-assertion, hypothesis-of, kind-of, other-kind, labels-more, labels-all}
 use Rattle.library.proofs.UsersLemmas.{not-provable}
-use Rattle.library.proofs.WrittenItemsLemmas.{has-assertion, hypothesis-of, kind-of, other-kind, labels-more, labels-all}
 use Rattle.library.proofs.read_items.items_of.Goals as goal
 
 pub returns-in_default : goal.returns-in_default

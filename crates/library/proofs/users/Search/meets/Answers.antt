@@ -1,5 +1,5 @@
 use Rattle.library.proofs.Words.{◌≡◌, ◌↔◌, ◌++◌, ◌∙◌, true, false, Some, take, refl, sym, ap, subst, list_any, bare, items_of, mandatory_labels, is_marked, ItemsMeet, on_ok}
-use Rattle.library.proofs.WrittenItemsLemmas.{has-assertion, stands-bare}
+use Rattle.library.proofs.ProvingLemmas.{has-assertion, stands-bare}
 use Rattle.library.proofs.MayCiteLemmas.{meets-nothing}
 use Rattle.library.proofs.MeetingLemmas.{labels-long, mandatory-wanted, tells-heading, tells-nothing, told-meets, listed-meets}
 use Rattle.library.proofs.users.Search.meets.Goals as goal
