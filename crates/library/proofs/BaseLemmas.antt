@@ -4,7 +4,7 @@ use Rattle.library.proofs.Words.{Stmt, Database, AreShaped, is_shaped, BrokenRul
 use Rattle.std.proofs.lemmas.List.Folds.{list_all-append}
 use Rattle.scope.specs.Accepted.{Accepted}
 use Rattle.frame.specs.Parts.{Numbered}
-use Rattle.library.proofs.FrontLemmas.{stmt_at-behind, stands-index}
+use Rattle.library.proofs.FrontLemmas.{stmt_at-behind, stands_index}
 use Rattle.library.proofs.GoodLemmas.{provable-where, provable-behind, proved-later}
 use Rattle.library.proofs.JoinedRulesLemmas.{legal-more, first_broken-bares, bare-bare}
 use Rattle.library.proofs.ProvingLemmas.{not-there}
@@ -65,7 +65,7 @@ module _ (S : Database) (front : ℕ) (within : front ≤ length S) where
   first-fault at s least is =
       subst (λ n. IsFirstUnproved (take front S) (drop front S) (at - n) s) (length-take-le front S within)
       (first-behind (take front S) (drop front S) at s (least-cut (Some at) least)
-      (ap (λ U. stmt_at U at) (take-append-drop front S) ∙ stands-index S at s (omega (arith, least.0)) least.1 is))
+      (ap (λ U. stmt_at U at) (take-append-drop front S) ∙ stands_index S at s (omega (arith, least.0)) least.1 is))
 
 -- where a fault was found, nothing is said of where rules and frames stand
 pub placed-fault : (L T : Database) (rules : Accepted) (frames : Numbered) (cause : Cause) → IsFault L T cause → IsPlaced L T rules frames (Some cause)

@@ -93,7 +93,7 @@ kind-bare (Prove label expr proof) = refl
 kind-bare s = refl
 
 -- the statement at an index
-pub stands-index : (S : Database) (at : ℕ) (s : Stmt) → 1 ≤ at → at ≤ length S → s ≡ get_or S (at - 1) s → stmt_at S at ≡ Some s
-stands-index S at s positive within is =
+pub stands_index : (S : Database) (at : ℕ) (s : Stmt) → 1 ≤ at → at ≤ length S → s ≡ get_or S (at - 1) s → stmt_at S at ≡ Some s
+stands_index S at s positive within is =
     let e : at ≡ suc (at - 1) = omega (arith, positive) in
     ap (stmt_at S) e ∙ (slice_get-get_or S (at - 1) s (omega (arith, positive, within)) ∙ ap Some (sym is))

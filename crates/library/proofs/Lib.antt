@@ -1,7 +1,6 @@
 pub mod Words
 pub mod UnprovedLemmas
 pub mod AskedLemmas
-pub mod TraceLemmas
 pub mod CitationWalkLemmas
 pub mod UsersLemmas
 pub mod MayCiteLemmas

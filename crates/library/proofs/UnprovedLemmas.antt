@@ -1,6 +1,6 @@
 -- The positions of the `$p` behind the first statements, and what their least that is not right says of all statements.
 use Rattle.library.proofs.Words.{◌≡◌, ℕ, zero, suc, ◌+◌, ◌-◌, ◌<◌, ◌≤◌, List, [], ◌∷◌, ◌++◌, length, get_or, Option, Some, None, slice_get, slice_get-get_or, get_or_default, ◌∙◌, ap, sym, subst, arith, inl, inr, cases_eq, cases_order, Stmt, Database, stmt_at, IsProvable, IsRightProof, AreProofs, AreBehind, StandsProved, IsLeastUnproved}
-use Rattle.library.proofs.FrontLemmas.{stands-index}
+use Rattle.library.proofs.FrontLemmas.{stands_index}
 use Rattle.verify_pool.specs.Least.{IsLeast}
 
 -- ---- one more statement
@@ -47,7 +47,7 @@ are-proofs S F front ps same are = record {
 -- the position of an index, and what stands there
 module _ (S F : Database) (ps : List ℕ) (are : AreProofs S F ps) (k at : ℕ) (s : Stmt) (less : k < length ps) (is : at ≡ get_or ps k at) (here : s ≡ get_or S (at - 1) s) where
   pub proof-stands : stmt_at S at ≡ Some s
-  proof-stands = let p = are.placed k at (slice_get-get_or ps k at less ∙ ap Some (sym is)) in stands-index S at s p.0 p.1 here
+  proof-stands = let p = are.placed k at (slice_get-get_or ps k at less ∙ ap Some (sym is)) in stands_index S at s p.0 p.1 here
 
   -- what is said of that position is said of the index
   pub proof-at : (P : ℕ → Type 0) → P at → P (get_or ps k 0)

@@ -54,6 +54,7 @@ impl Base {
     }
 
     /// The statement at a position.
+    #[tactic(auto, using(crate::proofs::FrontLemmas::stands_index))]
     pub(crate) fn statement(&self, at: usize) -> &Stmt
         requires { (1 ≤ at) × (at ≤ length self.now) }
         ensures stands { stmt_at self.now at ≡ Some result.now }

@@ -7,7 +7,6 @@ pub mod WritesLemmas
 pub mod AnswersLemmas
 pub mod OneList
 pub mod LabelNameLemmas
-mod ClassesLemmas
 pub mod ListingLemmas
 pub mod ReadProofLemmas
 mod Rows

@@ -1,7 +1,7 @@
--- The labels counted byte by byte are those that the header lists.
-use Rattle.proof_code.proofs.Words.{◌≡◌, ℕ, zero, suc, ◌+◌, ◌<◌, ◌≤◌, Bool, true, false, cond, ◌==◌, List, [], ◌∷◌, ◌++◌, length, drop, slice_index_or, Option, Some, None, refl, list_all, option_map, sym, ◌∙◌, ap, arith, true≢false, inl, inr, append-nil, drop_more, same_Some, bytes_eq-Decides, and_parts, cases_Bool, eqb-true, false_from_ne_true, and-false}
-use Rattle.proof_code.proofs.Words.{Name, name_eq, is_visible, is_label, is_label_byte, spaced, is_word, class_of, letters_from, more_labels, behind_none, counted, Header, with_label, header_of, finish}
+-- The labels counted byte by byte are those that the header lists, by the table of the classes of bytes.
+use Rattle.proof_code.proofs.Words.{◌≡◌, ℕ, zero, suc, ◌+◌, ◌<◌, ◌≤◌, Bool, true, false, cond, ◌==◌, List, [], ◌∷◌, ◌++◌, length, drop, slice_index_or, Option, Some, None, refl, list_all, option_map, sym, ◌∙◌, ap, arith, true≢false, inl, inr, append-nil, drop_more, same_Some, bytes_eq-Decides, and_parts, cases_Bool, eqb-true, false_from_ne_true, and-false, Name, name_eq, is_visible, is_label, is_label_byte, spaced, is_word, class_of, letters_from, more_labels, behind_none, counted, Header, with_label, header_of, finish, map, get_or, range_with_len, nat_tests, get_or-map-range_with_len}
 use Rattle.proof_code.proofs.TextLemmas.{not_space}
+use Rattle.proof_code.specs.declared.listing.TheConstants.{CLASSES}
 
 -- ---- the classes of bytes
 
@@ -136,3 +136,15 @@ listing-none words text visible is none = told-none (header_of words) (sym (coun
 pub listing-some : (words : List Name) (text : List ℕ) (count : ℕ) (letters : List ℕ) → list_all is_word words ≡ true → text ≡ spaced words → counted true text ≡ Some (count, letters)
     → Counted (header_of words) letters count
 listing-some words text count letters visible is some = told-some (header_of words) count letters (sym (counted-header words visible) ∙ (ap (counted true) (sym is) ∙ some))
+
+-- ---- the table
+
+-- the constant table lists the class of each of the 256 bytes
+table_is : CLASSES ≡ map class_of (range_with_len 0 256)
+table_is = refl
+
+pub class-read : (b d : ℕ) → b < 256 → get_or CLASSES b d ≡ class_of b
+class-read b d h = ap (λ (t : List ℕ). get_or t b d) table_is ∙ get_or-map-range_with_len class_of 0 256 b b d h (omega arith)
+
+pub class-bound : (b : ℕ) → class_of b ≤ 2
+class-bound b = grind (arith, nat_tests)

@@ -1,7 +1,8 @@
--- The least job that is not right, by index and by job.
-use Rattle.verify_pool.proofs.Words.{◌≡◌, ℕ, zero, suc, ◌<◌, List, [], ◌∷◌, length, slice_get, Option, Some, None, Result, Ok, Err, IfOk, IfSome, arith, sym, subst, refl, ◌∙◌, same_Some, slice_get_within, Database, Says, Job, IsWrongAt, IsLeast, IsRightJob, IsRightAt, IsBadAt, LeastBad}
+-- The least job that is not right, by index and by job; it is one.
+use Rattle.verify_pool.proofs.Words.{◌≡◌, ℕ, zero, suc, ◌<◌, List, [], ◌∷◌, length, slice_get, Option, Some, None, Result, Ok, Err, IfOk, IfSome, arith, sym, subst, refl, ◌∙◌, same_Some, slice_get_within, Database, Says, Job, IsWrongAt, IsLeast, IsRightJob, IsRightAt, IsBadAt, LeastBad, inl, inr, ap, cases_order}
 use Rattle.verify.specs.declared.answer.Answer.{Answer}
 use Rattle.verify.specs.declared.answer.Answer.TheVariants.{Proved, Wrong}
+use Rattle.verify_pool.specs.Laws.{OneAnswer}
 
 -- an index below the length has an element
 get_there : {X : Type 0} (xs : List X) (k : ℕ) → k < length xs → (x : X) × (slice_get xs k ≡ Some x)
@@ -39,3 +40,15 @@ module _ (S : Database) (jobs : List Job) where
     bad = some_bad answer least.wrong;
   }
   least_bad (Err e) h = h
+
+-- two answers for one list of jobs are equal, as neither can be before the other
+pub one_answer : OneAnswer
+one_answer S jobs None None p q = refl
+one_answer S jobs None (Some j) p q = absurd (q.bad.bad (p.before j q.bad.job tt q.bad.stands))
+one_answer S jobs (Some i) None p q = absurd (p.bad.bad (q.before i p.bad.job tt p.bad.stands))
+one_answer S jobs (Some i) (Some j) p q =
+    elim (cases_order i j) as (λ _. Some i ≡ Some j) [
+      | inl e ↦ ap Some e
+      | inr (inl less) ↦ absurd (p.bad.bad (q.before i p.bad.job less p.bad.stands))
+      | inr (inr less) ↦ absurd (q.bad.bad (p.before j q.bad.job less q.bad.stands))
+    ]

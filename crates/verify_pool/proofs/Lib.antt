@@ -2,4 +2,3 @@ pub mod Words
 pub mod LeastLemmas
 pub mod StripeLemmas
 pub mod JobsLemmas
-mod LawsHold

@@ -1,6 +1,6 @@
 use Rattle.library.proofs.Words.{ap, refl, subst, Cites, ◌-◌, true, slice_set, arith, length, ◌∙◌, AreLabelsOf, IsMarkedAxiom, stands-within, lent-whole, sym, ◌+◌, ◌<◌, slice_get_read, ◌++◌, ◌∷◌, [], cond, Some, is_axiom, label_or_none}
 use Rattle.library.proofs.CitationWalkLemmas.{walk-start, step-pass, step-proof, walk-end, marks-proof, marks-nothing}
-use Rattle.library.proofs.TraceLemmas.{AreListed, no-axiom, listed-none, listed-more, listed-skip, listed-all, are-used}
+use Rattle.library.proofs.UsersLemmas.{AreListed, no-axiom, listed-none, listed-more, listed-skip, listed-all, are-used}
 use Rattle.library.proofs.uses.axioms_used.Goals as goal
 use Rattle.library.proofs.uses.axioms_used.Goals.{then-index+in_ok-items+in-Some+in_ok-mark_cited-in-Some, then-index+in_ok-items+in-None, else-index, then-marked+in-Axiom+in_ok-copy+in_ok-push, then-marked+in_default, else-marked}
 

@@ -1,5 +1,5 @@
 use Rattle.library.proofs.CitationWalkLemmas.{IsWalked}
-use Rattle.library.proofs.TraceLemmas.{AreListed}
+use Rattle.library.proofs.UsersLemmas.{AreListed}
 use Rattle.library.proofs.uses.axioms_used.Given as goal
 
 abbrev pub invariant-loop-position : goal.invariant-loop-position

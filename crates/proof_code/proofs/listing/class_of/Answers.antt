@@ -1,5 +1,5 @@
 use Rattle.std.proofs.Common.{◌≤◌, arith, subst, sym}
-use Rattle.proof_code.proofs.ClassesLemmas.{class-read, class-bound}
+use Rattle.proof_code.proofs.ListingLemmas.{class-read, class-bound}
 use Rattle.proof_code.proofs.listing.class_of.Goals as goal
 
 pub returns-clause-class : goal.returns-clause-class
