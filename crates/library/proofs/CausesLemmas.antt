@@ -1,5 +1,5 @@
 -- One verdict: of a text that is judged behind given statements, under a given charter, one thing is true.
-use Rattle.library.proofs.Words.{◌≡◌, ◌≢◌, ℕ, zero, suc, ◌+◌, ◌-◌, ◌<◌, ◌≤◌, true, false, IsTrue, IsFalse, List, ◌++◌, length, Option, Some, None, refl, sym, ◌∙◌, ap, subst, arith, Name, Stmt, Database, spelled, Reads, HasTokens, IsNoDatabase, BrokenRule, proof_of, first_broken, is_unfinished, IsProvable, Submission, Cause, TooLong, Shape, NotChartered, Rule, Proof, Unfinished, Verdict, Added, Refused, forbidden, Good, IsReadable, IsAllowed, IsFirstUnproved, IsFault, IsCause}
+use Rattle.library.proofs.Words.{◌≡◌, ◌≢◌, ℕ, zero, suc, ◌+◌, ◌-◌, ◌<◌, ◌≤◌, true, false, IsTrue, IsFalse, List, ◌++◌, length, Option, Some, None, refl, sym, ◌∙◌, ap, subst, arith, Name, Stmt, Database, spelled, Reads, HasTokens, IsNoDatabase, BrokenRule, proof_of, first_broken, is_unfinished, Submission, Cause, TooLong, Shape, NotChartered, Rule, Proof, Unfinished, Verdict, Added, Refused, forbidden, Good, IsReadable, IsAllowed, IsFirstUnproved, IsFault, IsCause}
 use Rattle.mm_lex.specs.declared.fault.LexFault.{LexFault}
 use Rattle.mm_lex.specs.declared.fault.LexFault.TheVariants as lex
 use Rattle.mm_lex.specs.TextFaults.{IsLexFault}
@@ -137,7 +137,8 @@ module _ (L : Database) (charter : Option (List ℕ)) (submission : Submission) 
   one-reason v w (late T r l) (long f q) = too-long q r.short
   one-reason v w (late T r l) (faulty f q) = absurd (fault-or-tokens submission.text (spelled T) q.1.0 q.1.1 q.1.2 r.read.tokens)
   one-reason v w (late T r l) (shapeless f q) = absurd (none-or-reading submission.text q.1.0 T q.1.1 q.1.2 r.read)
-  one-reason v w (late T r l) (late U r' m) = one-late U (forbidden charter submission.author U) v w (subst (λ V. Late V (forbidden charter submission.author V) v) (one-reading submission.text T U r.read r'.read) l) m
+  one-reason v w (late T r l) (late U r' m) =
+      one-late U (forbidden charter submission.author U) v w (subst (λ V. Late V (forbidden charter submission.author V) v) (one-reading submission.text T U r.read r'.read) l) m
 
   -- a text has one verdict
   pub one-verdict : (v w : Verdict) → IsVerdict v → IsVerdict w → v ≡ w

@@ -1,5 +1,5 @@
 -- Whether a compressed proof cites what is marked, from its numbers and from a test of each of its labels.
-use Rattle.library.proofs.Words.{◌≡◌, ◌↔◌, ℕ, zero, suc, ◌+◌, ◌-◌, ◌<◌, ◌≤◌, Bool, true, false, ◌||◌, if◌then◌else◌, List, [], ◌∷◌, ◌++◌, length, map, get_or, slice_index_or, take, drop, Option, Some, None, option_map, slice_get, refl, list_any, true≢false, length-append, sym, ◌∙◌, ap, subst, arith, append_assoc, inl, inr, slice_get-map, bytes_eq-Decides, map-append, length-map, length-drop, take_more, drop_more, get_or_append_left, both_ways, true_from_ne_false, cases_lt, take-append_seam}
+use Rattle.library.proofs.Words.{◌≡◌, ◌↔◌, ℕ, zero, suc, ◌+◌, ◌-◌, ◌<◌, ◌≤◌, Bool, true, false, ◌||◌, if◌then◌else◌, List, [], ◌∷◌, ◌++◌, length, map, get_or, slice_index_or, take, drop, Option, Some, None, option_map, slice_get, refl, list_any, true≢false, length-append, sym, ◌∙◌, ap, subst, arith, append_assoc, inl, inr, slice_get-map, bytes_eq-Decides, map-append, length-map, length-drop, take_more, drop_more, get_or_append_left, both_ways, true_from_ne_false, cases_lt}
 use Rattle.library.proofs.Words.{Name, name_eq, has_name, Stmt, Database, bare, bares, before, stmt_at, proof_of, hypotheses, HasLabelsOnce, IsPosition, Item, Cite, Recall, item_of, items_of, finish, Writes, WritesCompressed, WritesPacked, WritesPlain, is_compressed, label_or_none, mandatory_labels, IsProvable, Good, HasItems, is_marked, place_of, AreWanted, ItemsMeet, ProofMeets, listed_in, ListsNone, ListsSome}
 use Rattle.std.proofs.Math.ListN.{get_or-map}
 use Rattle.std.proofs.Math.Seq.{take-add}

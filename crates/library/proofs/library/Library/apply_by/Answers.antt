@@ -28,22 +28,28 @@ within-read charter submission T before after allowed h =
 pub returns-in_err-cause-in-Ok-clause-counted : goal.returns-in_err-cause-in-Ok-clause-counted
 returns-in_err-cause-in-Ok-clause-counted g c =
     let new : status c.args.self.now.replica.decided (author_of c.in-Some.entry.now) (serial_of c.in-Some.entry.now) ≡ None = sym (rw (c.author.ensures, c.serial.ensures) at c.in-None.ensures.first) in
-    rw (c.in-Some.is, new, c.in-Text.is, ← c.self.view_is) (within-read c.self.inside.charter c.in-Text.submission c.in-Ok.statements.items _ _ (subst (IsReading c.self.inside.charter c.in-Text.submission) c.in-Ok.is c.in_ok-statements-in-Text.ensures) c.extend.ensures.counted)
+    rw (c.in-Some.is, new, c.in-Text.is, ← c.self.view_is) (within-read c.self.inside.charter c.in-Text.submission c.in-Ok.statements.items _ _
+    (subst (IsReading c.self.inside.charter c.in-Text.submission) c.in-Ok.is c.in_ok-statements-in-Text.ensures) c.extend.ensures.counted)
 
 -- what was made of the entry, whichever it was
-settled : (g : Rattle.library.proofs.library.Library.apply_by.Given.Over) (c : goal.After-verdict_of g) → let V = c.self.inside in let old : Replica = record { statements = V.base; decided = decided_of V.decided.entries; charter = V.charter } in
-    Decides old c.in-Some.entry.now (verdict_of c.match-entry.cause) (record { statements = c.match-entry.self-inside.base; decided = decided_with old c.in-Some.entry.now (verdict_of c.match-entry.cause); charter = c.match-entry.self-inside.charter })
+settled : (g : Rattle.library.proofs.library.Library.apply_by.Given.Over) (c : goal.After-verdict_of g) → let V = c.self.inside in
+    let old : Replica = record { statements = V.base; decided = decided_of V.decided.entries; charter = V.charter } in let entry = c.in-Some.entry.now in let verdict = verdict_of c.match-entry.cause in
+    Decides old entry verdict (record { statements = c.match-entry.self-inside.base; decided = decided_with old entry verdict; charter = c.match-entry.self-inside.charter })
     × (c.match-entry.self-inside.decided.entries ≡ V.decided.entries) × IsWithinEntry c.in-Some.entry.now V.steps.count c.match-entry.self-inside.steps.count
 settled g c =
     let V = c.self.inside in
     elim c.match-entry.branch [
       | in-Text+in_ok-statements-in-Text+in-Ok+in_ok-cause-in-Ok w ↦ rw (w.cause-is, w.self-inside-is, w.in-Text.is)
           (let allowed = subst (IsReading V.charter w.in-Text.submission) w.in-Ok.is w.in_ok-statements-in-Text.ensures in
-          (text-decided _ _ w.in-Ok.statements.items w.in-Text.submission _ allowed w.in_ok-cause-in-Ok.ensures.judged, c.in_ok-reserve.ensures.entries, within-read V.charter w.in-Text.submission w.in-Ok.statements.items _ _ allowed w.extend.ensures.counted))
+          (text-decided _ _ w.in-Ok.statements.items w.in-Text.submission _ allowed w.in_ok-cause-in-Ok.ensures.judged, c.in_ok-reserve.ensures.entries,
+          within-read V.charter w.in-Text.submission w.in-Ok.statements.items _ _ allowed w.extend.ensures.counted))
       | in-Text+in_ok-statements-in-Text+in-Err w ↦ rw (w.cause-is, w.self-inside-is, w.in-Text.is)
-          ((subst (IsReading V.charter w.in-Text.submission) w.in-Err.is w.in_ok-statements-in-Text.ensures V.base, refl), c.in_ok-reserve.ensures.entries, record { read = λ T reads. omega arith; unread = λ none. refl })
-      | in-Charter+then-not-may_declare w ↦ rw (w.cause-is, w.self-inside-is, w.in-Charter.is) ((sym w.may_declare.ensures ∙ w.if-not-may_declare.true, refl, refl), c.in_ok-reserve.ensures.entries, refl)
-      | in-Charter+else-not-may_declare+in_ok-copy-in-Charter w ↦ rw (w.cause-is, w.self-inside-is, w.in_ok-copy-in-Charter.ensures, w.in-Charter.is) ((sym w.may_declare.ensures ∙ w.if-not-may_declare.false, refl), c.in_ok-reserve.ensures.entries, refl)
+          ((subst (IsReading V.charter w.in-Text.submission) w.in-Err.is w.in_ok-statements-in-Text.ensures V.base, refl), c.in_ok-reserve.ensures.entries,
+          record { read = λ T reads. omega arith; unread = λ none. refl })
+      | in-Charter+then-not-may_declare w ↦ rw (w.cause-is, w.self-inside-is, w.in-Charter.is)
+          ((sym w.may_declare.ensures ∙ w.if-not-may_declare.true, refl, refl), c.in_ok-reserve.ensures.entries, refl)
+      | in-Charter+else-not-may_declare+in_ok-copy-in-Charter w ↦ rw (w.cause-is, w.self-inside-is, w.in_ok-copy-in-Charter.ensures, w.in-Charter.is)
+          ((sym w.may_declare.ensures ∙ w.if-not-may_declare.false, refl), c.in_ok-reserve.ensures.entries, refl)
     ]
 
 pub returns-clause-step : goal.returns-clause-step
