@@ -40,12 +40,16 @@ settled g c =
     let V = c.self.inside in
     elim c.match-entry.branch [
       | in-Text+in_ok-statements-in-Text+in-Ok+in_ok-cause-in-Ok w ↦ rw (w.cause-is, w.self-inside-is, w.in-Text.is)
-          (let allowed = subst (IsReading V.charter w.in-Text.submission) w.in-Ok.is w.in_ok-statements-in-Text.ensures in
-          (text-decided _ _ w.in-Ok.statements.items w.in-Text.submission _ allowed w.in_ok-cause-in-Ok.ensures.judged, c.in_ok-reserve.ensures.entries,
-          within-read V.charter w.in-Text.submission w.in-Ok.statements.items _ _ allowed w.extend.ensures.counted))
-      | in-Text+in_ok-statements-in-Text+in-Err w ↦ rw (w.cause-is, w.self-inside-is, w.in-Text.is)
-          ((subst (IsReading V.charter w.in-Text.submission) w.in-Err.is w.in_ok-statements-in-Text.ensures V.base, refl), c.in_ok-reserve.ensures.entries,
-          record { read = λ T reads. omega arith; unread = λ none. refl })
+          (let allowed = subst (IsReading V.charter w.in-Text.submission) w.in-Ok.is w.in_ok-statements-in-Text.ensures in (
+            text-decided _ _ w.in-Ok.statements.items w.in-Text.submission _ allowed w.in_ok-cause-in-Ok.ensures.judged,
+            c.in_ok-reserve.ensures.entries,
+            within-read V.charter w.in-Text.submission w.in-Ok.statements.items _ _ allowed w.extend.ensures.counted,
+          ))
+      | in-Text+in_ok-statements-in-Text+in-Err w ↦ rw (w.cause-is, w.self-inside-is, w.in-Text.is) (
+        (subst (IsReading V.charter w.in-Text.submission) w.in-Err.is w.in_ok-statements-in-Text.ensures V.base, refl),
+        c.in_ok-reserve.ensures.entries,
+        record { read = λ T reads. omega arith; unread = λ none. refl },
+      )
       | in-Charter+then-not-may_declare w ↦ rw (w.cause-is, w.self-inside-is, w.in-Charter.is)
           ((sym w.may_declare.ensures ∙ w.if-not-may_declare.true, refl, refl), c.in_ok-reserve.ensures.entries, refl)
       | in-Charter+else-not-may_declare+in_ok-copy-in-Charter w ↦ rw (w.cause-is, w.self-inside-is, w.in_ok-copy-in-Charter.ensures, w.in-Charter.is)
