@@ -10,6 +10,9 @@ use std::marker::Model;
 /// The most variables that are noted. What stands behind them is looked at anew each time.
 const MOST: usize = 64;
 
+/// So many active `$d` are gone over in any case, since other images will ask for them too.
+const MANY: usize = 64;
+
 /// A symbol of the proof.
 #[derive(Clone, Copy, Drop)]
 pub struct FoundSymbol {
@@ -155,7 +158,7 @@ impl Findings {
         if self.are_noted(left, right) {
             return true;
         }
-        self.find_rows(pairs);
+        self.find_rows(pairs, left, right);
         self.are_noted(left, right)
     }
 
@@ -175,15 +178,17 @@ impl Findings {
         true
     }
 
-    /// Notes what the active `$d` tell of their variables, in one walk.
+    /// Notes what the active `$d` tell of their variables, in one walk from the last one back. Where they are many, it ends
+    /// as soon as the variables of the one word have those of the other noted.
     #[cold]
     #[inline(never)]
-    fn find_rows(&mut self, pairs: &Pairs<'_>)
+    fn find_rows(&mut self, pairs: &Pairs<'_>, left: u64, right: u64)
         requires known { IsKnown pairs.now self.old }
         ensures known { IsKnown pairs.now self.new }
         ensures grows { Grows self.old self.new }
     {
         let mut before = pairs.copy();
+        let mut more = MANY;
         while let Some(list) = before.take_last() {
             let word = self.listed(pairs, list);
             let mut rest = word;
@@ -191,6 +196,10 @@ impl Findings {
                 let place = lowest(rest);
                 self.variables[place].apart |= without(word, place);
                 rest = without(rest, place);
+            }
+            more = more.saturating_sub(1);
+            if more == 0 && self.are_noted(left, right) {
+                return;
             }
         }
     }
