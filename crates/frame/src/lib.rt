@@ -30,5 +30,5 @@ pub use frames::{Frames, Gathered};
 pub use laws::groups_are_pairs;
 pub use meaning::Meaning;
 pub use one_frame::frame;
-pub use pairs::{Pairs, contains};
+pub use pairs::Pairs;
 pub use shape::is_assertion;

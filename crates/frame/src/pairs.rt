@@ -109,7 +109,7 @@ impl<'a> Pairs<'a> {
 }
 
 /// Whether x stands in the list. Cost: the list.
-pub fn contains(codes: &[u32], x: u32) -> bool
+pub(crate) fn contains(codes: &[u32], x: u32) -> bool
     ensures { result ≡ list_any (λ y. x == y) codes.now }
 {
     codes.iter().any(|y| x == *y)
