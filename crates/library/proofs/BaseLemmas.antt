@@ -3,6 +3,9 @@ use Rattle.library.proofs.Words.{◌≡◌, ℕ, zero, suc, ◌+◌, ◌-◌, �
 use Rattle.library.proofs.Words.{Stmt, Database, AreShaped, is_shaped, BrokenRule, bare, bares, is_provable, stmt_at, first_broken, stands-within, IsProvable, Cause, Good, IsProved, IsFirstUnproved, IsFault, Begins, IsLeastUnproved, IsJudged, IsBase, IsPlaced}
 use Rattle.std.proofs.lemmas.List.Folds.{list_all-append}
 use Rattle.scope.specs.Accepted.{Accepted}
+use Rattle.library.proofs.Words.{◌*◌, Ok, IfOk}
+use Rattle.library.specs.Entered.{IsEntered}
+use Rattle.library.specs.declared.ahead.Entered.{Entered}
 use Rattle.frame.specs.Parts.{Numbered}
 use Rattle.library.proofs.FrontLemmas.{stmt_at-behind, stands_index}
 use Rattle.library.proofs.GoodLemmas.{provable-where, provable-behind, proved-later}
@@ -131,3 +134,14 @@ module _ (L T whole : Database) (front : ℕ) (rules rules' : Accepted) (frames 
         subst (λ U. IsBase U rules'' frames'') (sym same)
             (record { shaped = base.shaped; good = base.good; rules_are = back ∙ (marked ∙ base.marked_is); marked_is = mark ∙ (marked ∙ base.marked_is); frames_are = cut ∙ front_is }),
       )
+
+-- ---- what entering left
+
+pub entered-at : (rules rules' : Accepted) (frames frames' : Numbered) (steps steps' more : ℕ) (T : Database) (e : Entered) → rules' ≡ rules → frames' ≡ frames → steps' ≡ steps
+    → IsEntered rules' frames' (steps' + more) T e → IsEntered rules frames (steps + more) T e
+entered-at rules rules' frames frames' steps steps' more T e of_rules of_frames of_steps h =
+    subst (λ r. IsEntered r frames (steps + more) T e) of_rules (subst (λ f. IsEntered rules' f (steps + more) T e) of_frames (subst (λ n. IsEntered rules' frames' (n + more) T e) of_steps h))
+
+module _ (rules : Accepted) (frames : Numbered) (most : ℕ) (T : Database) (e : Entered) (h : IsEntered rules frames most T e) (broken : Option (ℕ × BrokenRule)) (is : e.broken ≡ Ok broken) where
+  pub entered-found : broken ≡ first_broken 1 rules.statements T
+  entered-found = subst (λ r. IfOk r (λ b. b ≡ first_broken 1 rules.statements T)) is h.found

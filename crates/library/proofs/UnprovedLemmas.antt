@@ -1,6 +1,10 @@
 -- The positions of the `$p` behind the first statements, and what their least that is not right says of all statements.
 use Rattle.library.proofs.Words.{◌≡◌, ℕ, zero, suc, ◌+◌, ◌-◌, ◌<◌, ◌≤◌, List, [], ◌∷◌, ◌++◌, length, get_or, Option, Some, None, slice_get, slice_get-get_or, get_or_default, ◌∙◌, ap, sym, subst, arith, inl, inr, cases_eq, cases_order, Stmt, Database, stmt_at, IsProvable, IsRightProof, AreProofs, AreBehind, StandsProved, IsLeastUnproved}
+use Rattle.library.proofs.Words.{true, ◌&&◌, AreShaped, is_shaped, and_parts, nat_tests, list_all, take, drop, cases_lt, take-append-drop, take_rest, ◌==◌, if◌then◌else◌, IsProved}
+use Rattle.library.specs.Entered.{AreProvedTo}
 use Rattle.library.proofs.FrontLemmas.{stands_index}
+use Rattle.std.proofs.lemmas.List.Folds.{list_all-append}
+use Rattle.library.proofs.GoodLemmas.{provable-where, proved-later}
 use Rattle.verify_pool.specs.Least.{IsLeast}
 
 -- ---- one more statement
@@ -104,3 +108,52 @@ module _ (S : Database) where
 
     pub some-within : (i : ℕ) → answer ≡ Some i → i < length ps
     some-within i e = let l = subst (IsLeast (IsRightProof (record { statements = S; positions = ps })) (length ps)) e least in l.wrong.0
+
+-- ---- first statements that were judged before
+
+-- where none is unproved, each is proved up to the last
+pub all-to : (S : Database) → IsLeastUnproved S 0 None → AreProvedTo S (length S)
+all-to S h zero below = λ s p. absurd (let e = p.stands in cc)
+all-to S h (suc n) below = h (suc n) (omega arith) below
+
+-- what is proved among first statements is proved when others come behind
+pub to-later : (S : Database) (count end : ℕ) → end ≤ length (take count S) → AreProvedTo (take count S) end → AreProvedTo S end
+to-later S count end within are at below s p =
+    elim (provable-where (take count S) (drop count S) at s (subst (λ U. IsProvable U at s) (sym (take-append-drop count S)) p)) [
+      | inl q ↦ subst (λ U. IsProved U at) (take-append-drop count S) (proved-later (take count S) (drop count S) at (are at below s q.1))
+      | inr q ↦ none q.0 q.1 q.2
+    ]
+  where
+    none : (n : ℕ) → at ≡ length (take count S) + n → IsProvable (drop count S) n s → IsProved S at
+    none zero e q = absurd (let f = q.stands in cc)
+    none (suc n) e q = absurd (omega (arith, e, below, within))
+
+-- the least behind those that are known to be proved is the least
+known-least : (S : Database) (front known : ℕ) (found : Option ℕ) → front ≤ known → ((at : ℕ) → front < at → at ≤ known → StandsProved S at) → IsLeastUnproved S known found → IsLeastUnproved S front found
+known-least S front known None low are least = λ at above within. elim (cases_lt known at) [ inl more ↦ least at more within | inr less ↦ are at above less ]
+known-least S front known (Some at) low are least = (
+  (let a = least.0 in omega (arith, a, low)),
+  least.1,
+  least.2,
+  (λ m above below. elim (cases_lt known m) [ inl more ↦ least.3 m more below | inr less ↦ are m above less ]),
+)
+
+-- up to which position they are known
+known-behind : (front ahead : ℕ) → 0 < front → (if front == 0 then ahead else front) ≡ front
+known-behind front ahead h = grind (arith, nat_tests)
+
+module _ (S : Database) where
+  pub known-within : (front ahead : ℕ) → ahead ≤ length (take (length S - front) (drop front S)) → front ≤ length S → (if front == 0 then ahead else front) ≤ length S
+  known-within zero ahead within low = subst (λ U. ahead ≤ length U) (take_rest S 0) within
+  known-within (suc front) ahead within low = subst (λ n. n ≤ length S) (sym (known-behind (suc front) ahead (omega arith))) low
+
+  pub least-ahead : (front ahead : ℕ) (found : Option ℕ) → AreProvedTo (take (length S - front) (drop front S)) ahead
+      → IsLeastUnproved S (if front == 0 then ahead else front) found → IsLeastUnproved S front found
+  least-ahead zero ahead found are least = known-least S 0 ahead found (omega arith) (λ at above below. subst (λ U. StandsProved U at) (take_rest S 0) (are at below)) least
+  least-ahead (suc front) ahead found are least = subst (λ n. IsLeastUnproved S n found) (known-behind (suc front) ahead (omega arith)) least
+
+-- the first of shaped statements are shaped
+pub shaped-front : (S : Database) (count : ℕ) → AreShaped S → AreShaped (take count S)
+shaped-front S count h =
+    let both : (list_all is_shaped (take count S) ≡ true) × (list_all is_shaped (drop count S) ≡ true) = and_parts _ _ (sym (list_all-append is_shaped (take count S) (drop count S)) ∙ (ap (list_all is_shaped) (take-append-drop count S) ∙ h)) in
+    both.0

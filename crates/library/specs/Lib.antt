@@ -12,3 +12,4 @@ pub mod Uses
 pub mod Asked
 pub mod UseMarks
 pub mod Unproved
+pub mod Entered

@@ -1,8 +1,8 @@
 //! Good statements, with what judges those that come behind them.
-ghost use Rattle.std.specs.Prelude.{◌≡◌, ◌+◌, ◌*◌, ◌≤◌, ◌++◌, [], length, take, drop, Ok, Some, None, IfOk, OnOk, OnErr};
-ghost use Rattle.{std.specs.Fn.FnReturnsAt, mm_read.specs.Statements.AreShaped, scope.specs.Active.bares, scope.specs.Active.stmt_at, frame.specs.AtPosition.HasLabelsOnce, library.specs.Good.Good, library.specs.Judging.Begins, library.specs.Judging.IsPlaced, library.specs.Judging.Extends, library.specs.Unproved.FindsLeast};
+ghost use Rattle.std.specs.Prelude.{◌≡◌, ◌+◌, ◌*◌, ◌≤◌, ◌++◌, ◌==◌, [], if◌then◌else◌, length, take, drop, Ok, Some, None, IfOk, OnOk, OnErr};
+ghost use Rattle.{std.specs.Fn.FnReturnsAt, mm_read.specs.Statements.AreShaped, scope.specs.Active.bares, scope.specs.Active.stmt_at, frame.specs.AtPosition.HasLabelsOnce, library.specs.Good.Good, library.specs.Judging.Begins, library.specs.Judging.IsPlaced, library.specs.Judging.Extends, library.specs.Unproved.FindsLeast, library.specs.Entered.IsEntered};
 
-use crate::entering::enter;
+use crate::ahead::Entered;
 use crate::read_items::is_unfinished;
 use crate::unproved::{Proofs, least_unproved};
 use crate::verdict::Cause;
@@ -11,6 +11,7 @@ use mm_read::Stmt;
 use scope::{Rules, Steps};
 use std::alloc::{AllocError, Global};
 use std::marker::Model;
+use std::mem;
 
 /// Good statements as they were read, with the rules and the frames behind them. Contracts see the list of statements.
 #[derive(Drop)]
@@ -81,13 +82,19 @@ impl Base {
     ///
     /// Errors: a growth was refused; nothing is added then. Cost: that of the statements added, one step each. To mark the
     /// statements that stand, or to go back to them, takes no memory.
-    pub(crate) fn extend<F: Fn(&Proofs<'_>) -> Result<Option<usize>, AllocError>>(
+    pub(crate) fn extend<
+        E: Fn(Rules, Frames, Steps, &[Stmt]) -> Entered,
+        F: Fn(&Proofs<'_>) -> Result<Option<usize>, AllocError>,
+    >(
         &mut self,
         more: Vec<Stmt>,
         steps: &mut Steps,
+        enter: &E,
         least: &F,
     ) -> Result<Option<Cause>, AllocError>
         requires shaped { AreShaped more.items }
+        requires enterable { (rules : _) (frames : _) (steps : _) (s : _) → frames.statements ≡ rules.statements → AreShaped s.now → E.pre enter.now rules frames steps s }
+        requires enters { (rules : _) (frames : _) (steps : _) (s : _) (e : _) → E.post enter.now rules frames steps s e → IsEntered rules frames (steps.count + 3 * length s.now) s.now e }
         requires callable { F.IsAlwaysCallable least.now }
         requires finds { FindsLeast (FnReturnsAt F.Fn least.now) }
         ensures judged { IfOk result (λ found. Extends self.old more.items found self.new) }
@@ -103,6 +110,7 @@ impl Base {
             &self.statements,
             front,
             steps,
+            enter,
             least,
         ) {
             Ok(None) => {
@@ -143,15 +151,21 @@ fn append_all(statements: &mut Vec<Stmt>, mut more: Vec<Stmt>) -> Result<(), All
 /// Why the statements behind the first `front` may not stand there; none where they may.
 ///
 /// Errors: a growth was refused. Cost: that of these statements, one step each.
-fn judge<F: Fn(&Proofs<'_>) -> Result<Option<usize>, AllocError>>(
+fn judge<
+    E: Fn(Rules, Frames, Steps, &[Stmt]) -> Entered,
+    F: Fn(&Proofs<'_>) -> Result<Option<usize>, AllocError>,
+>(
     alloc: Global,
     rules: &mut Rules,
     frames: &mut Frames,
     statements: &[Stmt],
     front: usize,
     steps: &mut Steps,
+    enter: &E,
     least: &F,
 ) -> Result<Option<Cause>, AllocError>
+    requires enterable { (rules : _) (frames : _) (steps : _) (s : _) → frames.statements ≡ rules.statements → AreShaped s.now → E.pre enter.now rules frames steps s }
+    requires enters { (rules : _) (frames : _) (steps : _) (s : _) (e : _) → E.post enter.now rules frames steps s e → IsEntered rules frames (steps.count + 3 * length s.now) s.now e }
     requires callable { F.IsAlwaysCallable least.now }
     requires finds { FindsLeast (FnReturnsAt F.Fn least.now) }
     requires within { front ≤ length statements.now }
@@ -161,13 +175,29 @@ fn judge<F: Fn(&Proofs<'_>) -> Result<Option<usize>, AllocError>>(
     ensures placed { IfOk result (IsPlaced (take front statements.now) (drop front statements.now) rules.new frames.new) }
     ensures begins { Begins frames.old.statements frames.new.statements }
     ensures marked { rules.new.marked ≡ rules.old.marked }
-    ensures counted { steps.new.count ≤ steps.old.count + 2 * length (drop front statements.now) }
+    ensures counted { steps.new.count ≤ steps.old.count + 3 * length (drop front statements.now) }
 {
-    match enter(rules, frames, &statements[front..], steps)? {
+    let Entered {
+        broken,
+        rules: new_rules,
+        frames: new_frames,
+        steps: new_steps,
+        ahead,
+    } = enter(
+        mem::replace(rules, Rules::new(alloc)),
+        mem::replace(frames, Frames::new(alloc)),
+        mem::replace(steps, Steps::new()),
+        &statements[front..],
+    );
+    *rules = new_rules;
+    *frames = new_frames;
+    *steps = new_steps;
+    let known = known_to(front, ahead);
+    match broken? {
         None => {}
         Some((statement, rule)) => return Ok(Some(Cause::Rule { statement, rule })),
     }
-    match least_unproved(alloc, frames, statements, front, least)? {
+    match least_unproved(alloc, frames, statements, known, least)? {
         None => Ok(None),
         Some(at) => {
             let statement = at - front;
@@ -178,4 +208,12 @@ fn judge<F: Fn(&Proofs<'_>) -> Result<Option<usize>, AllocError>>(
             }
         }
     }
+}
+
+/// Up to which position each `$p` behind the first `front` statements is known to be proved, where of statements that stand alone
+/// it is this one.
+fn known_to(front: usize, ahead: usize) -> usize
+    ensures { result ≡ (if front == 0 then ahead else front) }
+{
+    if front == 0 { ahead } else { front }
 }

@@ -4,10 +4,11 @@
 //! memory decides nothing.
 //!
 //! Reading order: `submission`, `charter`, `entry` (what a log holds), `verdict`; `library`; `entry_text` (a text and its
-//! charter), `base` (all or nothing), `entering` (the rules), `unproved` (the proofs); `asked` (traces, uses, items
+//! charter), `base` (all or nothing), `entering` (the rules), `ahead`, `unproved` (the proofs); `asked` (traces, uses, items
 //! and trees), `read_items`, `uses`, `users`; `listed`; `laws`.
 #![tactic(auto)]
 
+mod ahead;
 mod asked;
 mod base;
 mod charter;

@@ -1,17 +1,19 @@
 //! One replica: the statements that the entries of a log validly add, and the verdicts on them.
-ghost use Rattle.std.specs.Prelude.{◌≡◌, None, Some, IfOk, IfSome, OnErr, option_map};
-ghost use Rattle.{std.specs.Fn.FnReturnsAt, mm_read.specs.Statements.AreShaped, library.specs.Good.Good, library.specs.LibraryOf.Applies, library.specs.LibraryOf.empty, library.specs.LibraryOf.status, library.specs.LibraryState.IsDecision, library.specs.LibraryState.IsWithinSteps, library.specs.LibraryState.verdict_of, library.specs.Judging.ReadsTexts, library.specs.Unproved.FindsLeast};
+ghost use Rattle.std.specs.Prelude.{◌≡◌, ◌+◌, ◌*◌, length, None, Some, IfOk, IfSome, OnErr, option_map};
+ghost use Rattle.{std.specs.Fn.FnReturnsAt, mm_read.specs.Statements.AreShaped, library.specs.Good.Good, library.specs.LibraryOf.Applies, library.specs.LibraryOf.empty, library.specs.LibraryOf.status, library.specs.LibraryState.IsDecision, library.specs.LibraryState.IsWithinSteps, library.specs.LibraryState.verdict_of, library.specs.Judging.ReadsTexts, library.specs.Unproved.FindsLeast, library.specs.Entered.IsEntered};
 
+use crate::ahead::{Entered, enter_ahead, enter_here};
 use crate::base::Base;
 use crate::charter::Names;
 use crate::entry::Entry;
 use crate::entry_text::{may_declare, read_text};
 use crate::unproved::Proofs;
 use crate::verdict::{Cause, Verdict};
+use frame::Frames;
 use indexmap::IndexMap;
 use mm_read::{ReadFault, Stmt, read};
 use read_pool::read_by;
-use scope::Steps;
+use scope::{Rules, Steps};
 use std::alloc::{AllocError, Global};
 use std::marker::Model;
 use std::thread::Threads;
@@ -62,6 +64,7 @@ impl Library {
         self.apply_by(
             next,
             &|text: &[u8]| read(alloc, text),
+            &enter_here,
             &|proofs: &Proofs<'_>| judge_here(alloc, proofs),
         )
     }
@@ -83,9 +86,14 @@ impl Library {
     {
         let alloc = self.base.alloc();
         let count = workers.count();
+        let enter = |rules: Rules, frames: Frames, steps: Steps, statements: &[Stmt]| -> Entered
+            requires { (frames.statements ≡ rules.statements) × AreShaped statements.now }
+            ensures { IsEntered rules frames (steps.count + 3 * length statements.entry.now) statements.entry.now result }
+        { enter_ahead(rt, alloc, workers, gate, rules, frames, steps, statements) };
         self.apply_by(
             next,
             &|text: &[u8]| read_by(rt, alloc, text, count),
+            &enter,
             &|proofs: &Proofs<'_>| judge_all(rt, alloc, proofs, workers, gate),
         )
     }
@@ -95,10 +103,19 @@ impl Library {
     /// now on where it is added.
     fn apply_by<
         T: Fn(&[u8]) -> Result<Vec<Stmt>, ReadFault>,
+        E: Fn(Rules, Frames, Steps, &[Stmt]) -> Entered,
         F: Fn(&Proofs<'_>) -> Result<Option<usize>, AllocError>,
-    >(&mut self, next: Option<&Entry>, read: &T, least: &F) -> Result<Verdict, AllocError>
+    >(
+        &mut self,
+        next: Option<&Entry>,
+        read: &T,
+        enter: &E,
+        least: &F,
+    ) -> Result<Verdict, AllocError>
         requires readable { T.IsAlwaysCallable read.now }
         requires reads { ReadsTexts (FnReturnsAt T.Fn read.now) }
+        requires enterable { (rules : _) (frames : _) (steps : _) (s : _) → frames.statements ≡ rules.statements → AreShaped s.now → E.pre enter.now rules frames steps s }
+        requires enters { (rules : _) (frames : _) (steps : _) (s : _) (e : _) → E.post enter.now rules frames steps s e → IsEntered rules frames (steps.count + 3 * length s.now) s.now e }
         requires callable { F.IsAlwaysCallable least.now }
         requires finds { FindsLeast (FnReturnsAt F.Fn least.now) }
         ensures step { IfOk result (λ verdict. Applies self.old.replica (option_map (λ e. e.now) next.entry) verdict self.new.replica) }
@@ -115,7 +132,7 @@ impl Library {
         self.decided.reserve(1)?;
         let cause = match entry {
             Entry::Text(submission) => match read_text(&self.charter, submission, read)? {
-                Ok(statements) => self.base.extend(statements, &mut self.steps, least)?,
+                Ok(statements) => self.base.extend(statements, &mut self.steps, enter, least)?,
                 Err(cause) => Some(cause),
             },
             Entry::Charter { author, names, .. } => {

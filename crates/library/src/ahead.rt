@@ -1,0 +1,137 @@
+//! The statements of a text entered, and by workers the proofs of its first ones judged meanwhile.
+ghost use Rattle.std.specs.Prelude.{◌≡◌, ◌+◌, ◌*◌, ◌≤◌, length};
+ghost use Rattle.{std.specs.Thread.IsSync, mm_read.specs.Statements.AreShaped, library.specs.Entered.IsEntered, library.specs.Entered.AreProvedTo};
+
+use crate::entering::enter;
+use crate::unproved::{Proofs, least_unproved};
+use frame::Frames;
+use mm_read::Stmt;
+use scope::{Rule, Rules, Steps};
+use std::alloc::{AllocError, Global};
+use std::thread::{Threads, join};
+use verify_pool::{Gate, Workers, judge_all};
+
+/// A text of so many statements is judged ahead.
+const MANY: usize = 8_192;
+
+/// What entering statements leaves.
+#[derive(Drop)]
+pub(crate) struct Entered {
+    /// What `enter` answers.
+    pub broken: Result<Option<(usize, Rule)>, AllocError>,
+    pub rules: Rules,
+    pub frames: Frames,
+    pub steps: Steps,
+    /// Up to this position each `$p` of the statements is known to be proved where they stand alone.
+    pub ahead: usize,
+}
+
+/// Adds the statements to the frames and the rules, as `enter` does.
+pub(crate) fn enter_here(
+    mut rules: Rules,
+    mut frames: Frames,
+    mut steps: Steps,
+    statements: &[Stmt],
+) -> Entered
+    requires shaped { AreShaped statements.now }
+    requires same { frames.statements ≡ rules.statements }
+    ensures entered { IsEntered rules frames (steps.count + 3 * length statements.now) statements.now result }
+    ensures counted { result.steps.count ≤ steps.count + 2 * length statements.now }
+{
+    let broken = enter(&mut rules, &mut frames, statements, &mut steps);
+    Entered {
+        broken,
+        rules,
+        frames,
+        steps,
+        ahead: 0,
+    }
+}
+
+/// The same. Where they stand behind no others and are many, a thread of its own enters the first of them once more, and half of
+/// the workers but one judge their proofs meanwhile: these leave a processor to the calling thread.
+///
+/// Cost: one step more for each of these first ones.
+pub(crate) fn enter_ahead<G: Gate + Sync, R: Threads + Sync>(
+    rt: &R,
+    alloc: Global,
+    workers: Workers,
+    gate: &G,
+    rules: Rules,
+    frames: Frames,
+    mut steps: Steps,
+    statements: &[Stmt],
+) -> Entered
+    requires shaped { AreShaped statements.now }
+    requires same { frames.statements ≡ rules.statements }
+    ensures { IsEntered rules frames (steps.count + 3 * length statements.now) statements.now result }
+{
+    let count = count_ahead(statements);
+    if count == 0 || frames.len() > 0 {
+        return enter_here(rules, frames, steps, statements);
+    }
+    let front = &statements[..count];
+    for _ in front {
+        steps.tick();
+    }
+    let few = (workers.count() / 2).max(2) - 1;
+    let ahead = move || -> usize
+        requires { IsSync G.row × IsSync R.row × (1 ≤ few) × (few ≤ 16) × AreShaped front.now }
+        ensures { (result ≤ length front.entry.now) × AreProvedTo front.entry.now result }
+    { proved_ahead(rt, alloc, few, gate, front) };
+    let whole = move || -> Entered
+        requires { AreShaped statements.now × (frames.statements ≡ rules.statements) }
+        ensures { IsEntered rules frames (steps.count + 3 * length statements.entry.now) statements.entry.now result × (result.steps.count ≤ steps.count + 2 * length statements.entry.now) }
+    { enter_here(rules, frames, steps, statements) };
+    let (ahead, mut entered) = join(rt, ahead, whole);
+    entered.ahead = ahead;
+    entered
+}
+
+/// How many of the first statements are judged ahead: some five sixteenths of many, up to where no block is open.
+fn count_ahead(statements: &[Stmt]) -> usize
+    ensures { result ≤ length statements.now }
+{
+    let near = (statements.len() / 16 * 5).max(MANY);
+    let mut open = 0usize;
+    for (index, statement) in statements.iter().enumerate() {
+        match statement {
+            Stmt::Open => open = open.saturating_add(1),
+            Stmt::Close => open = open.saturating_sub(1),
+            _ => {}
+        }
+        if index >= near && open == 0 {
+            return index + 1;
+        }
+    }
+    0
+}
+
+/// Up to which position each `$p` of the statements is found to be proved: the last one, or none.
+fn proved_ahead<G: Gate + Sync, R: Threads + Sync>(
+    rt: &R,
+    alloc: Global,
+    workers: usize,
+    gate: &G,
+    statements: &[Stmt],
+) -> usize
+    requires shaped { AreShaped statements.now }
+    requires workers { (1 ≤ workers) × (workers ≤ 16) }
+    ensures { (result ≤ length statements.now) × AreProvedTo statements.now result }
+{
+    let Entered { broken, frames, .. } = enter_here(
+        Rules::new(alloc),
+        Frames::new(alloc),
+        Steps::new(),
+        statements,
+    );
+    let Ok(None) = broken else {
+        return 0;
+    };
+    let workers = Workers::of(workers);
+    let least = |proofs: &Proofs<'_>| judge_all(rt, alloc, proofs, workers, gate);
+    match least_unproved(alloc, &frames, statements, 0, &least) {
+        Ok(None) => statements.len(),
+        _ => 0,
+    }
+}
