@@ -3,7 +3,7 @@ use Rattle.library.proofs.Words.{◌≡◌, ℕ, zero, suc, ◌+◌, ◌-◌, �
 use Rattle.library.proofs.Words.{Stmt, Database, AreShaped, is_shaped, BrokenRule, bare, bares, is_provable, stmt_at, first_broken, stands-within, IsProvable, Cause, Good, IsProved, IsFirstUnproved, IsFault, Begins, IsLeastUnproved, IsJudged, IsBase, IsPlaced}
 use Rattle.std.proofs.lemmas.List.Folds.{list_all-append}
 use Rattle.scope.specs.Accepted.{Accepted}
-use Rattle.library.proofs.Words.{◌*◌, Ok, IfOk}
+use Rattle.library.proofs.Words.{Ok, IfOk}
 use Rattle.library.specs.Entered.{IsEntered}
 use Rattle.library.specs.declared.ahead.Entered.{Entered}
 use Rattle.frame.specs.Parts.{Numbered}

@@ -48,8 +48,8 @@ pub(crate) fn enter_here(
     }
 }
 
-/// The same. Where they stand behind no others and are many, a thread of its own enters the first of them once more, and half of
-/// the workers but one judge their proofs meanwhile: these leave a processor to the calling thread.
+/// The same. Where they stand behind no others and are many, a thread of its own enters the first of them once more, and of two
+/// workers or more half but one judge their proofs meanwhile: these leave a processor to the calling thread.
 ///
 /// Cost: one step more for each of these first ones.
 pub(crate) fn enter_ahead<G: Gate + Sync, R: Threads + Sync>(
@@ -67,7 +67,7 @@ pub(crate) fn enter_ahead<G: Gate + Sync, R: Threads + Sync>(
     ensures { IsEntered rules frames (steps.count + 3 * length statements.now) statements.now result }
 {
     let count = count_ahead(statements);
-    if count == 0 || frames.len() > 0 {
+    if count == 0 || frames.len() > 0 || workers.count() < 2 {
         return enter_here(rules, frames, steps, statements);
     }
     let front = &statements[..count];
@@ -88,11 +88,11 @@ pub(crate) fn enter_ahead<G: Gate + Sync, R: Threads + Sync>(
     entered
 }
 
-/// How many of the first statements are judged ahead: some five sixteenths of many, up to where no block is open.
+/// How many of the first statements are judged ahead: three eighths of many, up to where no block is open.
 fn count_ahead(statements: &[Stmt]) -> usize
     ensures { result ≤ length statements.now }
 {
-    let near = (statements.len() / 16 * 5).max(MANY);
+    let near = (statements.len() / 8 * 3).max(MANY);
     let mut open = 0usize;
     for (index, statement) in statements.iter().enumerate() {
         match statement {

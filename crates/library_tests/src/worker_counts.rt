@@ -4,8 +4,9 @@ ghost use Rattle.std.specs.Prelude.{◌≤◌};
 use crate::text_entries::{entry, of_new};
 use bytes::Bytes;
 use library::{Cause, Entry, Library, Verdict};
-use std::alloc::Global;
+use std::alloc::{AllocError, Global};
 use std::sync::atomic::{AtomicBool, Ordering};
+use std::test::Fail;
 use std::thread::Threads;
 use verify_pool::{Gate, OpenGate, Place, Workers};
 
@@ -81,6 +82,47 @@ fn asked_again<G: Gate + Sync, R: Threads + Sync>(
         Ok(verdict) => Some(verdict),
         Err(_) => library.apply_with(rt, Some(entry), workers, gate).ok(),
     }
+}
+
+/// Some proofs are wrong, in a text that is long enough that its first proofs are judged while the others are entered.
+#[test]
+fn long_text_judged_alike(rt: HostRuntime) -> Result<(), Fail> {
+    for (wrong, verdict) in LONG_ROWS {
+        let text = long_text(rt.alloc(), wrong)?;
+        assert!(rt;
+            is_judged_by_each(&rt, rt.alloc(), &text, verdict),
+            "{wrong:?}"
+        );
+    }
+    Ok(())
+}
+
+/// Which of the proofs of a long text are wrong, by number from 0, and the verdict: the `$c` and the `$a` come before them.
+const LONG_ROWS: [(&[u32], Verdict); 4] = [
+    (&[], Verdict::Added),
+    (
+        &[7, 11_998],
+        Verdict::Refused(Cause::Proof { statement: 10 }),
+    ),
+    (
+        &[8_190],
+        Verdict::Refused(Cause::Proof { statement: 8_193 }),
+    ),
+    (
+        &[11_998, 11_999],
+        Verdict::Refused(Cause::Proof { statement: 12_001 }),
+    ),
+];
+
+/// A text of 12,000 proofs.
+fn long_text(alloc: Global, wrong: &[u32]) -> Result<Vec<u8>, AllocError> {
+    let mut text = Vec::from_slice(alloc, b"$c |- o $. a $a |- o $. ".as_slice())?;
+    for number in 0..12_000u32 {
+        let proof = if wrong.contains(&number) { "a a" } else { "a" };
+        let statement = format!(in alloc; "p{number} $p |- o $= {proof} $. ")?;
+        text.extend_from_slice(statement.as_bytes())?;
+    }
+    Ok(text)
 }
 
 /// Each of the first two proofs waits at the gate for the other, so two workers run side by side.

@@ -1,4 +1,4 @@
-use Rattle.library.proofs.Words.{arith, take, length, length-take-le, ◌≡◌, ◌≤◌, AreShaped}
+use Rattle.library.proofs.Words.{arith, take, length, length-take-le, ◌≡◌, AreShaped}
 use Rattle.std.proofs.Common.{rules}
 use Rattle.library.proofs.UnprovedLemmas.{shaped-front, to-later}
 use Rattle.library.proofs.ahead.enter_ahead.Goals as goal

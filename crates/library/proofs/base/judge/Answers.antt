@@ -1,4 +1,4 @@
-use Rattle.library.proofs.Words.{◌≡◌, ◌≤◌, Ok, sym, ◌∙◌, ap, subst, arith, length, take_rest, IsLeastUnproved}
+use Rattle.library.proofs.Words.{◌≤◌, Ok, sym, ◌∙◌, ap, subst, arith, length, take_rest, IsLeastUnproved}
 use Rattle.library.proofs.BaseLemmas.{placed-fault, broken-slice, frames-whole, frames-all, all-proved, first-fault, entered-at, entered-found}
 use Rattle.library.proofs.UnprovedLemmas.{known-within, least-ahead}
 use Rattle.library.proofs.base.judge.Goals as goal
