@@ -70,7 +70,8 @@ impl Library {
     }
 
     /// Applies the next entry as `apply` does, its text read and its proofs checked by some workers side by side. Each passes
-    /// the gate before each proof; the jobs are the `$p` of the text, in order. No answer depends on the number of workers.
+    /// the gate before each proof; the jobs are the `$p` of the text, in order, and of a long text that is judged ahead first
+    /// those of its first part, then the others, each counted from 0. No answer depends on the number of workers.
     ///
     /// Errors and steps: those of `apply`. Cost: that of the entry's own text, a large text and its proofs over the workers.
     pub fn apply_with<G: Gate + Sync, R: Threads + Sync>(
