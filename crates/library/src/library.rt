@@ -99,9 +99,9 @@ impl Library {
         )
     }
 
-    /// Applies the next entry, where `read` answers of a text the statements that it writes, and `least` of proofs the
-    /// index of the least that is not right. The statements of a text are added where they are good; a charter counts from
-    /// now on where it is added.
+    /// Applies the next entry, where `read` answers of a text the statements that it writes, `enter` enters statements
+    /// behind those that stand, and `least` answers of proofs the index of the least that is not right. The statements
+    /// of a text are added where they are good; a charter counts from now on where it is added.
     fn apply_by<
         T: Fn(&[u8]) -> Result<Vec<Stmt>, ReadFault>,
         E: Fn(Rules, Frames, Steps, &[Stmt]) -> Entered,
