@@ -1,9 +1,9 @@
 -- Below the hints a key is the key of one name alone.
-use Rattle.std.specs.Prelude.{◌≡◌, ℕ, zero, suc, ◌+◌, ◌-◌, ◌*◌, ◌/◌, ◌<◌, ◌≤◌, ◌^◌, Bool, true, false, cond, List, [], ◌∷◌, length, nat_lt, refl}
+use Rattle.std.specs.Prelude.{◌≡◌, ℕ, zero, suc, ◌+◌, ◌-◌, ◌*◌, ◌/◌, ◌%◌, ◌<◌, ◌≤◌, ◌^◌, Bool, true, false, cond, List, [], ◌∷◌, length, nat_lt, refl}
 use Rattle.std.proofs.Common.{sym, ◌∙◌, ap, subst, arith}
 use Rattle.mm_lex.specs.Alphabet.{Name}
-use Rattle.names.specs.declared.keys.TheConstants.{LONG}
-use Rattle.names.specs.Stored.Keys.{AreBytes, digits, ends, front_and_back, picked, hint_of, key_of}
+use Rattle.names.specs.declared.keys.TheConstants.{LONG, HINTS}
+use Rattle.names.specs.Stored.Keys.{AreBytes, digits, ends, front_and_back, picked, eight, mixed, mixed_front, hint_of, key_of}
 
 -- the first digit and the others
 digit-same : (a b m n : ℕ) → a < 256 → b < 256 → a + 256 * m ≡ b + 256 * n → (a ≡ b) × (m ≡ n)
@@ -87,6 +87,19 @@ picked-same x y p q l h e =
     sizes : (m n : ℕ) → m ≡ n → length (picked x) ≡ length (picked y)
     sizes m n s = size x ∙ (ap (λ k. cond (nat_lt k 4) 3 7) l ∙ sym (size y))
 
+pub hint-is : (x : Name) (front block last r : ℕ) → LONG ≤ length x → front ≡ mixed_front x block → block ≤ (length x - 1) / 8 → (length x - 1) / 8 ≤ block → last ≡ digits (eight x (length x - 8)) → r ≡ mixed front last
+    → r % HINTS + HINTS ≡ key_of x
+unfolding hint_of
+hint-is x front block last r long e p q l m =
+    let s : block ≡ (length x - 1) / 8 = omega (arith, p, q) in
+    let t : nat_lt (length x) LONG ≡ false = grind (arith, long) in
+    ap (λ n. n % HINTS + HINTS) (m ∙ (ap (mixed front) l ∙ ap (λ f. mixed f (digits (eight x (length x - 8)))) (e ∙ ap (mixed_front x) s)))
+    ∙ sym (ap (λ b. cond b (digits (picked x) * 8 + length x) (hint_of x)) t)
+
+hint-above : (x : Name) → HINTS ≤ hint_of x
+unfolding hint_of
+hint-above x = omega arith
+
 -- a short name shares its key with no other
 pub key-same : (x y : Name) → AreBytes x → AreBytes y → length x < LONG → key_of x ≡ key_of y → x ≡ y
 key-same x y p q short e = by (nat_lt (length x) LONG) (nat_lt (length y) LONG) refl refl e
@@ -106,5 +119,6 @@ key-same x y p q short e = by (nat_lt (length x) LONG) (nat_lt (length y) LONG) 
     by true false s t e =
         let d = picked-below x p in
         let m = below (length x) s in
-        absurd (omega (arith, d, m, e))
+        let above = hint-above y in
+        absurd (omega (arith, d, m, e, above))
     by false b s t e = let m = above (length x) s in absurd (omega (arith, short, m))

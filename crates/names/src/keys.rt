@@ -1,12 +1,15 @@
 //! A name as a number of 64 bits, by which most names are told apart.
 ghost use Rattle.std.specs.Prelude.{◌≡◌, ◌≢◌, ◌+◌, ◌*◌, ◌^◌, ◌<◌, ◌≤◌, length};
-ghost use Rattle.names.specs.Stored.Keys.{AreBytes, digits, picked, mixed, hint_of, key_of};
+ghost use Rattle.names.specs.Stored.Keys.{AreBytes, digits, picked, eight, spread_of, mixed, key_of};
 
 /// From this length on the key of a name is a hint. A shorter name shares its key with no other.
 pub(crate) const LONG: usize = 8;
 
 /// The hints are the numbers from this one on.
 const HINTS: u64 = 0x8000_0000_0000_0000;
+
+/// An odd number whose bits are spread evenly: 2^64 by the golden ratio.
+const FACTOR: u64 = 0x9e37_79b9_7f4a_7c15;
 
 /// No name has this key.
 pub(crate) const APART: u64 = 0x7fff_ffff_ffff_ffff;
@@ -19,10 +22,25 @@ pub(crate) fn key(name: &[u8]) -> u64
 {
     match name.len() {
         0 => 0,
-        len @ 1..=3 => few_bytes(name) * 8 + len as u64,
-        len @ 4..=7 => more_bytes(name) * 8 + len as u64,
+        1..=7 => short_key(name),
         _ => hint(name),
     }
+}
+
+/// The key of a name that has some bytes, and is not long.
+pub(crate) fn short_key(name: &[u8]) -> u64
+    requires some { 1 ≤ length name.now }
+    requires short { length name.now < LONG }
+    ensures key { result ≡ key_of name.now }
+    ensures bytes { AreBytes name.now }
+    ensures own { result ≢ APART }
+{
+    let bytes = if name.len() < 4 {
+        few_bytes(name)
+    } else {
+        more_bytes(name)
+    };
+    bytes * 8 + name.len() as u64
 }
 
 /// The first byte, the middle one and the last one, so that one, two and three bytes are read alike.
@@ -49,24 +67,47 @@ fn more_bytes(name: &[u8]) -> u64
     digit(name[0], digit(name[1], first))
 }
 
+/// Eight bytes from a place on.
+fn eight_bytes(name: &[u8], at: usize) -> u64
+    requires { at + 8 ≤ length name.now }
+    ensures { result ≡ digits (eight name.now at) }
+{
+    let last = digit(name[at + 5], digit(name[at + 6], digit(name[at + 7], 0)));
+    let middle = digit(name[at + 3], digit(name[at + 4], last));
+    digit(name[at], digit(name[at + 1], digit(name[at + 2], middle)))
+}
+
 /// A byte below others.
 fn digit(byte: u8, above: u64) -> u64
-    requires { above < 2 ^ 48 }
+    requires { above < 2 ^ 56 }
     ensures { result ≡ byte + 256 * above }
 {
     byte as u64 + 256 * above
 }
 
-/// The hint at a longer name.
-fn hint(name: &[u8]) -> u64
-    ensures { result ≡ hint_of name.now }
+/// The hint at a longer name: its length and its bytes by eights, of which the last may overlap those before them.
+pub(crate) fn hint(name: &[u8]) -> u64
+    requires { LONG ≤ length name.now }
+    ensures key { result ≡ key_of name.now }
+    ensures own { result ≢ APART }
 {
-    let mixed = name.iter().fold(0, |mixed, byte| mix(mixed, *byte));
-    mixed % HINTS + HINTS
+    let len = name.len();
+    let mut front = len as u64;
+    for block in 0..(len - 1) / 8 {
+        front = mix(front, eight_bytes(name, 8 * block));
+    }
+    mix(front, eight_bytes(name, len - 8)) % HINTS + HINTS
 }
 
-fn mix(hint: u64, byte: u8) -> u64
-    ensures { result ≡ mixed hint byte }
+fn mix(hint: u64, bytes: u64) -> u64
+    ensures { result ≡ mixed hint bytes }
 {
-    hint.wrapping_mul(257).wrapping_add(byte as u64)
+    spread(hint.wrapping_add(bytes))
+}
+
+/// A number whose lowest bytes all bits of this one reach: the highest bytes of its product.
+pub(crate) fn spread(number: u64) -> u64
+    ensures { result ≡ spread_of number }
+{
+    number.wrapping_mul(FACTOR).swap_bytes()
 }

@@ -73,6 +73,7 @@ impl NameTable {
 
     /// The code of a name that has one. Cost: one pass over the name and 32 looks at the table at most; where it is not
     /// found there, the logarithm of how many names stand apart in comparisons.
+    #[inline(always)]
     pub fn find(&self, name: &[u8]) -> Option<usize>
         ensures code { result ≡ code_of self.now name.now }
         ensures fits { IfSome result (λ n. n < 2 ^ 32) }

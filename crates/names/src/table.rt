@@ -1,5 +1,6 @@
 //! The table in which the numbers of names are found.
 ghost use Rattle.std.specs.Prelude.{◌≡◌, ◌≢◌, ◌+◌, ◌⊎◌, ℕ, ◌<◌, ◌≤◌, ◌^◌, [], length, get_or, IfOk, OnOk, IfSome, None, true, false};
+ghost use Rattle.mm_lex.specs.Alphabet.{Name};
 ghost use Rattle.names.specs.Codes.{name_at, code_of, AreDistinct};
 ghost use Rattle.names.specs.Stored.Keys.{key_of};
 ghost use Rattle.names.specs.Stored.Overflow.{number_of};
@@ -8,7 +9,7 @@ ghost use Rattle.names.specs.declared.keys.TheConstants.{APART};
 ghost use Rattle.names.specs.declared.table.TheConstants.{REACH};
 
 use crate::kept::Kept;
-use crate::keys::{APART, LONG, key};
+use crate::keys::{APART, LONG, hint, key, short_key, spread};
 use crate::overflow::Overflow;
 use crate::texts::{Texts, item};
 use std::alloc::{AllocError, Global};
@@ -21,9 +22,6 @@ pub(crate) const REACH: usize = 32;
 
 /// How many slots the first table has.
 const FIRST_SLOTS: usize = 16;
-
-/// An odd number whose bits are spread evenly: 2^64 by the golden ratio.
-const FACTOR: u64 = 0x9e37_79b9_7f4a_7c15;
 
 /// So many numbers fit into half a key.
 const HALVES: u64 = 0x1_0000_0000;
@@ -52,16 +50,15 @@ pub(crate) fn make_slot(key: u64, number: u32) -> Slot
     }
 }
 
-/// Where to look in a step: first by the highest bytes of the product, which all bits of the key reach, and then
-/// one slot further on than the step before went. The length of a table is a power of two.
+/// Where to look in a step: first by the key's spread, and then one slot further on than the step before went. The
+/// length of a table is a power of two.
 fn place(key: u64, step: usize, len: usize) -> usize
     requires some { 0 < len }
     requires near { step < REACH }
     ensures place { result ≡ place_of key step len }
     ensures inside { result < len }
 {
-    let first = key.wrapping_mul(FACTOR).swap_bytes();
-    (first as usize).wrapping_add(step * (step + 1) / 2) & (len - 1)
+    (spread(key) as usize).wrapping_add(step * (step + 1) / 2) & (len - 1)
 }
 
 /// How many steps a search takes at most.
@@ -83,6 +80,7 @@ fn look(slots: &[Slot], key: u64, step: usize) -> Slot
 }
 
 /// The number of a name that has one. Most short names stand in the first slot, and no text is read.
+#[inline(always)]
 pub(crate) fn search(slots: &[Slot], kept: &Kept, texts: &Texts, name: &[u8]) -> Option<usize>
     requires found { AreFound slots.now kept.now.overflow texts.now }
     requires kept { AreKept kept.now texts.now }
@@ -91,14 +89,37 @@ pub(crate) fn search(slots: &[Slot], kept: &Kept, texts: &Texts, name: &[u8]) ->
     ensures { result ≡ code_of texts.now name.now }
 {
     if slots.is_empty() || name.is_empty() || name.len() >= LONG {
-        return search_on(slots, kept, texts, name);
+        return search_long(slots, kept, texts, name);
     }
-    let key = key(name);
+    let key = short_key(name);
     let slot = look(slots, key, 0);
     if slot.half == half(key) && kept.has(texts, slot.number, key) {
         return Some(slot.number as usize);
     }
-    if slot.number == NO_NAME && kept.overflow.is_empty() {
+    if is_end(slot, kept) {
+        return None;
+    }
+    search_on(slots, kept, texts, name)
+}
+
+/// The same for all names, quickly for a long one that stands in the first slot.
+#[inline(never)]
+fn search_long(slots: &[Slot], kept: &Kept, texts: &Texts, name: &[u8]) -> Option<usize>
+    requires found { AreFound slots.now kept.now.overflow texts.now }
+    requires kept { AreKept kept.now texts.now }
+    requires distinct { AreDistinct texts.now }
+    requires few { length texts.now < 2 ^ 32 }
+    ensures { result ≡ code_of texts.now name.now }
+{
+    if slots.is_empty() || name.len() < LONG {
+        return search_on(slots, kept, texts, name);
+    }
+    let key = hint(name);
+    let slot = look(slots, key, 0);
+    if slot.half == half(key) && is_text(texts, slot.number, name) {
+        return Some(slot.number as usize);
+    }
+    if is_end(slot, kept) {
         return None;
     }
     search_on(slots, kept, texts, name)
@@ -127,12 +148,22 @@ fn search_on(slots: &[Slot], kept: &Kept, texts: &Texts, name: &[u8]) -> Option<
     search_apart(&kept.overflow, texts, name)
 }
 
+/// Whether no name that meets this slot first has a number.
+fn is_end(slot: Slot, kept: &Kept) -> bool
+    ensures { result ≡ true → (slot.number ≡ NO_NAME) × ((x : Name) → number_of kept.now.overflow x ≡ None) }
+{
+    slot.number == NO_NAME && kept.overflow.is_empty()
+}
+
 /// The number of a name that stands apart.
 fn search_apart(overflow: &Overflow, texts: &Texts, name: &[u8]) -> Option<usize>
     requires { AreDistinct texts.now }
     ensures some { IfSome result (λ n. code_of texts.now name.now ≡ Some n) }
     ensures none { result ≡ None → (k : ℕ) → k < length texts.now → name_at texts.now k ≡ name.now → number_of overflow.now name.now ≢ Some k }
 {
+    if overflow.is_empty() {
+        return None;
+    }
     match overflow.get(name) {
         Some(number) if is_text(texts, number, name) => Some(number as usize),
         _ => None,

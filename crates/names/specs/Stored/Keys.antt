@@ -1,8 +1,9 @@
 -- Names as numbers of 64 bits. Names of at most seven bytes are told apart by them.
 -- The code's own form: no clause of a scope cites it.
-use Rattle.std.specs.Prelude.{ℕ, ◌+◌, ◌-◌, ◌*◌, ◌/◌, ◌%◌, ◌^◌, ◌<◌, List, [], ◌∷◌, length, get_or, fold, nat_lt, if◌then◌else◌}
+use Rattle.std.specs.Prelude.{ℕ, zero, suc, ◌+◌, ◌-◌, ◌*◌, ◌/◌, ◌%◌, ◌^◌, ◌<◌, List, [], ◌∷◌, length, get_or, nat_lt, if◌then◌else◌}
+use Rattle.std.specs.Int.{w64, swap_bytes}
 use Rattle.mm_lex.specs.Alphabet.{Name}
-use Rattle.names.specs.declared.keys.TheConstants.{LONG, HINTS}
+use Rattle.names.specs.declared.keys.TheConstants.{LONG, HINTS, FACTOR}
 
 abbrev pub AreBytes : List ℕ → Type 0
 AreBytes bytes = (i : ℕ) → get_or bytes i 0 < 256
@@ -25,11 +26,27 @@ front_and_back x =
 abbrev pub picked : Name → List ℕ
 picked x = if nat_lt (length x) 4 then ends x else front_and_back x
 
-abbrev pub mixed : ℕ → ℕ → ℕ
-mixed hint byte = (hint * 257 % 2 ^ 64 + byte) % 2 ^ 64
+-- eight bytes from a place on
+abbrev pub eight : Name → ℕ → List ℕ
+eight x at =
+    get_or x at 0 ∷ get_or x (at + 1) 0 ∷ get_or x (at + 2) 0 ∷ get_or x (at + 3) 0
+    ∷ get_or x (at + 4) 0 ∷ get_or x (at + 5) 0 ∷ get_or x (at + 6) 0 ∷ get_or x (at + 7) 0 ∷ []
 
-abbrev pub hint_of : Name → ℕ
-hint_of x = fold mixed 0 x % HINTS + HINTS
+-- a number whose lowest bytes all bits of this one reach
+abbrev pub spread_of : ℕ → ℕ
+spread_of n = swap_bytes w64 (n * FACTOR % 2 ^ 64)
+
+abbrev pub mixed : ℕ → ℕ → ℕ
+mixed hint bytes = spread_of ((hint + bytes) % 2 ^ 64)
+
+-- the length of a name with so many of its blocks of eight bytes
+abbrev pub mixed_front : Name → ℕ → ℕ
+mixed_front x zero = length x
+mixed_front x (suc n) = mixed (mixed_front x n) (digits (eight x (8 * n)))
+
+-- .. and with its last eight bytes
+unfoldable pub hint_of : Name → ℕ
+hint_of x = mixed (mixed_front x ((length x - 1) / 8)) (digits (eight x (length x - 8))) % HINTS + HINTS
 
 abbrev pub key_of : Name → ℕ
 key_of x = if nat_lt (length x) LONG then digits (picked x) * 8 + length x else hint_of x

@@ -1,15 +1,14 @@
 -- Names by number, and the table in which their numbers are found.
 -- The code's own form: no clause of a scope cites it.
 use Rattle.std.specs.Prelude.{◌≡◌, ◌≢◌, ◌⊎◌, ℕ, ◌+◌, ◌-◌, ◌*◌, ◌/◌, ◌%◌, ◌^◌, ◌<◌, List, length, Some, get_or, slice_get, bit_and}
-use Rattle.std.specs.Int.{w64, swap_bytes}
 use Rattle.mm_lex.specs.Alphabet.{Name}
 use Rattle.names.specs.Codes.{name_at}
 use Rattle.names.specs.declared.table.Slot.{Slot}
-use Rattle.names.specs.declared.table.TheConstants.{NO_NAME, REACH, FACTOR, HALVES}
+use Rattle.names.specs.declared.table.TheConstants.{NO_NAME, REACH, HALVES}
 use Rattle.names.specs.declared.keys.TheConstants.{APART}
 use Rattle.names.specs.declared.kept.Kept.{Kept}
 use Rattle.names.specs.declared.overflow.Overflow.{Overflow}
-use Rattle.names.specs.Stored.Keys.{AreBytes, key_of}
+use Rattle.names.specs.Stored.Keys.{AreBytes, spread_of, key_of}
 use Rattle.names.specs.Stored.Overflow.{number_of}
 
 -- the lower half of a key
@@ -20,13 +19,9 @@ half_of key = key % HALVES
 abbrev pub slot_of : ℕ → ℕ → Slot
 slot_of key number = record { half = half_of key; number = number }
 
--- where the table is looked at first, before that is brought below the table's length
-abbrev pub spread : ℕ → ℕ
-spread key = swap_bytes w64 (key * FACTOR % 2 ^ 64)
-
 -- where the table is looked at in a step, by the key and the table's length
 abbrev pub place_of : ℕ → ℕ → ℕ → ℕ
-place_of key step len = bit_and ((spread key + step * (step + 1) / 2) % 2 ^ 64) (len - 1)
+place_of key step len = bit_and ((spread_of key + step * (step + 1) / 2) % 2 ^ 64) (len - 1)
 
 abbrev pub slot_at : List Slot → ℕ → ℕ → Slot → Type 0
 slot_at slots key step s = slice_get slots (place_of key step (length slots)) ≡ Some s

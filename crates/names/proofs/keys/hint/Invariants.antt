@@ -1,0 +1,6 @@
+use Rattle.std.specs.Prelude.{◌≡◌}
+use Rattle.names.specs.Stored.Keys.{mixed_front}
+use Rattle.names.proofs.keys.hint.Given as goal
+
+abbrev pub invariant-loop-block : goal.invariant-loop-block
+invariant-loop-block l = l.front ≡ mixed_front l.name l.block
