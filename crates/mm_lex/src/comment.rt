@@ -19,6 +19,7 @@ pub(crate) enum CommentEnd {
 }
 
 /// How the comment ends whose inside begins at `from`.
+#[inline(never)]
 pub(crate) fn comment_end(text: &[u8], from: usize) -> CommentEnd
     requires clean { IsClean text.now }
     requires place { from ≤ length text.now }

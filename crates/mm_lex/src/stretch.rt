@@ -14,10 +14,10 @@ pub(crate) fn count_spaced(text: &[u8]) -> usize
     let mut at = 0;
     while text.len() - at > LANES {
         let count = count_in_lanes(&text[at..]);
-        at += count;
         if count < LANES {
-            return at;
+            return at + count;
         }
+        at += LANES;
     }
     at + count_one_by_one(&text[at..])
 }

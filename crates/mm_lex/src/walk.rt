@@ -11,6 +11,7 @@ use crate::visible_run::{is_closer, is_opener, next_run};
 /// The next token at `at` or behind it, or none.
 ///
 /// Errors: `Comment`, where the comments behind `at` are at fault before another token.
+#[inline(always)]
 pub fn next_token(text: &[u8], at: usize) -> Result<Option<Span>, LexFault>
     requires clean { IsClean text.now }
     requires place { at ≤ length text.now }

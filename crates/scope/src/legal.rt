@@ -184,24 +184,23 @@ impl<'a> Judge<'a> {
         ensures symbols { result ≡ (if list_all (λ x. is_constant self.now.statements x || is_variable self.now.statements x) expr.now then Some (starts_with_constant self.now.statements expr.now, are_typed self.now.statements expr.now) else None) }
         ensures noted { is_some result ≡ true → AreNoted (symbols_of self.now.statements) expr.now noted.new }
     {
-        let mut first = true;
-        let mut leads = true;
-        let mut typed = true;
-        for symbol in expr.iter() {
-            let sort = self.sort_and_note(symbol, noted);
-            if first {
-                leads = matches!(sort, Sort::Constant);
-                first = false;
-            }
-            match sort {
-                Sort::Constant => {}
-                Sort::Typed => {}
+        let mut symbols = expr.iter();
+        let Some(first) = symbols.next() else {
+            return Some((true, true));
+        };
+        let leader = self.sort_and_note(first, noted);
+        if matches!(leader, Sort::Label | Sort::Inactive) {
+            return None;
+        }
+        let mut typed = !matches!(leader, Sort::Untyped);
+        for symbol in symbols {
+            match self.sort_and_note(symbol, noted) {
+                Sort::Constant | Sort::Typed => {}
                 Sort::Untyped => typed = false,
-                Sort::Label => return None,
-                Sort::Inactive => return None,
+                Sort::Label | Sort::Inactive => return None,
             }
         }
-        Some((leads, typed))
+        Some((matches!(leader, Sort::Constant), typed))
     }
 
     fn are_fresh(&self, symbols: &Words) -> bool

@@ -31,5 +31,6 @@ pub use numbering::{NameKind, Numbering};
 pub use rule::Rule;
 pub use rules::Rules;
 pub use scope::Scope;
+pub use stack::Stack;
 pub use standing::Standing;
 pub use steps::Steps;

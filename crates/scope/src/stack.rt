@@ -27,7 +27,7 @@ impl Model for Stack {
 
 impl Stack {
     /// No numbers.
-    pub(crate) fn new(alloc: Global) -> Stack
+    pub fn new(alloc: Global) -> Stack
         ensures { result ≡ [] }
     {
         Stack {
@@ -60,7 +60,7 @@ impl Stack {
     }
 
     /// Where a number stands.
-    pub(crate) fn place(&self, number: u32) -> Option<usize>
+    pub fn place(&self, number: u32) -> Option<usize>
         ensures found { IfSome result (λ k. slice_get self.now k ≡ Some number) }
         ensures member { is_some result ≡ list_any (λ n. n == number) self.now }
     {
@@ -76,7 +76,7 @@ impl Stack {
     }
 
     /// Puts a number at the end.
-    pub(crate) fn push(&mut self, number: u32) -> Result<(), AllocError>
+    pub fn push(&mut self, number: u32) -> Result<(), AllocError>
         requires { list_any (λ n. n == number) self.old ≡ false }
         ensures ok { OnOk result (self.new ≡ self.old ++ number ∷ []) }
         ensures err { OnErr result (self.new ≡ self.old) }
@@ -88,7 +88,7 @@ impl Stack {
     }
 
     /// Keeps the first `len` numbers.
-    pub(crate) fn truncate(&mut self, len: usize)
+    pub fn truncate(&mut self, len: usize)
         ensures { self.new ≡ take len self.old }
     {
         self.numbers.truncate(len);

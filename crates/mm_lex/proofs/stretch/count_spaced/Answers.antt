@@ -1,5 +1,6 @@
-use Rattle.std.proofs.Common.{◌∙◌, ap, sym, arith, length, ◌+◌, ◌<◌, ◌≤◌}
+use Rattle.std.proofs.Common.{◌∙◌, ◌≡◌, ap, sym, subst, arith, drop, length, ◌+◌, ◌<◌, ◌≤◌}
 use Rattle.std.proofs.lemmas.List.{take_rest}
+use Rattle.mm_lex.specs.Stored.Stretch.{stretch}
 use Rattle.mm_lex.proofs.StretchLemmas.{lanes_count, stretch_goes_on, stretch_ends}
 use Rattle.mm_lex.proofs.stretch.count_spaced.Goals as goal
 
@@ -18,5 +19,9 @@ loop-at-preserved c =
     let count = c.count_in_lanes-count.result in
     let counted = c.count_in_lanes-count.ensures.count ∙ ap (lanes_count 16) (take_rest text at) in
     let room : at + 16 < length text = omega (arith, c.loop-at-test.true, c.loop-at.invariant.0) in
-    let inside : at + count ≤ length text = omega (arith, room, c.count_in_lanes-count.ensures.within) in
-    (inside, stretch_goes_on text at room c.loop-at.invariant.1 count counted (omega (arith, c.count_in_lanes-count.ensures.within, c.if-count-lt-LANES.false)))
+    let all : count ≡ 16 = omega (arith, c.count_in_lanes-count.ensures.within, c.if-count-lt-LANES.false) in
+    let inside : at + 16 ≤ length text = omega (arith, room) in (
+      inside,
+      subst (λ n. stretch text ≡ at + n + stretch (drop (at + n) text)) all
+          (stretch_goes_on text at room c.loop-at.invariant.1 count counted (omega (arith, all))),
+    )
