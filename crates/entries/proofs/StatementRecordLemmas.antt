@@ -75,7 +75,7 @@ module _ (numbers : List ℕ) (groups : List BufferPart) (r : StatementRecord) (
   pub groups-count : r.groups + at.groups ≡ groups_by groups next
   groups-count = ap (λ (x : Layout). r.groups + x.groups) (sym layout) ∙ a.kept.grouped.count
 
-  pub is-stored : (spans : Bor (List BufferPart)) (k : Background) → spans.now ≡ slice_range groups r.groups (r.groups + at.groups) → behind ≡ Some k → IsStored found (record { kept = r; behind = k; numbers = run; at = at; groups = spans })
+  pub is-stored : (spans : Bor (List BufferPart)) (k : Background) → spans.now ≡ slice_range groups r.groups (r.groups + at.groups) → behind ≡ Some k → IsStored found (record { kept = r; before = k; numbers = run; at = at; groups = spans })
   is-stored spans k part there =
       let p = a.kept.placed in let w = a.kept.grouped in
       let of_next : spans.now ≡ spans_by groups r next = part ∙ ap (slice_range groups r.groups) groups-count in

@@ -1,14 +1,14 @@
 -- A statement as numbers, as plain lists.
 -- Metamath, 4.2.6 and 4.2.7: an assertion is cited by what it asks of its hypotheses. What the numbers mean is said in `frame`.
 -- The code keeps the lists of all statements in a few buffers.
-use Rattle.std.specs.Prelude.{◌≡◌, ℕ, Bool, true, false, List, [], length, map, slice_get, Some}
+use Rattle.std.specs.Prelude.{◌≡◌, ℕ, Bool, true, List, [], length, map, slice_get, Some}
 use Rattle.entries.specs.declared.cited_parts.Hypothesis.{Hypothesis}
 use Rattle.entries.specs.declared.cited_parts.Cited.{Cited}
 use Rattle.entries.specs.declared.links.Links.{Links}
 use Rattle.entries.specs.declared.kind.Kind.{Kind}
 use Rattle.entries.specs.declared.head.Head.{Head}
 use Rattle.entries.specs.declared.parts.AssertionParts.{AssertionParts}
-use Rattle.entries.specs.declared.entry_ref.EntryRef.{EntryRef}
+use Rattle.entries.specs.declared.head.EntryRef.{EntryRef}
 use Rattle.entries.specs.Hypotheses.{told}
 use Rattle.entries.specs.Stored.Spans.{cut, AreSpansIn}
 
@@ -42,19 +42,15 @@ pub record AreShapedParts (p : AssertionParts) : Type 0 where
 
 -- the statement with this head, these symbols and these parts
 abbrev pub made : Head → List ℕ → Assertion → Entry
-made h codes a = record { kind = h.kind; label = h.label; names = h.names; links = h.links; symbols = codes; assertion = a }
+made h codes a = record { kind = h.kind; label = h.before.label; names = h.before.names; links = h.before.links; symbols = codes; assertion = a }
 
 -- no parts, and whether they are whole
 abbrev pub partless : Bool → Assertion
 partless whole = record { whole = whole; hypotheses = []; asked = []; heads = []; groups = [] }
 
--- a statement that has no parts of an assertion
-abbrev pub plain : Head → List ℕ → Entry
-plain h codes = made h codes (partless false)
-
 -- the statement that was read
 abbrev pub seen : EntryRef → Assertion → Entry
-seen x a = record { kind = x.kind; label = x.label; names = x.names; links = x.links; symbols = x.symbols.now; assertion = a }
+seen x a = record { kind = x.kind; label = x.before.label; names = x.before.names; links = x.before.links; symbols = x.symbols.now; assertion = a }
 
 -- the parts of a statement that are whole
 pub record AreWhole (e : Entry) (c : Cited) : Type 0 where

@@ -1,15 +1,14 @@
 //! The statements of a database as numbers, by position.
 ghost use Rattle.std.specs.Prelude.{◌≡◌, ◌≤◌, ◌<◌, ◌+◌, ◌^◌, ◌++◌, ◌∷◌, [], length, take, slice_get, Some, OnOk, OnErr, IfOk, IfSome, true};
-ghost use Rattle.{entries.specs.Entries.Entry, entries.specs.Entries.IsEntry, entries.specs.Entries.AreWhole, entries.specs.Entries.AreShapedParts, entries.specs.Entries.assertion_of, entries.specs.Entries.made, entries.specs.Entries.plain, entries.specs.Stored.Records.IsPlaced, entries.specs.Stored.Records.background_of, entries.specs.Stored.Records.IsStored, entries.specs.Stored.Records.has_parts, entries.specs.Stored.Records.layout_in, entries.specs.Stored.Records.record_by, entries.specs.Stored.Records.run_by, entries.specs.Stored.Records.run_of, entries.specs.Stored.Spans.Extends};
+ghost use Rattle.{entries.specs.Entries.Entry, entries.specs.Entries.IsEntry, entries.specs.Entries.AreWhole, entries.specs.Entries.AreShapedParts, entries.specs.Entries.assertion_of, entries.specs.Entries.made, entries.specs.Stored.Records.IsPlaced, entries.specs.Stored.Records.IsStored, entries.specs.Stored.Records.has_parts, entries.specs.Stored.Records.layout_in, entries.specs.Stored.Records.record_by, entries.specs.Stored.Records.run_by, entries.specs.Stored.Records.run_of, entries.specs.Stored.Spans.Extends};
 
 use crate::buffer_part::{BufferPart, item, part, place};
 use crate::cited_parts::{Cited, Hypotheses};
-use crate::entry_ref::EntryRef;
 use crate::groups::Groups;
-use crate::head::Head;
+use crate::head::{Background, EntryRef, Head};
 use crate::layout::{Layout, assertion_layout, counts, lay};
 use crate::parts::AssertionParts;
-use crate::statement_record::{Background, StatementRecord};
+use crate::statement_record::StatementRecord;
 use std::alloc::{AllocError, Global};
 use std::marker::Model;
 
@@ -30,7 +29,7 @@ pub struct Entries {
 #[derive(Clone, Copy, Drop)]
 struct Stored<'a> {
     kept: StatementRecord,
-    behind: Background,
+    before: Background,
     numbers: &'a [u32],
     at: Layout,
     groups: &'a [BufferPart],
@@ -77,16 +76,14 @@ impl Entries {
     {
         let Stored {
             kept,
-            behind,
+            before,
             numbers,
             at,
             ..
         } = self.stored(index);
         EntryRef {
             kind: kept.kind,
-            label: behind.label,
-            names: behind.names,
-            links: behind.links,
+            before,
             symbols: part(numbers, at.symbols, at.hypotheses),
         }
     }
@@ -141,10 +138,10 @@ impl Entries {
         let (numbers, at) = run_at(&self.records, &self.numbers, index, kept);
         let from = kept.groups as usize;
         let groups = part(&self.groups, from, from + at.groups);
-        let behind = item(&self.backgrounds, index);
+        let before = item(&self.backgrounds, index);
         Stored {
             kept,
-            behind,
+            before,
             numbers,
             at,
             groups,
@@ -177,24 +174,6 @@ impl Entries {
             self.groups.truncate(groups);
         }
         added
-    }
-
-    /// Adds a statement that has no parts of an assertion, with these symbols. Where a growth is refused, everything is
-    /// as before.
-    pub fn push_plain(&mut self, head: Head, codes: &[u32]) -> Result<(), AllocError>
-        ensures added { OnOk result (self.new ≡ self.old ++ plain head codes.now ∷ []) }
-        ensures same { OnErr result (self.new ≡ self.old) }
-    {
-        let parts = AssertionParts {
-            whole: false,
-            symbols: codes,
-            hypotheses: &[],
-            asked: &[],
-            heads: &[],
-            places: &[],
-            groups: &[],
-        };
-        self.push(head, &parts)
     }
 
     /// Keeps the first `len` statements. It takes no memory.
@@ -249,7 +228,7 @@ fn add(
     ensures added { OnOk result (numbers.new.items ≡ numbers.old.items ++ run_of (has_parts parts.now) parts.now) }
     ensures groups { OnOk result (groups.new.items ≡ groups.old.items ++ parts.now.groups.now) }
     ensures last { OnOk result (records.new.items ≡ records.old.items ++ record_by head.kind (has_parts parts.now) parts.now.whole (length numbers.old.items) (length groups.old.items) ∷ []) }
-    ensures background { OnOk result (backgrounds.new.items ≡ backgrounds.old.items ++ background_of head ∷ []) }
+    ensures background { OnOk result (backgrounds.new.items ≡ backgrounds.old.items ++ head.before ∷ []) }
     ensures same { OnErr result (records.new.items ≡ records.old.items) }
     ensures more_backgrounds { Extends backgrounds.old.items backgrounds.new.items }
     ensures more { Extends numbers.old.items numbers.new.items }
@@ -260,14 +239,7 @@ fn add(
     let has_parts = parts.hypotheses.len() + parts.groups.len() > 0;
     append(groups, parts.groups)?;
     add_numbers(numbers, parts, has_parts)?;
-    append(
-        backgrounds,
-        &[Background {
-            label: head.label,
-            names: head.names,
-            links: head.links,
-        }],
-    )?;
+    append(backgrounds, &[head.before])?;
     append(
         records,
         &[StatementRecord {

@@ -2,13 +2,12 @@
 //!
 //! `Entries` is seen as a list of statements, each with plain lists for its parts; inside, the parts of all stand in a few
 //! buffers. The crate above says which names the numbers stand for. Reading order: `kind`, `links`, `head`, `buffer_part`,
-//! `groups`, `cited_parts`, `parts`, `entry_ref`; `layout`, `statement_record`, `entries`.
+//! `groups`, `cited_parts`, `parts`; `layout`, `statement_record`, `entries`.
 #![tactic(auto)]
 
 pub mod buffer_part;
 mod cited_parts;
 mod entries;
-mod entry_ref;
 mod groups;
 mod head;
 mod kind;
@@ -20,9 +19,8 @@ mod statement_record;
 pub use buffer_part::BufferPart;
 pub use cited_parts::{Cited, Hypotheses, Hypothesis, NO_HEAD, number_of};
 pub use entries::Entries;
-pub use entry_ref::EntryRef;
 pub use groups::Groups;
-pub use head::Head;
+pub use head::{Background, EntryRef, Head};
 pub use kind::Kind;
 pub use links::Links;
 pub use parts::AssertionParts;

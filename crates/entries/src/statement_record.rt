@@ -1,7 +1,6 @@
 //! How a statement is kept.
 
 use crate::kind::Kind;
-use crate::links::Links;
 
 /// What is looked at first of a statement: its kind, and where its numbers and its groups begin. They end where those of
 /// the next statement begin.
@@ -15,12 +14,4 @@ pub struct StatementRecord {
     pub has_parts: bool,
     /// Whether its parts are whole.
     pub whole: bool,
-}
-
-/// What was there before a statement, as its head has it.
-#[derive(Clone, Copy, Drop)]
-pub struct Background {
-    pub label: u32,
-    pub names: u32,
-    pub links: Links,
 }

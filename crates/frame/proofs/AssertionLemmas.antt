@@ -1,6 +1,6 @@
 -- A statement is kept with what was found, and stays so when more is put behind it.
-use Rattle.frame.proofs.Words.{sym, ◌∙◌, ap, subst, arith, inl, inr, ◌≡◌, ℕ, ◌-◌, ◌≤◌, Bool, true, false, List, [], ◌∷◌, ◌++◌, length, map, filter, take, slice_get, Some, refl, take-append_seam, take-map, take_all}
-use Rattle.frame.proofs.Words.{Name, Stmt, Expr, Database, active, expr_of, is_essential, name_at, decode, hypotheses, is_hypothesis, actives, is_disj, is_hypothesis_kind, head_of, Kind, Float, Ess, Entry, Assertion, take-get, stmt_by, stmt_of, In, AreHypotheses, AreParts, is_hypothesis_entry, AreFloats, AreCollected, IsKeptAs, kept_with, is_float_in, floats_in, variable_at, option_variable, asked_at, option_asked, head_at, symbols_at, option_symbols, groups_by}
+use Rattle.frame.proofs.Words.{Result, Ok, Err, OnOk, sym, ◌∙◌, ap, subst, arith, inl, inr, ◌≡◌, ℕ, ◌-◌, ◌≤◌, Bool, true, false, List, [], ◌∷◌, ◌++◌, length, map, filter, take, slice_get, Some, refl, take-append_seam, take-map, take_all}
+use Rattle.frame.proofs.Words.{Name, Stmt, Expr, Database, active, expr_of, is_essential, name_at, decode, hypotheses, is_hypothesis, actives, is_disj, is_hypothesis_kind, head_of, Kind, Float, Ess, Entry, Assertion, take-get, stmt_by, stmt_of, In, AreHypotheses, IsSpread, is_hypothesis_entry, IsDraftOf, IsKeptAs, IsKeptOf, Stock, length-map, kept_with, is_float_in, floats_in, asked_at, option_asked, head_at, symbols_at, option_symbols, groups_by}
 use Rattle.std.proofs.lemmas.Simd.{map-map}
 use Rattle.mm_read.specs.declared.stmt.Stmt.TheVariants as stmt
 use Rattle.frame.proofs.ActivePositions.{active-members}
@@ -72,8 +72,7 @@ kept-moved names labels es fs i s d same k = record {
   hypotheses_kept = k.hypotheses_kept;
   asked_kept = k.asked_kept ∙ alike (asked_at es) (asked_at fs) d.hypotheses (λ p j. ap (option_asked p) (agree p j));
   heads_kept = k.heads_kept ∙ alike (head_at es) (head_at fs) d.hypotheses (λ p j. ap (λ o. head_of (option_symbols o)) (agree p j));
-  groups_kept = λ w. k.groups_kept w ∙ (ap (groups_by (map (variable_at es) d.hypotheses)) symbols
-      ∙ ap (λ vs. groups_by vs (map (λ q. symbols_at fs q.0) (actives is_disj T))) (alike (variable_at es) (variable_at fs) d.hypotheses (λ p j. ap option_variable (agree p j))));
+  groups_kept = λ w. k.groups_kept w ∙ ap (groups_by d.asked) symbols;
   own_kept = k.own_kept;
 }
   where
@@ -105,17 +104,23 @@ kept-more names labels es more s d k =
     subst (λ T. IsKeptAs (es ++ more) T s d) all
     (kept-moved names labels es (es ++ more) (length es) s d (take_all (length es) es (omega arith) ∙ sym (take-append_seam es more)) (subst (λ T. IsKeptAs es T s d) (sym all) k))
 
--- what was made of the symbols of s is what s is kept as
-pub parts-kept : (es : List Entry) (S : Database) (s : Stmt) (codes : List ℕ) (d : Assertion) → ((list : List ℕ) → AreCollected es S codes list → list ≡ hypotheses S s) → ((list : List ℕ) → AreFloats es S codes list → list ≡ floats_in S (expr_of s))
-    → (is_essential s ≡ true → d.whole ≡ false) → AreParts es S codes d → IsKeptAs es S s d
-parts-kept es S s codes d all own partial p = record {
-  hypotheses_kept = by d.whole refl;
+-- what is said of all mandatory hypotheses of s, and their groups, is what s is kept as
+pub spread-kept : (es : List Entry) (S : Database) (s : Stmt) (ps : List ℕ) (d : Assertion) → ps ≡ hypotheses S s → (is_essential s ≡ true → ⊥) → IsSpread es S ps d → IsKeptAs es S s d
+spread-kept es S s ps d all other p = record {
+  hypotheses_kept = p.same ∙ (all ∙ ap (λ b. kept_with b S s) (sym p.is_whole));
   asked_kept = p.described.asked_made;
   heads_kept = p.described.heads_made;
   groups_kept = p.described.groups_made;
-  own_kept = partial;
+  own_kept = λ e. absurd (other e);
 }
-  where
-    by : (b : Bool) → d.whole ≡ b → d.hypotheses ≡ kept_with b S s
-    by true w = all d.hypotheses (p.whole_found w)
-    by false w = own d.hypotheses (p.own_found w)
+
+pub drafted-of : (k : Stock) (s : Stmt) (d : Assertion) → IsKeptOf k s d → IsDraftOf k s d
+drafted-of k s d p = record {
+  paired = ap length p.asked_kept ∙ length-map d.hypotheses (asked_at k.entries);
+  headed = ap length p.heads_kept ∙ length-map d.hypotheses (head_at k.entries);
+  kept = λ has. p;
+}
+
+pub ok-both : {T E : Type 0} (r : Result T E) {P Q R : Type 0} → (P → Q → R) → OnOk r P → OnOk r Q → OnOk r R
+ok-both (Ok x) f p q = f p q
+ok-both (Err e) f p q = tt

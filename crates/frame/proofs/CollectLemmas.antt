@@ -1,11 +1,10 @@
 -- Collecting positions: the loops' steps.
-use Rattle.frame.proofs.Words.{◌||◌, sym, ◌∙◌, ap, subst, arith, inl, inr, ⊎_elim, true≢false, cond, false, nat_cmp, ◌≡◌, ℕ, suc, ◌+◌, ◌-◌, ◌<◌, ◌≤◌, Bool, true, ◌⊎◌, List, [], ◌∷◌, ◌++◌, length, map, get_or, slice_get, eqb, Option, Some, refl, ⊎_map, and_parts, or_left, length-map, Contains, dedup, slice_get_within, slice_get_read, get_or_from_slice_get, same_Some}
+use Rattle.frame.proofs.Words.{◌||◌, ◌==◌, list_any, list_any-append, or_cases, sym, ◌∙◌, ap, subst, arith, inl, inr, ⊎_elim, true≢false, cond, false, nat_cmp, ◌≡◌, ℕ, suc, ◌+◌, ◌-◌, ◌<◌, ◌≤◌, Bool, true, ◌⊎◌, List, [], ◌∷◌, ◌++◌, length, map, get_or, slice_get, eqb, Some, refl, ⊎_map, and_parts, or_left, length-map, Contains, dedup, slice_get_within, slice_get_read, get_or_from_slice_get}
 use Rattle.frame.proofs.Words.{is_active, Stock, Database, Name, Kind, Float, Var, Entry, In, Ascends, AreThose, HasMore, OfSome, IsFloatOf, AreLooked, AreFloats, AreWith, AreCollected, floats, last_where, stmt_by, stmt_of, is_float_kind, is_var_kind, names_in, labels_in, statements_of, IsPlain}
 use Rattle.std.proofs.lemmas.List.Kept.{Contains-dedup_nat, Contains-from_dedup}
 use Rattle.std.proofs.lemmas.List.Sorted.{Contains-permutation, IsPermutation-sym}
 use Rattle.std.proofs.lemmas.Map.Keys.{IsStrictlyIncreasing-dedup}
 use Rattle.std.specs.List.Sorted.{IsPermutation, IsSorted, IsStrictlyIncreasing}
-use Rattle.frame.proofs.NumberMarkLemmas.{IsNewPlace, place-push}
 use Rattle.frame.proofs.AscendingLists.{in-place, place-in, above-less}
 use Rattle.frame.proofs.StoredReading.{get-stmt}
 use Rattle.frame.proofs.ActivePositions.{last-some}
@@ -114,12 +113,12 @@ float-more k c q at list new b last some size stands is =
     by false h = record { stays = λ p i. i; all = λ p f. absurd (true≢false (sym f.stands ∙ (ap (λ n. is_active (statements_of k) n (length (statements_of k) + 1)) (f.last ∙ sym last) ∙ h))); only = λ p i. inl i }
 
 -- what was looked at before, and one symbol more
-pub looked-more : (es : List Entry) (S : Database) (looked : List (Option ℕ)) (c : ℕ) (old new : List ℕ) → HasMore (IsFloatOf es S c) old new → AreLooked es S looked old → AreLooked es S (looked ++ Some c ∷ []) new
-looked-more es S looked c old new more there d k p h f = by (place-push 0 looked (Some c) d k h)
-  where
-    by : IsNewPlace 0 looked (Some c) d k → In p new
-    by (inl q) = more.stays p (there d k p q f)
-    by (inr q) = let same : c ≡ d = same_Some _ _ q.1 in more.all p (subst (λ x. IsFloatOf es S x p) (sym same) f)
+pub looked-more : (es : List Entry) (S : Database) (looked : List ℕ) (c : ℕ) (old new : List ℕ) → HasMore (IsFloatOf es S c) old new → AreLooked es S looked old → AreLooked es S (looked ++ c ∷ []) new
+looked-more es S looked c old new more there d p h f =
+    elim (or_cases (list_any (λ n. n == d) looked) (c == d || false) (sym (list_any-append (λ n. n == d) looked (c ∷ [])) ∙ h)) [
+      | inl q ↦ more.stays p (there d p q f)
+      | inr q ↦ let same : c ≡ d = grind (arith, q) in more.all p (subst (λ x. IsFloatOf es S x p) (sym same) f)
+    ]
 
 -- ---- what is found of each element of a list, one after another
 

@@ -1,6 +1,6 @@
 -- A statement entered with its label stands for itself, and what was done to the storage for it.
-use Rattle.frame.proofs.Words.{sym, ◌∙◌, ap, subst, arith, length-append, inl, inr, ◌≡◌, ℕ, List, [], ◌∷◌, ◌++◌, length, take, slice_get, Option, Some, Result, Ok, Err, OnOk, Bool, true, refl, ◌+◌, ◌<◌, ◌⊎◌, map, length-map, take-append-le, map_push, same_Some, take-append_seam}
-use Rattle.frame.proofs.Words.{name_at-last, Name, Stmt, Database, bare, label_of, expr_of, is_assertion, is_essential, stays_open, declared_with, IsNotedBy, IsLegal, name_at, decode, with_names, symbols_by, symbols_in, symbols_of, symbols_after, labels_of, option_list, AreNumbers, AreVariableNumbers, AreNoted, IsNumberingOf, numbering-after, noted-after, symbols_of-append, labels_of-append, AreBelow, Assertion, Entry, made, Kind, Ess, Stock, names_in, labels_in, stmt_by, stmt_of, statements_of, option_position, ReadsAs, replaced_by, symbol_of, positions_from, AreAllLegal, AreStored, IsNext, IsKeptOf, AreKept, floats_in, kept_with, has_parts, IsKeptAs, is_label_kind, kind_of, IsLabelBelow, HasTwo, Grown, HasRoom, with_declared, AreNumbered, with_entry, KeepsCounts, Links, Symbol, links_of, naming_of, get-last, Extends, get-push, extends-length}
+use Rattle.frame.proofs.Words.{sym, ◌∙◌, ap, subst, arith, length-append, inl, inr, ◌≡◌, ℕ, List, [], ◌∷◌, ◌++◌, length, take, slice_get, Option, Some, true, refl, ◌+◌, ◌<◌, ◌⊎◌, map, length-map, take-append-le, map_push, same_Some, take-append_seam}
+use Rattle.frame.proofs.Words.{name_at-last, Name, Stmt, Database, bare, label_of, expr_of, is_assertion, is_essential, stays_open, declared_with, IsNotedBy, IsLegal, name_at, decode, with_names, symbols_by, symbols_in, symbols_of, symbols_after, labels_of, option_list, AreNumbers, AreVariableNumbers, AreNoted, IsNumberingOf, numbering-after, noted-after, symbols_of-append, labels_of-append, AreBelow, Assertion, Entry, made, Kind, Ess, Stock, names_in, labels_in, stmt_by, stmt_of, statements_of, option_position, ReadsAs, replaced_by, symbol_of, positions_from, AreAllLegal, AreStored, IsKeptOf, AreKept, floats_in, kept_with, has_parts, IsKeptAs, is_label_kind, kind_of, IsLabelBelow, HasTwo, Grown, HasRoom, with_declared, AreNumbered, with_entry, KeepsCounts, Links, Symbol, links_of, naming_of, get-last, Extends, get-push, extends-length}
 use Rattle.scope.proofs.BareLemmas.{bare-same, symbols_by-bare, declared_with-bare, legal-bare}
 use Rattle.entries.specs.declared.head.Head.{Head}
 use Rattle.frame.specs.Stored.Whole.{IsHead}
@@ -11,10 +11,6 @@ use Rattle.frame.proofs.DeclareLemmas.{symbol_of-push, replaced_of-push}
 use Rattle.frame.proofs.AssertionLemmas.{kept-more, kept-moved}
 use Rattle.frame.proofs.LabelLemmas.{label-below-at}
 use Rattle.mm_read.specs.declared.stmt.Stmt.TheVariants as stmt
-
-pub ok-given : {T E : Type 0} (r : Result T E) (A P D Q R : Type 0) → (P → D → (A → Q) → R) → OnOk r P → OnOk r D → (A → OnOk r Q) → OnOk r R
-ok-given (Ok x) A P D Q R f p d q = f p d q
-ok-given (Err e) A P D Q R f p d q = tt
 
 -- ---- a statement by its kind, its label and its symbols
 
@@ -43,12 +39,16 @@ pub kind_of-bare : (s : Stmt) → kind_of (bare s) ≡ kind_of s
 kind_of-bare s = bare-same kind_of (λ l e p. refl) s
 
 -- the numbers are those of the expression, where the statement is an assertion or a `$e`
-pub next-bare : (k : Stock) (is_own : Bool) (codes : List ℕ) (s : Stmt) → (is_essential s ≡ true → is_own ≡ true) → has_parts (kind_of s) ≡ true → AreNumbers (with_names (names_in k) (symbols_by s)) (symbols_in s) codes
-    → AreBelow (length (names_in k)) codes × IsNext k is_own codes (bare s)
-next-bare k w codes (stmt.Axiom label expr) l a n = (codes-below (names_in k) codes n.0, record { own = l; stand = n.1 })
-next-bare k w codes (stmt.Prove label expr proof) l a n = (codes-below (names_in k) codes n.0, record { own = l; stand = n.1 })
-next-bare k w codes (stmt.Ess label expr) l a n = (codes-below (names_in k) codes n.0, record { own = l; stand = n.1 })
-next-bare k w codes s l a n = cc
+pub next-bare : (k : Stock) (codes : List ℕ) (s : Stmt) → has_parts (kind_of s) ≡ true → AreNumbers (with_names (names_in k) (symbols_by s)) (symbols_in s) codes
+    → AreBelow (length (names_in k)) codes × (decode (names_in k) codes ≡ expr_of (bare s))
+next-bare k codes (stmt.Axiom label expr) a n = (codes-below (names_in k) codes n.0, n.1)
+next-bare k codes (stmt.Prove label expr proof) a n = (codes-below (names_in k) codes n.0, n.1)
+next-bare k codes (stmt.Ess label expr) a n = (codes-below (names_in k) codes n.0, n.1)
+next-bare k codes s a n = cc
+
+pub essential-bare : (s : Stmt) → is_essential (bare s) ≡ is_essential s
+essential-bare (stmt.Prove label expr proof) = refl
+essential-bare s = refl
 
 -- what was declared of a statement, and what was noted of it before and after
 pub record IsEntered (old new : Stock) (s : Stmt) (h : Head) (before after : Option (List ℕ)) : Type 0 where
@@ -88,7 +88,7 @@ module _ (old new : Stock) (s : Stmt) (h : Head) (before after : Option (List �
   pub entered-below : AreBelow (length (names_in new)) codes
   entered-below = codes-below (names_in new) codes numbers.0
 
-  pub entered-label : IsLabelBelow h.kind h.label (length (labels_in new))
+  pub entered-label : IsLabelBelow h.kind h.before.label (length (labels_in new))
   entered-label = rw (kind, e.head.label, labels) (label-below s (labels_in old))
 
   pub entered-two : HasTwo h.kind codes

@@ -1,6 +1,6 @@
--- Names told apart, places of numbers, and statements by their kinds.
-use Rattle.frame.proofs.Words.{is_some, list_any, ◌&&◌, is_float_kind, second_is, sym, ◌∙◌, ap, subst, arith, take-take, ◌≡◌, ℕ, zero, suc, ◌+◌, ◌-◌, ◌<◌, Bool, true, false, cond, ◌||◌, List, [], ◌∷◌, length, map, take, slice_get, Option, Some, None, option_map, refl, same_Some, slice_get-map}
-use Rattle.frame.proofs.Words.{Name, Stmt, Database, expr_of, is_assertion, IsLegal, name_at, decode, AreDistinct, is_hypothesis, AreBelow, head_of, IsHead, IsOf, Kind, Float, Ess, Axiom, Prove, Entry, stmt_by, AreNumbered, HasTwo, variable_by, asked_by, is_code, place_from, take-get, code-at}
+-- Names told apart, and statements by their kinds.
+use Rattle.frame.proofs.Words.{◌&&◌, is_float_kind, second_is, sym, ◌∙◌, ap, subst, arith, take-take, ◌≡◌, ℕ, zero, suc, ◌-◌, ◌<◌, true, List, [], ◌∷◌, length, map, take, slice_get, Option, Some, option_map, refl, same_Some, slice_get-map}
+use Rattle.frame.proofs.Words.{Name, Stmt, Database, expr_of, is_assertion, IsLegal, name_at, decode, AreDistinct, is_hypothesis, AreBelow, head_of, IsHead, IsOf, Kind, Float, Ess, Axiom, Prove, Entry, stmt_by, AreNumbered, HasTwo, is_typed_by, asked_by, take-get, code-at}
 use Rattle.frame.proofs.LegalLabels.{AllKept}
 
 -- ---- lists
@@ -40,39 +40,14 @@ decode-injective names (x ∷ a) (y ∷ b) d p q e =
     let tails : decode names a ≡ decode names b = cc in
     ap (λ z. z ∷ a) (name_at-injective names x y d p.0 q.0 heads) ∙ ap (λ r. y ∷ r) (decode-injective names a b d p.1 q.1 tails)
 
--- ---- places
-
-pub is_code-same : (c : ℕ) (v : Option ℕ) → is_code c v ≡ true → v ≡ Some c
-is_code-same c None h = cc
-is_code-same c (Some x) h = let e : c ≡ x = grind (arith, h) in ap Some (sym e)
-
--- a number stands at its place
-pub place-stands : (k : ℕ) (vs : List (Option ℕ)) (c r : ℕ) → place_from k vs c ≡ Some r → (i : ℕ) × (r ≡ k + i) × (slice_get vs i ≡ Some (Some c))
-place-stands k [] c r h = cc
-place-stands k (v ∷ vs) c r h = by (is_code c v) refl (place-stands (k + 1) vs c r) h
-  where
-    by : (b : Bool) → is_code c v ≡ b → (place_from (k + 1) vs c ≡ Some r → (i : ℕ) × (r ≡ k + 1 + i) × (slice_get vs i ≡ Some (Some c))) → cond b (Some k) (place_from (k + 1) vs c) ≡ Some r
-        → (i : ℕ) × (r ≡ k + i) × (slice_get (v ∷ vs) i ≡ Some (Some c))
-    by true e more q = let same : k ≡ r = cc in (0, omega (arith, same), ap Some (is_code-same c v e))
-    by false e more q = let m = more q in let n = m.0 in let at = m.1 in (suc n, omega (arith, at), m.2)
-
--- a number has a place just where some place has it
-pub placed-any : (k : ℕ) (vs : List (Option ℕ)) (c : ℕ) → is_some (place_from k vs c) ≡ list_any (is_code c) vs
-placed-any k [] c = refl
-placed-any k (v ∷ vs) c = by (is_code c v) (placed-any (k + 1) vs c)
-  where
-    by : (t : Bool) → is_some (place_from (k + 1) vs c) ≡ list_any (is_code c) vs → is_some (cond t (Some k) (place_from (k + 1) vs c)) ≡ (t || list_any (is_code c) vs)
-    by true more = refl
-    by false more = more
-
 -- ---- statements by their kinds
 
 -- the variable of a `$f` is the symbol that it types
-pub code-floats : (c : ℕ) (kind : Kind) (codes : List ℕ) → is_code c (variable_by kind codes) ≡ (is_float_kind kind && second_is c codes)
-code-floats c Float [] = refl
-code-floats c Float (x ∷ []) = refl
-code-floats c Float (x ∷ y ∷ codes) = refl
-code-floats c kind codes = refl
+pub code-floats : (c p : ℕ) (kind : Kind) (codes : List ℕ) → HasTwo kind codes → is_typed_by c (asked_by p kind codes) ≡ (is_float_kind kind && second_is c codes)
+code-floats c p Float [] two = absurd (omega (arith, two))
+code-floats c p Float (x ∷ []) two = absurd (omega (arith, two))
+code-floats c p Float (x ∷ y ∷ codes) two = refl
+code-floats c p kind codes two = refl
 
 pub numbered-at : (n m : ℕ) (es : List Entry) (k : ℕ) (e : Entry) → AreNumbered n m es → slice_get es k ≡ Some e → AreBelow n e.symbols × HasTwo e.kind e.symbols
 numbered-at n m [] k e a h = cc

@@ -1,6 +1,7 @@
 -- The mandatory hypotheses of an assertion that keeps its own `$f` alone: with those of the `$e` that are active there.
-use Rattle.frame.proofs.Words.{sym, ◌∙◌, ap, subst, ◌≡◌, ℕ, ◌-◌, Bool, true, false, List, take, Option, Some, None, IfSome, Stmt, Database, is_assertion, hypotheses, AreListsOf, Stock, Entry, Assertion, names_in, labels_in, statements_of, AreStored, IsSpread, AreWith, kept_with}
+use Rattle.frame.proofs.Words.{◌∙◌, ap, subst, ◌≡◌, ℕ, ◌-◌, Bool, true, false, List, take, Option, Some, None, IfSome, Stmt, Database, is_assertion, hypotheses, AreListsOf, Stock, Entry, Assertion, names_in, labels_in, statements_of, AreStored, IsSpread, AreWith, kept_with}
 use Rattle.frame.proofs.EnterLemmas.{essentials-kept, not-essential}
+use Rattle.frame.proofs.AssertionLemmas.{spread-kept}
 use Rattle.frame.proofs.CitedLemmas.{IsThere, there-lists}
 use Rattle.frame.proofs.CollectedLemmas.{gathered-hypotheses}
 
@@ -27,11 +28,4 @@ module _ (k : Stock) (a i : ℕ) (s : Stmt) (e : Entry) (stored : AreStored k) (
   -- what is said of its hypotheses, and its groups
   pub spread-lists : (ps : List ℕ) (d : Assertion) → IsSpread k.entries T ps d → ps ≡ hypotheses T s → AreListsOf (statements_of k) (names_in k) a d s
   spread-lists ps d p h =
-      there-lists k a i s e d stored asserts t
-      (record {
-        hypotheses_kept = p.same ∙ (h ∙ ap (λ b. kept_with b T s) (sym p.is_whole));
-        asked_kept = p.described.asked_made;
-        heads_kept = p.described.heads_made;
-        groups_kept = p.described.groups_made;
-        own_kept = λ x. absurd (not-essential s asserts x);
-      }) p.is_whole
+      there-lists k a i s e d stored asserts t (spread-kept k.entries T s ps d h (not-essential s asserts) p) p.is_whole

@@ -1,6 +1,6 @@
 -- A statement that is kept by numbers says what the statement says.
-use Rattle.frame.proofs.Words.{In, floats, is_code, option_variable, list_any, list_any-map, sym, ◌∙◌, ap, subst, arith, append_assoc, length-append, ◌≡◌, ℕ, suc, ◌+◌, ◌-◌, ◌<◌, ◌≤◌, Bool, true, false, cond, List, [], ◌∷◌, ◌++◌, length, map, filter, slice_get, Option, Some, None, refl}
-use Rattle.frame.proofs.Words.{Name, Stmt, Database, stmt_at, before, stays_open, active_from, expr_of, separated, is_assertion, IsLegal, name_at, decode, AreDistinct, is_mandatory, is_hypothesis, hypotheses, separates, AreBelow, AllBelow, head_of, IsHead, IsOf, IsAsked, AreAsked, AreListsOf, IsCited, Cited, Kind, Disj, Entry, Assertion, actives, actives_from, is_disj, stmt_by, stmt_of, AreAllLegal, AreNumbered, HasTwo, variable_at, is_placed, placed, symbols_at, option_symbols, has_two, groups_by, head_at, asked_by, option_asked, asked_at, kept_with, IsKeptAs, take-get}
+use Rattle.frame.proofs.Words.{In, floats, is_typed_by, list_any, list_any-map, sym, ◌∙◌, ap, subst, arith, append_assoc, length-append, ◌≡◌, ℕ, suc, ◌+◌, ◌-◌, ◌<◌, ◌≤◌, Bool, true, false, cond, List, [], ◌∷◌, ◌++◌, length, map, filter, slice_get, Option, Some, None, refl}
+use Rattle.frame.proofs.Words.{Name, Stmt, Database, stmt_at, before, stays_open, active_from, expr_of, separated, is_assertion, IsLegal, name_at, decode, AreDistinct, is_mandatory, is_hypothesis, hypotheses, separates, AreBelow, AllBelow, head_of, IsHead, IsOf, IsAsked, AreAsked, AreListsOf, IsCited, Cited, Kind, Disj, Entry, Assertion, actives, actives_from, is_disj, stmt_by, stmt_of, AreAllLegal, AreNumbered, HasTwo, is_typed, typed, symbols_at, option_symbols, has_two, groups_by, head_at, asked_by, option_asked, asked_at, kept_with, IsKeptAs, take-get}
 use Rattle.frame.proofs.LegalBehind.{stands-at}
 use Rattle.frame.proofs.LegalLabels.{AllKept}
 use Rattle.frame.proofs.VariablePlaceLemmas.{any-in, in-any, mandatory-float}
@@ -8,7 +8,8 @@ use Rattle.frame.proofs.ActivePositions.{active-members}
 use Rattle.frame.proofs.NamedCodes.{floats-is, is-floats}
 use Rattle.mm_read.specs.declared.stmt.Stmt.TheVariants.{Float}
 use Rattle.std.specs.Cmp.{both_ways}
-use Rattle.frame.proofs.FoundByNumber.{map-back, map-at, kept-front, placed-any, code-floats, numbered-at, asked-kind}
+use Rattle.entries.specs.declared.cited_parts.Hypothesis.{Hypothesis}
+use Rattle.frame.proofs.FoundByNumber.{map-back, map-at, kept-front, code-floats, numbered-at, asked-kind}
 use Rattle.frame.proofs.PlacedHypotheses.{IsHyp, AreHyps, hyps}
 
 -- ---- the assertion
@@ -26,8 +27,8 @@ module _ (es : List Entry) (names labels : List Name) (m a : ℕ) (e : Entry) (d
   abbrev own : Stmt
   own = stmt_of names labels e
 
-  abbrev places : List (Option ℕ)
-  places = map (variable_at es) d.hypotheses
+  abbrev places : List Hypothesis
+  places = d.asked
 
   front-legal : AllKept front_of
   front-legal = kept-front all (a - 1) legal
@@ -90,35 +91,35 @@ module _ (es : List Entry) (names labels : List Name) (m a : ℕ) (e : Entry) (d
 
   -- ---- groups
 
-  -- a number has a place just where its name is mandatory
-  mandatory-is : (c : ℕ) → c < length names → is_placed places c ≡ is_mandatory front_of own (name_at names c)
+  -- a number is that of a `$f` just where its name is mandatory
+  mandatory-is : (c : ℕ) → c < length names → is_typed places c ≡ is_mandatory front_of own (name_at names c)
   mandatory-is c low =
-      placed-any 0 places c ∙ (sym (list_any-map (variable_at es) (is_code c) d.hypotheses)
-      ∙ both_ways (list_any (λ p. is_code c (variable_at es p)) d.hypotheses) (is_mandatory front_of own (name_at names c)) there back)
+      ap (list_any (is_typed_by c)) kept.asked_kept ∙ (sym (list_any-map (asked_at es) (is_typed_by c) d.hypotheses)
+      ∙ both_ways (list_any (λ p. is_typed_by c (asked_at es p)) d.hypotheses) (is_mandatory front_of own (name_at names c)) there back)
     where
-      there : list_any (λ p. is_code c (variable_at es p)) d.hypotheses ≡ true → is_mandatory front_of own (name_at names c) ≡ true
+      there : list_any (λ p. is_typed_by c (asked_at es p)) d.hypotheses ≡ true → is_mandatory front_of own (name_at names c) ≡ true
       there h =
-          let r = any-in (λ p. is_code c (variable_at es p)) d.hypotheses h in
+          let r = any-in (λ p. is_typed_by c (asked_at es p)) d.hypotheses h in
           let a = active-members front_of (is_hypothesis front_of own) r.0 [] front_of 1 refl refl (subst (In r.0) hyps-are r.1) in
           let x = entry-at r.0 a.front a.stmt a.rest a.whole a.at in
-          let passes : floats c x.entry ≡ true = sym (code-floats c x.entry.kind x.entry.symbols) ∙ (ap (λ o. is_code c (option_variable o)) (sym x.found) ∙ r.2) in
+          let passes : floats c x.entry ≡ true = sym (code-floats c r.0 x.entry.kind x.entry.symbols x.two) ∙ (ap (λ o. is_typed_by c (option_asked r.0 o)) (sym x.found) ∙ r.2) in
           let y = floats-is names c x.entry (name_at labels x.entry.label) passes in
           ap (is_hypothesis front_of own) (sym (x.same ∙ y.1)) ∙ a.passes
 
-      back : is_mandatory front_of own (name_at names c) ≡ true → list_any (λ p. is_code c (variable_at es p)) d.hypotheses ≡ true
+      back : is_mandatory front_of own (name_at names c) ≡ true → list_any (λ p. is_typed_by c (asked_at es p)) d.hypotheses ≡ true
       back m =
           let f = mandatory-float front_of own (name_at names c) front-legal own-legal asserts m in
           let x = entry-at (suc (length f.front)) f.front (Float f.label f.constant (name_at names c)) f.rest f.whole refl in
-          in-any (λ p. is_code c (variable_at es p)) d.hypotheses (suc (length f.front)) (subst (In (suc (length f.front))) (sym hyps-are) f.listed)
-          (ap (λ o. is_code c (option_variable o)) x.found ∙ (code-floats c x.entry.kind x.entry.symbols
+          in-any (λ p. is_typed_by c (asked_at es p)) d.hypotheses (suc (length f.front)) (subst (In (suc (length f.front))) (sym hyps-are) f.listed)
+          (ap (λ o. is_typed_by c (option_asked (suc (length f.front)) o)) x.found ∙ (code-floats c (suc (length f.front)) x.entry.kind x.entry.symbols x.two
           ∙ is-floats names c x.entry (name_at labels x.entry.label) f.constant f.label distinct x.codes x.two low (sym x.same)))
 
-  placed-stands : (codes : List ℕ) → AreBelow (length names) codes → decode names (placed places codes) ≡ filter (is_mandatory front_of own) (decode names codes)
-  placed-stands [] b = refl
-  placed-stands (c ∷ codes) b = rw (mandatory-is c b.0) (by (is_mandatory front_of own (name_at names c)) (placed-stands codes b.1))
+  typed-stands : (codes : List ℕ) → AreBelow (length names) codes → decode names (typed places codes) ≡ filter (is_mandatory front_of own) (decode names codes)
+  typed-stands [] b = refl
+  typed-stands (c ∷ codes) b = rw (mandatory-is c b.0) (by (is_mandatory front_of own (name_at names c)) (typed-stands codes b.1))
     where
-      by : (t : Bool) → decode names (placed places codes) ≡ filter (is_mandatory front_of own) (decode names codes)
-          → decode names (cond t (c ∷ placed places codes) (placed places codes)) ≡ cond t (name_at names c ∷ filter (is_mandatory front_of own) (decode names codes)) (filter (is_mandatory front_of own) (decode names codes))
+      by : (t : Bool) → decode names (typed places codes) ≡ filter (is_mandatory front_of own) (decode names codes)
+          → decode names (cond t (c ∷ typed places codes) (typed places codes)) ≡ cond t (name_at names c ∷ filter (is_mandatory front_of own) (decode names codes)) (filter (is_mandatory front_of own) (decode names codes))
       by true more = ap (λ r. name_at names c ∷ r) more
       by false more = more
 
@@ -145,8 +146,8 @@ module _ (es : List Entry) (names labels : List Name) (m a : ℕ) (e : Entry) (d
 
       one_group : Rest → (k : Kind) → Fits (stmt_by k (name_at labels x.entry.label) (decode names x.entry.symbols))
       one_group more Disj =
-          rw (x.found, ← placed-stands x.entry.symbols x.codes, ← more)
-          (with-group (placed places x.entry.symbols) (groups_by places (map (λ q. symbols_at es q.0) (actives_from is_disj (n + 1) T))))
+          rw (x.found, ← typed-stands x.entry.symbols x.codes, ← more)
+          (with-group (typed places x.entry.symbols) (groups_by places (map (λ q. symbols_at es q.0) (actives_from is_disj (n + 1) T))))
       one_group more k = more
 
       by : Rest → (b : Bool)
@@ -162,21 +163,21 @@ module _ (es : List Entry) (names labels : List Name) (m a : ℕ) (e : Entry) (d
       by None h = tt
       by (Some x) h = (numbered-at (length names) m es (p - 1) x numbered h).0
 
-  placed-low : (codes : List ℕ) → AreBelow (length names) codes → AreBelow (length names) (placed places codes)
-  placed-low [] b = tt
-  placed-low (c ∷ codes) b = by (is_placed places c) (placed-low codes b.1)
+  typed-low : (codes : List ℕ) → AreBelow (length names) codes → AreBelow (length names) (typed places codes)
+  typed-low [] b = tt
+  typed-low (c ∷ codes) b = by (is_typed places c) (typed-low codes b.1)
     where
-      by : (t : Bool) → AreBelow (length names) (placed places codes) → AreBelow (length names) (cond t (c ∷ placed places codes) (placed places codes))
+      by : (t : Bool) → AreBelow (length names) (typed places codes) → AreBelow (length names) (cond t (c ∷ typed places codes) (typed places codes))
       by true more = (b.0, more)
       by false more = more
 
   groups-low : (qs : List (ℕ × Stmt)) → AllBelow (length names) (groups_by places (map (λ q. symbols_at es q.0) qs))
   groups-low [] = tt
-  groups-low (q ∷ qs) = by (has_two (placed places (symbols_at es q.0))) (groups-low qs)
+  groups-low (q ∷ qs) = by (has_two (typed places (symbols_at es q.0))) (groups-low qs)
     where
       by : (t : Bool) → AllBelow (length names) (groups_by places (map (λ r. symbols_at es r.0) qs))
-          → AllBelow (length names) (cond t (placed places (symbols_at es q.0) ∷ groups_by places (map (λ r. symbols_at es r.0) qs)) (groups_by places (map (λ r. symbols_at es r.0) qs)))
-      by true more = (placed-low (symbols_at es q.0) (symbols-low q.0), more)
+          → AllBelow (length names) (cond t (typed places (symbols_at es q.0) ∷ groups_by places (map (λ r. symbols_at es r.0) qs)) (groups_by places (map (λ r. symbols_at es r.0) qs)))
+      by true more = (typed-low (symbols_at es q.0) (symbols-low q.0), more)
       by false more = more
 
   -- ---- what is read of it

@@ -1,6 +1,5 @@
 pub mod Words
 pub mod MarkLemmas
-pub mod NumberMarkLemmas
 pub mod SymbolNumberLemmas
 pub mod OpenLemmas
 pub mod LinksLemmas

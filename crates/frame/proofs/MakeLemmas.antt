@@ -1,7 +1,8 @@
 -- Making the parts of an assertion: the loops' steps.
-use Rattle.frame.proofs.Words.{sym, ◌∙◌, ap, subst, arith, append_assoc, append-nil, ◌≡◌, ℕ, zero, suc, ◌+◌, ◌-◌, ◌<◌, ◌≤◌, Bool, true, false, cond, List, [], ◌∷◌, ◌++◌, length, map, filter, reverse, get_or, slice_range, Option, refl, filter-append, length-append, map-append, reverse-append, slice_get_within, Stmt, cut, AreSpansIn, range-behind, extends-refl, cut-more, cut-push, spans-push, Entry, placed, symbols_at, has_two, groups_by, AreHypotheses}
+use Rattle.frame.proofs.Words.{sym, ◌∙◌, ap, subst, arith, append_assoc, append-nil, ◌≡◌, ℕ, zero, suc, ◌+◌, ◌-◌, ◌<◌, ◌≤◌, Bool, true, false, cond, List, [], ◌∷◌, ◌++◌, length, map, filter, reverse, get_or, slice_range, refl, is_typed, noted_in, list_any, ◌==◌, filter-append, length-append, map-append, reverse-append, slice_get_within, Stmt, cut, AreSpansIn, range-behind, extends-refl, cut-more, cut-push, spans-push, Entry, typed, symbols_at, has_two, groups_by, AreHypotheses}
 use Rattle.indexmap.proofs.ReorderLemmas.{map-reverse}
 use Rattle.entries.specs.declared.buffer_part.BufferPart.{BufferPart}
+use Rattle.entries.specs.declared.cited_parts.Hypothesis.{Hypothesis}
 
 -- ---- the hypotheses, one by one
 
@@ -12,36 +13,48 @@ hypothesis-at es (p ∷ ps) (suc k) h l = hypothesis-at es ps k h.1 (omega (arit
 
 -- ---- the groups, from the last `$d` back
 
+-- those noted are those of the `$f`
+pub noted-typed : (ns : List ℕ) (hs : List Hypothesis) → ((c : ℕ) → list_any (λ n. n == c) ns ≡ is_typed hs c) → (codes : List ℕ) → noted_in ns codes ≡ typed hs codes
+noted-typed ns hs h [] = refl
+noted-typed ns hs h (c ∷ codes) = rw (h c, noted-typed ns hs h codes) refl
+
 has_two-len : {A : Type 0} (xs : List A) → 1 < length xs → has_two xs ≡ true
 has_two-len [] h = absurd (omega (arith, h))
 has_two-len (x ∷ []) h = absurd (omega (arith, h))
 has_two-len (x ∷ y ∷ xs) h = refl
 
 -- the groups found so far, the last one first, are those of the `$d` walked over
-abbrev pub AreGroups : List Entry → List (Option ℕ) → List (ℕ × Stmt) → List (ℕ × Stmt) → List (List ℕ) → Type 0
+abbrev pub AreGroups : List Entry → List Hypothesis → List (ℕ × Stmt) → List (ℕ × Stmt) → List (List ℕ) → Type 0
 AreGroups es vs all rest found = groups_by vs (map (λ q. symbols_at es q.0) all) ≡ groups_by vs (map (λ q. symbols_at es q.0) rest) ++ reverse found
 
-groups-append : (vs : List (Option ℕ)) (a b : List (List ℕ)) → groups_by vs (a ++ b) ≡ groups_by vs a ++ groups_by vs b
-groups-append vs a b = ap (filter has_two) (map-append (placed vs) a b) ∙ filter-append has_two (map (placed vs) a) (map (placed vs) b)
+groups-append : (vs : List Hypothesis) (a b : List (List ℕ)) → groups_by vs (a ++ b) ≡ groups_by vs a ++ groups_by vs b
+groups-append vs a b = ap (filter has_two) (map-append (typed vs) a b) ∙ filter-append has_two (map (typed vs) a) (map (typed vs) b)
 
-pub groups-step : (es : List Entry) (vs : List (Option ℕ)) (all rest before : List (ℕ × Stmt)) (p : ℕ) (s : Stmt) (found : List (List ℕ)) (codes : List ℕ) → rest ≡ before ++ (p, s) ∷ [] → symbols_at es p ≡ codes
-    → AreGroups es vs all rest found → AreGroups es vs all before (cond (has_two (placed vs codes)) (found ++ placed vs codes ∷ []) found)
+pub groups-step : (es : List Entry) (vs : List Hypothesis) (all rest before : List (ℕ × Stmt)) (p : ℕ) (s : Stmt) (found : List (List ℕ)) (codes : List ℕ) → rest ≡ before ++ (p, s) ∷ [] → symbols_at es p ≡ codes
+    → AreGroups es vs all rest found → AreGroups es vs all before (cond (has_two (typed vs codes)) (found ++ typed vs codes ∷ []) found)
 groups-step es vs all rest before p s found codes e is k =
     k ∙ rw (e, map-append (λ (q : ℕ × Stmt). symbols_at es q.0) before ((p, s) ∷ []), groups-append vs (map (λ q. symbols_at es q.0) before) (symbols_at es p ∷ []), append_assoc, is)
-    (ap (λ r. groups_by vs (map (λ q. symbols_at es q.0) before) ++ r) (last (has_two (placed vs codes))))
+    (ap (λ r. groups_by vs (map (λ q. symbols_at es q.0) before) ++ r) (last (has_two (typed vs codes))))
   where
-    last : (t : Bool) → cond t (placed vs codes ∷ []) [] ++ reverse found ≡ reverse (cond t (found ++ placed vs codes ∷ []) found)
-    last true = sym (reverse-append found (placed vs codes ∷ []))
+    last : (t : Bool) → cond t (typed vs codes ∷ []) [] ++ reverse found ≡ reverse (cond t (found ++ typed vs codes ∷ []) found)
+    last true = sym (reverse-append found (typed vs codes ∷ []))
     last false = refl
 
-pub groups-start : (es : List Entry) (vs : List (Option ℕ)) (all rest : List (ℕ × Stmt)) (found : List (List ℕ)) → found ≡ [] → rest ≡ all → AreGroups es vs all rest found
+pub groups-start : (es : List Entry) (vs : List Hypothesis) (all rest : List (ℕ × Stmt)) (found : List (List ℕ)) → found ≡ [] → rest ≡ all → AreGroups es vs all rest found
 groups-start es vs all rest found e same = rw (e, same) (sym (append-nil (groups_by vs (map (λ q. symbols_at es q.0) all))))
 
-pub groups-end : (es : List Entry) (vs : List (Option ℕ)) (all rest : List (ℕ × Stmt)) (places : List ℕ) (found new : List BufferPart) → AreGroups es vs all rest (cut places found) → rest ≡ [] → new ≡ reverse found
+pub groups-end : (es : List Entry) (vs : List Hypothesis) (all rest : List (ℕ × Stmt)) (places : List ℕ) (found new : List BufferPart) → AreGroups es vs all rest (cut places found) → rest ≡ [] → new ≡ reverse found
     → cut places new ≡ groups_by vs (map (λ q. symbols_at es q.0) all)
 groups-end es vs all rest places found new k z n = rw (k, z, n) (map-reverse (λ (s : BufferPart). slice_range places s.from s.to) found)
 
 -- ---- a group more
+
+spans-later : (n m : ℕ) (a : List BufferPart) → n ≤ m → AreSpansIn n a → AreSpansIn m a
+spans-later n m [] le h = tt
+spans-later n m (s ∷ a) le h = let k = h.0.1 in ((h.0.0, omega (arith, k, le)), spans-later n m a le h.1)
+
+pub spans-more : (places more new : List ℕ) (a : List BufferPart) → new ≡ places ++ more → AreSpansIn (length places) a → AreSpansIn (length new) a
+spans-more places more new a e h = let l = length-append places more in let m = ap length e in spans-later (length places) (length new) a (omega arith) h
 
 pub group-added : (places new : List ℕ) (a b : List BufferPart) (s : BufferPart) (group : List ℕ) → new ≡ places ++ group → s.from ≡ length places → s.to ≡ length new → s.from + 1 < s.to → AreSpansIn (length places) a
     → b ≡ a ++ s ∷ [] → (cut new b ≡ cond (has_two group) (cut places a ++ group ∷ []) (cut places a)) × AreSpansIn (length new) b

@@ -20,17 +20,15 @@ pub use Rattle.frame.specs.Disjoint.{are_apart}
 pub use Rattle.frame.specs.FrameOf.{HasAssertion, frame_of, groups, hypotheses, is_hypothesis, is_mandatory, is_pair, is_used, mandatory_groups, separates}
 pub use Rattle.frame.specs.Links.{actives, actives_from, is_disj, is_var, last_active, last_position, links_of}
 pub use Rattle.frame.specs.Parts.{FrameParts, Numbered}
-pub use Rattle.frame.specs.Stored.AssertionParts.{IsKeptAs, asked_at, asked_by, floats_in, groups_by, has_parts, has_two, head_at, is_float_in, is_placed, kept_with, option_asked, option_symbols, option_variable, placed, symbols_at, variable_at, variable_by}
+pub use Rattle.frame.specs.Stored.AssertionParts.{IsKeptAs, asked_at, asked_by, floats_in, groups_by, has_parts, has_two, head_at, is_float_in, is_typed, is_typed_by, kept_with, noted_in, option_asked, option_symbols, symbols_at, typed}
 pub use Rattle.frame.specs.Stored.Counts.{AreNumbered, AreZero, AreZeroBehind, Grown, HasRoom, HasTwo, IsBehind, IsLabelBelow, IsPlain, KeepsCounts, kind_of, next_links, with_declared, with_entry, zero_symbol}
-pub use Rattle.frame.specs.Stored.Drafts.{drafted}
 pub use Rattle.frame.specs.Stored.Ends.{AreBlocks, AreEnds, TellEnds, end_from, end_of, with_end}
 pub use Rattle.frame.specs.Stored.EntryMeanings.{AreAllLegal, ReadsAs, declared_by, declares, floats, is_float_kind, is_var_kind, labels_in, last_from, last_of, last_where, names_in, option_position, positions_from, replaced_behind, replaced_by, replaced_of, second_is, statements_of, stmt_by, stmt_of, symbol_of, with_last}
-pub use Rattle.frame.specs.Stored.Hypotheses.{AreAbove, AreCollected, AreDescribed, AreFloats, AreHypotheses, AreLooked, AreParts, AreThose, AreWith, Ascends, HasMore, In, IsFloatOf, IsGiven, IsSpread, IsWith, OfSome, SomeFloat, is_hypothesis_entry, kept_at, option_kept}
+pub use Rattle.frame.specs.Stored.Hypotheses.{AreAbove, AreCollected, AreDescribed, AreFloats, AreHypotheses, AreLooked, AreThose, AreWith, Ascends, HasMore, In, IsFloatOf, IsGiven, IsSpread, IsWith, OfSome, SomeFloat, is_hypothesis_entry, kept_at, option_kept}
 pub use Rattle.frame.specs.Stored.Labels.{is_label_kind}
 pub use Rattle.frame.specs.Stored.Naming.{is_declared, naming_from, naming_of}
-pub use Rattle.frame.specs.Stored.NumberPlaces.{AreMarked, is_code, place_from, place_of}
 pub use Rattle.frame.specs.Stored.OneFrame.{AreMandatory, among, asked, asks, groups_among, is_in_essential}
-pub use Rattle.frame.specs.Stored.Whole.{AreKept, AreStored, IsKeptOf, IsNext, parts_of}
+pub use Rattle.frame.specs.Stored.Whole.{AreKept, AreStored, IsDraftOf, IsKeptOf}
 pub use Rattle.frame.specs.declared.active_apart.TheConstants.{PLACES}
 pub use Rattle.frame.specs.declared.storage.Stock.{Stock}
 pub use Rattle.frame.specs.declared.storage.Symbol.{Symbol}

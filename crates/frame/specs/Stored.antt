@@ -5,9 +5,7 @@ pub mod Counts
 pub mod AssertionParts
 pub mod Hypotheses
 pub mod Labels
-pub mod Drafts
 pub mod OneFrame
-pub mod NumberPlaces
 pub mod Naming
 pub mod Ends
 pub mod Whole

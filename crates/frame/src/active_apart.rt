@@ -46,7 +46,7 @@ fn is_covered(pairs: &Pairs<'_>, left: &[u32], right: &[u32]) -> bool
         if covers(pairs, entry.symbols, &mut hints, left, right) {
             return true;
         }
-        last = entry.links.disjoint;
+        last = entry.before.links.disjoint;
     }
     false
 }

@@ -12,7 +12,7 @@ pub fn links_at(stock: &Stock, at: usize) -> Links
     ensures { result ≡ links_of (take (at - 1) (statements_of stock.now)) }
 {
     if at <= stock.entries.len() {
-        stock.entries.entry(at - 1).links
+        stock.entries.entry(at - 1).before.links
     } else {
         stock.links
     }

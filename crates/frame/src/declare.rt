@@ -181,7 +181,7 @@ pub fn take_away(stock: &mut Stock, len: usize)
             &stock.replaced[from..],
         );
         stock.replaced.truncate(from);
-        note_end(&mut stock.ends, entry.kind, entry.links.block, 0);
+        note_end(&mut stock.ends, entry.kind, entry.before.links.block, 0);
         stock.entries.truncate(last);
     }
 }

@@ -1,18 +1,18 @@
 //! One statement more in the storage, or none, or only the first ones.
 ghost use Rattle.std.specs.Prelude.{true, ◌≡◌, ◌++◌, ◌∷◌, [], Some, OnOk, OnErr, take, length, slice_get, ◌+◌, IfSome, IfErr};
-ghost use Rattle.{names.specs.Codes.with_names, scope.specs.Active.bare, scope.specs.Legal.IsLegal, scope.specs.Legal.broken_rule, scope.specs.Stored.Noted.AreNoted, scope.specs.Symbols.AreVariableNumbers, scope.specs.Symbols.symbols_after, scope.specs.Symbols.symbols_by, scope.specs.Symbols.symbols_in, scope.specs.Symbols.symbols_of, entries.specs.Entries.Entry, entries.specs.Entries.made, entries.specs.Stored.Spans.Extends, frame.specs.Stored.Whole.AreStored, frame.specs.Stored.Whole.parts_of, frame.specs.Stored.Counts.IsBehind, frame.specs.Stored.EntryMeanings.labels_in, frame.specs.Stored.EntryMeanings.names_in, frame.specs.Stored.EntryMeanings.statements_of, frame.specs.Stored.Drafts.IsDraft, frame.specs.Stored.AssertionParts.has_parts};
+ghost use Rattle.{names.specs.Codes.with_names, scope.specs.Active.bare, scope.specs.Legal.IsLegal, scope.specs.Legal.broken_rule, scope.specs.Stored.Noted.AreNoted, scope.specs.Symbols.AreVariableNumbers, scope.specs.Symbols.symbols_after, scope.specs.Symbols.symbols_by, scope.specs.Symbols.symbols_in, scope.specs.Symbols.symbols_of, entries.specs.Entries.Entry, entries.specs.Stored.Spans.Extends, frame.specs.Stored.Whole.AreStored, frame.specs.Stored.Counts.IsBehind, frame.specs.Stored.EntryMeanings.labels_in, frame.specs.Stored.EntryMeanings.names_in, frame.specs.Stored.EntryMeanings.statements_of};
 
 use crate::declare::{
     declare, declare_next, declared, links_after, note_end, note_replaced, take_away,
 };
-use crate::draft::Draft;
 use crate::frames::Frames;
+use crate::gathered::Gathered;
 use crate::make::enter_parts;
-use crate::shape::{has_parts, kind};
+use crate::shape::kind;
 use crate::storage::Stock;
 use crate::symbol_numbers::find_numbers;
 use entries::buffer_part::place;
-use entries::{Entries, Head};
+use entries::{Background, Head};
 use mm_read::Stmt;
 use scope::{Noted, Rule, Rules, Scope, Steps};
 use std::alloc::{AllocError, Global};
@@ -22,7 +22,7 @@ use std::alloc::{AllocError, Global};
 fn extend(
     alloc: Global,
     stock: &mut Stock,
-    draft: &mut Draft,
+    draft: &mut Gathered,
     stmt: &Stmt,
     noted: &mut Noted,
 ) -> Result<(), AllocError>
@@ -39,9 +39,11 @@ fn extend(
     let links = links_after(stock, kind);
     let head = Head {
         kind,
-        label: place(stock.numbering.label_count())?,
-        names: stock.numbering.symbol_count() as u32,
-        links: stock.links,
+        before: Background {
+            label: place(stock.numbering.label_count())?,
+            names: stock.numbering.symbol_count() as u32,
+            links: stock.links,
+        },
     };
     find_numbers(&stock.numbering, stmt, noted);
     enter_parts(stock, draft, stmt, noted)?;
@@ -52,30 +54,11 @@ fn extend(
     let declared = declared(kind, codes);
     note_replaced(&stock.symbols, kind, declared, &mut stock.replaced)?;
     stock.ends.push(0)?;
-    push_entry(&mut stock.entries, head, codes, draft)?;
+    stock.entries.push(head, &draft.parts(codes))?;
     declare(&mut stock.symbols, kind, declared, at);
     note_end(&mut stock.ends, kind, stock.links.block, at as u32);
     stock.links = links;
     Ok(())
-}
-
-/// Puts a statement behind the others, with its parts where it has some.
-fn push_entry(
-    entries: &mut Entries,
-    head: Head,
-    codes: &[u32],
-    draft: &Draft,
-) -> Result<(), AllocError>
-    requires shaped { has_parts head.kind ≡ true → IsDraft draft.now }
-    requires symbols { has_parts head.kind ≡ true → draft.now.symbols.items ≡ codes.now }
-    ensures added { OnOk result (entries.new ≡ entries.old ++ made head codes.now (parts_of head.kind draft.now) ∷ []) }
-    ensures same { OnErr result (entries.new ≡ entries.old) }
-{
-    if has_parts(head.kind) {
-        entries.push(head, &draft.parts())
-    } else {
-        entries.push_plain(head, codes)
-    }
 }
 
 /// Adds the statement behind the others, with the numbers of its symbols where they were noted.
@@ -84,7 +67,7 @@ fn push_entry(
 fn extend_whole(
     alloc: Global,
     stock: &mut Stock,
-    draft: &mut Draft,
+    draft: &mut Gathered,
     stmt: &Stmt,
     noted: &mut Noted,
 ) -> Result<(), AllocError>
@@ -200,8 +183,8 @@ impl Frames {
     {
         if len < self.stock.entries.len() {
             let first = self.stock.entries.entry(len);
-            let names = first.names as usize + first.label as usize;
-            let links = first.links;
+            let names = first.before.names as usize + first.before.label as usize;
+            let links = first.before.links;
             take_away(&mut self.stock, len);
             self.stock.links = links;
             let replaced = self.stock.replaced.len();

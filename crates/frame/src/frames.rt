@@ -1,9 +1,9 @@
 //! The statements of a database by position.
 ghost use Rattle.std.specs.Prelude.{◌≡◌, ◌≤◌, [], IfOk, length, Some, option_map, OnOk, IfSome};
-ghost use Rattle.{mm_read.specs.declared.stmt.Stmt.Stmt as Statement, names.specs.Codes.name_at, names.specs.Codes.decode, scope.specs.Active.before, scope.specs.Active.stmt_at, scope.specs.Active.label_of, scope.specs.Active.expr_of, frame.specs.AtPosition.IsPosition, frame.specs.AtPosition.ArePositions, frame.specs.AtPosition.AreLegal, frame.specs.AtPosition.IsMeaning, frame.specs.FrameOf.HasAssertion, frame.specs.FrameOf.hypotheses, frame.specs.Cited.IsGathered, frame.specs.Cited.IsCited, frame.specs.Stored.Drafts.IsDraft, frame.specs.Stored.Drafts.drafted, frame.specs.Below.AreBelow};
+ghost use Rattle.{mm_read.specs.declared.stmt.Stmt.Stmt as Statement, names.specs.Codes.name_at, names.specs.Codes.decode, scope.specs.Active.before, scope.specs.Active.stmt_at, scope.specs.Active.label_of, scope.specs.Active.expr_of, frame.specs.AtPosition.IsPosition, frame.specs.AtPosition.ArePositions, frame.specs.AtPosition.AreLegal, frame.specs.AtPosition.IsMeaning, frame.specs.FrameOf.HasAssertion, frame.specs.FrameOf.hypotheses, frame.specs.Cited.IsGathered, frame.specs.Cited.IsCited, frame.specs.Below.AreBelow};
 
 use crate::at_position::is_active_at;
-use crate::draft::Draft;
+use crate::gathered::Gathered;
 use crate::make::spread;
 use crate::mandatory::add_essentials;
 use crate::meaning::Meaning;
@@ -25,7 +25,7 @@ use std::marker::Model;
 pub struct Frames {
     pub(crate) alloc: Global,
     pub(crate) stock: Stock,
-    pub(crate) draft: Draft,
+    pub(crate) draft: Gathered,
     pub(crate) noted: Noted,
 }
 
@@ -37,33 +37,6 @@ impl Model for Frames {
     ghost view = { λ a. numbered a.stock };
 
     ghost invariant = { λ a. AreStored a.stock };
-}
-
-/// The mandatory hypotheses and groups of an assertion, in buffers that serve one after another.
-///
-/// Contracts see them as an assertion is kept.
-#[derive(Drop)]
-pub struct Gathered {
-    draft: Draft,
-}
-
-impl Model for Gathered {
-    ghost use Rattle.{entries.specs.Entries.Assertion, frame.specs.Stored.Drafts.IsDraft, frame.specs.Stored.Drafts.drafted};
-
-    ghost Value = { Assertion };
-
-    ghost view = { λ a. drafted a.draft };
-
-    ghost invariant = { λ a. IsDraft a.draft };
-}
-
-impl Gathered {
-    /// Nothing.
-    pub fn new(alloc: Global) -> Gathered {
-        Gathered {
-            draft: Draft::new(alloc),
-        }
-    }
 }
 
 impl Frames {
@@ -88,7 +61,7 @@ impl Frames {
                     disjoint: 0,
                 },
             },
-            draft: Draft::new(alloc),
+            draft: Gathered::new(alloc),
             noted: Noted::new(alloc),
         }
     }
@@ -194,22 +167,9 @@ impl Frames {
         requires { (s : Statement) × HasAssertion self.now.statements a s }
         ensures { OnOk result (IsGathered self.now.statements self.now.names a gathered.new) }
     {
-        let made = self.fill(a, &mut gathered.draft);
-        if made.is_err() {
-            gathered.draft.clear();
-        }
-        made
-    }
-
-    /// Makes the lists of the assertion at a position.
-    fn fill(&self, a: usize, draft: &mut Draft) -> Result<(), AllocError>
-        requires { (s : Statement) × HasAssertion self.now.statements a s }
-        ensures gathered { OnOk result (IsGathered self.now.statements self.now.names a (drafted draft.new)) }
-        ensures draft { OnOk result (IsDraft draft.new) }
-    {
-        draft.clear();
-        self.mandatory(a, &mut draft.hypotheses)?;
-        spread(&self.stock, a, draft)
+        gathered.clear();
+        self.mandatory(a, &mut gathered.hypotheses)?;
+        spread(&self.stock, a, gathered)
     }
 
     /// The parts of the assertion at a position, by the lists that were made of it.
@@ -218,12 +178,11 @@ impl Frames {
         requires gathered { IsGathered self.now.statements self.now.names a gathered.now }
         ensures { (s : Statement) → stmt_at self.now.statements a ≡ Some s → IsCited self.now.statements self.now.names a s result }
     {
-        let draft = &gathered.draft;
         Cited {
-            heads: &draft.heads,
-            hypotheses: Hypotheses::new(&draft.asked),
+            heads: &gathered.heads,
+            hypotheses: Hypotheses::new(&gathered.asked),
             conclusion: self.expr(a),
-            groups: Groups::new(&draft.groups, &draft.places),
+            groups: Groups::new(&gathered.groups, &gathered.places),
         }
     }
 
@@ -249,7 +208,7 @@ impl Frames {
     {
         let entry = self.stock.entries.entry(at - 1);
         if has_label(entry.kind) {
-            Some(self.stock.numbering.label(entry.label))
+            Some(self.stock.numbering.label(entry.before.label))
         } else {
             None
         }

@@ -2,7 +2,7 @@
 //!
 //! `Frames` keeps the statements of a database by position, and reads off them what a verifier asks: what a citation means at a
 //! statement, the parts of an assertion, and the variables that are kept apart. `frame` gathers the `Frame` of one assertion from
-//! what is active. Reading order: `storage`, `shape`, `places`, `draft`; `symbol_numbers`, `at_position`, `declare`, `mandatory`,
+//! what is active. Reading order: `storage`, `shape`, `gathered`; `symbol_numbers`, `at_position`, `declare`, `mandatory`,
 //! `make`, `extend` (one statement more or less); `meaning`, `frames`, `pairs`, `active_apart` (what is asked); `assertion`,
 //! `one_frame`; `laws`.
 #![tactic(auto)]
@@ -11,22 +11,22 @@ mod active_apart;
 mod assertion;
 mod at_position;
 mod declare;
-mod draft;
 mod extend;
 mod frames;
+mod gathered;
 mod laws;
 mod make;
 mod mandatory;
 mod meaning;
 mod one_frame;
 mod pairs;
-mod places;
 mod shape;
 mod storage;
 mod symbol_numbers;
 
 pub use assertion::Frame;
-pub use frames::{Frames, Gathered};
+pub use frames::Frames;
+pub use gathered::Gathered;
 pub use laws::groups_are_pairs;
 pub use meaning::Meaning;
 pub use one_frame::frame;

@@ -3,8 +3,8 @@ ghost use Rattle.std.specs.Prelude.{◌≡◌, ◌+◌, ◌-◌, ◌≤◌, ◌<
 ghost use Rattle.{std.specs.List.list_all, std.specs.List.list_any, frame.specs.Below.AreBelow, frame.specs.Stored.Whole.AreStored, frame.specs.Stored.Hypotheses.In, frame.specs.Stored.Hypotheses.AreThose, frame.specs.Stored.Hypotheses.HasMore, frame.specs.Stored.Hypotheses.IsFloatOf, frame.specs.Stored.Hypotheses.AreLooked, frame.specs.Stored.Hypotheses.AreFloats, frame.specs.Stored.Hypotheses.AreWith, frame.specs.Stored.EntryMeanings.names_in, frame.specs.Stored.EntryMeanings.statements_of};
 
 use crate::at_position::{is_active_at, links_at};
-use crate::places::Places;
 use crate::storage::Stock;
+use scope::Stack;
 use std::alloc::AllocError;
 
 /// Puts positions in ascending order, each once.
@@ -18,7 +18,7 @@ fn order(list: &mut Vec<u32>)
 /// Adds the `$f` of a symbol that is active behind all statements, if there is one and it is not there.
 fn add_float(
     stock: &Stock,
-    looked: &mut Places,
+    looked: &mut Stack,
     list: &mut Vec<u32>,
     code: u32,
 ) -> Result<(), AllocError>
@@ -32,7 +32,7 @@ fn add_float(
     if float == 0 || looked.place(code).is_some() {
         return Ok(());
     }
-    looked.push(Some(code))?;
+    looked.push(code)?;
     if is_active_at(stock, float, stock.entries.len() + 1) {
         list.push(float as u32)?;
     }
@@ -44,16 +44,16 @@ fn add_float(
 /// Cost: that of the symbols, and of putting the `$f` in order.
 pub fn find_floats(
     stock: &Stock,
-    looked: &mut Places,
+    looked: &mut Stack,
     list: &mut Vec<u32>,
     codes: &[u32],
 ) -> Result<(), AllocError>
     requires stored { AreStored stock.now }
     requires codes { AreBelow (length (names_in stock.now)) codes.now }
-    requires looked { looked.old ≡ [] }
     requires empty { list.old.items ≡ [] }
     ensures { OnOk result (AreFloats stock.now.entries (statements_of stock.now) codes.now list.new.items) }
 {
+    looked.truncate(0);
     for code in codes {
         add_float(stock, looked, list, *code)?;
     }
@@ -92,7 +92,7 @@ pub fn add_essentials(stock: &Stock, at: usize, list: &mut Vec<u32>) -> Result<(
         let index = essential as usize - 1;
         list.push(essential)?;
         add_new(list, stock.entries.hypotheses(index))?;
-        essential = stock.entries.entry(index).links.essential;
+        essential = stock.entries.entry(index).before.links.essential;
     }
     order(list);
     Ok(())
@@ -114,7 +114,7 @@ pub fn are_few(stock: &Stock, own: usize) -> bool {
         }
         let floats = stock.entries.hypotheses(essential - 1).len();
         count = count.saturating_add(floats).saturating_add(1);
-        essential = stock.entries.entry(essential - 1).links.essential as usize;
+        essential = stock.entries.entry(essential - 1).before.links.essential as usize;
     }
     if essential != 0 || count > FEW {
         return false;
@@ -127,7 +127,7 @@ pub fn are_few(stock: &Stock, own: usize) -> bool {
         }
         let entry = stock.entries.entry(disjoint - 1);
         variables = variables.saturating_add(entry.symbols.len());
-        disjoint = entry.links.disjoint as usize;
+        disjoint = entry.before.links.disjoint as usize;
     }
     disjoint == 0 && variables <= 2 * FEW
 }

@@ -102,7 +102,7 @@ impl<'a> Pairs<'a> {
             if contains(entry.symbols, x) {
                 return true;
             }
-            last = entry.links.variable;
+            last = entry.before.links.variable;
         }
         false
     }

@@ -6,10 +6,9 @@ use Rattle.entries.specs.declared.layout.Layout.{Layout}
 use Rattle.entries.specs.declared.layout.TheConstants.{COUNTS}
 use Rattle.entries.specs.declared.entries.Stored.{Stored}
 use Rattle.entries.specs.declared.statement_record.StatementRecord.{StatementRecord}
-use Rattle.entries.specs.declared.statement_record.Background.{Background}
+use Rattle.entries.specs.declared.head.Background.{Background}
 use Rattle.entries.specs.declared.kind.Kind.{Kind}
 use Rattle.entries.specs.declared.buffer_part.BufferPart.{BufferPart}
-use Rattle.entries.specs.declared.head.Head.{Head}
 use Rattle.entries.specs.declared.parts.AssertionParts.{AssertionParts}
 use Rattle.entries.specs.Hypotheses.{told}
 use Rattle.entries.specs.Entries.{Entry, Assertion}
@@ -70,9 +69,6 @@ body_by r run spans at = record {
 
 abbrev pub body_of : StatementRecord → List ℕ → List BufferPart → Body
 body_of r run spans = body_by r run spans (layout_in r.has_parts run)
-
-abbrev pub background_of : Head → Background
-background_of h = record { label = h.label; names = h.names; links = h.links }
 
 abbrev pub with_background : Body → Background → Entry
 with_background b k = record { kind = b.kind; label = k.label; names = k.names; links = k.links; symbols = b.symbols; assertion = b.assertion }
@@ -143,4 +139,4 @@ pub record IsStored (found : Option Entry) (s : Stored) : Type 0 where
   pub ordered : IsOrdered s.at
   pub whole : s.at.end ≡ length s.numbers.now
   pub grouped : AreSpansIn (s.at.end - s.at.places) s.groups.now
-  pub entry : found ≡ Some (with_background (body_by s.kept s.numbers.now s.groups.now s.at) s.behind)
+  pub entry : found ≡ Some (with_background (body_by s.kept s.numbers.now s.groups.now s.at) s.before)

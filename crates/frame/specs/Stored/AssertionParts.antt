@@ -1,34 +1,30 @@
 -- The parts of an assertion, by numbers. The code's own form: no public clause cites it.
-use Rattle.std.specs.Prelude.{◌≡◌, ℕ, ◌-◌, Bool, true, false, if◌then◌else◌, List, [], ◌∷◌, map, filter, get_or, slice_get, Option, Some, None, is_some}
+use Rattle.std.specs.Prelude.{◌≡◌, ℕ, ◌-◌, ◌==◌, Bool, true, false, if◌then◌else◌, List, [], ◌∷◌, map, filter, get_or, slice_get, Option, Some, None}
 use Rattle.frame.specs.Words.{has_name, Stmt, Expr, Database, expr_of, active, is_essential, Hypothesis, Kind, Float, Ess, Axiom, Prove, Entry, Assertion}
 use Rattle.mm_read.specs.declared.stmt.Stmt.TheVariants as stmt
 use Rattle.frame.specs.FrameOf.{hypotheses}
 use Rattle.entries.specs.declared.cited_parts.Hypothesis.TheVariants as hypothesis
-use Rattle.frame.specs.Stored.NumberPlaces.{place_of}
+use Rattle.std.specs.List.{list_any}
 use Rattle.frame.specs.Cited.{head_of}
 use Rattle.frame.specs.Links.{actives, is_disj}
 
 -- ---- the parts of an assertion, by numbers
 
--- the variable of a `$f`, by its number
-abbrev pub variable_by : Kind → List ℕ → Option ℕ
-variable_by Float codes = slice_get codes 1
-variable_by kind codes = None
+-- the number is the variable of that `$f`
+abbrev pub is_typed_by : ℕ → Hypothesis → Bool
+is_typed_by c (hypothesis.Float x) = c == x
+is_typed_by c (hypothesis.Essential p) = false
 
-abbrev pub option_variable : Option Entry → Option ℕ
-option_variable None = None
-option_variable (Some e) = variable_by e.kind e.symbols
+-- the numbers that are the variable of one of the `$f`
+abbrev pub is_typed : List Hypothesis → ℕ → Bool
+is_typed hs c = list_any (is_typed_by c) hs
 
--- the variable of the `$f` at a position
-abbrev pub variable_at : List Entry → ℕ → Option ℕ
-variable_at es p = option_variable (slice_get es (p - 1))
+abbrev pub typed : List Hypothesis → List ℕ → List ℕ
+typed hs codes = filter (is_typed hs) codes
 
--- those that are such a variable
-abbrev pub is_placed : List (Option ℕ) → ℕ → Bool
-is_placed vs c = is_some (place_of vs c)
-
-abbrev pub placed : List (Option ℕ) → List ℕ → List ℕ
-placed vs codes = filter (is_placed vs) codes
+-- those that were noted
+abbrev pub noted_in : List ℕ → List ℕ → List ℕ
+noted_in ns codes = filter (λ c. list_any (λ n. n == c) ns) codes
 
 abbrev pub option_symbols : Option Entry → List ℕ
 option_symbols None = []
@@ -43,8 +39,8 @@ has_two [] = false
 has_two (x ∷ []) = false
 has_two (x ∷ y ∷ xs) = true
 
-abbrev pub groups_by : List (Option ℕ) → List (List ℕ) → List (List ℕ)
-groups_by vs lists = filter has_two (map (placed vs) lists)
+abbrev pub groups_by : List Hypothesis → List (List ℕ) → List (List ℕ)
+groups_by hs lists = filter has_two (map (typed hs) lists)
 
 -- the first symbol of the statement at a position
 abbrev pub head_at : List Entry → ℕ → ℕ
@@ -80,7 +76,7 @@ pub record IsKeptAs (es : List Entry) (S : Database) (s : Stmt) (d : Assertion) 
   pub hypotheses_kept : d.hypotheses ≡ kept_with d.whole S s
   pub asked_kept : d.asked ≡ map (asked_at es) d.hypotheses
   pub heads_kept : d.heads ≡ map (head_at es) d.hypotheses
-  pub groups_kept : d.whole ≡ true → d.groups ≡ groups_by (map (variable_at es) d.hypotheses) (map (λ q. symbols_at es q.0) (actives is_disj S))
+  pub groups_kept : d.whole ≡ true → d.groups ≡ groups_by d.asked (map (λ q. symbols_at es q.0) (actives is_disj S))
   pub own_kept : is_essential s ≡ true → d.whole ≡ false
 
 -- a statement that is kept with hypotheses

@@ -1,10 +1,10 @@
 -- How the mandatory hypotheses are found: the `$f` of the symbols of the assertion and of the active `$e`, and these. The code's own form: no public clause cites it.
-use Rattle.std.specs.Prelude.{◌≡◌, ℕ, ◌+◌, ◌-◌, ◌<◌, ◌≤◌, ◌⊎◌, Bool, true, false, List, [], ◌∷◌, length, map, slice_get, Option, Some, None}
+use Rattle.std.specs.Prelude.{◌≡◌, ℕ, ◌+◌, ◌-◌, ◌<◌, ◌≤◌, ◌==◌, ◌⊎◌, Bool, true, false, List, [], ◌∷◌, length, map, slice_get, Option, Some, None}
 use Rattle.frame.specs.Words.{Database, is_active, is_essential, Kind, Float, Ess, Entry, Assertion}
-use Rattle.frame.specs.Stored.NumberPlaces.{place_of}
+use Rattle.std.specs.List.{list_any}
 use Rattle.frame.specs.Links.{actives, is_disj}
 use Rattle.frame.specs.Stored.EntryMeanings.{floats, last_where}
-use Rattle.frame.specs.Stored.AssertionParts.{variable_at, symbols_at, groups_by, head_at, asked_at}
+use Rattle.frame.specs.Stored.AssertionParts.{symbols_at, groups_by, head_at, asked_at}
 
 -- ---- how the mandatory hypotheses are found: the `$f` of the symbols of the assertion and of the active `$e`, and these
 
@@ -50,8 +50,8 @@ abbrev pub SomeFloat : List Entry → Database → List ℕ → ℕ → Type 0
 SomeFloat es S codes p = OfSome (IsFloatOf es S) codes p
 
 -- the list has the `$f` of each symbol that was looked at
-abbrev pub AreLooked : List Entry → Database → List (Option ℕ) → List ℕ → Type 0
-AreLooked es S looked list = (c k p : ℕ) → place_of looked c ≡ Some k → IsFloatOf es S c p → In p list
+abbrev pub AreLooked : List Entry → Database → List ℕ → List ℕ → Type 0
+AreLooked es S looked list = (c p : ℕ) → list_any (λ n. n == c) looked ≡ true → IsFloatOf es S c p → In p list
 
 -- the hypotheses that are kept with the statement at a position
 abbrev pub option_kept : Option Entry → List ℕ
@@ -94,16 +94,10 @@ AreHypotheses es (p ∷ ps) = ((e : Entry) × (1 ≤ p) × (slice_get es (p - 1)
 pub record AreDescribed (es : List Entry) (S : Database) (d : Assertion) : Type 0 where
   pub asked_made : d.asked ≡ map (asked_at es) d.hypotheses
   pub heads_made : d.heads ≡ map (head_at es) d.hypotheses
-  pub groups_made : d.whole ≡ true → d.groups ≡ groups_by (map (variable_at es) d.hypotheses) (map (λ q. symbols_at es q.0) (actives is_disj S))
+  pub groups_made : d.whole ≡ true → d.groups ≡ groups_by d.asked (map (λ q. symbols_at es q.0) (actives is_disj S))
 
 -- an assertion behind the statements S has these hypotheses, of which all is said
 pub record IsSpread (es : List Entry) (S : Database) (ps : List ℕ) (d : Assertion) : Type 0 where
   pub is_whole : d.whole ≡ true
   pub same : d.hypotheses ≡ ps
-  pub described : AreDescribed es S d
-
--- the parts of an assertion or a `$e` with these symbols, behind the statements S
-pub record AreParts (es : List Entry) (S : Database) (codes : List ℕ) (d : Assertion) : Type 0 where
-  pub whole_found : d.whole ≡ true → AreCollected es S codes d.hypotheses
-  pub own_found : d.whole ≡ false → AreFloats es S codes d.hypotheses
   pub described : AreDescribed es S d

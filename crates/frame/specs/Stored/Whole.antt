@@ -1,16 +1,14 @@
 -- The storage of a database. The code's own form: no public clause cites it.
-use Rattle.std.specs.Prelude.{◌≡◌, ℕ, ◌<◌, ◌^◌, Bool, true, false, if◌then◌else◌, List, length, map, take, slice_get, Option, Some}
-use Rattle.frame.specs.Words.{Name, Stmt, expr_of, is_essential, stays_open, decode, symbols_of, labels_of, Links, Kind, Assertion, Entry, partless}
+use Rattle.std.specs.Prelude.{◌≡◌, ℕ, ◌<◌, ◌^◌, true, List, length, map, take, slice_get, Some}
+use Rattle.frame.specs.Words.{Name, Stmt, stays_open, symbols_of, labels_of, Links, Assertion, Entry}
 use Rattle.entries.specs.declared.head.Head.{Head}
 use Rattle.frame.specs.declared.storage.Symbol.{Symbol}
 use Rattle.frame.specs.declared.storage.Stock.{Stock}
-use Rattle.frame.specs.declared.draft.Draft.{Draft}
 use Rattle.frame.specs.Links.{links_of}
 use Rattle.frame.specs.Stored.EntryMeanings.{stmt_of, names_in, labels_in, statements_of, positions_from, AreAllLegal, symbol_of, replaced_of}
 use Rattle.frame.specs.Stored.Counts.{AreNumbered, KeepsCounts, kind_of}
 use Rattle.frame.specs.Stored.Naming.{naming_of}
 use Rattle.frame.specs.Stored.AssertionParts.{IsKeptAs, has_parts}
-use Rattle.frame.specs.Stored.Drafts.{IsDraft, drafted}
 use Rattle.frame.specs.Stored.Ends.{AreEnds}
 
 -- the storage of a database
@@ -38,24 +36,15 @@ pub record AreStored (k : Stock) : Type 0 where
 -- what is noted of the statement that comes next
 pub record IsHead (k : Stock) (s : Stmt) (h : Head) : Type 0 where
   pub kind : h.kind ≡ kind_of s
-  pub label : h.label ≡ length (labels_in k)
-  pub names : h.names ≡ length (names_in k)
-  pub links : h.links ≡ k.links
-
--- the parts of an entry of this kind
-abbrev pub parts_of : Kind → Draft → Assertion
-parts_of kind d = if has_parts kind then drafted d else partless false
-
--- the symbols are those of the assertion s or, where it is one, of the `$e` s
-pub record IsNext (k : Stock) (is_own : Bool) (codes : List ℕ) (s : Stmt) : Type 0 where
-  pub own : is_essential s ≡ true → is_own ≡ true
-  pub stand : decode (names_in k) codes ≡ expr_of s
+  pub label : h.before.label ≡ length (labels_in k)
+  pub names : h.before.names ≡ length (names_in k)
+  pub links : h.before.links ≡ k.links
 
 abbrev pub IsKeptOf : Stock → Stmt → Assertion → Type 0
 IsKeptOf k s d = IsKeptAs k.entries (statements_of k) s d
 
--- the draft is of a statement with these numbers
-pub record IsDraftOf (k : Stock) (s : Stmt) (noted : Option (List ℕ)) (d : Draft) : Type 0 where
-  pub shaped : IsDraft d
-  pub symbols : noted ≡ Some d.symbols.items
-  pub kept : IsKeptOf k s (drafted d)
+-- what was found out about the statement s; of each hypothesis it is said what it is and how it begins
+pub record IsDraftOf (k : Stock) (s : Stmt) (d : Assertion) : Type 0 where
+  pub paired : length d.asked ≡ length d.hypotheses
+  pub headed : length d.heads ≡ length d.hypotheses
+  pub kept : has_parts (kind_of s) ≡ true → IsKeptOf k s d

@@ -1,6 +1,6 @@
-use Rattle.frame.proofs.Words.{Extends, IsBehind, Result, Ok, Err, OnErr, append-nil, ◌≡◌, ◌∙◌, ap, sym, subst, arith, refl, length, ◌+◌, ◌++◌, ◌∷◌, [], true, if◌then◌else◌, false, bare, may-declare, partless, AreBelow, has_parts, drafted, statements_of, ReadsAs, IsKeptOf, parts_of}
+use Rattle.frame.proofs.Words.{Extends, IsBehind, Result, Ok, Err, OnErr, append-nil, ◌≡◌, ◌∙◌, ap, sym, subst, arith, refl, length, ◌+◌, ◌++◌, ◌∷◌, [], true, bare, may-declare, AreBelow, has_parts, statements_of, ReadsAs, IsKeptOf}
 use Rattle.frame.proofs.EndLemmas.{block-within, ends-next}
-use Rattle.frame.proofs.EnterLemmas.{IsEntered, IsExtended, added-numbers, entered-below, kept-pushed, kind_of-bare, numbered-pushed, pushed-statements}
+use Rattle.frame.proofs.EnterLemmas.{IsEntered, IsExtended, added-numbers, entered-below, kept-pushed, numbered-pushed, pushed-statements}
 use Rattle.frame.proofs.NamingLemmas.{stored-naming}
 use Rattle.entries.specs.declared.head.Head.{Head}
 use Rattle.frame.proofs.extend.extend.Goals as goal
@@ -12,7 +12,7 @@ declare_next-requires-clause-free c =
     may-declare (statements_of k) c.args.stmt.now k.numbering c.requires.legal (stored-naming k c.requires.stored).told
 
 abbrev head : In-Some → Head
-head c = record { kind = c.kind-kind.result; label = c.in_ok-place.field-0; names = c.symbol_count.result; links = c.args.stock.now.links }
+head c = record { kind = c.kind-kind.result; before = record { label = c.in_ok-place.field-0; names = c.symbol_count.result; links = c.args.stock.now.links } }
 
 entered : (c : In-Some) → IsEntered c.args.stock.now c.declare_next.new.stock c.args.stmt.now (head c) c.find_numbers.new.noted c.declare_next.new.noted
 entered c = record {
@@ -69,10 +69,9 @@ returns c =
     let codes = c.in-Some.codes.now in
     let told = c.in_ok-declare_next.ensures in
     let e = entered (goal.at.returns c).In-Some in
-    let a = parts_of h.kind c.enter_parts.new.draft in
-    let kept : has_parts h.kind ≡ true → IsKeptOf k s a = λ own.
-    subst (λ b. IsKeptOf k s (if b then drafted c.enter_parts.new.draft else partless false)) (sym own) (c.in_ok-enter_parts.ensures (ap has_parts (sym (e.head.kind ∙ kind_of-bare c.args.stmt.now)) ∙ own)).kept in
-    let extended : IsExtended k new c.args.stmt.now h a codes c.kind-kind.result (c.len-at.result + 1) c.declare.new.symbols.items c.note_replaced.new.replaced.items c.push_entry.new.entries c.links_after-links.result = record {
+    let a = c.enter_parts.new.draft in
+    let kept : has_parts h.kind ≡ true → IsKeptOf k s a = λ own. c.in_ok-enter_parts.ensures.kept (ap has_parts (sym e.head.kind) ∙ own) in
+    let extended : IsExtended k new c.args.stmt.now h a codes c.kind-kind.result (c.len-at.result + 1) c.declare.new.symbols.items c.note_replaced.new.replaced.items c.push-2.new.self c.links_after-links.result = record {
       grown = told.grown;
       room = told.room;
       positions = told.positions;
@@ -82,7 +81,7 @@ returns c =
       noted = λ x reads. rw (← c.declared-declared.ensures.declared) (c.in_ok-note_replaced.ensures.noted x (subst (λ xs. ReadsAs xs x) (sym c.deref.ensures.value) reads));
       each = λ k x g. rw (← c.declared-declared.ensures.declared) (c.declare.ensures.each k x g);
       count = c.declare.ensures.count;
-      pushed = c.in_ok-push_entry.ensures.added;
+      pushed = rw (c.parts.ensures.symbols, c.parts.ensures.assertion) at c.in_ok-push-2.ensures.added;
       linked = c.links_after-links.ensures s (sym c.kind-kind.ensures);
     } in
     let statements = pushed-statements e c.in-Some.ensures.numbers extended in

@@ -1,55 +1,77 @@
-use Rattle.frame.proofs.Words.{◌≡◌, ◌∙◌, ap, sym, subst, refl, length, ◌++◌, ℕ, List, Option, Some, true, decode, with_names, bare, is_essential, AreNoted, symbols_by, symbols_in, AreBelow, floats_in, has_parts, drafted, names_in, labels_in, statements_of, AreFloats, AreCollected, AreHypotheses, hypotheses, IsNext}
-use Rattle.frame.proofs.AssertionLemmas.{hypotheses-are, floats-are, parts-kept}
+use Rattle.frame.proofs.Words.{◌≡◌, map, false, asked_at, head_at, kept_with, ◌∙◌, ◌+◌, ◌-◌, ap, sym, subst, arith, refl, length, take, take_all, length-map, false≢true, ℕ, List, Option, decode, with_names, bare, expr_of, AreNoted, symbols_by, symbols_in, AreBelow, floats_in, has_parts, names_in, labels_in, statements_of, stmt_of, AreFloats, AreCollected, AreHypotheses, hypotheses, ok-weaker, IsSpread}
+use Rattle.frame.proofs.AssertionLemmas.{hypotheses-are, floats-are, ok-both, spread-kept, drafted-of}
+use Rattle.frame.proofs.CollectLemmas.{collected-from}
 use Rattle.frame.proofs.CollectedLemmas.{collected-hypotheses, found-floats}
 use Rattle.frame.proofs.DeclaredSymbolLemmas.{stored-distinct}
-use Rattle.frame.proofs.EnterLemmas.{essentials-kept, kind_of-bare, next-bare, ok-given}
+use Rattle.frame.proofs.EnterLemmas.{essentials-kept, essential-bare, kind_of-bare, next-bare}
 use Rattle.frame.proofs.make.enter_parts.Goals as goal
-use Rattle.frame.proofs.make.enter_parts.Goals.{After-is_essential}
+use Rattle.frame.proofs.make.enter_parts.Goals.{In-Some}
 
-copied : (c : After-is_essential) → c.in-Some.codes.now ≡ c.extend_from_slice.new.self.items
-copied c = sym (c.in_ok-extend_from_slice.ensures.items ∙ ap (λ r. r ++ c.in-Some.codes.now) c.clear.ensures.symbols)
-
-found : (c : After-is_essential) → AreBelow (length (names_in c.args.stock.now)) c.extend_from_slice.new.self.items × IsNext c.args.stock.now c.is_essential.result c.extend_from_slice.new.self.items (bare c.args.stmt.now)
+found : (c : In-Some) → AreBelow (length (names_in c.args.stock.now)) c.in-Some.codes.now × (decode (names_in c.args.stock.now) c.in-Some.codes.now ≡ expr_of (bare c.args.stmt.now))
 found c =
     let k = c.args.stock.now in let s = c.args.stmt.now in
-    subst (λ (codes : List ℕ). AreBelow (length (names_in k)) codes × IsNext k c.is_essential.result codes (bare s)) (copied c)
-    (next-bare k c.is_essential.result c.in-Some.codes.now s (λ e. c.is_essential.ensures ∙ e)
+    next-bare k c.in-Some.codes.now s
     (ap has_parts (sym (kind_of-bare s) ∙ sym c.kind.ensures) ∙ (sym c.has_parts.ensures ∙ c.if-not-has_parts.false))
-    (subst (λ (o : Option (List ℕ)). AreNoted (with_names (names_in k) (symbols_by s)) (symbols_in s) o) c.in-Some.ensures.numbers c.requires.noted))
+    (subst (λ (o : Option (List ℕ)). AreNoted (with_names (names_in k) (symbols_by s)) (symbols_in s) o) c.in-Some.ensures.numbers c.requires.noted)
 
-all : (c : After-is_essential) (list : List ℕ) → AreCollected c.args.stock.now.entries (statements_of c.args.stock.now) c.extend_from_slice.new.self.items list → list ≡ hypotheses (statements_of c.args.stock.now) (bare c.args.stmt.now)
+all : (c : In-Some) (list : List ℕ) → AreCollected c.args.stock.now.entries (statements_of c.args.stock.now) c.in-Some.codes.now list → list ≡ hypotheses (statements_of c.args.stock.now) (bare c.args.stmt.now)
 all c list l =
     let k = c.args.stock.now in let stored = c.requires.stored in let f = found c in
-    collected-hypotheses k.entries (names_in k) (labels_in k) (length (labels_in k)) (statements_of k) refl (stored-distinct k stored) stored.kept.coded stored.kept.legal (bare c.args.stmt.now) c.extend_from_slice.new.self.items f.0 f.1.stand
+    collected-hypotheses k.entries (names_in k) (labels_in k) (length (labels_in k)) (statements_of k) refl (stored-distinct k stored) stored.kept.coded stored.kept.legal (bare c.args.stmt.now) c.in-Some.codes.now f.0 f.1
     (essentials-kept k stored) list l
 
-own : (c : After-is_essential) (list : List ℕ) → AreFloats c.args.stock.now.entries (statements_of c.args.stock.now) c.extend_from_slice.new.self.items list
-    → list ≡ floats_in (statements_of c.args.stock.now) (decode (names_in c.args.stock.now) c.extend_from_slice.new.self.items)
+own : (c : In-Some) (list : List ℕ) → AreFloats c.args.stock.now.entries (statements_of c.args.stock.now) c.in-Some.codes.now list
+    → list ≡ floats_in (statements_of c.args.stock.now) (decode (names_in c.args.stock.now) c.in-Some.codes.now)
 own c list l =
     let k = c.args.stock.now in let stored = c.requires.stored in
-    found-floats k.entries (names_in k) (labels_in k) (length (labels_in k)) (statements_of k) refl (stored-distinct k stored) stored.kept.coded stored.kept.legal c.extend_from_slice.new.self.items (found c).0 list l
+    found-floats k.entries (names_in k) (labels_in k) (length (labels_in k)) (statements_of k) refl (stored-distinct k stored) stored.kept.coded stored.kept.legal c.in-Some.codes.now (found c).0 list l
 
-pub parts-requires-clause-codes : goal.parts-requires-clause-codes
-parts-requires-clause-codes c = (found c).0
+pub find_floats-requires-clause-codes : goal.find_floats-requires-clause-codes
+find_floats-requires-clause-codes c = (found (goal.at.find_floats-requires-clause-codes c).In-Some).0
 
-pub parts-requires-clause-hypotheses : goal.parts-requires-clause-hypotheses
-parts-requires-clause-hypotheses c = λ list l.
+pub describe-requires-clause-hypotheses : goal.describe-requires-clause-hypotheses
+describe-requires-clause-hypotheses c =
+    let w = (goal.at.describe-requires-clause-hypotheses c).In-Some in
     let k = c.args.stock.now in
-    subst (AreHypotheses k.entries) (sym (all c list l)) (hypotheses-are (names_in k) (labels_in k) k.entries (bare c.args.stmt.now))
+    subst (AreHypotheses k.entries) (sym (c.deref.ensures.value ∙ own w c.find_floats.new.list.items c.in_ok-find_floats.ensures)) (floats-are (names_in k) (labels_in k) k.entries (decode (names_in k) c.in-Some.codes.now))
 
-pub parts-requires-clause-floats : goal.parts-requires-clause-floats
-parts-requires-clause-floats c = λ list l.
+pub returns-then-is_essential : goal.returns-then-is_essential
+returns-then-is_essential c =
+    let w = (goal.at.returns-then-is_essential c).In-Some in
     let k = c.args.stock.now in
-    subst (AreHypotheses k.entries) (sym (own c list l)) (floats-are (names_in k) (labels_in k) k.entries (decode (names_in k) c.extend_from_slice.new.self.items))
+    let s = bare c.args.stmt.now in
+    let list = c.find_floats.new.list.items in
+    let partial : c.draft.inside.whole ≡ false = ap (λ v. v.whole) (c.draft.view_is ∙ c.clear.ensures) in
+    ok-both c.describe.result (λ asked heads. drafted-of k s _ (record {
+      hypotheses_kept = own w list c.in_ok-find_floats.ensures ∙ (ap (floats_in (statements_of k)) (found w).1 ∙ ap (λ b. kept_with b (statements_of k) s) (sym partial));
+      asked_kept = asked ∙ ap (map (asked_at k.entries)) c.deref.ensures.value;
+      heads_kept = heads ∙ ap (map (head_at k.entries)) c.deref.ensures.value;
+      groups_kept = λ whole. absurd (false≢true (sym partial ∙ whole));
+      own_kept = λ e. partial;
+    })) c.describe.ensures.asked c.describe.ensures.heads
+
+pub spread-requires-clause-hypotheses : goal.spread-requires-clause-hypotheses
+spread-requires-clause-hypotheses c =
+    let w = (goal.at.spread-requires-clause-hypotheses c).In-Some in
+    let k = c.args.stock.now in
+    let S = statements_of k in
+    let n = length-map k.entries (stmt_of (names_in k) (labels_in k)) in
+    let list = c.add_essentials.new.list.items in
+    let before = take_all (c.len-at.result + 1 - 1) S (omega (arith, n, c.len-at.ensures.len)) in
+    subst (AreHypotheses k.entries) (sym (all w list (collected-from k.entries S (take (c.len-at.result + 1 - 1) S) c.in-Some.codes.now c.find_floats.new.list.items list before c.in_ok-find_floats.ensures c.in_ok-add_essentials.ensures)))
+    (hypotheses-are (names_in k) (labels_in k) k.entries (bare c.args.stmt.now))
 
 pub returns : goal.returns
-returns c = λ has.
-    let w = (goal.at.returns c).After-is_essential in
-    let k = c.args.stock.now in let next = (found w).1 in
-    ok-given c.parts.result (is_essential (bare c.args.stmt.now) ≡ true) _ _ _ _
-    (λ parts draft partial. record {
-      shaped = draft;
-      symbols = c.in-Some.ensures.numbers ∙ ap Some (copied w ∙ sym c.parts.ensures.symbols);
-      kept = parts-kept k.entries (statements_of k) (bare c.args.stmt.now) c.extend_from_slice.new.self.items (drafted c.parts.new.draft)
-          (all w) (λ list l. own w list l ∙ ap (floats_in (statements_of k)) next.stand) partial parts;
-    }) c.parts.ensures.parts c.parts.ensures.draft (λ e. c.parts.ensures.own (next.own e))
+returns c =
+    let w = (goal.at.returns c).In-Some in
+    let k = c.args.stock.now in
+    let S = statements_of k in
+    let s = bare c.args.stmt.now in
+    let n = length-map k.entries (stmt_of (names_in k) (labels_in k)) in
+    let list = c.add_essentials.new.list.items in
+    let before = take_all (c.len-at.result + 1 - 1) S (omega (arith, n, c.len-at.ensures.len)) in
+    let found = collected-from k.entries S (take (c.len-at.result + 1 - 1) S) c.in-Some.codes.now c.find_floats.new.list.items list before c.in_ok-find_floats.ensures c.in_ok-add_essentials.ensures in
+    ok-weaker c.spread.result _ _
+    (λ p. drafted-of k s c.spread.new.draft (spread-kept k.entries S s list c.spread.new.draft (all w list found) (λ e. false≢true (sym c.if-is_essential.false ∙ (c.is_essential.ensures ∙ (sym (essential-bare c.args.stmt.now) ∙ e))))
+    (subst (λ T. IsSpread k.entries T list c.spread.new.draft) before p)))
+    c.spread.ensures

@@ -17,10 +17,10 @@ loop-essential-preserved c =
     let k = c.args.stock.now in let p = c.loop-essential.essential in
     let e = seen c.entry-essential.result c.entry-essential.ensures.0 in let g = c.entry-essential.ensures.1 in
     let s = walk-step e essential_chain c.requires.stored c.loop-essential.invariant.at c.loop-essential-test.true g in
-    let before = map (λ q. q.0) (walked is_essential k c.entry-essential.result.links.essential) in
+    let before = map (λ q. q.0) (walked is_essential k c.entry-essential.result.before.links.essential) in
     let more : HasMore (IsWith k.entries p) c.loop-essential.list.items c.add_new.new.list.items =
     pushed-more _ c.in_ok-push.ensures.items (subst (λ r. HasMore (λ x. In x r) c.push.new.self.items c.add_new.new.list.items) (c.hypotheses.ensures e g ∙ sym (ap option_kept g)) c.in_ok-add_new.ensures) in
-    let here : map (λ q. q.0) (walked is_essential k p) ≡ before ++ p ∷ [] = ap (map (λ q. q.0)) s.list ∙ map-append (λ q. q.0) (walked is_essential k c.entry-essential.result.links.essential) ((p, stmt_of (names_in k) (labels_in k) e) ∷ []) in
+    let here : map (λ q. q.0) (walked is_essential k p) ≡ before ++ p ∷ [] = ap (map (λ q. q.0)) s.list ∙ map-append (λ q. q.0) (walked is_essential k c.entry-essential.result.before.links.essential) ((p, stmt_of (names_in k) (labels_in k) e) ∷ []) in
     record { at = s.at; left = left-step (λ x i. last-out x p before i) (λ x i. last-in x p before i) more (rw here at c.loop-essential.invariant.left) }
 
 pub returns : goal.returns

@@ -1,4 +1,4 @@
-use Rattle.entries.proofs.Words.{◌∙◌, ap, sym, refl, arith, ◌+◌, ◌++◌, ◌∷◌, [], length, length-append, assertion_of, made, has_parts, run_of, bodies_of, background_of, with_background, with_backgrounds}
+use Rattle.entries.proofs.Words.{◌∙◌, ap, sym, refl, arith, ◌+◌, ◌++◌, ◌∷◌, [], length, length-append, assertion_of, made, has_parts, run_of, bodies_of, with_background, with_backgrounds}
 use Rattle.entries.proofs.AddedStatement.{on-ok, ok-weaker, bodies-push, packed-push, run-laid, run-body}
 use Rattle.entries.proofs.StatementRecordLemmas.{bodies-length, with-push}
 use Rattle.entries.proofs.entries.Entries.push.Goals as goal
@@ -26,6 +26,6 @@ returns-else-is_err-clause-added c =
     (λ numbers. ap (λ bs. with_backgrounds bs m.backgrounds.items) (bodies-push s.numbers.items m.numbers.items s.groups.items m.groups.items s.records.items m.records.items c.args.head.kind (has_parts p) p.whole (run_of (has_parts p) p) p.groups.now
     c.self.invariant.0 numbers (on-ok c.add-added.result _ done added.groups) last)
     ∙ (ap (with_backgrounds _) (on-ok c.add-added.result _ done added.background)
-    ∙ (with-push bodies s.backgrounds.items _ (background_of c.args.head) (c.self.invariant.1 ∙ sym (bodies-length s.numbers.items s.groups.items s.records.items))
-    ∙ (ap (λ b. with_backgrounds bodies s.backgrounds.items ++ with_background b (background_of c.args.head) ∷ []) (run-body c.args.head.kind p (length s.numbers.items) (length s.groups.items) (has_parts p) c.requires refl)
+    ∙ (with-push bodies s.backgrounds.items _ c.args.head.before (c.self.invariant.1 ∙ sym (bodies-length s.numbers.items s.groups.items s.records.items))
+    ∙ (ap (λ b. with_backgrounds bodies s.backgrounds.items ++ with_background b c.args.head.before ∷ []) (run-body c.args.head.kind p (length s.numbers.items) (length s.groups.items) (has_parts p) c.requires refl)
     ∙ ap (λ es. es ++ made c.args.head p.symbols.now (assertion_of p) ∷ []) c.self.view_is)))) added.added

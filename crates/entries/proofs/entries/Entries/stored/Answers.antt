@@ -32,7 +32,7 @@ pub returns : goal.returns
 returns c =
     let s = c.self.inside in
     let a = at-index s.numbers.items s.groups.items s.records.items s.backgrounds.items c.args.self.now c.args.index c.item-kept.result c.self.invariant.0.kept c.self.invariant.1 c.self.view_is c.deref.ensures.value c.item-kept.ensures in
-    is-stored s.numbers.items s.groups.items c.item-kept.result (slice_get s.records.items (c.args.index + 1)) (slice_get s.backgrounds.items c.args.index) (slice_get c.args.self.now c.args.index) c.run_at.result.0 c.run_at.result.1 a (rw (← c.deref-3.ensures.value, ← c.deref-2.ensures.value) c.run_at.ensures.numbers) c.run_at.ensures.at c.part-groups.result c.item-behind.result (rw (← c.deref-4.ensures.value) c.part-groups.ensures) (ap (λ ks. slice_get ks c.args.index) (sym c.deref-5.ensures.value) ∙ c.item-behind.ensures)
+    is-stored s.numbers.items s.groups.items c.item-kept.result (slice_get s.records.items (c.args.index + 1)) (slice_get s.backgrounds.items c.args.index) (slice_get c.args.self.now c.args.index) c.run_at.result.0 c.run_at.result.1 a (rw (← c.deref-3.ensures.value, ← c.deref-2.ensures.value) c.run_at.ensures.numbers) c.run_at.ensures.at c.part-groups.result c.item-before.result (rw (← c.deref-4.ensures.value) c.part-groups.ensures) (ap (λ ks. slice_get ks c.args.index) (sym c.deref-5.ensures.value) ∙ c.item-before.ensures)
 
-pub item-behind-requires : goal.item-behind-requires
-item-behind-requires c = let s = c.self.inside in let n = within s.numbers.items s.groups.items s.records.items s.backgrounds.items c.self.invariant.1 in let v = ap length c.self.view_is in let m = c.self.invariant.1 in let d = ap length c.deref-5.ensures.value in omega arith
+pub item-before-requires : goal.item-before-requires
+item-before-requires c = let s = c.self.inside in let n = within s.numbers.items s.groups.items s.records.items s.backgrounds.items c.self.invariant.1 in let v = ap length c.self.view_is in let m = c.self.invariant.1 in let d = ap length c.deref-5.ensures.value in omega arith

@@ -1,0 +1,86 @@
+//! What is found out about an assertion.
+ghost use Rattle.std.specs.Prelude.{◌≡◌, length, false};
+ghost use Rattle.{entries.specs.Entries.AreShapedParts, entries.specs.Entries.assertion_of, entries.specs.Entries.partless};
+
+use entries::{AssertionParts, BufferPart};
+use scope::Stack;
+use std::alloc::Global;
+use std::marker::Model;
+
+/// The mandatory hypotheses and groups of an assertion, in buffers that serve one after another.
+///
+/// Contracts see them as an assertion is kept.
+#[derive(Drop)]
+pub struct Gathered {
+    /// Whether the parts are whole, or only what it adds to what is active.
+    pub(crate) whole: bool,
+    /// The symbols whose `$f` was looked for, and then the variables of the hypotheses.
+    pub(crate) noted: Stack,
+    /// The positions of its hypotheses, in order.
+    pub(crate) hypotheses: Vec<u32>,
+    /// What each hypothesis is, as one number.
+    pub(crate) asked: Vec<u32>,
+    /// The first symbol of each.
+    pub(crate) heads: Vec<u32>,
+    /// The variables whose images are kept apart, one group behind the other.
+    pub(crate) places: Vec<u32>,
+    /// The groups.
+    pub(crate) groups: Vec<BufferPart>,
+}
+
+impl Model for Gathered {
+    ghost use Rattle.std.specs.Prelude.{length, map};
+    ghost use Rattle.{entries.specs.Entries.Assertion, entries.specs.Hypotheses.told, entries.specs.Stored.Spans.cut, entries.specs.Stored.Spans.AreSpansIn};
+
+    ghost Value = { Assertion };
+
+    ghost view = { λ a. record { whole = a.whole; hypotheses = a.hypotheses.items; asked = map told a.asked.items; heads = a.heads.items; groups = cut a.places.items a.groups.items } };
+
+    ghost invariant = { λ a. AreSpansIn (length a.places.items) a.groups.items };
+}
+
+impl Gathered {
+    /// Nothing.
+    pub fn new(alloc: Global) -> Gathered {
+        Gathered {
+            whole: false,
+            noted: Stack::new(alloc),
+            hypotheses: Vec::new(alloc),
+            asked: Vec::new(alloc),
+            heads: Vec::new(alloc),
+            places: Vec::new(alloc),
+            groups: Vec::new(alloc),
+        }
+    }
+
+    /// What is kept of a statement with these symbols.
+    pub(crate) fn parts<'a>(&'a self, symbols: &'a [u32]) -> AssertionParts<'a>
+        requires asked { length self.now.asked ≡ length self.now.hypotheses }
+        requires heads { length self.now.heads ≡ length self.now.hypotheses }
+        ensures shaped { AreShapedParts result }
+        ensures symbols { result.symbols.now ≡ symbols.now }
+        ensures assertion { assertion_of result ≡ self.now }
+    {
+        AssertionParts {
+            whole: self.whole,
+            symbols,
+            hypotheses: &self.hypotheses,
+            asked: &self.asked,
+            heads: &self.heads,
+            places: &self.places,
+            groups: &self.groups,
+        }
+    }
+
+    /// Nothing again. The buffers stay.
+    pub(crate) fn clear(&mut self)
+        ensures { self.new ≡ partless false }
+    {
+        self.whole = false;
+        self.hypotheses.clear();
+        self.asked.clear();
+        self.heads.clear();
+        self.places.clear();
+        self.groups.clear();
+    }
+}
