@@ -8,5 +8,7 @@ pub mod AnswersLemmas
 pub mod OneList
 pub mod LabelNameLemmas
 pub mod ListingLemmas
+pub mod ListedLanes
 pub mod ReadProofLemmas
+pub mod StepLemmas
 mod Rows

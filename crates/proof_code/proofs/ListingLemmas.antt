@@ -1,7 +1,8 @@
--- The labels counted byte by byte are those that the header lists, by the table of the classes of bytes.
-use Rattle.proof_code.proofs.Words.{◌≡◌, ℕ, zero, suc, ◌+◌, ◌<◌, ◌≤◌, Bool, true, false, cond, ◌==◌, List, [], ◌∷◌, ◌++◌, length, drop, slice_index_or, Option, Some, None, refl, list_all, option_map, sym, ◌∙◌, ap, arith, true≢false, inl, inr, append-nil, drop_more, same_Some, bytes_eq-Decides, and_parts, cases_Bool, eqb-true, false_from_ne_true, and-false, Name, name_eq, is_visible, is_label, is_label_byte, spaced, is_word, class_of, letters_from, more_labels, behind_none, counted, Header, with_label, header_of, finish, map, get_or, range_with_len, nat_tests, get_or-map-range_with_len}
+-- The labels counted are those that the header lists, whether byte by byte or sixteen bytes at a time.
+use Rattle.proof_code.proofs.Words.{◌≡◌, ℕ, zero, suc, ◌+◌, ◌-◌, ◌<◌, ◌≤◌, Bool, true, false, cond, ◌==◌, List, [], ◌∷◌, ◌++◌, length, drop, slice_index_or, Option, Some, None, refl, list_all, option_map, sym, ◌∙◌, ap, arith, true≢false, inl, inr, append-nil, drop_more, same_Some, bytes_eq-Decides, and_parts, cases_Bool, eqb-true, false_from_ne_true, and-false, Name, name_eq, is_visible, is_label, is_label_byte, spaced, is_word, class_of, is_listed, are_listed, count_by, take, take-append-drop, drop-drop, get_or-drop, letters_from, more_labels, behind_none, counted, Header, with_label, header_of, finish, get_or}
+use Rattle.std.proofs.lemmas.List.{length-drop}
+use Rattle.std.proofs.lemmas.List.Recursion.{is_count_by}
 use Rattle.proof_code.proofs.TextLemmas.{not_space}
-use Rattle.proof_code.specs.declared.listing.TheConstants.{CLASSES}
 
 -- ---- the classes of bytes
 
@@ -10,6 +11,12 @@ class-label b h = rw h refl
 
 class-other : (b : ℕ) → is_label_byte b ≡ false → (b == 32) ≡ false → class_of b ≡ 2
 class-other b h e = rw (h, e) refl
+
+class-space : (b : ℕ) → (b == 32) ≡ true → class_of b ≡ 1
+class-space b e = rw (eqb-true b 32 e) refl
+
+label-no_space : (b : ℕ) → is_label_byte b ≡ true → (b == 32) ≡ false
+label-no_space b h = false_from_ne_true (b == 32) (λ e. true≢false (sym (rw (eqb-true b 32 e) at h)))
 
 -- what a byte of a class does
 counted-at : (fresh : Bool) (b : ℕ) (text : List ℕ) (class : ℕ) → class_of b ≡ class
@@ -99,20 +106,88 @@ counted-header (word ∷ words) h =
 
 -- ---- the loop
 
-more-twice : (n : ℕ) (o : Option (ℕ × List ℕ)) → more_labels n (more_labels 1 o) ≡ more_labels (n + 1) o
-more-twice n None = refl
-more-twice n (Some f) = ap (λ k. Some (k, f.1)) (let e : n + (1 + f.0) ≡ n + 1 + f.0 = omega arith in e)
+more-both : (m n : ℕ) (o : Option (ℕ × List ℕ)) → more_labels m (more_labels n o) ≡ more_labels (m + n) o
+more-both m n None = refl
+more-both m n (Some f) = ap (λ k. Some (k, f.1)) (let e : m + (n + f.0) ≡ m + n + f.0 = omega arith in e)
 
-module _ (text : List ℕ) (i count last : ℕ) (same : counted true text ≡ more_labels count (counted (last == 1) (drop i text))) (within : i < length text) where
+more-none : (o : Option (ℕ × List ℕ)) → o ≡ more_labels 0 o
+more-none None = refl
+more-none (Some f) = ap (λ n. Some (n, f.1)) (let e : f.0 ≡ 0 + f.0 = omega arith in e)
+
+module _ (start : Bool) (text : List ℕ) (at count last : ℕ) (same : counted start text ≡ more_labels count (counted (last == 32) (drop at text))) (within : at < length text) where
+  abbrev byte : ℕ
+  byte = slice_index_or text at 0
+
   -- the next byte is the first of what is left to count
-  at_drop : counted true text ≡ more_labels count (counted (last == 1) (slice_index_or text i 0 ∷ drop (i + 1) text))
-  at_drop = same ∙ ap (λ r. more_labels count (counted (last == 1) r)) (drop_more text i 0 within)
+  at_drop : counted start text ≡ more_labels count (counted (last == 32) (byte ∷ drop (at + 1) text))
+  at_drop = same ∙ ap (λ r. more_labels count (counted (last == 32) r)) (drop_more text at 0 within)
 
-  pub counted-more : (class : ℕ) → class ≡ class_of (slice_index_or text i 0) → (class ≡ 2 → ⊥) → class ≤ 2 → counted true text ≡ more_labels (count + class) (counted (class == 1) (drop (i + 1) text))
-  counted-more zero is other low = at_drop ∙ (ap (more_labels count) (counted-at (last == 1) (slice_index_or text i 0) (drop (i + 1) text) 0 (sym is)) ∙ ap (λ n. more_labels n (counted false (drop (i + 1) text))) (omega arith))
-  counted-more (suc zero) is other low = at_drop ∙ (ap (more_labels count) (counted-at (last == 1) (slice_index_or text i 0) (drop (i + 1) text) 1 (sym is)) ∙ more-twice count (counted true (drop (i + 1) text)))
-  counted-more (suc (suc zero)) is other low = absurd (other refl)
-  counted-more (suc (suc (suc n))) is other low = absurd (omega (arith, low))
+  pub counted-more : (class : ℕ) → class ≡ class_of byte → (class ≡ 2 → ⊥) → counted start text ≡ more_labels (count + class) (counted (byte == 32) (drop (at + 1) text))
+  counted-more class is other =
+      elim (cases_Bool (is_label_byte byte)) [
+        | inl e ↦
+            let none : class ≡ 0 = is ∙ class-label byte e in
+            rw (none, label-no_space byte e) (at_drop ∙ (ap (more_labels count) (counted-at (last == 32) byte (drop (at + 1) text) 0 (class-label byte e)) ∙ ap (λ n. more_labels n (counted false (drop (at + 1) text))) (omega arith)))
+        | inr e ↦ elim (cases_Bool (byte == 32)) [
+          | inl f ↦
+              let one : class ≡ 1 = is ∙ class-space byte f in
+              rw (one, f) (at_drop ∙ (ap (more_labels count) (counted-at (last == 32) byte (drop (at + 1) text) 1 (class-space byte f)) ∙ more-both count 1 (counted true (drop (at + 1) text))))
+          | inr f ↦ absurd (other (is ∙ class-other byte e f))
+        ]
+      ]
+
+-- ---- sixteen bytes
+
+abbrev pub is_space : ℕ → Bool
+is_space b = b == 32
+
+abbrev spaces_in : List ℕ → ℕ
+spaces_in [] = 0
+spaces_in (b ∷ bytes) = cond (b == 32) (1 + spaces_in bytes) (spaces_in bytes)
+
+-- whether a word begins behind the bytes
+abbrev begins : Bool → List ℕ → Bool
+begins fresh [] = fresh
+begins fresh (b ∷ bytes) = begins (b == 32) bytes
+
+counted-listed : (fresh : Bool) (bytes text : List ℕ) → are_listed bytes ≡ true → counted fresh (bytes ++ text) ≡ more_labels (spaces_in bytes) (counted (begins fresh bytes) text)
+counted-listed fresh [] text h = more-none (counted fresh text)
+counted-listed fresh (b ∷ bytes) text h =
+    let parts : (is_listed b ≡ true) × (are_listed bytes ≡ true) = and_parts (is_listed b) (are_listed bytes) h in
+    elim (cases_Bool (is_label_byte b)) [
+      | inl e ↦ counted-at fresh b (bytes ++ text) 0 (class-label b e) ∙ (counted-listed false bytes text parts.1 ∙ ap found (sym (label-no_space b e)))
+      | inr e ↦
+          let space : (b == 32) ≡ true = rw e at parts.0 in
+          counted-at fresh b (bytes ++ text) 1 (class-space b space) ∙ (ap (more_labels 1) (counted-listed true bytes text parts.1) ∙ (more-both 1 (spaces_in bytes) (counted (begins true bytes) text) ∙ ap found (sym space)))
+    ]
+  where
+    found : Bool → Option (ℕ × List ℕ)
+    found space = more_labels (cond space (1 + spaces_in bytes) (spaces_in bytes)) (counted (begins space bytes) text)
+
+begins-last : (fresh : Bool) (n : ℕ) (text : List ℕ) → n < length text → begins fresh (take (suc n) text) ≡ (slice_index_or text n 0 == 32)
+begins-last fresh n [] h = absurd (omega (arith, h))
+begins-last fresh zero (b ∷ text) h = refl
+begins-last fresh (suc n) (b ∷ text) h = begins-last (b == 32) n text (omega (arith, h))
+
+module _ (text : List ℕ) (at count last : ℕ) (same : counted true text ≡ more_labels count (counted (last == 32) (drop at text))) (room : at + 16 ≤ length text) where
+  abbrev next : List ℕ
+  next = take 16 (drop at text)
+
+  -- the byte before what is left
+  last_is : begins (last == 32) next ≡ (slice_index_or text (at + 16 - 1) 0 == 32)
+  last_is =
+      begins-last (last == 32) 15 (drop at text) (omega (arith, room, length-drop at text))
+      ∙ ap (λ b. b == 32) (get_or-drop at text 15 0 ∙ ap (λ n. get_or text n 0) (let e : at + 15 ≡ at + 16 - 1 = omega arith in e))
+
+  pub counted-lanes : (spaces : ℕ) → are_listed next ≡ true → spaces ≡ count_by is_space next
+      → counted true text ≡ more_labels (count + spaces) (counted (slice_index_or text (at + 16 - 1) 0 == 32) (drop (at + 16) text))
+  counted-lanes spaces listed are =
+      same ∙ (ap (λ r. more_labels count (counted (last == 32) r)) (sym (take-append-drop 16 (drop at text)))
+      ∙ (ap (more_labels count) (counted-listed (last == 32) next (drop 16 (drop at text)) listed)
+      ∙ (more-both count (spaces_in next) (counted (begins (last == 32) next) (drop 16 (drop at text)))
+      ∙ (ap (λ n. more_labels (count + n) (counted (begins (last == 32) next) (drop 16 (drop at text)))) (is_count_by spaces_in is_space refl (λ b bytes. refl) next ∙ sym are)
+      ∙ (ap (λ fresh. more_labels (count + spaces) (counted fresh (drop 16 (drop at text)))) last_is
+      ∙ ap (λ r. more_labels (count + spaces) (counted (slice_index_or text (at + 16 - 1) 0 == 32) r)) (drop-drop 16 at text))))))
 
 -- ---- what it tells
 
@@ -136,15 +211,3 @@ listing-none words text visible is none = told-none (header_of words) (sym (coun
 pub listing-some : (words : List Name) (text : List ℕ) (count : ℕ) (letters : List ℕ) → list_all is_word words ≡ true → text ≡ spaced words → counted true text ≡ Some (count, letters)
     → Counted (header_of words) letters count
 listing-some words text count letters visible is some = told-some (header_of words) count letters (sym (counted-header words visible) ∙ (ap (counted true) (sym is) ∙ some))
-
--- ---- the table
-
--- the constant table lists the class of each of the 256 bytes
-table_is : CLASSES ≡ map class_of (range_with_len 0 256)
-table_is = refl
-
-pub class-read : (b d : ℕ) → b < 256 → get_or CLASSES b d ≡ class_of b
-class-read b d h = ap (λ (t : List ℕ). get_or t b d) table_is ∙ get_or-map-range_with_len class_of 0 256 b b d h (omega arith)
-
-pub class-bound : (b : ℕ) → class_of b ≤ 2
-class-bound b = grind (arith, nat_tests)

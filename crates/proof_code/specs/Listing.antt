@@ -1,13 +1,21 @@
 -- The listed labels of a compressed proof, byte by byte, for the private functions.
 -- Source: Metamath, appendix B.
 -- This is the code's way to count; that it counts what `header_of` reads is proved in ListingLemmas.
-use Rattle.std.specs.Prelude.{ℕ, ◌+◌, Bool, true, false, ◌&&◌, ◌==◌, if◌then◌else◌, List, [], ◌∷◌, Option, Some, None}
+use Rattle.std.specs.Prelude.{ℕ, ◌+◌, Bool, true, false, ◌&&◌, ◌||◌, ◌==◌, if◌then◌else◌, List, [], ◌∷◌, Option, Some, None}
+use Rattle.std.specs.List.{list_all}
 use Rattle.std.specs.Option.{option_map}
 use Rattle.mm_lex.specs.Alphabet.{is_label_byte}
 
 -- a byte of a label, a space, or another
 abbrev pub class_of : ℕ → ℕ
 class_of b = if is_label_byte b then 0 else (if b == 32 then 1 else 2)
+
+-- bytes of labels and spaces
+abbrev pub is_listed : ℕ → Bool
+is_listed b = is_label_byte b || (b == 32)
+
+abbrev pub are_listed : List ℕ → Bool
+are_listed bytes = list_all is_listed bytes
 
 -- the letters behind the word `)`
 abbrev pub letters_from : List ℕ → Option (List ℕ)

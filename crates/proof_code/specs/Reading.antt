@@ -1,7 +1,7 @@
 -- A compressed proof that is read: what one byte of the letters does, and what the whole proof writes.
 -- Source: Metamath, appendix B.
 -- The code reads with no mandatory label at hand: whether a listed label is one of them is left to the caller.
-use Rattle.std.specs.Prelude.{◌≡◌, ℕ, ◌+◌, ◌-◌, ◌*◌, ◌^◌, ◌≤◌, Bool, true, false, IsTrue, IsFalse, if◌then◌else◌, List, [], ◌∷◌, ◌++◌, length, Option, Some, None}
+use Rattle.std.specs.Prelude.{◌≡◌, ℕ, ◌+◌, ◌-◌, ◌*◌, ◌^◌, ◌≤◌, ◌==◌, Bool, true, false, IsTrue, IsFalse, if◌then◌else◌, List, [], ◌∷◌, ◌++◌, length, Option, Some, None}
 use Rattle.std.specs.List.{list_any}
 use Rattle.std.specs.Option.{option_map}
 use Rattle.mm_lex.specs.Alphabet.{Name, has_name}
@@ -18,7 +18,7 @@ before_rest numbers rest = option_map (λ more. numbers ++ more) rest
 -- the number that a letter ends, if there is a letter and it ends one
 abbrev pub ended : Option Letter → List ℕ
 ended None = []
-ended (Some letter) = if letter.ends then letter.value ∷ [] else []
+ended (Some letter) = if letter.ends == 1 then letter.value ∷ [] else []
 
 -- what one byte does between two places, and the numbers that it ends, whatever text follows
 abbrev pub Goes : ℕ → ℕ → ℕ → List ℕ → ℕ → ℕ → Type 0

@@ -1,22 +1,19 @@
 //! Compressed proofs.
-ghost use Rattle.std.specs.Prelude.{◌≡◌, ◌↔◌, ◌<◌, ◌≤◌, ◌^◌, ◌++◌, length, take, drop, IsTrue, IfOk, Err};
-ghost use Rattle.{proof_code.specs.Writes.is_unfinished, proof_code.specs.Writes.is_compressed, proof_code.specs.Writes.WritesPacked, proof_code.specs.Writes.IsMalformed, proof_code.specs.Reading.share_label};
+ghost use Rattle.std.specs.Prelude.{◌≡◌, ◌↔◌, ◌<◌, ◌≤◌, ◌^◌, ◌++◌, length, take, drop, IsTrue, IfOk, IfSome, Err};
+ghost use Rattle.{mm_lex.specs.Alphabet.has_name, proof_code.specs.Writes.is_unfinished, proof_code.specs.Writes.is_compressed, proof_code.specs.Writes.WritesPacked, proof_code.specs.Writes.IsMalformed, proof_code.specs.Reading.share_label, proof_code.specs.LabelNames.AreNames};
 
 use crate::fault::{CodeFault, is_unfinished};
 use crate::items::Items;
-use crate::mandatory_labels::{Mandatory, names_of};
 use crate::reader::{Heading, Reader};
 use mm_lex::{WordIter, Words};
 use std::alloc::{AllocError, Global};
+use std::collections::HashSet;
 
 /// Whether the tokens are those of a compressed proof: the first one is `(`.
 pub fn is_compressed(tokens: &Words) -> bool
     ensures { result ≡ is_compressed tokens.now }
 {
-    match tokens.iter().next() {
-        Some(token) => token == b"(".as_slice(),
-        None => false,
-    }
+    matches!(tokens.iter().next(), Some([b'(']))
 }
 
 /// The items of a compressed proof, where `mandatory` are the labels of the mandatory hypotheses in frame order.
@@ -62,12 +59,33 @@ fn count_labels(labels: &Words) -> usize
 fn shares_label(alloc: Global, mandatory: &Words, words: WordIter<'_>, count: usize) -> bool
     ensures { result ≡ share_label mandatory.now (take count words.entry) }
 {
-    let names = names_of(alloc, mandatory);
-    let known = Mandatory {
-        labels: mandatory,
-        names,
-    };
-    words.take(count).any(|label| known.has(label))
+    let mut listed = words.take(count);
+    match names_of(alloc, mandatory) {
+        Some(names) => listed.any(|label| names.contains(&label)),
+        None => listed.any(|label| is_among(label, mandatory)),
+    }
+}
+
+/// Whether it is one of the labels.
+fn is_among(label: &[u8], labels: &Words) -> bool
+    ensures { result ≡ has_name label.now labels.now }
+{
+    labels.iter().any(|other| label == other)
+}
+
+/// The names of the labels, `None` where a growth was refused. Cost: the size of the labels.
+#[tactic(auto, using(crate::proofs::LabelNameLemmas::names_more))]
+fn names_of<'a>(alloc: Global, labels: &'a Words) -> Option<HashSet<&'a [u8]>>
+    ensures { IfSome result (λ names. AreNames names labels.entry.now) }
+{
+    let mut names = HashSet::new(alloc);
+    let mut left = labels.iter();
+    while let Some(label) = left.next() {
+        let Ok(_) = names.insert(label) else {
+            return None;
+        };
+    }
+    Some(names)
 }
 
 /// The mandatory labels and then those that the tokens list, `count` of them.

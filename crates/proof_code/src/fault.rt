@@ -33,8 +33,7 @@ pub fn written(items: Result<Items, CodeFault>) -> Result<Option<Items>, AllocEr
 {
     match items {
         Ok(items) => Ok(Some(items)),
-        Err(CodeFault::Unfinished) => Ok(None),
-        Err(CodeFault::Malformed) => Ok(None),
+        Err(CodeFault::Unfinished | CodeFault::Malformed) => Ok(None),
         Err(CodeFault::Memory) => Err(AllocError),
     }
 }

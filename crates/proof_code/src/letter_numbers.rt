@@ -1,8 +1,8 @@
 //! The letters of a compressed proof, and the numbers that they write.
 //!
-//! Which letter comes next cannot be foreseen, so no branch depends on it: what a letter is chooses values alone, and the
-//! one test of each is whether a number is over the limit.
-ghost use Rattle.std.specs.Prelude.{◌≡◌, ◌+◌, ◌*◌, ◌^◌, ◌<◌, ◌≤◌, ◌∷◌, ℕ, List, length, take, max, None, Some, IfNone, IfSome, MatchOption};
+//! Which letter comes next cannot be foreseen, so no branch depends on it: a table has the numbers by which a letter
+//! changes what stands before it, and the one test of each is whether a number is over the limit.
+ghost use Rattle.std.specs.Prelude.{◌≡◌, ◌==◌, if◌then◌else◌, ◌+◌, ◌*◌, ◌^◌, ◌<◌, ◌≤◌, ◌∷◌, ℕ, List, length, take, max, None, Some, IfNone, IfSome, MatchOption};
 ghost use Rattle.{proof_code.specs.Text.letters_of, proof_code.specs.Text.numbers_from, proof_code.specs.Text.starts_with_mark, proof_code.specs.Reading.Goes, proof_code.specs.Reading.IsLetter, proof_code.specs.Reading.ended};
 
 /// What a letter makes of the digits before it.
@@ -10,9 +10,23 @@ ghost use Rattle.{proof_code.specs.Text.letters_of, proof_code.specs.Text.number
 struct Letter {
     /// What they come to with it; a mark comes to 0, and behind digits to more than any limit.
     value: usize,
-    /// Whether it ends a number, as a mark does.
-    ends: bool,
+    /// The digits before the next letter.
+    digits: usize,
+    /// How many numbers it ends: 1 for a mark too.
+    ends: usize,
 }
+
+/// Of each letter four numbers: by what the digits before it are multiplied (for a mark they are taken from 0), what is
+/// added, which bits of that are the digits before the next letter, and how many numbers the letter ends.
+const STEPS: [usize; 104] = [
+    20, 1, 0, 1, 20, 2, 0, 1, 20, 3, 0, 1, 20, 4, 0, 1, 20, 5, 0, 1, 20, 6, 0, 1, 20, 7, 0, 1, 20,
+    8, 0, 1, 20, 9, 0, 1, 20, 10, 0, 1, 20, 11, 0, 1, 20, 12, 0, 1, 20, 13, 0, 1, 20, 14, 0, 1, 20,
+    15, 0, 1, 20, 16, 0, 1, 20, 17, 0, 1, 20, 18, 0, 1, 20, 19, 0, 1, 20, 20, 0, 1, 5, 1, ALL, 0,
+    5, 2, ALL, 0, 5, 3, ALL, 0, 5, 4, ALL, 0, 5, 5, ALL, 0, ALL, 0, 0, 1,
+];
+
+/// All bits.
+const ALL: usize = usize::MAX;
 
 /// What a letter A to Z makes of the digits before it.
 #[inline(always)]
@@ -20,26 +34,17 @@ fn letter_behind(byte: u8, digits: usize) -> Letter
     requires first { 65 ≤ byte }
     requires last { byte ≤ 90 }
     requires small { 20 * digits + 26 < 2 ^ 64 }
-    ensures { IsLetter byte digits result.value result.ends }
+    ensures letter { IsLetter byte digits result.value (result.ends == 1) }
+    ensures digits { result.digits ≡ if result.ends == 1 then 0 else result.value }
+    ensures one { result.ends ≤ 1 }
 {
-    let letter = usize::from(byte - 64);
-    let ends = byte < b'U' || byte > b'Y';
-    let mark = if digits == 0 {
-        0
-    } else {
-        usize::MAX - (digits - 1)
-    };
-    let last = if byte < b'Z' {
-        20 * digits + letter
-    } else {
-        mark
-    };
-    let value = if ends {
-        last
-    } else {
-        5 * digits + (letter - 20)
-    };
-    Letter { value, ends }
+    let step = 4 * (usize::from(byte) - 65);
+    let value = digits.wrapping_mul(STEPS[step]) + STEPS[step + 1];
+    Letter {
+        value,
+        digits: value & STEPS[step + 2],
+        ends: STEPS[step + 3],
+    }
 }
 
 /// What stands between two bytes of the letters.
@@ -66,17 +71,17 @@ impl Word {
         ensures none { IfNone result ((text : List ℕ) → numbers_from self.old.limit self.old.digits (letters_of (byte ∷ text)) ≡ None) }
         ensures limit { (self.old.limit ≤ self.new.limit) × (self.new.limit ≤ self.old.limit + 1) }
         ensures begun { self.new.digits ≤ most }
-        ensures value { IfSome result (λ letter. IfSome letter (λ letter. letter.value ≤ max self.old.limit most)) }
+        ensures value { IfSome result (λ letter. IfSome letter (λ letter. (letter.value ≤ max self.old.limit most) × (letter.ends ≤ 1))) }
     {
         if byte < b'A' || byte > b'Z' {
             return if byte == b' ' { Some(None) } else { None };
         }
         let letter = letter_behind(byte, self.digits);
-        let bound = if letter.ends { self.limit } else { most };
+        let bound = if letter.ends == 1 { self.limit } else { most };
         if letter.value > bound {
             return None;
         }
-        self.digits = if letter.ends { 0 } else { letter.value };
+        self.digits = letter.digits;
         self.limit += usize::from(letter.value == 0);
         Some(Some(letter))
     }
@@ -105,7 +110,7 @@ pub(crate) fn write_numbers(text: &[u8], labels: usize, numbers: &mut [u32]) -> 
             continue;
         };
         numbers[count] = letter.value as u32;
-        count += usize::from(letter.ends);
+        count += letter.ends;
     }
     if word.digits == 0 { Some(count) } else { None }
 }

@@ -6,7 +6,7 @@
 //! proof after another, for mandatory labels that the caller knows otherwise.
 //!
 //! To read: `item`, `items`, `fault`, then `normal_proof`; `reader` with its parts `listing` (the labels counted) and
-//! `letter_numbers`; `compressed_proof` above it, with `mandatory_labels`; and `laws`.
+//! `letter_numbers`; `compressed_proof` above it; and `laws`.
 #![tactic(auto)]
 
 mod compressed_proof;
@@ -16,7 +16,6 @@ mod items;
 mod laws;
 mod letter_numbers;
 mod listing;
-mod mandatory_labels;
 mod normal_proof;
 mod reader;
 

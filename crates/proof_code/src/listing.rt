@@ -1,72 +1,91 @@
-//! The labels that a compressed proof lists, counted byte by byte.
-ghost use Rattle.std.specs.Prelude.{◌≡◌, ◌+◌, ◌≤◌, length, MatchOption, IfSome, None, Some, true};
-ghost use Rattle.proof_code.specs.Listing.{class_of, counted, letters_from};
+//! The labels that a compressed proof lists, counted sixteen bytes at a time.
+ghost use Rattle.std.specs.Prelude.{◌≡◌, ◌==◌, ◌+◌, ◌≤◌, length, take, MatchOption, IfSome, None, Some, true};
+ghost use Rattle.std.specs.List.{count_by};
+ghost use Rattle.proof_code.specs.Listing.{are_listed, class_of, counted};
 
-/// The class of each byte: 0 where a label may have it, 1 for a space, 2 for the others.
-const CLASSES: [u8; 256] = [
-    2, 2, 2, 2, 2, 2, 2, 2, 2, 2, 2, 2, 2, 2, 2, 2, 2, 2, 2, 2, 2, 2, 2, 2, 2, 2, 2, 2, 2, 2, 2, 2,
-    1, 2, 2, 2, 2, 2, 2, 2, 2, 2, 2, 2, 2, 0, 0, 2, 0, 0, 0, 0, 0, 0, 0, 0, 0, 0, 2, 2, 2, 2, 2, 2,
-    2, 0, 0, 0, 0, 0, 0, 0, 0, 0, 0, 0, 0, 0, 0, 0, 0, 0, 0, 0, 0, 0, 0, 0, 0, 0, 0, 2, 2, 2, 2, 0,
-    2, 0, 0, 0, 0, 0, 0, 0, 0, 0, 0, 0, 0, 0, 0, 0, 0, 0, 0, 0, 0, 0, 0, 0, 0, 0, 0, 2, 2, 2, 2, 2,
-    2, 2, 2, 2, 2, 2, 2, 2, 2, 2, 2, 2, 2, 2, 2, 2, 2, 2, 2, 2, 2, 2, 2, 2, 2, 2, 2, 2, 2, 2, 2, 2,
-    2, 2, 2, 2, 2, 2, 2, 2, 2, 2, 2, 2, 2, 2, 2, 2, 2, 2, 2, 2, 2, 2, 2, 2, 2, 2, 2, 2, 2, 2, 2, 2,
-    2, 2, 2, 2, 2, 2, 2, 2, 2, 2, 2, 2, 2, 2, 2, 2, 2, 2, 2, 2, 2, 2, 2, 2, 2, 2, 2, 2, 2, 2, 2, 2,
-    2, 2, 2, 2, 2, 2, 2, 2, 2, 2, 2, 2, 2, 2, 2, 2, 2, 2, 2, 2, 2, 2, 2, 2, 2, 2, 2, 2, 2, 2, 2, 2,
-];
+use std::simd::prelude::*;
 
-/// The class of a space.
-const SPACE: u8 = 1;
+/// How many bytes are looked at together.
+const LANES: usize = 16;
 
-/// The class of the bytes that neither a label has nor a space is.
-const OTHER: u8 = 2;
-
-/// What stands behind `(`: how many labels, and the letters behind the `)` that ends them.
-#[derive(Clone, Copy)]
-pub(crate) struct Listing<'a> {
-    pub(crate) count: usize,
-    pub(crate) letters: &'a [u8],
-}
-
-/// Counts the labels of a text up to the word `)`; `None` where this is missing or where a word before it is no label.
-pub(crate) fn count_listed(text: &[u8]) -> Option<Listing<'_>>
-    ensures counted { MatchOption result (counted true text.now ≡ None) (λ r. counted true text.now ≡ Some (r.count, r.letters.now)) }
-    ensures within { IfSome result (λ r. r.count + length r.letters.now ≤ length text.now) }
+/// Counts the labels of a text up to the word `)`, and gives the letters behind it; `None` where this is missing or where
+/// a word before it is no label.
+pub(crate) fn count_listed(text: &[u8]) -> Option<(usize, &[u8])>
+    ensures counted { MatchOption result (counted true text.now ≡ None) (λ r. counted true text.now ≡ Some (r.0, r.1.now)) }
+    ensures within { IfSome result (λ r. r.0 + length r.1.now ≤ length text.now) }
 {
     let mut count = 0;
-    let mut last = SPACE;
+    let mut last = b' ';
+    let mut at = 0;
+    while text.len() - at >= LANES {
+        let Some(spaces) = count_in_lanes(&text[at..]) else {
+            break;
+        };
+        count += spaces;
+        at += LANES;
+        last = text[at - 1];
+    }
+    let (more, letters) = count_by_byte(&text[at..], last)?;
+    Some((count + more, letters))
+}
+
+/// Counts them byte by byte, where `last` is the byte before the text.
+fn count_by_byte(text: &[u8], last: u8) -> Option<(usize, &[u8])>
+    ensures counted { MatchOption result (counted (last == 32) text.now ≡ None) (λ r. counted (last == 32) text.now ≡ Some (r.0, r.1.now)) }
+    ensures within { IfSome result (λ r. r.0 + length r.1.now ≤ length text.now) }
+{
+    let mut count = 0;
+    let mut before = last;
     for (index, byte) in text.iter().enumerate() {
         let class = class_of(*byte);
         if class == OTHER {
-            if last != SPACE {
+            if before != b' ' {
                 return None;
             }
-            return match letters_from(&text[index..]) {
-                Some(letters) => Some(Listing { count, letters }),
-                None => None,
+            return match &text[index..] {
+                [b')'] => Some((count, &[])),
+                [b')', b' ', letters @ ..] => Some((count, letters)),
+                _ => None,
             };
         }
         count += usize::from(class);
-        last = class;
+        before = *byte;
     }
     None
 }
 
-/// The class of a byte.
+/// How many spaces are among the first bytes, where all are bytes of labels or spaces.
+fn count_in_lanes(text: &[u8]) -> Option<usize>
+    requires room { 16 ≤ length text.now }
+    ensures listed { IfSome result (λ spaces. are_listed (take 16 text.now) ≡ true) }
+    ensures few { IfSome result (λ spaces. spaces ≤ 16) }
+    ensures spaces { IfSome result (λ spaces. spaces ≡ count_by (λ b. b == 32) (take 16 text.now)) }
+{
+    let bytes = u8x16::from_slice(text);
+    let letters = (bytes | u8x16::splat(32)) - u8x16::splat(b'a');
+    let signs = bytes - u8x16::splat(b'-');
+    let others = bytes.simd_ne(u8x16::splat(b' '))
+        & letters.simd_gt(u8x16::splat(25))
+        & (signs.simd_gt(u8x16::splat(12)) | signs.simd_eq(u8x16::splat(2)))
+        & bytes.simd_ne(u8x16::splat(b'_'));
+    if others.to_bitmask() != 0 {
+        return None;
+    }
+    let spaces = bytes.simd_eq(u8x16::splat(b' '));
+    Some(spaces.to_bitmask().count_ones() as usize)
+}
+
+/// The class of the bytes that neither a label has nor a space is.
+const OTHER: u8 = 2;
+
+/// The class of a byte: 0 where a label may have it, 1 for a space, 2 for the others.
 fn class_of(byte: u8) -> u8
     ensures class { result ≡ class_of byte }
     ensures bound { result ≤ 2 }
 {
-    CLASSES[byte as usize]
-}
-
-/// What stands behind the word `)` that a text begins with.
-fn letters_from(text: &[u8]) -> Option<&[u8]>
-    ensures letters { MatchOption result (letters_from text.now ≡ None) (λ letters. letters_from text.now ≡ Some letters.now) }
-    ensures within { IfSome result (λ letters. length letters.now ≤ length text.now) }
-{
-    match text {
-        [b')'] => Some(&[]),
-        [b')', b' ', letters @ ..] => Some(letters),
-        _ => None,
+    match byte {
+        b'A'..=b'Z' | b'a'..=b'z' | b'0'..=b'9' | b'-' | b'_' | b'.' => 0,
+        b' ' => 1,
+        _ => OTHER,
     }
 }

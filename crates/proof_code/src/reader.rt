@@ -3,7 +3,7 @@ ghost use Rattle.std.specs.Prelude.{◌≡◌, ℕ, ◌+◌, ◌*◌, ◌^◌, �
 ghost use Rattle.{mm_lex.specs.Alphabet.Name, proof_code.specs.declared.item.Item.Item, proof_code.specs.Text.letters_of, proof_code.specs.Text.numbers_from, proof_code.specs.Writes.begin, proof_code.specs.Writes.is_compressed, proof_code.specs.Writes.WritesCompressed, proof_code.specs.Reading.IsHeading};
 
 use crate::letter_numbers::{pass_letters, starts_with_mark, write_numbers};
-use crate::listing::{Listing, count_listed};
+use crate::listing::count_listed;
 use mm_lex::{WordIter, Words};
 use std::alloc::{AllocError, Global};
 use std::marker::Model;
@@ -99,29 +99,19 @@ impl Reader {
     {
         let mut words = tokens.iter();
         let _ = words.next();
-        let Listing { count, letters } = count_listed(words.as_text())?;
+        let (count, letters) = count_listed(words.as_text())?;
         if starts_with_mark(letters) {
             return None;
         }
-        let kept = self.read_letters(letters, mandatory + count)?;
-        Some((Heading { words, count }, kept))
-    }
-
-    /// Reads the letters of a proof with so many labels, and tells whether the numbers were kept; `None` where they
-    /// write none.
-    fn read_letters(&mut self, letters: &[u8], labels: usize) -> Option<Result<(), AllocError>>
-        requires { labels + length letters.now < 3 * 2 ^ 62 }
-        ensures read { MatchOption result (numbers_from labels 0 (letters_of letters.now) ≡ None)
-            (λ kept. (numbers : List ℕ) × (numbers_from labels 0 (letters_of letters.now) ≡ Some numbers) × OnOk kept (numbers ≡ self.new)) }
-        ensures same { IfSome result (λ kept. OnErr kept (self.new ≡ self.old)) }
-    {
+        let labels = mandatory + count;
+        let heading = Heading { words, count };
         if make_room(&mut self.buffer, labels, letters.len()).is_err() {
             pass_letters(letters, labels)?;
-            return Some(Err(AllocError));
+            return Some((heading, Err(AllocError)));
         }
         self.count = 0;
         self.count = write_numbers(letters, labels, &mut self.buffer)?;
-        Some(Ok(()))
+        Some((heading, Ok(())))
     }
 
     /// The numbers of the last proof that was read, in a buffer of their own.

@@ -1,13 +1,17 @@
-use Rattle.proof_code.proofs.Words.{arith, ◌+◌, subst, ◌≡◌, ◌==◌, true, drop, more_labels, counted}
-use Rattle.proof_code.proofs.ListingLemmas.{counted-more}
+use Rattle.proof_code.proofs.Words.{arith, ◌+◌, ◌≤◌, ◌∙◌, ap, sym, length, take, are_listed, count_by}
+use Rattle.std.proofs.lemmas.List.{take_rest}
+use Rattle.proof_code.proofs.ListingLemmas.{counted-lanes, is_space}
 use Rattle.proof_code.proofs.listing.count_listed.Goals as goal
 
-pub loop-index-preserved : goal.loop-index-preserved
-loop-index-preserved c =
-    let l = c.loop-index in
-    let class = c.class_of-class in
-    let read = counted-more c.args.text.now l.index l.count l.last l.invariant.same c.loop-index-test.true class.result class.ensures.class c.if-class-eq-OTHER.false class.ensures.bound in
+pub loop-at-preserved : goal.loop-at-preserved
+loop-at-preserved c =
+    let l = c.loop-at in
+    let text = c.args.text.now in
+    let room : l.at + 16 ≤ length text = omega (arith, c.loop-at-test.true, l.invariant.within) in
+    let listed = ap (λ r. are_listed (take 16 r)) (sym (take_rest text l.at)) ∙ c.in-Some.ensures.listed in
+    let spaces = c.in-Some.ensures.spaces ∙ ap (λ r. count_by is_space (take 16 r)) (take_rest text l.at) in
     record {
-      same = subst (λ n. counted true c.args.text.now ≡ more_labels (l.count + n) (counted (class.result == 1) (drop (l.index + 1) c.args.text.now))) (let e = c.from-count.ensures in omega (arith, e)) read;
-      few = let b = class.ensures.bound in let o = c.if-class-eq-OTHER.false in let f = l.invariant.few in let e = c.from-count.ensures in omega (arith, b, o, f, e);
+      same = counted-lanes text l.at l.count l.last l.invariant.same room c.in-Some.spaces listed spaces;
+      few = omega (arith, l.invariant.few, c.in-Some.ensures.few);
+      within = room;
     }

@@ -1,8 +1,12 @@
-use Rattle.proof_code.proofs.Words.{◌≡◌, ◌≤◌, true, drop, ◌==◌, more_labels, counted}
+use Rattle.proof_code.proofs.Words.{◌≡◌, ◌≤◌, ◌-◌, length, true, drop, ◌==◌, more_labels, counted}
 use Rattle.proof_code.proofs.listing.count_listed.Given as goal
 
-abbrev pub invariant-loop-index : goal.invariant-loop-index
-invariant-loop-index l = record {
-  same : counted true l.text ≡ more_labels l.count (counted (l.last == 1) (drop l.index l.text));
-  few : l.count ≤ l.index;
+abbrev pub invariant-loop-at : goal.invariant-loop-at
+invariant-loop-at l = record {
+  same : counted true l.text ≡ more_labels l.count (counted (l.last == 32) (drop l.at l.text));
+  few : l.count ≤ l.at;
+  within : l.at ≤ length l.text;
 }
+
+abbrev pub decreases-loop-at : goal.decreases-loop-at
+decreases-loop-at l = length l.text - l.at
