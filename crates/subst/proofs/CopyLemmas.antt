@@ -1,5 +1,5 @@
 -- Symbols copied and written within one buffer.
-use Rattle.subst.proofs.Words.{◌≡◌, ℕ, ◌+◌, ◌-◌, ◌<◌, ◌≤◌, min, List, ◌++◌, length, take, drop, get_or, sym, ◌∙◌, ap, subst, arith, length-append, append-nil, take_all, drop_all, append_assoc, take-add, length-take-le, take-take, drop-drop, drop-take, take-append-add, take-append_seam, take_more_put_chunk, length-chunk, chunk, put_chunk, code_image, code_apply, ExpressionPlace, seen_at, images_at, AreInside, IsWritten, LacksRoom}
+use Rattle.subst.proofs.Words.{◌≡◌, ℕ, ◌+◌, ◌-◌, ◌<◌, ◌≤◌, min, List, ◌++◌, length, take, drop, get_or, sym, ◌∙◌, ap, subst, arith, length-append, append-nil, take_all, drop_all, append_assoc, take-add, length-take-le, take-take, drop-drop, drop-take, take-append-add, take-append_seam, take_more_put_chunk, length-chunk, chunk, put_chunk, code_image, code_apply, ExpressionPlace, seen_at, images_at, AreInside, IsWritten}
 use Rattle.subst.proofs.WrittenImages.{apply-take, len-take, len-within}
 use Rattle.subst.proofs.ExpressionPlaceLemmas.{length-seen}
 use Rattle.subst.proofs.ImagePlacesLemmas.{image-more}
@@ -63,8 +63,8 @@ place-written x y at len p low high long e room copied =
       inside = room;
     }
 
-pub place-lacks : (x : List ℕ) (at : ℕ) (p : ExpressionPlace) → p.start ≤ p.end → p.end ≤ at → at ≤ length x → length x < at + (p.end - p.start) + 8 → LacksRoom (length x) at (seen_at (take at x) p)
-place-lacks x at p low high long less =
+pub place-lacks : (x : List ℕ) (at last : ℕ) (p : ExpressionPlace) → p.start ≤ p.end → p.end ≤ at → at ≤ length x → last < at + (p.end - p.start) → last < at + length (seen_at (take at x) p)
+place-lacks x at last p low high long less =
     let seam : length (take at x) ≡ at = length-take-le at x long in
     let size : length (seen_at (take at x) p) ≡ p.end - p.start = length-seen (take at x) p low (omega (arith, high, seam)) in
     omega (arith, size, less)
@@ -117,11 +117,11 @@ fill-on x0 x x' image ps t i at end e within long more w is v =
     let size = length-take-le e x' inside in
     record { written = whole; moved = omega (arith, ap length whole, length-append (take at x0) next, seam, size); inside = inside }
 
-pub fill-lacks : (x0 x image : List ℕ) (ps : List (ℕ × ExpressionPlace)) (t : List ℕ) (i at end : ℕ) → AreInside at ps → at ≤ length x0 → i < length t → length x ≡ length x0
+pub fill-lacks : (x0 x image : List ℕ) (ps : List (ℕ × ExpressionPlace)) (t : List ℕ) (i at end last : ℕ) → AreInside at ps → at ≤ length x0 → i < length t
     → IsWritten x0 x at (code_apply (images_at (take at x0) ps) (take i t)) end
-    → code_image (images_at (take end x) ps) (get_or t i 0) ≡ image → LacksRoom (length x) end image
-    → LacksRoom (length x0) at (code_apply (images_at (take at x0) ps) t)
-fill-lacks x0 x image ps t i at end within long more same w is lacks =
+    → code_image (images_at (take end x) ps) (get_or t i 0) ≡ image → last < end + length image
+    → last < at + length (code_apply (images_at (take at x0) ps) t)
+fill-lacks x0 x image ps t i at end last within long more w is lacks =
     let seam : length (take at x0) ≡ at = length-take-le at x0 long in
     let σ = images_at (take at x0) ps in
     let n = get_or t i 0 in
@@ -130,4 +130,4 @@ fill-lacks x0 x image ps t i at end within long more same w is lacks =
     let moved = w.moved in
     let longer = len-within σ t (i + 1) in
     let one = len-take σ t i more in
-    omega (arith, lacks, same, moved, longer, one, image_same)
+    omega (arith, lacks, moved, longer, one, image_same)

@@ -1,6 +1,6 @@
 -- The test of the pair clause holds exactly where its two sentences do.
 use Rattle.subst.proofs.Words.{◌≡◌, Bool, true, false, not, ◌&&◌, ◌||◌, List, [], ◌∷◌, refl, list_all, list_any, sym, ◌∙◌, ap, true≢false, inl, inr, and_parts, and_from, not-true, or_left, or_right, or_cases, cases_Bool, not_from_false, false_from_ne_true}
-use Rattle.subst.proofs.Words.{Name, name_eq, has_name, Expr, Database, is_variable, name_same, same_name, groups, is_pair, together, Images, image, are_apart, is_group_apart, are_groups_apart, all-from, pair_at, apart-from, PairClause, KeepApart, is_image_apart}
+use Rattle.subst.proofs.Words.{Name, name_eq, has_name, Expr, Database, is_variable, name_same, same_name, groups, is_pair, together, Images, image, are_apart, is_group_apart, are_groups_apart, all-from, pair_at, apart-from, PairClause, KeepApart}
 use Rattle.scope.proofs.GoingBackLemmas.{all-has}
 
 -- ---- two images
@@ -41,10 +41,6 @@ module _ (S : Database) where
   -- the same from the right
   pub constant_right : (e : Expr) (y : Name) → is_variable S y ≡ false → are_apart S e (y ∷ []) ≡ true
   constant_right e y none = apart-from S e (y ∷ []) (λ u v p q in_e in_f. absurd (no_variable y v none q in_f))
-
-  -- nor need its image be looked at
-  pub constant_image : (σ : Images) (names : List Name) (x : Name) → is_variable S x ≡ false → is_image_apart S σ names x (x ∷ []) ≡ true
-  constant_image σ names x none = all-from (λ y. name_eq x y || are_apart S (x ∷ []) (image σ y)) names (λ y in_y. or_right (name_eq x y) (are_apart S (x ∷ []) (image σ y)) (constant_left x (image σ y) none))
 
 -- ---- all lists
 

@@ -1,6 +1,6 @@
 //! Images that are kept apart as a cited assertion asks.
-ghost use Rattle.std.specs.Prelude.{◌≡◌, length};
-ghost use Rattle.{names.specs.Codes.decode, frame.specs.Below.AreBelow, frame.specs.Disjoint.are_apart, frame.specs.Disjoint.is_group_apart, frame.specs.Disjoint.are_groups_apart, frame.specs.Substitution.images_of_names, frame.specs.Substitution.image, subst.specs.Images.AreOver, subst.specs.Images.is_image_apart};
+ghost use Rattle.std.specs.Prelude.{◌≡◌};
+ghost use Rattle.{frame.specs.Disjoint.are_apart, frame.specs.Disjoint.is_group_apart, frame.specs.Disjoint.are_groups_apart, frame.specs.Substitution.images_of_names, frame.specs.Substitution.image, subst.specs.Images.AreOver, subst.specs.Images.is_image_apart};
 
 use crate::images::Subst;
 use frame::{Frame, Pairs};
@@ -17,12 +17,8 @@ pub fn disjoint(subst: &Subst, frame: &Frame, pairs: &Pairs<'_>) -> bool
     requires { AreOver pairs.now.names subst.now }
     ensures { result ≡ are_groups_apart pairs.now.statements (images_of_names pairs.now.names subst.now) frame.now.groups }
 {
-    for group in frame.groups() {
-        if !group_apart(subst, pairs, group) {
-            return false;
-        }
-    }
-    true
+    let groups = frame.groups();
+    groups.iter().all(|group| group_apart(subst, pairs, group))
 }
 
 /// Whether the images of each two of the variables are apart.
@@ -30,12 +26,7 @@ fn group_apart(subst: &Subst, pairs: &Pairs<'_>, group: &Words) -> bool
     requires { AreOver pairs.now.names subst.now }
     ensures { result ≡ is_group_apart pairs.now.statements (images_of_names pairs.now.names subst.now) group.now }
 {
-    for x in group.iter() {
-        if !variable_apart(subst, pairs, x, group) {
-            return false;
-        }
-    }
-    true
+    group.iter().all(|x| variable_apart(subst, pairs, x, group))
 }
 
 /// Whether the image of x is apart from those of the others.
@@ -43,29 +34,25 @@ fn variable_apart(subst: &Subst, pairs: &Pairs<'_>, x: &[u8], group: &Words) -> 
     requires { AreOver pairs.now.names subst.now }
     ensures { result ≡ is_image_apart pairs.now.statements (images_of_names pairs.now.names subst.now) group.now x.now (image (images_of_names pairs.now.names subst.now) x.now) }
 {
-    let Some(number) = pairs.number(x) else {
-        return true;
-    };
-    let own = [number];
-    let image = subst.image_or(number, &own);
-    for y in group.iter() {
-        if x != y && !apart_from(subst, pairs, image, y) {
-            return false;
-        }
-    }
-    true
+    group
+        .iter()
+        .all(|y| x == y || are_apart(subst, pairs, x, y))
 }
 
-/// Whether an image is apart from that of y.
-fn apart_from(subst: &Subst, pairs: &Pairs<'_>, left: &[u32], y: &[u8]) -> bool
-    requires named { AreOver pairs.now.names subst.now }
-    requires left { AreBelow (length pairs.now.names) left.now }
-    ensures { result ≡ are_apart pairs.now.statements (decode pairs.now.names left.now) (image (images_of_names pairs.now.names subst.now) y.now) }
+/// Whether the images of two variables are apart.
+fn are_apart(subst: &Subst, pairs: &Pairs<'_>, x: &[u8], y: &[u8]) -> bool
+    requires { AreOver pairs.now.names subst.now }
+    ensures { result ≡ are_apart pairs.now.statements (image (images_of_names pairs.now.names subst.now) x.now) (image (images_of_names pairs.now.names subst.now) y.now) }
 {
-    let Some(number) = pairs.number(y) else {
+    let Some(left) = pairs.number(x) else {
         return true;
     };
-    let own = [number];
-    let right = subst.image_or(number, &own);
+    let Some(right) = pairs.number(y) else {
+        return true;
+    };
+    let left_own = [left];
+    let right_own = [right];
+    let left = subst.image(left).unwrap_or(&left_own);
+    let right = subst.image(right).unwrap_or(&right_own);
     pairs.apart(left, right)
 }

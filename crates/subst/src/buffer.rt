@@ -127,7 +127,7 @@ impl Buffer {
         let Some(len) = filled_len(self.as_slice(), images, expr, limit) else {
             return Ok(false);
         };
-        make_room(&mut self.symbols, self.len, len)?;
+        make_room(&mut self.symbols, self.len, len + expr.len())?;
         let Some(end) = fill(&mut self.symbols, self.len, images, expr) else {
             unreachable!();
         };

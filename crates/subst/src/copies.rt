@@ -1,6 +1,6 @@
 //! Symbols copied within one buffer, eight at once.
-ghost use Rattle.std.specs.Prelude.{◌≡◌, ◌+◌, ◌≤◌, ◌++◌, ◌∷◌, [], length, take, drop, IfSome, IfNone};
-ghost use Rattle.{subst.specs.ExpressionPlaces.seen_at, subst.specs.Stored.Written.IsWritten, subst.specs.Stored.Written.LacksRoom};
+ghost use Rattle.std.specs.Prelude.{◌≡◌, ◌+◌, ◌<◌, ◌≤◌, ◌++◌, ◌∷◌, [], length, take, drop, IfSome, IfNone};
+ghost use Rattle.{subst.specs.ExpressionPlaces.seen_at, subst.specs.Stored.Written.IsWritten};
 
 use crate::expression_place::ExpressionPlace;
 use std::simd::prelude::*;
@@ -24,18 +24,25 @@ fn copy_run(symbols: &mut [u32], from: usize, len: usize, at: usize)
     }
 }
 
-/// Copies the symbols at a place to `at`, and tells where they end.
+/// Copies the symbols at a place to `at`, where they end no later than at `last`, and tells where they end.
 #[inline(always)]
-pub fn copy_place(symbols: &mut [u32], at: usize, place: ExpressionPlace) -> Option<usize>
+pub fn copy_place(
+    symbols: &mut [u32],
+    at: usize,
+    last: usize,
+    place: ExpressionPlace,
+) -> Option<usize>
     requires place { (place.start ≤ place.end) × (place.end ≤ at) }
     requires inside { at ≤ length symbols.old }
+    requires room { last + 8 ≤ length symbols.old }
     ensures some { IfSome result (IsWritten symbols.old symbols.new at (seen_at (take at symbols.old) place)) }
-    ensures none { IfNone result (LacksRoom (length symbols.old) at (seen_at (take at symbols.old) place)) }
+    ensures within { IfSome result (λ end. end ≤ last) }
+    ensures none { IfNone result (last < at + length (seen_at (take at symbols.old) place)) }
     ensures kept { take at symbols.new ≡ take at symbols.old }
     ensures count { length symbols.new ≡ length symbols.old }
 {
     let len = (place.end - place.start) as usize;
-    if at + len + LANES > symbols.len() {
+    if at + len > last {
         return None;
     }
     copy_run(symbols, place.start as usize, len, at);
@@ -44,18 +51,14 @@ pub fn copy_place(symbols: &mut [u32], at: usize, place: ExpressionPlace) -> Opt
 
 /// Writes a symbol at `at`, and tells where it ends.
 #[inline(always)]
-pub fn put_symbol(symbols: &mut [u32], at: usize, symbol: u32) -> Option<usize>
-    requires inside { at ≤ length symbols.old }
-    ensures some { IfSome result (IsWritten symbols.old symbols.new at (symbol ∷ [])) }
-    ensures none { IfNone result (LacksRoom (length symbols.old) at (symbol ∷ [])) }
+pub fn put_symbol(symbols: &mut [u32], at: usize, symbol: u32) -> usize
+    requires { at < length symbols.old }
+    ensures written { IsWritten symbols.old symbols.new at (symbol ∷ []) result }
     ensures kept { take at symbols.new ≡ take at symbols.old }
     ensures count { length symbols.new ≡ length symbols.old }
 {
-    if at + LANES >= symbols.len() {
-        return None;
-    }
     symbols[at] = symbol;
-    Some(at + 1)
+    at + 1
 }
 
 /// Writes an expression at `at`. Most are the two symbols of a `$f`.

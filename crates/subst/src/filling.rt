@@ -1,5 +1,5 @@
 //! An expression with the images put in, written behind them in their buffer.
-ghost use Rattle.std.specs.Prelude.{◌≡◌, ◌+◌, ◌<◌, ◌≤◌, length, take, IfSome, IfNone, OnOk};
+ghost use Rattle.std.specs.Prelude.{◌≡◌, ◌+◌, ◌<◌, ◌≤◌, ◌^◌, length, take, IfSome, IfNone, OnOk};
 ghost use Rattle.{frame.specs.Substitution.code_apply, subst.specs.ExpressionPlaces.images_at, subst.specs.ExpressionPlaces.AreInside, subst.specs.Stored.Written.IsWritten, subst.specs.Stored.Written.LacksRoom, subst.specs.declared.buffer.TheConstants.SYMBOLS_LIMIT};
 
 use crate::copies::{LANES, copy_place, put_symbol};
@@ -7,22 +7,26 @@ use crate::image_places::ImagePlaces;
 use std::alloc::AllocError;
 
 /// Writes the expression with all images put in at `at`, and tells where it ends; nothing where the room behind `at`
-/// is too small.
+/// is too small for as many symbols and those of the expression besides.
 #[inline(always)]
 pub fn fill(symbols: &mut [u32], at: usize, images: &ImagePlaces, expr: &[u32]) -> Option<usize>
     requires within { AreInside at images.now }
     requires inside { at ≤ length symbols.old }
     ensures some { IfSome result (IsWritten symbols.old symbols.new at (code_apply (images_at (take at symbols.old) images.now) expr.now)) }
-    ensures none { IfNone result (LacksRoom (length symbols.old) at (code_apply (images_at (take at symbols.old) images.now) expr.now)) }
+    ensures none { IfNone result (LacksRoom (length symbols.old) at (length expr.now) (code_apply (images_at (take at symbols.old) images.now) expr.now)) }
     ensures kept { take at symbols.new ≡ take at symbols.old }
     ensures count { length symbols.new ≡ length symbols.old }
 {
+    if symbols.len() - at < expr.len() + LANES {
+        return None;
+    }
+    let last = symbols.len() - expr.len() - LANES;
     let table = images.table();
     let mut end = at;
     for symbol in expr {
         end = match table.get(*symbol) {
-            Some(place) => copy_place(symbols, end, place)?,
-            None => put_symbol(symbols, end, *symbol)?,
+            Some(place) => copy_place(symbols, end, last, place)?,
+            None => put_symbol(symbols, end, *symbol),
         };
     }
     Some(end)
@@ -53,7 +57,7 @@ pub fn filled_len(symbols: &[u32], images: &ImagePlaces, expr: &[u32], room: usi
 #[cold]
 #[inline(never)]
 pub fn make_room(buffer: &mut Vec<u32>, len: usize, more: usize) -> Result<(), AllocError>
-    requires { (len ≤ length buffer.old.items) × (len + more ≤ SYMBOLS_LIMIT) }
+    requires { (len ≤ SYMBOLS_LIMIT) × (more < 2 ^ 62) × (len ≤ length buffer.old.items) }
     ensures room { OnOk result (len + more + 8 ≤ length buffer.new.items) }
     ensures same { take len buffer.new.items ≡ take len buffer.old.items }
     ensures within { len ≤ length buffer.new.items }

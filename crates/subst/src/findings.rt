@@ -1,8 +1,7 @@
 //! What was found of the symbols of one proof: which are variables, and which two of them are kept apart.
-ghost use Rattle.std.specs.Prelude.{◌≡◌, ◌==◌, ◌<◌, [], length, true, false, IfSome};
-ghost use Rattle.{std.specs.List.list_any, names.specs.Codes.name_at, scope.specs.Active.is_variable, frame.specs.Below.AreBelow, subst.specs.Findings.IsKnown, subst.specs.Findings.IsAt, subst.specs.Findings.IsListed, subst.specs.Findings.Grows, subst.specs.Findings.IsSame, subst.specs.Findings.IsAmong, subst.specs.Findings.AreBits, subst.specs.Findings.AreNoted, subst.specs.Findings.AreWordsApart, subst.specs.Findings.AreListed};
+ghost use Rattle.std.specs.Prelude.{◌≡◌, ℕ, ◌==◌, ◌<◌, ◌⊎◌, [], length, true, false, IfSome};
+ghost use Rattle.{std.specs.Int.bit_at, std.specs.List.list_any, names.specs.Codes.name_at, scope.specs.Active.is_variable, frame.specs.Below.AreBelow, subst.specs.Findings.IsKnown, subst.specs.Findings.IsAt, subst.specs.Findings.IsListed, subst.specs.Findings.Grows, subst.specs.Findings.IsSame, subst.specs.Findings.IsAmong, subst.specs.Findings.AreBits, subst.specs.Findings.AreNoted, subst.specs.Findings.AreWordsApart, subst.specs.Findings.AreListed};
 
-use crate::bits::{lowest, without};
 use frame::Pairs;
 use std::alloc::Global;
 use std::marker::Model;
@@ -99,9 +98,7 @@ impl Findings {
         let bit = self.new_bit(pairs, symbol)?;
         let place = u32::try_from(self.symbols.len()).ok()?;
         let number = symbol;
-        if self.symbols.push(FoundSymbol { number, bit }).is_err() {
-            return None;
-        }
+        self.symbols.push(FoundSymbol { number, bit }).ok()?;
         if let Some(hint) = self.hints.get_mut(index) {
             *hint = place;
         }
@@ -229,4 +226,27 @@ fn has_place(variables: &[Variable], symbol: u32) -> bool
     ensures { result ≡ list_any (λ r. r.symbol == symbol) variables.now }
 {
     variables.iter().any(|variable| variable.symbol == symbol)
+}
+
+/// The lowest place of a word, whose bits are places below 64.
+#[inline(always)]
+fn lowest(word: u64) -> usize
+    requires { 0 < word }
+    ensures low { result < 64 }
+    ensures set { bit_at word result ≡ 1 }
+{
+    word.trailing_zeros() as usize
+}
+
+/// The word without one of its places.
+#[inline(always)]
+fn without(word: u64, place: usize) -> u64
+    requires low { place < 64 }
+    requires set { bit_at word place ≡ 1 }
+    ensures less { result < word }
+    ensures gone { bit_at result place ≡ 1 → ⊥ }
+    ensures only { (j : ℕ) → bit_at result j ≡ 1 → bit_at word j ≡ 1 }
+    ensures others { (j : ℕ) → bit_at word j ≡ 1 → (j ≡ place) ⊎ (bit_at result j ≡ 1) }
+{
+    word & !(1u64 << place)
 }

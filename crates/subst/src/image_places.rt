@@ -19,6 +19,9 @@ const UNSET: Slot = Slot {
     place: ExpressionPlace { start: 0, end: 0 },
 };
 
+/// So many slots a table has more than twice its greatest number: those of constants are then mostly in it.
+const SPARE: usize = 1024;
+
 /// A table of images as it is read: what makes it longer or takes them away needs the table itself.
 #[derive(Drop)]
 pub(crate) struct ImageTable<'a> {
@@ -50,8 +53,8 @@ impl<'a> ImageTable<'a> {
 
 /// Images of symbols, each a place in a buffer that stands beside. Contracts see the symbols with their places.
 ///
-/// Cost: a place is set and found in one step, and all are taken away in one step. The table is as long as the
-/// greatest number that was set.
+/// Cost: a place is set and found in one step, and all are taken away in one step. The table is about twice as long as
+/// the greatest number that was set.
 #[derive(Drop)]
 pub struct ImagePlaces {
     slots: Vec<Slot>,
@@ -129,7 +132,7 @@ impl ImagePlaces {
     }
 }
 
-/// Makes a slot of that index, and those before it.
+/// Makes a slot of that index, those before it, and as many behind it.
 #[cold]
 #[inline(never)]
 fn add_slots(slots: &mut Vec<Slot>, index: usize) -> Result<(), AllocError>
@@ -138,6 +141,6 @@ fn add_slots(slots: &mut Vec<Slot>, index: usize) -> Result<(), AllocError>
     ensures there { OnOk result (index < length slots.new.items) }
     ensures err { OnErr result (slots.new.items ≡ slots.old.items) }
 {
-    slots.resize(index + 1, UNSET)?;
+    slots.resize(2 * index + SPARE, UNSET)?;
     Ok(())
 }

@@ -73,17 +73,6 @@ impl Subst {
         let place = self.images.get(symbol)?;
         Some(symbols_at(self.symbols.as_slice(), place))
     }
-
-    /// The image of a symbol: its own, which is handed in, where it was given none.
-    pub(crate) fn image_or<'a>(&'a self, symbol: u32, own: &'a [u32]) -> &'a [u32]
-        requires { own.now ≡ symbol ∷ [] }
-        ensures { result.now ≡ code_image self.now symbol }
-    {
-        match self.image(symbol) {
-            Some(image) => image,
-            None => own,
-        }
-    }
 }
 
 /// The expression with all images put in at once.

@@ -4,11 +4,10 @@
 //! off its results, matches an expression under them without writing it, and adds one behind them. `Subst` is such a table with a
 //! buffer of its own, and `apply` puts all its images in at once. Symbols are numbers; that this is substitution over the names
 //! that they stand for is a law. Reading order: `expression_place`, `image_places`, `copies`, `filling`, `matching`, `buffer`,
-//! `images`, `asked_apart`, `bits`, `findings`, `numbers_apart`, `laws`.
+//! `images`, `asked_apart`, `findings`, `numbers_apart`, `laws`.
 #![tactic(auto)]
 
 mod asked_apart;
-mod bits;
 mod buffer;
 mod copies;
 mod expression_place;

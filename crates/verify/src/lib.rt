@@ -5,7 +5,7 @@
 //! `check` is the same of the items.
 //!
 //! Reading order: `answer`, `tree`; `results` (as ranges of one buffer), `label_table`, `citation` (one item), `checker` (a
-//! whole proof); `plan` and `tree_from_items` (the derivation); `laws`.
+//! whole proof); `plan` (the derivation); `laws`.
 #![tactic(auto)]
 
 mod answer;
@@ -16,11 +16,9 @@ pub mod laws;
 mod plan;
 mod results;
 mod tree;
-mod tree_from_items;
 
 pub use answer::{Answer, TreeFault};
 pub use checker::{Checker, check};
-pub use plan::{MOST_DEPTH, MOST_NODES};
+pub use plan::{MOST_DEPTH, MOST_NODES, derivation};
 pub use results::read_off;
 pub use tree::Tree;
-pub use tree_from_items::derivation;

@@ -86,10 +86,9 @@ impl Results {
     pub fn mark(&mut self) -> Result<bool, AllocError>
         ensures { IfOk result (λ ok. Marks ok self.old.results self.new.results) }
     {
-        let Some(place) = self.stack.last() else {
+        let Some(&place) = self.stack.last() else {
             return Ok(false);
         };
-        let place = *place;
         self.saved.push(place)?;
         Ok(true)
     }

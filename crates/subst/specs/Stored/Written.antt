@@ -9,9 +9,9 @@ pub record IsWritten (old new : List ℕ) (at : ℕ) (e : List ℕ) (end : ℕ) 
   pub moved : end ≡ at + length e
   pub inside : end ≤ length new
 
--- e does not fit behind the first `at` of n symbols with eight more behind it
-abbrev pub LacksRoom : ℕ → ℕ → List ℕ → Type 0
-LacksRoom n at e = n < at + length e + 8
+-- e does not fit behind the first `at` of n symbols with so many and eight more behind it
+abbrev pub LacksRoom : ℕ → ℕ → ℕ → List ℕ → Type 0
+LacksRoom n at more e = n < at + length e + more + 8
 
 -- e was added, or is longer than the limit
 abbrev pub Appends : Bool → ℕ → List ℕ → List ℕ → List ℕ → Type 0

@@ -3,7 +3,7 @@ use Rattle.subst.proofs.CopyLemmas.{place-written, place-lacks, written-kept}
 use Rattle.subst.proofs.copies.copy_place.Goals as goal
 
 pub returns-then-at-len-clause-none : goal.returns-then-at-len-clause-none
-returns-then-at-len-clause-none c = place-lacks c.args.symbols.now c.args.at c.args.place c.requires.place.0 c.requires.place.1 c.requires.inside (omega arith)
+returns-then-at-len-clause-none c = place-lacks c.args.symbols.now c.args.at c.args.last c.args.place c.requires.place.0 c.requires.place.1 c.requires.inside (omega arith)
 
 pub returns-clause-some : goal.returns-clause-some
 returns-clause-some c =

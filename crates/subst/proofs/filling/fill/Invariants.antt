@@ -1,7 +1,13 @@
-use Rattle.subst.proofs.Words.{◌≡◌, length, take, code_apply, images_at, IsWritten}
+use Rattle.subst.proofs.Words.{◌≡◌, ◌+◌, ◌≤◌, ℕ, List, length, take, code_apply, images_at, IsWritten}
 use Rattle.subst.proofs.filling.fill.Given as goal
+
+-- what is written of the first symbols, and that there is room for those behind them
+pub record IsFilled (old new : List ℕ) (at : ℕ) (e : List ℕ) (end k n last : ℕ) : Type 0 where
+  pub written : IsWritten old new at e end
+  pub few : end ≤ last + k
+  pub room : last + n + 8 ≡ length old
+  pub count : length new ≡ length old
 
 abbrev pub invariant-loop-symbol : goal.invariant-loop-symbol
 invariant-loop-symbol l =
-    IsWritten l.initial.symbols l.symbols l.at (code_apply (images_at (take l.at l.initial.symbols) l.images) (take l.symbol-index l.expr)) l.end
-    × (length l.symbols ≡ length l.initial.symbols)
+    IsFilled l.initial.symbols l.symbols l.at (code_apply (images_at (take l.at l.initial.symbols) l.images) (take l.symbol-index l.expr)) l.end l.symbol-index (length l.expr) l.last

@@ -18,7 +18,7 @@ returns-then-place-table-clause-grew c = λ at labels once are.
 
 pub returns-then-number-eq0-clause-plan : goal.returns-then-number-eq0-clause-plan
 returns-then-number-eq0-clause-plan c =
-    marked-plan c.args.plan.now (record { nodes = c.args.plan.now.nodes; stack = c.args.plan.now.stack; saved = c.push.new.self; mandatory = c.args.plan.now.mandatory }) c.in-Some.last.now c.requires.plan
+    marked-plan c.args.plan.now (record { nodes = c.args.plan.now.nodes; stack = c.args.plan.now.stack; saved = c.push.new.self; mandatory = c.args.plan.now.mandatory }) c.in-Some.field-0.now c.requires.plan
     (ap (λ s. slice_get s (length s - 1)) (sym c.deref.ensures.value) ∙ sym c.in-Some.ensures.value) refl refl c.in_ok-push.ensures.items
 
 pub returns-then-index-len-clause-grew : goal.returns-then-index-len-clause-grew

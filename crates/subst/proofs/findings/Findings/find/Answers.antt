@@ -1,4 +1,4 @@
-use Rattle.subst.proofs.Words.{sym, ◌∙◌, subst, FoundSymbol, Found, Grows, IsKnown}
+use Rattle.subst.proofs.Words.{arith, ◌∙◌, subst, FoundSymbol, Found, Grows, IsKnown}
 use Rattle.subst.proofs.FindingsLemmas.{pushed, symbol-added, grows-symbols}
 use Rattle.subst.proofs.findings.Findings.find.Goals as goal
 use Rattle.subst.proofs.findings.Findings.find.Goals.{else-index-len-via-then-index-len+else-is_err, else-index-len-via-else-index-len, in-Some, in_default}
@@ -9,7 +9,7 @@ returns-clause-known c =
     let f : Found = record { symbols = c.self-2.inside.symbols.items; variables = c.self-2.inside.variables.items } in
     let s : FoundSymbol = record { number = c.args.symbol; bit = c.in_ok-bit.bit } in
     let new : IsKnown v (record { symbols = c.push.new.self.items; variables = f.variables }) =
-    rw (pushed c.push.result c.push.new.self.items _ _ (sym c.is_err-2.ensures.value ∙ c.if-is_err-2.false) c.push.ensures.items)
+    rw (pushed c.push.result c.push.new.self.items _ _ (grind arith) c.push.ensures.items)
     (symbol-added v f s (rw c.self-2.view_is c.new_bit.ensures.known) (rw c.self-2.view_is c.in_ok-bit.ensures.bits)) in
     elim c.match-get_mut.branch [ in-Some w ↦ rw w.self-inside-is new | in_default w ↦ rw w.self-inside-is new ]
 

@@ -1,6 +1,6 @@
 use Rattle.verify.proofs.Words.{length, arith, sym, ap, ◌∙◌, subst, Derives, IsSmall, pick, built}
 use Rattle.verify.proofs.RightLemmas.{derives-same, root, some-number, extents-length, root-small}
-use Rattle.verify.proofs.tree_from_items.derivation.Goals as goal
+use Rattle.verify.proofs.plan.derivation.Goals as goal
 
 pub index-root-requires : goal.index-root-requires
 index-root-requires c = let h = some-number c.args.frames.now.statements c.args.at c.in_ok-plan.ensures.once c.args.items.now c.in_ok-plan.plan (rw c.in-Proved.is at c.in_ok-check.ensures) c.in_ok-plan.ensures.grown in omega (arith, h)

@@ -2,7 +2,7 @@ use Rattle.verify.proofs.Words.{map, arith, sym, ap, ◌∙◌, apply, from_list
 use Rattle.verify.proofs.TreeLemmas.{derivation-hyp, derivation-apply}
 use Rattle.verify.proofs.StepLemmas.{all-taken}
 use Rattle.verify.proofs.PlanLemmas.{picked-hyp, picked-apply, kid-low}
-use Rattle.verify.proofs.tree_from_items.+expand.Goals as goal
+use Rattle.verify.proofs.plan.+expand.Goals as goal
 
 pub expand-requires : goal.expand-requires
 expand-requires t c =

@@ -1,6 +1,6 @@
 use Rattle.subst.proofs.Words.{rules, arith, w64, bit_at_clear_same}
 use Rattle.subst.proofs.BitsLemmas.{cleared-less, cleared-others, and-left}
-use Rattle.subst.proofs.bits.without.Goals as goal
+use Rattle.subst.proofs.findings.without.Goals as goal
 
 pub returns-clause-less : goal.returns-clause-less
 returns-clause-less c = cleared-less c.args.word c.args.place c.requires.low c.requires.set

@@ -1,5 +1,5 @@
 use Rattle.verify.proofs.Words.{◌≡◌, map, take, derivation_of, built, pick}
-use Rattle.verify.proofs.tree_from_items.+expand.Given as goal
+use Rattle.verify.proofs.plan.+expand.Given as goal
 
 abbrev pub decreases-expand : goal.decreases-expand
 decreases-expand l = l.number

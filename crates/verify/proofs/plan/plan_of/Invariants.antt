@@ -1,5 +1,5 @@
 use Rattle.verify.proofs.Words.{◌≡◌, [], List, map, take, Name, AreLegal, item_of, items_of, trees, GrowsBy, trees_of, IsPlan, AreEntries}
-use Rattle.verify.proofs.tree_from_items.plan_of.Given as goal
+use Rattle.verify.proofs.plan.plan_of.Given as goal
 
 -- behind the items so far
 abbrev pub invariant-loop-number : goal.invariant-loop-number

@@ -1,7 +1,7 @@
 use Rattle.verify.proofs.Words.{◌≡◌, ℕ, ◌+◌, [], Bool, true, false, List, Result, Ok, IfOk, get_or, map, take, drop, sym, ◌∙◌, subst, IfOk-at_ok, Name, Database, HasLabelsOnce, item_of, Trees, trees, GrowsBy, Grew, trees_of, IsRight, AreEntries, LabelEntry}
 use Rattle.verify.proofs.StepLemmas.{items-more, items-rest}
 use Rattle.verify.proofs.GrowthLemmas.{never-stuck, grows-on}
-use Rattle.verify.proofs.tree_from_items.plan_of.Goals as goal
+use Rattle.verify.proofs.plan.plan_of.Goals as goal
 
 -- what the item did
 went : (S : Database) (at : ℕ) (labels : List Name) (n : ℕ) (old new : Trees) (table table' : List LabelEntry) (E : Type 0) (r : Result Bool E) (ok b : Bool) → HasLabelsOnce S → table' ≡ table → AreEntries S at labels table
