@@ -1,5 +1,6 @@
 -- Statements entered one by one: what is left to judge behind those that were taken.
-use Rattle.library.proofs.Words.{◌≡◌, ℕ, ◌+◌, ◌<◌, [], ◌∷◌, ◌++◌, length, take, drop, get_or, None, sym, ◌∙◌, ap, append_assoc, map_more, drop_more, Stmt, Database, bare, bares, broken_rule, first_broken}
+use Rattle.library.proofs.Words.{◌≡◌, ℕ, ◌+◌, ◌<◌, [], ◌∷◌, ◌++◌, length, length-append, take, drop, get_or, Option, Some, None, Result, Ok, Err, IfSome, arith, refl, sym, ◌∙◌, ap, append_assoc, map_more, drop_more, Stmt, Database, IsKnown, BrokenRule as Rule, bare, bares, broken_rule, first_broken}
+use Rattle.scope.specs.declared.rule.Rule.TheVariants.{Memory}
 use Rattle.library.proofs.JoinedRulesLemmas.{first_broken-taken}
 
 pub taken-more : (S : Database) (i : ℕ) (s : Stmt) → i < length S → s ≡ get_or S i s → bares (take (i + 1) S) ≡ bares (take i S) ++ bare s ∷ []
@@ -17,3 +18,25 @@ pub left-more : (cur old next S : Database) (i : ℕ) (s : Stmt) → i < length 
     → first_broken 1 old S ≡ first_broken (i + 1) cur (drop i S) → first_broken 1 old S ≡ first_broken (i + 1 + 1) next (drop (i + 1) S)
 left-more cur old next S i s less is legal after left =
     left ∙ (left-at cur S i s less is ∙ (first_broken-taken (i + 1) cur s (drop (i + 1) S) (sym legal) ∙ ap (λ U. first_broken (i + 1 + 1) U (drop (i + 1) S)) (sym after)))
+
+-- a rule that is not want of memory is the one that is broken
+pub rule-is : (r : Option Rule) (rule : Rule) → IfSome r (λ other. ◌≡◌ {A = Result (Unit {0}) Rule} (Err rule) (Err other)) → (r ≡ None → rule ≡ Memory) → (rule ≡ Memory → ⊥) → r ≡ Some rule
+rule-is None rule shown none other = absurd (other (none refl))
+rule-is (Some r) rule shown none other = ap Some (let e = shown in cc)
+
+-- what closing at the end answered
+pub none-at-end : (r : Option Rule) (result : Result (Unit {0}) Rule) → IfSome r (λ rule. result ≡ Err rule) → result ≡ Ok tt → r ≡ None
+none-at-end None result shown ok = refl
+none-at-end (Some rule) result shown ok = absurd (let e = shown in cc)
+
+pub rule-at-end : (r : Option Rule) (result : Result (Unit {0}) Rule) (rule : Rule) → IfSome r (λ rule. result ≡ Err rule) → (r ≡ None → result ≡ Ok tt) → result ≡ Err rule → r ≡ Some rule
+rule-at-end None result rule shown closed err = absurd (let e = closed refl in cc)
+rule-at-end (Some other) result rule shown closed err = ap Some (let e = shown in cc)
+
+-- where none is judged ahead, what is known are the statements that stood
+pub known-none : (T : Database) (known n : ℕ) → known ≡ n → (L : Database) → length L ≡ n → IsKnown (L ++ T) (length L) known
+known-none T known n is L alone = record {
+  low = omega (arith, is, alone);
+  within = omega (arith, is, alone, length-append L T);
+  proved = λ at above below. absurd (omega (arith, is, alone, above, below));
+}

@@ -1,6 +1,6 @@
 -- The positions of the `$p` behind the first statements, and what their least that is not right says of all statements.
-use Rattle.library.proofs.Words.{◌≡◌, ℕ, zero, suc, ◌+◌, ◌-◌, ◌<◌, ◌≤◌, List, [], ◌∷◌, ◌++◌, length, get_or, Option, Some, None, slice_get, slice_get-get_or, get_or_default, ◌∙◌, ap, sym, subst, arith, inl, inr, cases_eq, cases_order, Stmt, Database, stmt_at, IsProvable, IsRightProof, AreProofs, AreBehind, StandsProved, IsLeastUnproved}
-use Rattle.library.proofs.Words.{true, AreShaped, is_shaped, and_parts, nat_tests, list_all, take, drop, cases_lt, take-append-drop, take_rest, ◌==◌, if◌then◌else◌, IsProved}
+use Rattle.library.proofs.Words.{◌≡◌, ℕ, zero, suc, ◌+◌, ◌-◌, ◌<◌, ◌≤◌, List, [], ◌∷◌, ◌++◌, length, get_or, Option, Some, None, slice_get, slice_get-get_or, get_or_default, ◌∙◌, ap, sym, subst, arith, inl, inr, cases_eq, cases_order, Stmt, Database, stmt_at, IsProvable, IsRightProof, AreProofs, AreBehind, StandsProved, IsKnown, IsLeastUnproved}
+use Rattle.library.proofs.Words.{true, AreShaped, is_shaped, and_parts, list_all, take, drop, cases_lt, take-append-drop, IsProved}
 use Rattle.library.specs.Entered.{AreProvedTo}
 use Rattle.library.proofs.FrontLemmas.{stands_index}
 use Rattle.std.proofs.lemmas.List.Folds.{list_all-append}
@@ -129,28 +129,19 @@ to-later S count end within are at below s p =
     none (suc n) e q = absurd (omega (arith, e, below, within))
 
 -- the least behind those that are known to be proved is the least
-known-least : (S : Database) (front known : ℕ) (found : Option ℕ) → front ≤ known → ((at : ℕ) → front < at → at ≤ known → StandsProved S at) → IsLeastUnproved S known found → IsLeastUnproved S front found
-known-least S front known None low are least = λ at above within. elim (cases_lt known at) [ inl more ↦ least at more within | inr less ↦ are at above less ]
-known-least S front known (Some at) low are least = (
-  (let a = least.0 in omega (arith, a, low)),
+pub known-least : (S : Database) (front known : ℕ) (found : Option ℕ) → IsKnown S front known → IsLeastUnproved S known found → IsLeastUnproved S front found
+known-least S front known None h least = λ at above within. elim (cases_lt known at) [ inl more ↦ least at more within | inr less ↦ h.proved at above less ]
+known-least S front known (Some at) h least = (
+  (let a = least.0 in let low = h.low in omega (arith, a, low)),
   least.1,
   least.2,
-  (λ m above below. elim (cases_lt known m) [ inl more ↦ least.3 m more below | inr less ↦ are m above less ]),
+  (λ m above below. elim (cases_lt known m) [ inl more ↦ least.3 m more below | inr less ↦ h.proved m above less ]),
 )
 
--- up to which position they are known
-known-behind : (front ahead : ℕ) → 0 < front → (if front == 0 then ahead else front) ≡ front
-known-behind front ahead h = grind (arith, nat_tests)
-
-module _ (S : Database) where
-  pub known-within : (front ahead : ℕ) → ahead ≤ length (take (length S - front) (drop front S)) → front ≤ length S → (if front == 0 then ahead else front) ≤ length S
-  known-within zero ahead within low = subst (λ U. ahead ≤ length U) (take_rest S 0) within
-  known-within (suc front) ahead within low = subst (λ n. n ≤ length S) (sym (known-behind (suc front) ahead (omega arith))) low
-
-  pub least-ahead : (front ahead : ℕ) (found : Option ℕ) → AreProvedTo (take (length S - front) (drop front S)) ahead
-      → IsLeastUnproved S (if front == 0 then ahead else front) found → IsLeastUnproved S front found
-  least-ahead zero ahead found are least = known-least S 0 ahead found (omega arith) (λ at above below. subst (λ U. StandsProved U at) (take_rest S 0) (are at below)) least
-  least-ahead (suc front) ahead found are least = subst (λ n. IsLeastUnproved S n found) (known-behind (suc front) ahead (omega arith)) least
+-- what is known of a text that stands alone
+pub known-alone : (T : Database) (known : ℕ) → known ≤ length T → AreProvedTo T known → (L : Database) → length L ≡ 0 → IsKnown (L ++ T) (length L) known
+known-alone T known within are [] alone = record { low = omega arith; within = within; proved = λ at above below. are at below }
+known-alone T known within are (s ∷ L) alone = absurd (omega (arith, alone))
 
 -- the first of shaped statements are shaped
 pub shaped-front : (S : Database) (count : ℕ) → AreShaped S → AreShaped (take count S)

@@ -8,7 +8,7 @@ pub use Rattle.library.specs.Asked.{HasNoLabel, IsNoProof, IsTreeOf, IsUsage, Na
 pub use Rattle.library.specs.Causes.{IsAllowed, IsCause, IsFault, IsFirstUnproved, IsReadable}
 pub use Rattle.library.specs.Charters.{first_declaration, forbidden, is_rising, may_declare}
 pub use Rattle.library.specs.Good.{Good, IsProved}
-pub use Rattle.library.specs.Judging.{Begins, Extends, IsBase, IsJudged, IsLeastUnproved, IsPlaced, IsReading, StandsProved}
+pub use Rattle.library.specs.Judging.{Extends, IsBase, IsJudged, IsKnown, IsLeastUnproved, IsReading, StandsProved}
 pub use Rattle.library.specs.LibraryOf.{Applies, AppliesAt, Decided, Decides, IsLibraryOf, Replica, Runs, decided_with, empty, status, status_of}
 pub use Rattle.library.specs.Listed.{listed, listed_of}
 pub use Rattle.library.specs.Unproved.{AreBehind, AreProofs, IsRightProof}

@@ -1,9 +1,9 @@
 -- What judging statements behind others finds: the least rule broken, or else the least `$p` that is not proved.
 -- Source: this project's profile; Metamath, 4.2 and appendix B.
 -- The code adds the statements to the state of the rules and to frames, and goes back where it finds a fault.
-use Rattle.std.specs.Prelude.{◌≡◌, ℕ, ◌+◌, ◌<◌, ◌≤◌, IsTrue, List, ◌++◌, length, Option, Some, None, Result, Ok, Err, IfOk, IfErr, Vec}
+use Rattle.std.specs.Prelude.{◌≡◌, ℕ, ◌+◌, ◌<◌, ◌≤◌, List, ◌++◌, length, Option, Some, None, Result, Ok, Err, IfOk, IfErr, Vec}
 use Rattle.std.specs.declared.alloc.Global.{Global}
-use Rattle.library.specs.Words.{Stmt, Database, AreShaped, Reads, IsReadFault, bares, is_closed, first_broken, IsProvable}
+use Rattle.library.specs.Words.{Stmt, Database, AreShaped, Reads, IsReadFault, bares, first_broken, IsProvable}
 use Rattle.mm_read.specs.declared.fault.ReadFault.{ReadFault}
 use Rattle.scope.specs.Accepted.{Accepted}
 use Rattle.frame.specs.Parts.{Numbered}
@@ -26,6 +26,12 @@ IsLeastUnproved S front None = (at : ℕ) → front < at → at ≤ length S →
 IsLeastUnproved S front (Some at) =
     (front < at) × (at ≤ length S) × (¬ StandsProved S at) × ((m : ℕ) → front < m → m < at → StandsProved S m)
 
+-- behind the first statements, up to this position, each `$p` is proved
+pub record IsKnown (S : Database) (front known : ℕ) : Type 0 where
+  pub low : front ≤ known
+  pub within : known ≤ length S
+  pub proved : (at : ℕ) → front < at → at ≤ known → StandsProved S at
+
 -- the statements T may stand behind L, or this is why they may not
 abbrev pub IsJudged : Database → Database → Option Cause → Type 0
 IsJudged L T None =
@@ -39,13 +45,6 @@ pub record IsBase (S : Database) (rules : Accepted) (frames : Numbered) : Type 0
   pub rules_are : rules.statements ≡ bares S
   pub marked_is : rules.marked ≡ bares S
   pub frames_are : frames.statements ≡ bares S
-
--- behind L the statements T were judged: where they may stand rules and frames stand behind them, and no block is open
-pub record IsPlaced (L T : Database) (rules : Accepted) (frames : Numbered) (found : Option Cause) : Type 0 where
-  pub judged : IsJudged L T found
-  pub rules_are : found ≡ None → rules.statements ≡ bares (L ++ T)
-  pub frames_are : found ≡ None → frames.statements ≡ bares (L ++ T)
-  pub closed : found ≡ None → IsTrue (is_closed rules.statements)
 
 -- the statements T were added whole behind L, or nothing of them, for this cause
 abbrev pub Extends : Database → Database → Option Cause → Database → Type 0

@@ -4,9 +4,8 @@ ghost use Rattle.{scope.specs.Active.bares, scope.specs.Active.is_provable, veri
 
 use crate::base::Base;
 use crate::library::Library;
-use crate::read_items::items_of;
 use crate::users::users;
-use crate::uses::axioms_used;
+use crate::uses::{axioms_used, items_of};
 use frame::Frames;
 use mm_lex::Word;
 use mm_read::Stmt;
@@ -50,11 +49,8 @@ impl Library {
         ensures not_provable { (result ≡ Err AskFault.NotProvable) ↔ NamesNoProof self.now.replica.statements label.now }
         ensures small { result ≢ Err AskFault.TooLarge }
     {
-        let base = self.base();
-        match proof_at(base, label) {
-            Ok(at) => Ok(axioms_used(base, at)?),
-            Err(fault) => Err(fault),
-        }
+        let at = proof_at(self.base(), label)?;
+        Ok(axioms_used(self.base(), at)?)
     }
 
     /// The labels of the `$p` whose proofs cite what has the label, a hypothesis or an assertion, each once, in the order of the
@@ -85,13 +81,10 @@ impl Library {
         ensures not_provable { (result ≡ Err AskFault.NotProvable) ↔ NamesNoProof self.now.replica.statements label.now }
         ensures small { result ≢ Err AskFault.TooLarge }
     {
-        let base = self.base();
-        match proof_at(base, label) {
-            Ok(at) => match items_of(base, at)? {
-                Some(items) => Ok((at, items)),
-                None => unreachable!(),
-            },
-            Err(fault) => Err(fault),
+        let at = proof_at(self.base(), label)?;
+        match items_of(self.base(), at)? {
+            Some(items) => Ok((at, items)),
+            None => unreachable!(),
         }
     }
 

@@ -1,14 +1,14 @@
 //! Good statements, with what judges those that come behind them.
-ghost use Rattle.std.specs.Prelude.{◌≡◌, ◌+◌, ◌*◌, ◌≤◌, ◌++◌, ◌==◌, [], if◌then◌else◌, length, take, drop, Ok, Some, None, IfOk, OnOk, OnErr};
-ghost use Rattle.{std.specs.Fn.FnReturnsAt, mm_read.specs.Statements.AreShaped, scope.specs.Active.bares, scope.specs.Active.stmt_at, frame.specs.AtPosition.HasLabelsOnce, library.specs.Good.Good, library.specs.Judging.Begins, library.specs.Judging.IsPlaced, library.specs.Judging.Extends, library.specs.Unproved.FindsLeast, library.specs.Entered.IsEntered};
+ghost use Rattle.std.specs.Prelude.{◌≡◌, ◌+◌, ◌-◌, ◌*◌, ◌≤◌, ◌++◌, [], length, take, drop, Ok, Some, None, IfOk, OnOk, OnErr};
+ghost use Rattle.{std.specs.Fn.FnReturnsAt, mm_read.specs.Statements.AreShaped, scope.specs.Active.bares, scope.specs.Active.stmt_at, scope.specs.Legal.first_broken, frame.specs.AtPosition.HasLabelsOnce, library.specs.Good.Good, library.specs.Judging.IsBase, library.specs.Judging.IsJudged, library.specs.Judging.IsKnown, library.specs.Judging.Extends, library.specs.Unproved.FindsLeast, library.specs.Entered.Enters, library.specs.Entered.IsEnteredBehind};
 
-use crate::ahead::Entered;
-use crate::read_items::is_unfinished;
+use crate::entering::Entered;
 use crate::unproved::{Proofs, least_unproved};
 use crate::verdict::Cause;
 use frame::Frames;
 use mm_read::Stmt;
-use scope::{Rules, Steps};
+use proof_code::is_unfinished;
+use scope::{Rule, Rules, Steps};
 use std::alloc::{AllocError, Global};
 use std::marker::Model;
 use std::mem;
@@ -93,43 +93,41 @@ impl Base {
         least: &F,
     ) -> Result<Option<Cause>, AllocError>
         requires shaped { AreShaped more.items }
-        requires enterable { (rules : _) (frames : _) (steps : _) (s : _) → frames.statements ≡ rules.statements → AreShaped s.now → E.pre enter.now rules frames steps s }
-        requires enters { (rules : _) (frames : _) (steps : _) (s : _) (e : _) → E.post enter.now rules frames steps s e → IsEntered rules frames (steps.count + 3 * length s.now) s.now e }
-        requires callable { F.IsAlwaysCallable least.now }
-        requires finds { FindsLeast (FnReturnsAt F.Fn least.now) }
+        requires enters { Enters (E.pre enter.now) (E.post enter.now) }
+        requires finds { F.IsAlwaysCallable least.now × FindsLeast (FnReturnsAt F.Fn least.now) }
         ensures judged { IfOk result (λ found. Extends self.old more.items found self.new) }
         ensures same { OnErr result (self.new ≡ self.old) }
         ensures counted { steps.new.count ≤ steps.old.count + 3 * length more.items }
     {
         let front = self.statements.len();
         append_all(&mut self.statements, more)?;
-        match judge(
+        let statements = self.statements.as_slice();
+        let (broken, known) = enter_behind(
             self.alloc,
             &mut self.rules,
             &mut self.frames,
-            &self.statements,
+            statements,
             front,
             steps,
             enter,
+        );
+        let found = judge(
+            self.alloc,
+            broken,
+            &self.frames,
+            statements,
+            front,
+            known,
             least,
-        ) {
-            Ok(None) => {
-                self.rules.mark();
-                Ok(None)
-            }
-            Ok(Some(cause)) => {
-                self.statements.truncate(front);
-                self.rules.back();
-                self.frames.shorten(front);
-                Ok(Some(cause))
-            }
-            Err(AllocError) => {
-                self.statements.truncate(front);
-                self.rules.back();
-                self.frames.shorten(front);
-                Err(AllocError)
-            }
+        );
+        if let Ok(None) = found {
+            self.rules.mark();
+            return Ok(None);
         }
+        self.statements.truncate(front);
+        self.rules.back();
+        self.frames.shorten(front);
+        found
     }
 }
 
@@ -148,13 +146,11 @@ fn append_all(statements: &mut Vec<Stmt>, mut more: Vec<Stmt>) -> Result<(), All
     Ok(())
 }
 
-/// Why the statements behind the first `front` may not stand there; none where they may.
+/// Enters the statements behind the first `front`, those of the rules and the frames, in three steps each at most. As `enter`
+/// it tells the first that breaks a rule, and up to which position each `$p` is known to be proved.
 ///
-/// Errors: a growth was refused. Cost: that of these statements, one step each.
-fn judge<
-    E: Fn(Rules, Frames, Steps, &[Stmt]) -> Entered,
-    F: Fn(&Proofs<'_>) -> Result<Option<usize>, AllocError>,
->(
+/// Cost: that of `enter`.
+fn enter_behind<E: Fn(Rules, Frames, Steps, &[Stmt]) -> Entered>(
     alloc: Global,
     rules: &mut Rules,
     frames: &mut Frames,
@@ -162,58 +158,58 @@ fn judge<
     front: usize,
     steps: &mut Steps,
     enter: &E,
-    least: &F,
-) -> Result<Option<Cause>, AllocError>
-    requires enterable { (rules : _) (frames : _) (steps : _) (s : _) → frames.statements ≡ rules.statements → AreShaped s.now → E.pre enter.now rules frames steps s }
-    requires enters { (rules : _) (frames : _) (steps : _) (s : _) (e : _) → E.post enter.now rules frames steps s e → IsEntered rules frames (steps.count + 3 * length s.now) s.now e }
-    requires callable { F.IsAlwaysCallable least.now }
-    requires finds { FindsLeast (FnReturnsAt F.Fn least.now) }
+) -> (Result<Option<(usize, Rule)>, AllocError>, usize)
     requires within { front ≤ length statements.now }
+    requires base { IsBase (take front statements.now) rules.old frames.old }
     requires shaped { AreShaped (drop front statements.now) }
-    requires rules { rules.old.statements ≡ bares (take front statements.now) }
-    requires frames { frames.old.statements ≡ bares (take front statements.now) }
-    ensures placed { IfOk result (IsPlaced (take front statements.now) (drop front statements.now) rules.new frames.new) }
-    ensures begins { Begins frames.old.statements frames.new.statements }
-    ensures marked { rules.new.marked ≡ rules.old.marked }
-    ensures counted { steps.new.count ≤ steps.old.count + 3 * length (drop front statements.now) }
+    requires enters { Enters (E.pre enter.now) (E.post enter.now) }
+    ensures entered { IsEnteredBehind statements.now front rules.new frames.new result.0 result.1 }
+    ensures counted { steps.new.count ≤ steps.old.count + 3 * (length statements.now - front) }
 {
-    let Entered {
-        broken,
-        rules: new_rules,
-        frames: new_frames,
-        steps: new_steps,
-        ahead,
-    } = enter(
+    let entered = enter(
         mem::replace(rules, Rules::new(alloc)),
         mem::replace(frames, Frames::new(alloc)),
         mem::replace(steps, Steps::new()),
         &statements[front..],
     );
-    *rules = new_rules;
-    *frames = new_frames;
-    *steps = new_steps;
-    let known = known_to(front, ahead);
-    match broken? {
-        None => {}
-        Some((statement, rule)) => return Ok(Some(Cause::Rule { statement, rule })),
-    }
-    match least_unproved(alloc, frames, statements, known, least)? {
-        None => Ok(None),
-        Some(at) => {
-            let statement = at - front;
-            if is_unfinished(&statements[at - 1]) {
-                Ok(Some(Cause::Unfinished { statement }))
-            } else {
-                Ok(Some(Cause::Proof { statement }))
-            }
-        }
-    }
+    *rules = entered.rules;
+    *frames = entered.frames;
+    *steps = entered.steps;
+    (entered.broken, entered.known)
 }
 
-/// Up to which position each `$p` behind the first `front` statements is known to be proved, where of statements that stand alone
-/// it is this one.
-fn known_to(front: usize, ahead: usize) -> usize
-    ensures { result ≡ (if front == 0 then ahead else front) }
+/// Why the statements behind the first `front` may not stand there, where entering them left this; none where they may.
+///
+/// Errors: a growth was refused. Cost: that of `least`, and one look at each of these statements.
+fn judge<F: Fn(&Proofs<'_>) -> Result<Option<usize>, AllocError>>(
+    alloc: Global,
+    broken: Result<Option<(usize, Rule)>, AllocError>,
+    frames: &Frames,
+    statements: &[Stmt],
+    front: usize,
+    known: usize,
+    least: &F,
+) -> Result<Option<Cause>, AllocError>
+    requires finds { F.IsAlwaysCallable least.now × FindsLeast (FnReturnsAt F.Fn least.now) }
+    requires broken { IfOk broken (λ broken. broken ≡ first_broken 1 (take front statements.now) (drop front statements.now)) }
+    requires frames { broken ≡ Ok None → frames.now.statements ≡ bares statements.now }
+    requires known { IsKnown statements.now front known }
+    ensures judged { IfOk result (IsJudged (take front statements.now) (drop front statements.now)) }
+    ensures entered { result ≡ Ok None → broken ≡ Ok None }
 {
-    if front == 0 { ahead } else { front }
+    if let Some((statement, rule)) = broken? {
+        return Ok(Some(Cause::Rule { statement, rule }));
+    }
+    let Some(at) = least_unproved(alloc, frames, statements, known, least)? else {
+        return Ok(None);
+    };
+    let statement = at - front;
+    let Stmt::Prove { proof, .. } = &statements[at - 1] else {
+        unreachable!();
+    };
+    if is_unfinished(proof) {
+        Ok(Some(Cause::Unfinished { statement }))
+    } else {
+        Ok(Some(Cause::Proof { statement }))
+    }
 }

@@ -17,8 +17,7 @@ pub(crate) fn read_text<T: Fn(&[u8]) -> Result<Vec<Stmt>, ReadFault>>(
     submission: &Submission,
     read: &T,
 ) -> Result<Result<Vec<Stmt>, Cause>, AllocError>
-    requires callable { T.IsAlwaysCallable read.now }
-    requires reads { ReadsTexts (FnReturnsAt T.Fn read.now) }
+    requires { T.IsAlwaysCallable read.now × ReadsTexts (FnReturnsAt T.Fn read.now) }
     ensures { IfOk result (IsReading charter.now submission.now) }
 {
     let text = submission.text.as_slice();

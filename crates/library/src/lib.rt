@@ -4,11 +4,10 @@
 //! memory decides nothing.
 //!
 //! Reading order: `submission`, `charter`, `entry` (what a log holds), `verdict`; `library`; `entry_text` (a text and its
-//! charter), `base` (all or nothing), `entering` (the rules), `ahead`, `unproved` (the proofs); `asked` (traces, uses, items
-//! and trees), `read_items`, `uses`, `users`; `listed`; `laws`.
+//! charter), `base` (all or nothing), `entering` (the rules), `unproved` (the proofs); `asked` (traces, uses, items and trees),
+//! `uses`, `users`; `listed`; `laws`.
 #![tactic(auto)]
 
-mod ahead;
 mod asked;
 mod base;
 mod charter;
@@ -18,7 +17,6 @@ mod entry_text;
 mod laws;
 mod library;
 mod listed;
-mod read_items;
 mod submission;
 mod unproved;
 mod users;

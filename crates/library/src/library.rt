@@ -1,10 +1,10 @@
 //! One replica: the statements that the entries of a log validly add, and the verdicts on them.
 ghost use Rattle.std.specs.Prelude.{◌≡◌, ◌+◌, ◌*◌, length, None, Some, IfOk, IfSome, OnErr, option_map};
-ghost use Rattle.{std.specs.Fn.FnReturnsAt, mm_read.specs.Statements.AreShaped, library.specs.Good.Good, library.specs.LibraryOf.Applies, library.specs.LibraryOf.empty, library.specs.LibraryOf.status, library.specs.LibraryState.IsDecision, library.specs.LibraryState.IsWithinSteps, library.specs.LibraryState.verdict_of, library.specs.Judging.ReadsTexts, library.specs.Unproved.FindsLeast, library.specs.Entered.IsEntered};
+ghost use Rattle.{std.specs.Fn.FnReturnsAt, mm_read.specs.Statements.AreShaped, library.specs.Good.Good, library.specs.LibraryOf.Applies, library.specs.LibraryOf.empty, library.specs.LibraryOf.status, library.specs.LibraryState.IsDecision, library.specs.LibraryState.IsWithinSteps, library.specs.LibraryState.verdict_of, library.specs.Judging.ReadsTexts, library.specs.Unproved.FindsLeast, library.specs.Entered.Enters, library.specs.Entered.IsEntered};
 
-use crate::ahead::{Entered, enter_ahead, enter_here};
 use crate::base::Base;
 use crate::charter::Names;
+use crate::entering::{Entered, enter, enter_ahead};
 use crate::entry::Entry;
 use crate::entry_text::{may_declare, read_text};
 use crate::unproved::Proofs;
@@ -64,7 +64,7 @@ impl Library {
         self.apply_by(
             next,
             &|text: &[u8]| read(alloc, text),
-            &enter_here,
+            &enter,
             &|proofs: &Proofs<'_>| judge_here(alloc, proofs),
         )
     }
@@ -89,7 +89,6 @@ impl Library {
         let count = workers.count();
         let enter = |rules: Rules, frames: Frames, steps: Steps, statements: &[Stmt]| -> Entered
             requires { (frames.statements ≡ rules.statements) × AreShaped statements.now }
-            ensures { IsEntered rules frames (steps.count + 3 * length statements.entry.now) statements.entry.now result }
         { enter_ahead(rt, alloc, workers, gate, rules, frames, steps, statements) };
         self.apply_by(
             next,
@@ -113,12 +112,9 @@ impl Library {
         enter: &E,
         least: &F,
     ) -> Result<Verdict, AllocError>
-        requires readable { T.IsAlwaysCallable read.now }
-        requires reads { ReadsTexts (FnReturnsAt T.Fn read.now) }
-        requires enterable { (rules : _) (frames : _) (steps : _) (s : _) → frames.statements ≡ rules.statements → AreShaped s.now → E.pre enter.now rules frames steps s }
-        requires enters { (rules : _) (frames : _) (steps : _) (s : _) (e : _) → E.post enter.now rules frames steps s e → IsEntered rules frames (steps.count + 3 * length s.now) s.now e }
-        requires callable { F.IsAlwaysCallable least.now }
-        requires finds { FindsLeast (FnReturnsAt F.Fn least.now) }
+        requires reads { T.IsAlwaysCallable read.now × ReadsTexts (FnReturnsAt T.Fn read.now) }
+        requires enters { Enters (E.pre enter.now) (E.post enter.now) }
+        requires finds { F.IsAlwaysCallable least.now × FindsLeast (FnReturnsAt F.Fn least.now) }
         ensures step { IfOk result (λ verdict. Applies self.old.replica (option_map (λ e. e.now) next.entry) verdict self.new.replica) }
         ensures same { OnErr result (self.new.replica ≡ self.old.replica) }
         ensures counted { IsWithinSteps self.old.replica (option_map (λ e. e.now) next.entry) self.old.steps self.new.steps }

@@ -62,8 +62,7 @@ pub(crate) fn least_unproved<F: Fn(&Proofs<'_>) -> Result<Option<usize>, AllocEr
 ) -> Result<Option<usize>, AllocError>
     requires same { frames.now.statements ≡ bares statements.now }
     requires within { front ≤ length statements.now }
-    requires callable { F.IsAlwaysCallable least.now }
-    requires finds { FindsLeast (FnReturnsAt F.Fn least.now) }
+    requires finds { F.IsAlwaysCallable least.now × FindsLeast (FnReturnsAt F.Fn least.now) }
     ensures { IfOk result (IsLeastUnproved statements.now front) }
 {
     let mut positions = Vec::new(alloc);

@@ -157,8 +157,5 @@ fn lists_marked(frames: &Frames, tokens: &Words, marks: &[bool]) -> bool
 fn is_marked(marks: &[bool], position: Option<usize>) -> bool
     ensures { result ≡ is_marked marks.now position }
 {
-    match position {
-        Some(position) => position > 0 && position <= marks.len() && marks[position - 1],
-        None => false,
-    }
+    position.is_some_and(|position| position > 0 && position <= marks.len() && marks[position - 1])
 }

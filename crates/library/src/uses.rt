@@ -1,14 +1,37 @@
-//! What a proof rests on: the `$a` that it cites, and those that the `$p` it cites rest on.
-ghost use Rattle.std.specs.Prelude.{◌≡◌, Some, IfOk, OnOk};
-ghost use Rattle.{mm_read.specs.declared.stmt.Stmt.Stmt as Statement, verify.specs.Right.IsProvable, frame.specs.AtPosition.HasLabelsOnce, library.specs.Uses.ItemsCite, library.specs.Uses.Uses, library.specs.Uses.AreLabelsOf, library.specs.UseMarks.place_of, library.specs.UseMarks.mark, library.specs.UseMarks.Marks};
+//! What a proof rests on: the items that its tokens write, the `$a` that it cites, and those that the `$p` it cites rest on.
+ghost use Rattle.std.specs.Prelude.{◌≡◌, ◌≤◌, length, Some, IfOk, OnOk, MatchOption};
+ghost use Rattle.{mm_read.specs.declared.stmt.Stmt.Stmt as Statement, scope.specs.Active.bares, verify.specs.Right.IsProvable, verify.specs.Right.IsRight, library.specs.Uses.HasItems, frame.specs.AtPosition.HasLabelsOnce, library.specs.Uses.ItemsCite, library.specs.Uses.Uses, library.specs.Uses.AreLabelsOf, library.specs.UseMarks.place_of, library.specs.UseMarks.mark, library.specs.UseMarks.Marks};
 
 use crate::base::Base;
-use crate::read_items::items_of;
 use frame::Frames;
-use mm_lex::Word;
+use mm_lex::{Word, Words};
 use mm_read::Stmt;
-use proof_code::Items;
+use proof_code::{Items, is_compressed, normal, packed, written};
 use std::alloc::{AllocError, Global};
+
+/// The items of the `$p` at a position, which are right; none where no `$p` stands there.
+pub(crate) fn items_of(base: &Base, at: usize) -> Result<Option<Items>, AllocError>
+    requires { (1 ≤ at) × (at ≤ length base.now) }
+    ensures { IfOk result (λ found. MatchOption found ((s : Statement) → ¬ IsProvable base.now at s)
+        (λ items. HasItems base.now at items × IsRight (bares base.now) at items)) }
+{
+    let Stmt::Prove { proof, .. } = base.statement(at) else {
+        return Ok(None);
+    };
+    if !is_compressed(proof) {
+        return written(normal(base.alloc(), proof));
+    }
+    let mut mandatory = Vec::new(base.alloc());
+    base.frames().mandatory(at, &mut mandatory)?;
+    let mut labels = Words::new(base.alloc());
+    for position in mandatory.as_slice() {
+        match base.statement(*position as usize) {
+            Stmt::Float { label, .. } | Stmt::Ess { label, .. } => labels.push(label.as_bytes())?,
+            _ => unreachable!(),
+        }
+    }
+    written(packed(base.alloc(), proof, &labels))
+}
 
 /// The labels of the `$a` that the `$p` at a position uses, each once, in order.
 ///
@@ -62,11 +85,8 @@ fn mark_cited(frames: &Frames, items: Items, marks: &mut [bool]) -> Result<(), A
 fn place_of(places: &[Option<usize>], number: u32) -> Option<usize>
     ensures { result ≡ place_of places.now number }
 {
-    let number = number as usize;
-    if number == 0 || number > places.len() {
-        return None;
-    }
-    places[number - 1]
+    let index = (number as usize).checked_sub(1)?;
+    *places.get(index)?
 }
 
 /// Marks a position, where it is one of those that can be marked.

@@ -1,6 +1,6 @@
 //! All jobs, side by side.
 
-ghost use Rattle.std.specs.Prelude.{◌≡◌, ℕ, ◌+◌, ◌<◌, ◌≤◌, ◌⊎◌, IfOk, vec_len, slice_index_or};
+ghost use Rattle.std.specs.Prelude.{◌≡◌, ◌+◌, ◌<◌, ◌≤◌, ◌⊎◌, IfOk};
 ghost use Rattle.{verify_pool.specs.Least.IsLeast, verify_pool.specs.Stripes.IsLeastInStripe, verify_pool.specs.Stripes.IsNoLater};
 
 use crate::gate::{Gate, OpenGate, Place};
@@ -27,7 +27,8 @@ pub fn judge_all<W: Work + Sync, G: Gate + Sync, R: Threads + Sync>(
     ensures { IfOk result (IsLeast (W.right work.now) (W.count work.now)) }
 {
     let workers = workers.count().min(work.count().max(1));
-    let answers = judge_stripes(rt, alloc, work, workers, gate)?;
+    let judge = |first: usize| judge_stripe(alloc, work, first, workers, gate);
+    let answers = thread::map_indices(rt, alloc, workers, &judge)?;
     let mut least = None;
     for answer in &answers {
         least = earlier(least, (*answer)?);
@@ -41,23 +42,6 @@ pub fn judge_here<W: Work>(alloc: Global, work: &W) -> Result<Option<usize>, All
     ensures { IfOk result (IsLeast (W.right work.now) (W.count work.now)) }
 {
     judge_stripe(alloc, work, 0, 1, &OpenGate)
-}
-
-/// What each of the workers answers of its stripe.
-fn judge_stripes<W: Work + Sync, G: Gate + Sync, R: Threads + Sync>(
-    rt: &R,
-    alloc: Global,
-    work: &W,
-    workers: usize,
-    gate: &G,
-) -> Result<Vec<Result<Option<usize>, AllocError>>, AllocError>
-    requires { (1 ≤ workers) × (workers ≤ 16) }
-    ensures count { IfOk result (λ answers. vec_len answers ≡ workers) }
-    ensures each { IfOk result (λ answers. (k : ℕ) (d : _) → k < workers
-        → IfOk (slice_index_or answers.items k d) (λ least. IsLeastInStripe (W.right work.now) (W.count work.now) k workers least)) }
-{
-    let judge = |first: usize| judge_stripe(alloc, work, first, workers, gate);
-    thread::map_indices(rt, alloc, workers, &judge)
 }
 
 /// The earlier of two indexes, where there are any.

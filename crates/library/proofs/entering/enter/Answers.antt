@@ -1,20 +1,16 @@
-use Rattle.library.proofs.Words.{◌≡◌, ◌∷◌, ◌++◌, [], true, false, take, drop, Option, Some, None, Result, Err, IfSome, refl, sym, ◌∙◌, ◌+◌, ap, subst, arith, bares, IsLegal, broken_rule, first_broken, or_later}
+use Rattle.library.proofs.Words.{◌≡◌, ◌∷◌, ◌++◌, [], true, take, drop, length, Some, None, Ok, sym, ◌∙◌, ◌+◌, ap, subst, arith, bares, drop_all, take_all, IsLegal, IsTrue, OnOk, broken_rule, first_broken, numbered, or_later}
 use denote.Enum.Bare.{sameb}
 use Rattle.scope.specs.contracts.rule.Rule.{the_type}
-use Rattle.scope.specs.declared.rule.Rule.{Rule}
 use Rattle.scope.specs.declared.rule.Rule.TheVariants.{Memory}
-use Rattle.library.proofs.EnteringLemmas.{kept-more, left-at, left-more}
+use Rattle.library.proofs.EnteringLemmas.{kept-more, known-none, left-at, left-more, none-at-end, rule-at-end, rule-is}
+use Rattle.library.specs.Words.{is_closed}
 use Rattle.library.proofs.entering.enter.Goals as goal
-
--- a rule that is not want of memory is the one that is broken
-rule-is : (r : Option Rule) (rule : Rule) → IfSome r (λ other. ◌≡◌ {A = Result (Unit {0}) Rule} (Err rule) (Err other)) → (r ≡ None → rule ≡ Memory) → (rule ≡ Memory → ⊥) → r ≡ Some rule
-rule-is None rule shown none other = absurd (other (none refl))
-rule-is (Some r) rule shown none other = ap Some (let e = shown in cc)
+use Rattle.library.proofs.entering.enter.Goals.{then-eq, else-eq, in-Ok, in-Err-close_at_end}
 
 pub loop-index-preserved : goal.loop-index-preserved
 loop-index-preserved c =
     let i = c.loop-index.invariant in
-    let e = c.in-Ok.ensures in
+    let e = c.in_default.ensures in
     let s = c.index-statements-index in
     let less = c.loop-index-test.true in
     let same = i.frames_are ∙ (ap (λ U. U ++ bares (take c.loop-index.index c.args.statements.now)) (ap (λ k. k.statements) c.reserve.ensures ∙ c.requires.same) ∙ sym i.rules_are) in
@@ -26,15 +22,55 @@ loop-index-preserved c =
       counted = omega (arith, e.counted, i.counted);
     }
 
-pub returns-in-Err-clause-found : goal.returns-in-Err-clause-found
-returns-in-Err-clause-found c =
+pub returns-in-Err-clause-entered : goal.returns-in-Err-clause-entered
+returns-in-Err-clause-entered c =
     let i = c.loop-index.invariant in
+    let e = c.in-Err.ensures in
     let index = c.loop-index.index in
     let S = c.args.statements.now in
     let s = c.index-statements-index in
     let cur = c.loop-index.rules.statements in
     let same = i.frames_are ∙ (ap (λ U. U ++ bares (take index S)) (ap (λ k. k.statements) c.reserve.ensures ∙ c.requires.same) ∙ sym i.rules_are) in
-    let broken = rule-is (broken_rule c.loop-index.frames.statements s.result) c.in-Err.rule c.in-Err.ensures.broken c.in-Err.ensures.only_memory
-    (λ e. let same : false ≡ true = subst (λ r. false ≡ sameb the_type r Memory) e c.if-eq.ensures in cc) in
-    sym (i.left ∙ (left-at cur S index s.result c.loop-index-test.true s.is
-    ∙ ap (λ r. or_later (index + 1) r (first_broken (index + 1 + 1) (cur ++ s.result ∷ []) (drop (index + 1) S))) (subst (λ U. broken_rule U s.result ≡ Some c.in-Err.rule) same broken)))
+    let some : c.if-eq.broken ≡ Ok None → ⊥ = elim c.if-eq.branch [ then-eq w ↦ (λ f. let b = w.broken-is in cc) | else-eq w ↦ (λ f. let b = w.broken-is in cc) ] in
+    record {
+      found = elim c.if-eq.branch [
+        | then-eq w ↦ rw w.broken-is tt
+        | else-eq w ↦ rw w.broken-is
+            (let broken = rule-is (broken_rule c.loop-index.frames.statements s.result) c.in-Err.rule e.broken e.only_memory
+            (λ f. let same : c.eq.result ≡ true = c.eq.ensures ∙ ap (λ r. sameb the_type r Memory) f in let no = w.if-eq.false in cc) in
+            sym (i.left ∙ (left-at cur S index s.result c.loop-index-test.true s.is
+            ∙ ap (λ r. or_later (index + 1) r (first_broken (index + 1 + 1) (cur ++ s.result ∷ []) (drop (index + 1) S))) (subst (λ U. broken_rule U s.result ≡ Some c.in-Err.rule) same broken))))
+      ];
+      rules_are = λ f. absurd (some f);
+      frames_are = λ f. absurd (some f);
+      closed = λ f. absurd (some f);
+      begins = (bares (take index S), ap (λ k. k.statements) e.same ∙ (i.frames_are ∙ ap (λ k. k.statements ++ bares (take index S)) c.reserve.ensures));
+      marked = e.marked ∙ i.mark;
+      known = known-none S c.len-known.result _ c.len-known.ensures;
+      counted = omega (arith, e.counted, i.counted, c.loop-index-test.true);
+    }
+
+pub returns-clause-entered : goal.returns-clause-entered
+returns-clause-entered c =
+    let i = c.loop-index.invariant in
+    let S = c.args.statements.now in
+    let over = c.loop-index-test.false in
+    let end = i.left ∙ ap (first_broken (c.loop-index.index + 1) c.loop-index.rules.statements) (drop_all c.loop-index.index S over) in
+    let last : c.loop-index.index + 1 ≡ length S + 1 = omega (arith, over, c.loop-index.auto.index-end) in
+    let all = ap bares (take_all c.loop-index.index S over) in
+    record {
+      found = elim c.match-close_at_end.branch [
+        | in-Ok w ↦ rw w.broken-is (sym (end ∙ ap (numbered (c.loop-index.index + 1)) (none-at-end _ _ c.close_at_end.ensures.«open» w.in-Ok.is)))
+        | in-Err-close_at_end w ↦ rw w.broken-is (sym (end ∙ (ap (numbered (c.loop-index.index + 1)) (rule-at-end _ _ _ c.close_at_end.ensures.«open» c.close_at_end.ensures.closed w.in-Err-close_at_end.is) ∙ ap (λ n. Some (n, w.in-Err-close_at_end.rule)) last)))
+      ];
+      rules_are = λ f. i.rules_are ∙ ap (λ U. c.args.rules.statements ++ U) all;
+      frames_are = λ f. i.frames_are ∙ (ap (λ U. c.reserve.new.self.statements ++ U) all ∙ ap (λ k. k.statements ++ bares S) c.reserve.ensures);
+      closed = elim c.match-close_at_end.branch [
+        | in-Ok w ↦ (λ f. subst (λ r. OnOk r (IsTrue (is_closed c.loop-index.rules.statements))) w.in-Ok.is c.close_at_end.ensures.ok)
+        | in-Err-close_at_end w ↦ (λ f. absurd (let b = w.broken-is in cc))
+      ];
+      begins = (bares (take c.loop-index.index S), i.frames_are ∙ ap (λ k. k.statements ++ bares (take c.loop-index.index S)) c.reserve.ensures);
+      marked = i.mark;
+      known = known-none S c.len-known.result _ c.len-known.ensures;
+      counted = omega (arith, i.counted, c.loop-index.auto.index-end);
+    }

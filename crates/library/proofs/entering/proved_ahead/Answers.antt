@@ -1,7 +1,7 @@
 use Rattle.library.proofs.Words.{arith, subst}
 use Rattle.library.specs.Judging.{IsLeastUnproved}
 use Rattle.library.proofs.UnprovedLemmas.{all-to}
-use Rattle.library.proofs.ahead.proved_ahead.Goals as goal
+use Rattle.library.proofs.entering.proved_ahead.Goals as goal
 
 pub returns-in-Ok-None-least_unproved : goal.returns-in-Ok-None-least_unproved
 returns-in-Ok-None-least_unproved g c =

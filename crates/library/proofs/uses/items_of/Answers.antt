@@ -2,7 +2,7 @@ use Rattle.library.proofs.Words.{◌∙◌, Some, ap, arith, bares, inl, inr, is
 use Rattle.library.proofs.AskedLemmas.{found-good}
 use Rattle.library.proofs.ProvingLemmas.{Found, packed-found, normal-found, not-there, has-assertion, hypothesis-of, kind-of, other-kind, labels-more, labels-all}
 use Rattle.library.proofs.UsersLemmas.{not-provable}
-use Rattle.library.proofs.read_items.items_of.Goals as goal
+use Rattle.library.proofs.uses.items_of.Goals as goal
 
 pub returns-in_default : goal.returns-in_default
 returns-in_default c = not-there c.args.base.now c.args.at c.statement.result.now c.statement.ensures.stands (not-provable c.statement.result.now c.in_default.not-Prove)

@@ -1,7 +1,7 @@
 use Rattle.library.proofs.Words.{arith, take, length, length-take-le, ◌≡◌, AreShaped}
 use Rattle.std.proofs.Common.{rules}
-use Rattle.library.proofs.UnprovedLemmas.{shaped-front, to-later}
-use Rattle.library.proofs.ahead.enter_ahead.Goals as goal
+use Rattle.library.proofs.UnprovedLemmas.{known-alone, shaped-front, to-later}
+use Rattle.library.proofs.entering.enter_ahead.Goals as goal
 
 pub join-ahead-requires-after_bounds : goal.join-ahead-requires-after_bounds
 join-ahead-requires-after_bounds g c κs within =
@@ -22,7 +22,6 @@ returns g c =
       closed = e.closed;
       begins = e.begins;
       marked = e.marked;
-      within = let w = a.0 in let h = c.count_ahead-count.ensures in omega (arith, w, h, cut);
-      ahead = to-later S count c.join-ahead.result.0 a.0 a.1;
+      known = λ L alone. known-alone S c.join-ahead.result.0 (let w = a.0 in let h = c.count_ahead-count.ensures in omega (arith, w, h, cut)) (to-later S count c.join-ahead.result.0 a.0 a.1) L (omega (arith, alone));
       counted = let n = c.join-ahead.ensures.second.1 in let i = c.loop.invariant in let h = c.count_ahead-count.ensures in omega (arith, n, i, h, cut, c.loop.auto.index-end);
     }
