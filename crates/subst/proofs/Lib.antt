@@ -3,6 +3,7 @@ pub mod ExpressionPlaceLemmas
 pub mod ImagePlacesLemmas
 mod SlotLemmas
 mod WrittenImages
+mod AlikeLemmas
 mod MatchLemmas
 mod CopyLemmas
 pub mod SubstitutionLemmas

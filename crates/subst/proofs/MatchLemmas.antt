@@ -1,30 +1,47 @@
 -- An expression with the images put in, against symbols that stand.
-use Rattle.subst.proofs.Words.{◌≡◌, ℕ, zero, suc, ◌+◌, ◌-◌, ◌<◌, ◌==◌, take_all, true, false, List, [], ◌∷◌, ◌++◌, length, take, drop, get_or, refl, bytes_eq, sym, ◌∙◌, ap, arith, append_assoc, drop-cons, length-drop, take-append-drop, append_cancel_left, take-append_seam, CodeImages, code_image, code_apply}
-use Rattle.std.proofs.lemmas.Bool.Decides.{nat_tests}
-use Rattle.std.proofs.lemmas.Slice.Eq.{bytes_eq-Decides}
+use Rattle.subst.proofs.Words.{◌≡◌, ℕ, zero, suc, ◌+◌, ◌-◌, ◌<◌, ◌≤◌, List, [], ◌∷◌, ◌++◌, length, take, drop, get_or, slice_range, refl, sym, ◌∙◌, ap, arith, append_assoc, drop-cons, drop-drop, length-append, take-add, take-take, append_cancel_left, take-append_seam, CodeImages, code_image, code_apply, ExpressionPlace, images_at, AreInside}
+use Rattle.subst.proofs.ExpressionPlaceLemmas.{length-seen}
+use Rattle.subst.proofs.ImagePlacesLemmas.{image-more}
 use Rattle.subst.proofs.WrittenImages.{apply-take}
 
--- symbols that begin with an image are the image and the rest
-pub image_goes : (rest image : List ℕ) → bytes_eq (take (length image) rest) image ≡ true → rest ≡ image ++ take (length rest - length image) (drop (length image) rest)
-image_goes rest image h =
-    sym (take-append-drop (length image) rest)
-    ∙ (ap (λ s. s ++ drop (length image) rest) ((bytes_eq-Decides (take (length image) rest) image).0 h)
-    ∙ ap (λ s. image ++ s) (sym (take_all (length rest - length image) (drop (length image) rest) (let l = length-drop (length image) rest in omega arith))))
+-- a range that begins with k symbols is these and the others
+pub front-goes : (s image : List ℕ) (at end k : ℕ) → at + k ≤ end → image ≡ take k (drop at s) → slice_range s at end ≡ image ++ slice_range s (at + k) end
+front-goes s image at end k h same =
+    let more : end - at ≡ k + (end - (at + k)) = omega (arith, h) in
+    ap (λ n. take n (drop at s)) more
+    ∙ (take-add k (end - (at + k)) (drop at s)
+    ∙ (ap (λ r. take k (drop at s) ++ take (end - (at + k)) r) (drop-drop k at s) ∙ ap (λ r. r ++ slice_range s (at + k) end) (sym same)))
 
-pub image_fails : (rest image more : List ℕ) → bytes_eq (take (length image) rest) image ≡ false → rest ≡ image ++ more → ⊥
-image_fails rest image more h e =
-    let t : take (length image) rest ≡ image = ap (take (length image)) e ∙ take-append_seam image more in
-    let b : bytes_eq (take (length image) rest) image ≡ true = ap (λ s. bytes_eq s image) t ∙ grind (arith, bytes_eq-Decides) in
-    let c : true ≡ false = sym b ∙ h in cc
+pub front-fails : (s image more : List ℕ) (at end : ℕ) → at ≤ end → end ≤ length s → (at + length image ≤ end → image ≡ take (length image) (drop at s) → ⊥)
+    → slice_range s at end ≡ image ++ more → ⊥
+front-fails s image more at end within inside none e =
+    let whole = length-seen s (record { start = at; end = end }) within inside in
+    let fits : at + length image ≤ end = omega (arith, whole, ap length e, length-append image more, within) in
+    none fits (sym (take-append_seam image more) ∙ (ap (take (length image)) (sym e) ∙ take-take (length image) (end - at) (drop at s) (omega (arith, fits))))
 
--- symbols that begin with this one
-pub head-goes : (rest image : List ℕ) (x : ℕ) → image ≡ x ∷ [] → (length rest == 0) ≡ false → get_or rest 0 0 ≡ x → rest ≡ image ++ take (length rest - 1) (drop 1 rest)
-head-goes [] image x e more h = let f : true ≡ false = more in cc
-head-goes (y ∷ rest) image x e more h = ap (λ z. z ∷ rest) h ∙ (ap (λ s. s ++ rest) (sym e) ∙ ap (λ s. image ++ s) (sym (take_all (length (y ∷ rest) - 1) rest (omega arith))))
+-- the same of one symbol
+one : (s : List ℕ) (at : ℕ) → at < length s → take 1 (drop at s) ≡ get_or s at 0 ∷ []
+one s at inside = ap (take 1) (drop-cons s at 0 inside)
 
-pub head-fails : (rest image more : List ℕ) (x : ℕ) → image ≡ x ∷ [] → ((length rest == 0) ≡ false → get_or rest 0 0 ≡ x → ⊥) → rest ≡ image ++ more → ⊥
-head-fails [] image more x e none h = let f : [] ≡ x ∷ more = h ∙ ap (λ s. s ++ more) e in cc
-head-fails (y ∷ rest) image more x e none h = none (grind (arith, nat_tests)) (let f : y ∷ rest ≡ x ∷ more = h ∙ ap (λ s. s ++ more) e in cc)
+pub head-goes : (s image : List ℕ) (x at end : ℕ) → image ≡ x ∷ [] → at < end → end ≤ length s → get_or s at 0 ≡ x → slice_range s at end ≡ image ++ slice_range s (at + 1) end
+head-goes s image x at end e more inside h = front-goes s image at end 1 (omega (arith, more)) (e ∙ (ap (λ z. z ∷ []) (sym h) ∙ sym (one s at (omega (arith, more, inside)))))
+
+pub head-fails : (s image more : List ℕ) (x at end : ℕ) → image ≡ x ∷ [] → at ≤ end → end ≤ length s → (at < end → get_or s at 0 ≡ x → ⊥) → slice_range s at end ≡ image ++ more → ⊥
+head-fails s image more x at end e within inside none h =
+    front-fails s (x ∷ []) more at end within inside
+    (λ fits same. none (omega (arith, fits)) (ap (λ r. get_or r 0 0) (sym (same ∙ one s at (omega (arith, fits, inside)))))) (h ∙ ap (λ r. r ++ more) e)
+
+-- where nothing more is there, nothing is left
+pub range-left : (s front : List ℕ) (at end : ℕ) → at ≤ end → end ≤ length s → front ++ slice_range s at end ≡ front → at ≡ end
+range-left s front at end within inside e =
+    let whole : length (slice_range s at end) ≡ end - at = length-seen s (record { start = at; end = end }) within inside in
+    omega (arith, ap length e, length-append front (slice_range s at end), whole, within)
+
+-- symbols behind those that count change nothing
+pub apply-more : (xs ys : List ℕ) (ps : List (ℕ × ExpressionPlace)) (e : List ℕ) → AreInside (length xs) ps → code_apply (images_at (xs ++ ys) ps) e ≡ code_apply (images_at xs ps) e
+apply-more xs ys ps [] w = refl
+apply-more xs ys ps (x ∷ e) w =
+    ap (λ r. r ++ code_apply (images_at (xs ++ ys) ps) e) (image-more xs ys ps x w) ∙ ap (λ r. code_image (images_at xs ps) x ++ r) (apply-more xs ys ps e w)
 
 apply-front : (σ : CodeImages) (e : List ℕ) (i : ℕ) → code_apply σ e ≡ code_apply σ (take i e) ++ code_apply σ (drop i e)
 apply-front σ e zero = refl

@@ -1,11 +1,13 @@
 //! A list of symbols that keeps its bound.
-ghost use Rattle.std.specs.Prelude.{◌≡◌, [], ◌++◌, ◌+◌, ◌≤◌, length, take, IfOk, OnOk, OnErr};
-ghost use Rattle.{frame.specs.Substitution.code_apply, subst.specs.ExpressionPlaces.images_at, subst.specs.ExpressionPlaces.AreInside, subst.specs.Stored.Written.Appends};
+ghost use Rattle.std.specs.Prelude.{◌≡◌, [], ◌++◌, ◌+◌, ◌≤◌, ◌↔◌, length, take, IfOk, OnOk, OnErr, IsTrue};
+ghost use Rattle.{frame.specs.Substitution.code_apply, subst.specs.ExpressionPlaces.images_at, subst.specs.ExpressionPlaces.seen_at, subst.specs.ExpressionPlaces.AreInside, subst.specs.Stored.Written.Appends};
 
 use crate::copies::put_expr;
+use crate::expression_place::ExpressionPlace;
 use crate::filling::{fill, filled_len, make_room};
 use crate::image_places::ImagePlaces;
 use crate::images::{Subst, write};
+use crate::matching::matches;
 use std::alloc::{AllocError, Global};
 use std::marker::Model;
 use std::ops::Range;
@@ -58,6 +60,18 @@ impl Buffer {
         ensures bound { length self.now ≤ SYMBOLS_LIMIT }
     {
         &self.symbols[..self.len]
+    }
+
+    /// Whether the symbols at a place are the expression with all images put in. The images are places in this buffer too.
+    ///
+    /// Cost: the symbols that agree, each once; nothing is written.
+    #[inline(always)]
+    pub fn matches(&self, images: &ImagePlaces, expr: &[u32], whole: ExpressionPlace) -> bool
+        requires inside { AreInside (length self.now) images.now }
+        requires place { (whole.start ≤ whole.end) × (whole.end ≤ length self.now) }
+        ensures { IsTrue result ↔ (seen_at self.now whole ≡ code_apply (images_at self.now images.now) expr.now) }
+    {
+        matches(&self.symbols, images, expr, whole)
     }
 
     /// Adds symbols at the end.

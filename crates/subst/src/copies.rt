@@ -1,4 +1,4 @@
-//! Symbols copied within one buffer, eight at once.
+//! Symbols copied within one buffer, many at once.
 ghost use Rattle.std.specs.Prelude.{◌≡◌, ◌+◌, ◌<◌, ◌≤◌, ◌++◌, ◌∷◌, [], length, take, drop, IfSome, IfNone};
 ghost use Rattle.{subst.specs.ExpressionPlaces.seen_at, subst.specs.Stored.Written.IsWritten};
 
@@ -6,20 +6,20 @@ use crate::expression_place::ExpressionPlace;
 use std::simd::prelude::*;
 
 /// How many symbols are copied at once, and so how many may be written over behind what is written.
-pub const LANES: usize = 8;
+pub const LANES: usize = 32;
 
 /// Copies symbols that lie before `at` to `at`. Most runs are copied by the first block.
 #[inline(always)]
 fn copy_run(symbols: &mut [u32], from: usize, len: usize, at: usize)
     requires before { from + len ≤ at }
-    requires room { at + len + 8 ≤ length symbols.old }
+    requires room { at + len + 32 ≤ length symbols.old }
     ensures copied { take (at + len) symbols.new ≡ take at symbols.old ++ take len (drop from symbols.old) }
     ensures count { length symbols.new ≡ length symbols.old }
 {
-    u32x8::from_slice(&symbols[from..]).copy_to_slice(&mut symbols[at..]);
+    u32x32::from_slice(&symbols[from..]).copy_to_slice(&mut symbols[at..]);
     let mut done = LANES;
     while done < len {
-        u32x8::from_slice(&symbols[from + done..]).copy_to_slice(&mut symbols[at + done..]);
+        u32x32::from_slice(&symbols[from + done..]).copy_to_slice(&mut symbols[at + done..]);
         done += LANES;
     }
 }
@@ -34,7 +34,7 @@ pub fn copy_place(
 ) -> Option<usize>
     requires place { (place.start ≤ place.end) × (place.end ≤ at) }
     requires inside { at ≤ length symbols.old }
-    requires room { last + 8 ≤ length symbols.old }
+    requires room { last + 32 ≤ length symbols.old }
     ensures some { IfSome result (IsWritten symbols.old symbols.new at (seen_at (take at symbols.old) place)) }
     ensures within { IfSome result (λ end. end ≤ last) }
     ensures none { IfNone result (last < at + length (seen_at (take at symbols.old) place)) }

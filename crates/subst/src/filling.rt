@@ -58,7 +58,7 @@ pub fn filled_len(symbols: &[u32], images: &ImagePlaces, expr: &[u32], room: usi
 #[inline(never)]
 pub fn make_room(buffer: &mut Vec<u32>, len: usize, more: usize) -> Result<(), AllocError>
     requires { (len ≤ SYMBOLS_LIMIT) × (more < 2 ^ 62) × (len ≤ length buffer.old.items) }
-    ensures room { OnOk result (len + more + 8 ≤ length buffer.new.items) }
+    ensures room { OnOk result (len + more + 32 ≤ length buffer.new.items) }
     ensures same { take len buffer.new.items ≡ take len buffer.old.items }
     ensures within { len ≤ length buffer.new.items }
 {

@@ -26,5 +26,4 @@ pub use findings::Findings;
 pub use image_places::ImagePlaces;
 pub use images::{Subst, apply, has_room};
 pub use laws::{pair_clause, substitution_over_names};
-pub use matching::matches;
 pub use numbers_apart::groups_apart;

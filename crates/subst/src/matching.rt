@@ -1,62 +1,104 @@
 //! An expression with the images put in, against symbols that stand, without writing it.
-ghost use Rattle.std.specs.Prelude.{◌≡◌, ℕ, ◌∷◌, ◌++◌, ◌↔◌, List, length, IfSome, IfNone, IsTrue};
-ghost use Rattle.{frame.specs.Substitution.code_image, frame.specs.Substitution.code_apply, subst.specs.ExpressionPlaces.images_at, subst.specs.ExpressionPlaces.AreInside};
+ghost use Rattle.std.specs.Prelude.{◌≡◌, ℕ, ◌∷◌, ◌++◌, ◌↔◌, ◌<◌, ◌≤◌, [], List, length, take, slice_range, IfSome, IfNone, IsTrue};
+ghost use Rattle.{frame.specs.Substitution.code_image, frame.specs.Substitution.code_apply, subst.specs.ExpressionPlaces.images_at, subst.specs.ExpressionPlaces.seen_at, subst.specs.ExpressionPlaces.AreInside};
 
-use crate::expression_place::symbols_at;
+use crate::expression_place::ExpressionPlace;
 use crate::image_places::{ImagePlaces, ImageTable};
+use std::simd::prelude::*;
 
-/// What stands behind these symbols, where the others begin with them.
+/// How many symbols are compared at once.
+const LANES: usize = 16;
+
+/// How many of the first symbols of two lists are the same at least.
 #[inline(always)]
-#[tactic(auto, using(crate::proofs::MatchLemmas::image_goes, crate::proofs::MatchLemmas::image_fails))]
-fn behind_image<'a>(image: &[u32], rest: &'a [u32]) -> Option<&'a [u32]>
-    ensures some { IfSome result (λ more. rest.now ≡ image.now ++ more.now) }
-    ensures none { IfNone result ((more : List ℕ) → rest.now ≡ image.now ++ more → ⊥) }
+fn count_alike(left: &[u32], right: &[u32]) -> usize
+    requires left { 16 ≤ length left.now }
+    requires right { 16 ≤ length right.now }
+    ensures { take result left.now ≡ take result right.now }
 {
-    let len = image.len();
-    if rest.len() < len {
+    let differ = u32x16::from_slice(left).simd_ne(u32x16::from_slice(right));
+    let mask = differ.to_bitmask();
+    if mask == 0 {
+        LANES
+    } else {
+        mask.trailing_zeros() as usize
+    }
+}
+
+/// Whether the first `len` symbols of two lists are the same. Most are few, and compared at once, however many they are.
+#[inline(always)]
+fn begin_alike(left: &[u32], right: &[u32], len: usize) -> bool
+    requires left { len ≤ length left.now }
+    requires right { len ≤ length right.now }
+    ensures { IsTrue result ↔ (take len left.now ≡ take len right.now) }
+{
+    let room = left.len().min(right.len());
+    if len <= LANES && LANES <= room && len <= count_alike(left, right) {
+        return true;
+    }
+    left[..len] == right[..len]
+}
+
+/// Where the image at a place ends, where the symbols from `at` up to `end` begin with it.
+#[inline(always)]
+fn behind_image(symbols: &[u32], place: ExpressionPlace, at: usize, end: usize) -> Option<usize>
+    requires image { (place.start ≤ place.end) × (place.end ≤ length symbols.now) }
+    requires rest { (at ≤ end) × (end ≤ length symbols.now) }
+    ensures some { IfSome result (λ next. (next ≤ end) × (slice_range symbols.now at end ≡ seen_at symbols.now place ++ slice_range symbols.now next end)) }
+    ensures none { IfNone result ((more : List ℕ) → slice_range symbols.now at end ≡ seen_at symbols.now place ++ more → ⊥) }
+{
+    let len = (place.end - place.start) as usize;
+    if end - at < len {
         return None;
     }
-    if &rest[..len] == image {
-        Some(&rest[len..])
+    if begin_alike(&symbols[place.start as usize..], &symbols[at..], len) {
+        Some(at + len)
     } else {
         None
     }
 }
 
-/// What stands behind the image of a symbol.
+/// Where the image of a symbol ends, where the symbols from `at` up to `end` begin with it.
 #[inline(always)]
-fn behind<'a>(
+fn behind(
     symbols: &[u32],
     images: &ImageTable<'_>,
     symbol: u32,
-    rest: &'a [u32],
-) -> Option<&'a [u32]>
-    requires { AreInside (length symbols.now) images.now }
-    ensures some { IfSome result (λ more. rest.now ≡ code_image (images_at symbols.now images.now) symbol ++ more.now) }
-    ensures none { IfNone result ((more : List ℕ) → rest.now ≡ code_image (images_at symbols.now images.now) symbol ++ more → ⊥) }
+    at: usize,
+    end: usize,
+) -> Option<usize>
+    requires inside { AreInside (length symbols.now) images.now }
+    requires rest { (at ≤ end) × (end ≤ length symbols.now) }
+    ensures some { IfSome result (λ next. (next ≤ end) × (slice_range symbols.now at end ≡ code_image (images_at symbols.now images.now) symbol ++ slice_range symbols.now next end)) }
+    ensures none { IfNone result ((more : List ℕ) → slice_range symbols.now at end ≡ code_image (images_at symbols.now images.now) symbol ++ more → ⊥) }
 {
     match images.get(symbol) {
-        Some(place) => behind_image(symbols_at(symbols, place), rest),
-        None if !rest.is_empty() && rest[0] == symbol => Some(&rest[1..]),
+        Some(place) => behind_image(symbols, place, at, end),
+        None if at < end && symbols[at] == symbol => Some(at + 1),
         None => None,
     }
 }
 
-/// Whether the symbols are the expression with all images put in. The images lie in the first list of symbols.
-///
-/// Cost: the symbols that agree, each once; nothing is written.
+/// Whether the symbols at a place are the expression with all images put in. The images lie in the same list of symbols.
 #[inline(always)]
-pub fn matches(symbols: &[u32], images: &ImagePlaces, expr: &[u32], whole: &[u32]) -> bool
-    requires { AreInside (length symbols.now) images.now }
-    ensures { IsTrue result ↔ (whole.now ≡ code_apply (images_at symbols.now images.now) expr.now) }
+pub(crate) fn matches(
+    symbols: &[u32],
+    images: &ImagePlaces,
+    expr: &[u32],
+    whole: ExpressionPlace,
+) -> bool
+    requires inside { AreInside (length symbols.now) images.now }
+    requires place { (whole.start ≤ whole.end) × (whole.end ≤ length symbols.now) }
+    ensures { IsTrue result ↔ (seen_at symbols.now whole ≡ code_apply (images_at symbols.now images.now) expr.now) }
 {
     let table = images.table();
-    let mut rest = whole;
+    let end = whole.end as usize;
+    let mut at = whole.start as usize;
     for symbol in expr {
-        match behind(symbols, &table, *symbol, rest) {
-            Some(more) => rest = more,
+        match behind(symbols, &table, *symbol, at, end) {
+            Some(next) => at = next,
             None => return false,
         }
     }
-    rest.is_empty()
+    at == end
 }

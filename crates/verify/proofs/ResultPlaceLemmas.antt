@@ -180,23 +180,22 @@ last-seen xs k r s e =
     ap (map (seen_at xs)) (take_rest s k) ∙ (map-drop (seen_at xs) k s
     ∙ ap (λ n. drop n (map (seen_at xs) s)) (e ∙ ap (λ n. n - r) (sym (length-map s (seen_at xs)))))
 
--- the same, for copies of the buffer and of the places
-pub seen_eq : (xs ds : List ℕ) (s e : List ExpressionPlace) (all : List (List ℕ)) (k r : ℕ) → ds ≡ xs → e ≡ s → map (seen_at xs) s ≡ all → k ≡ length s - r → map (seen_at ds) (take (length e - k) (drop k e)) ≡ top r all
-seen_eq xs ds s e all k r p q v l =
-    ap (λ w. map (seen_at ds) (take (length w - k) (drop k w))) q ∙ (ap (λ w. map (seen_at w) (take (length s - k) (drop k s))) p ∙ (last-seen xs k r s l ∙ ap (top r) v))
+-- the same, for a copy of the places
+pub seen_eq : (xs : List ℕ) (s e : List ExpressionPlace) (all : List (List ℕ)) (k r : ℕ) → e ≡ s → map (seen_at xs) s ≡ all → k ≡ length s - r → map (seen_at xs) (take (length e - k) (drop k e)) ≡ top r all
+seen_eq xs s e all k r q v l = ap (λ w. map (seen_at xs) (take (length w - k) (drop k w))) q ∙ (last-seen xs k r s l ∙ ap (top r) v)
 
 pub last-within : (n k : ℕ) (s : List ExpressionPlace) → AreWithin n s → AreWithin n (take (length s - k) (drop k s))
 last-within n k s w = within-take n (length s - k) (drop k s) (within-drop n k s w)
 
--- one of the last r places, in copies of the buffer and of the places
-pub seen_place : (xs ds : List ℕ) (s e : List ExpressionPlace) (all : List (List ℕ)) (k r i : ℕ) (d : ExpressionPlace) → ds ≡ xs → e ≡ s → map (seen_at xs) s ≡ all → k ≡ length s - r → r ≤ length all → i < r → AreWithin (length xs) s
-    → (let p : ExpressionPlace = get_or (take (length e - k) (drop k e)) i d in ((p.start ≤ p.end) × (p.end ≤ length ds)) × (seen_at ds p ≡ get_or (top r all) i []))
-seen_place xs ds s e all k r i d p q v l h less w =
+-- one of the last r places, in a copy of the places
+pub seen_place : (xs : List ℕ) (s e : List ExpressionPlace) (all : List (List ℕ)) (k r i : ℕ) (d : ExpressionPlace) → e ≡ s → map (seen_at xs) s ≡ all → k ≡ length s - r → r ≤ length all → i < r → AreWithin (length xs) s
+    → (let p : ExpressionPlace = get_or (take (length e - k) (drop k e)) i d in ((p.start ≤ p.end) × (p.end ≤ length xs)) × (seen_at xs p ≡ get_or (top r all) i []))
+seen_place xs s e all k r i d q v l h less w =
     let places = take (length e - k) (drop k e) in
-    let seen : map (seen_at ds) places ≡ top r all = seen_eq xs ds s e all k r p q v l in
-    let there : i < length places = omega (arith, ap length seen, length-map places (seen_at ds), length-drop (length all - r) all, h, less) in
-    let within = subst (λ t. AreWithin (length t) places) (sym p) (subst (λ t. AreWithin (length xs) (take (length t - k) (drop k t))) (sym q) (last-within (length xs) k s w)) in
-    (within-at (length ds) i places d within there, sym (seen-get ds i places d there) ∙ ap (λ u. get_or u i []) seen)
+    let seen : map (seen_at xs) places ≡ top r all = seen_eq xs s e all k r q v l in
+    let there : i < length places = omega (arith, ap length seen, length-map places (seen_at xs), length-drop (length all - r) all, h, less) in
+    let within = subst (λ t. AreWithin (length xs) (take (length t - k) (drop k t))) (sym q) (last-within (length xs) k s w) in
+    (within-at (length xs) i places d within there, sym (seen-get xs i places d there) ∙ ap (λ u. get_or u i []) seen)
 
 pub apply-cut : (xs zs ys : List ℕ) (images : List (ℕ × ExpressionPlace)) (stack saved stack' : List ExpressionPlace) (w v k : ℕ) → AreKept xs images stack saved w → zs ≡ xs ++ ys → stack' ≡ take k stack
     → v ≡ w + length ys → v ≤ weight_limit → AreKept zs images stack' saved v

@@ -8,8 +8,8 @@ use frame::{Frames, Pairs};
 use std::alloc::{AllocError, Global};
 use std::marker::Model;
 use subst::{
-    Buffer, ExpressionPlace, Findings, ImagePlaces, SYMBOLS_LIMIT, groups_apart, matches,
-    place_between, symbols_at,
+    Buffer, ExpressionPlace, Findings, ImagePlaces, SYMBOLS_LIMIT, groups_apart, place_between,
+    symbols_at,
 };
 
 /// The results of a proof so far, their symbols in one buffer, and the images that were read off the last of them.
@@ -146,11 +146,10 @@ impl Results {
         ensures { IsTrue result ↔ DoFit frames.now.statements (images_of_names frames.now.names self.now.images) hypotheses.now (map (decode frames.now.names) (top (length hypotheses.now) self.now.results.stack)) }
     {
         let places = &self.stack[self.stack.len() - hypotheses.len()..];
-        let symbols = self.symbols.as_slice();
         for k in 0..hypotheses.len() {
             if let Hypothesis::Essential(position) = hypotheses.get(k) {
                 let expr = frames.expr(position as usize);
-                if !matches(symbols, &self.images, expr, symbols_at(symbols, places[k])) {
+                if !self.symbols.matches(&self.images, expr, places[k]) {
                     return false;
                 }
             }

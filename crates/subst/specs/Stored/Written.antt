@@ -1,6 +1,6 @@
 -- Symbols written behind others in a buffer that is longer than what it holds.
 -- Metamath, 4.2.6: a result is added to the others.
--- The code writes eight symbols at once, so some behind the end are written over; what stands there counts for nothing.
+-- The code writes many symbols at once, so some behind the end are written over; what stands there counts for nothing.
 use Rattle.std.specs.Prelude.{◌≡◌, ℕ, ◌+◌, ◌<◌, ◌≤◌, Bool, true, false, List, ◌++◌, length, take}
 
 -- e stands behind the first `at` symbols, up to `end`
@@ -9,9 +9,9 @@ pub record IsWritten (old new : List ℕ) (at : ℕ) (e : List ℕ) (end : ℕ) 
   pub moved : end ≡ at + length e
   pub inside : end ≤ length new
 
--- e does not fit behind the first `at` of n symbols with so many and eight more behind it
+-- e does not fit behind the first `at` of n symbols with so many and 32 more behind it
 abbrev pub LacksRoom : ℕ → ℕ → ℕ → List ℕ → Type 0
-LacksRoom n at more e = n < at + length e + more + 8
+LacksRoom n at more e = n < at + length e + more + 32
 
 -- e was added, or is longer than the limit
 abbrev pub Appends : Bool → ℕ → List ℕ → List ℕ → List ℕ → Type 0

@@ -5,7 +5,7 @@ use Rattle.subst.proofs.filling.fill.Given as goal
 pub record IsFilled (old new : List ℕ) (at : ℕ) (e : List ℕ) (end k n last : ℕ) : Type 0 where
   pub written : IsWritten old new at e end
   pub few : end ≤ last + k
-  pub room : last + n + 8 ≡ length old
+  pub room : last + n + 32 ≡ length old
   pub count : length new ≡ length old
 
 abbrev pub invariant-loop-symbol : goal.invariant-loop-symbol

@@ -1,4 +1,4 @@
-use Rattle.verify.proofs.Words.{◌≡◌, ℕ, ◌-◌, ◌≤◌, Bool, List, Result, Ok, Err, IfOk, length, map, take, drop, refl, AllocError, arith, ap, subst, ◌∙◌, length-map, ExpressionPlace, seen_at, images_at, AreWithin, Hypothesis, Reads, top, ReadsAll}
+use Rattle.verify.proofs.Words.{◌≡◌, ℕ, ◌-◌, ◌≤◌, Bool, List, Result, Ok, Err, IfOk, length, map, take, drop, AllocError, arith, ap, subst, ◌∙◌, length-map, ExpressionPlace, seen_at, images_at, AreWithin, Hypothesis, Reads, top, ReadsAll}
 use Rattle.verify.proofs.ResultPlaceLemmas.{last-within, last-count, seen_eq, kept-read}
 use Rattle.verify.proofs.ReadImageLemmas.{reads-seen}
 use Rattle.verify.proofs.results.Results.read_images.Goals as goal
@@ -35,7 +35,7 @@ returns-clause-read c =
     reads-result c.read_off.result c.self.inside.symbols c.as_slice-symbols.result.now c.args.heads.now c.args.hypotheses.now (take (length c.deref.result.now - (c.len.result - m)) (drop (c.len.result - m) c.deref.result.now)) _ (top n c.args.self.now.results.stack) c.as_slice-symbols.ensures.symbols
     (last ∙ c.len-2.ensures)
     (rw (c.deref.ensures.value) (last-within _ _ _ c.self.invariant.stack_within))
-    (seen_eq c.self.inside.symbols c.self.inside.symbols c.self.inside.stack.items c.deref.result.now c.args.self.now.results.stack (c.len.result - m) m refl c.deref.ensures.value (ap (λ v. v.results.stack) c.self.view_is) (omega (arith, c.len.ensures))
+    (seen_eq c.self.inside.symbols c.self.inside.stack.items c.deref.result.now c.args.self.now.results.stack (c.len.result - m) m c.deref.ensures.value (ap (λ v. v.results.stack) c.self.view_is) (omega (arith, c.len.ensures))
     ∙ ap (λ k. top k c.args.self.now.results.stack) c.len-2.ensures)
     c.read_off.ensures.ok
 
