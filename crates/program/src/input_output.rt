@@ -25,7 +25,8 @@ pub fn read_all<I: Read>(alloc: Global, input: &mut I) -> Result<Vec<u8>, ReadFa
     read_at_most(alloc, input, usize::MAX)
 }
 
-/// The whole input, or as many of its first bytes.
+/// The whole input, or as many of its first bytes. Room for a text is asked for at once, where it can be had: what is read
+/// then stays where it is, and what stays empty takes no memory.
 fn read_at_most<I: Read>(
     alloc: Global,
     input: &mut I,
@@ -35,6 +36,7 @@ fn read_at_most<I: Read>(
         return Err(ReadFailure::Memory);
     };
     let mut text = Vec::new(alloc);
+    let _ = text.reserve(most.min(MOST_BYTES));
     for _ in 0..u64::MAX {
         let wanted = most.saturating_sub(text.len()).min(part.len());
         if wanted == 0 {
