@@ -1,6 +1,6 @@
 -- The citation of an assertion, by results of numbers.
 use Rattle.verify.proofs.Words.{◌≡◌, ℕ, ◌-◌, ◌<◌, ◌≤◌, Bool, true, false, List, [], ◌++◌, length, map, get_or, slice_get, Some, sym, ◌∙◌, ap, subst, arith, length-append, length-map, map-append}
-use Rattle.verify.proofs.Words.{Name, Stmt, Expr, Database, stmt_at, before, expr_of, is_assertion, is_variable, name_at, decode, HasAssertion, mandatory_groups, Images, applied, CodeImages, code_apply, images_of_names, are_groups_apart, Carries, IsInstance, premises, AreLegal, Cite, substitution_over_names, Float, IsBound, IsCited, IsTyped, AreRead, DoFit, named, AreNamed, Goes, Results, Cites, of_hypothesis, of_assertion, below, top, Adds, some-same, true≢false, AreOver, MayCite, HasCited, Claim, Found}
+use Rattle.verify.proofs.Words.{Name, Stmt, Expr, Database, stmt_at, before, expr_of, is_assertion, is_variable, name_at, decode, HasAssertion, mandatory_groups, Images, applied, CodeImages, code_apply, images_of_names, are_groups_apart, Carries, IsInstance, premises, AreLegal, Cite, substitution_over_names, Float, IsBound, IsCited, IsTyped, AreRead, DoFit, named, AreNamed, Goes, Results, Cites, of_hypothesis, of_assertion, below, top, Adds, some-same, true≢false, AreOver, MayCite, HasCited, Assertion, Claim, Found}
 use Rattle.verify.proofs.LabelTableLemmas.{has_with}
 use Rattle.entries.specs.declared.cited_parts.Cited.{Cited}
 use Rattle.verify.proofs.MandatoryAsked.{asked-lengths}
@@ -110,18 +110,18 @@ module _ (t : Claim) (a : ℕ) (found : Found) (old : Results ℕ) (may : MayCit
   pub has-cited : (ok : Bool) (new : Results ℕ) (ρ : CodeImages) → count ≤ length old.stack → AreRead c.heads.now c.hypotheses (top count old.stack) ρ
       → DoFit t.frames.now.statements (images_of_names t.frames.now.names ρ) c.hypotheses (map (decode t.frames.now.names) (top count old.stack))
       → are_groups_apart (before t.frames.now.statements t.at) (images_of_names t.frames.now.names ρ) (map (decode t.frames.now.names) c.groups) ≡ true
-      → Adds ok old new (below count old.stack) (code_apply ρ c.conclusion.now) → HasCited t.frames.now.statements t.at t.frames.now.names a old new ok
+      → Adds ok old new (below count old.stack) (code_apply ρ c.conclusion.now) → HasCited t.frames.now.statements t.at t.frames.now.names (Assertion a) old new ok
   has-cited ok new ρ many read fits apart adds = (
-    λ label s carries.
-        let has = has_with t.frames.now.statements a s may.assertion.0 label carries may.assertion.1 in
-        goes-assertion t.frames.now.statements t.frames.now.names t.at a s c may.ready.legal (may.ready.legal.bound a s has) (cited s carries.stands) ok old new label ρ may.named carries has may.earlier many read fits apart adds,
+    λ label is.
+        let has = has_with t.frames.now.statements a is.0 may.assertion.0 label is.1 may.assertion.1 in
+        goes-assertion t.frames.now.statements t.frames.now.names t.at a is.0 c may.ready.legal (may.ready.legal.bound a is.0 has) (cited is.0 is.1.stands) ok old new label ρ may.named is.1 has may.earlier many read fits apart adds,
     saved-same old new (below count old.stack) (code_apply ρ c.conclusion.now) ok adds,
   )
 
-  pub not-cited : (new : Results ℕ) → ((f : Expr) → Meets t.frames.now.statements t.frames.now.names t.at a c old.stack f → ⊥) → HasCited t.frames.now.statements t.at t.frames.now.names a old new false
+  pub not-cited : (new : Results ℕ) → ((f : Expr) → Meets t.frames.now.statements t.frames.now.names t.at a c old.stack f → ⊥) → HasCited t.frames.now.statements t.at t.frames.now.names (Assertion a) old new false
   not-cited new none = (
-    λ label s carries.
-        let has = has_with t.frames.now.statements a s may.assertion.0 label carries may.assertion.1 in
-        goes-not t.frames.now.statements t.frames.now.names t.at a s c may.ready.legal (may.ready.legal.bound a s has) (cited s carries.stands) old new label may.named carries has none,
+    λ label is.
+        let has = has_with t.frames.now.statements a is.0 may.assertion.0 label is.1 may.assertion.1 in
+        goes-not t.frames.now.statements t.frames.now.names t.at a is.0 c may.ready.legal (may.ready.legal.bound a is.0 has) (cited is.0 is.1.stands) old new label may.named is.1 has none,
     λ same. absurd (true≢false (sym same)),
   )

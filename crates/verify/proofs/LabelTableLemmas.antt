@@ -57,10 +57,6 @@ entry_at S at labels table k d are h =
     let c = are.count in
     subst (IsEntry S at (get_or labels k [])) (get_or_default table k Nothing d h) (are.each k (omega (arith, h, c)))
 
--- the same, where the entry is known
-pub named-entry : (S : Database) (at : ℕ) (labels : List Name) (table : List LabelEntry) (k : ℕ) (d e : LabelEntry) → AreEntries S at labels table → k < length table → get_or table k d ≡ e → IsEntry S at (get_or labels k []) e
-named-entry S at labels table k d e are h is = subst (IsEntry S at (get_or labels k [])) is (entry_at S at labels table k d are h)
-
 -- a number that is not zero is that behind the one before it
 pub suc_back : (n : ℕ) → (n ≡ 0 → ⊥) → n ≡ suc (n - 1)
 suc_back n h = omega (arith, h)

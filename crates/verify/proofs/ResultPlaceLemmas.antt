@@ -1,6 +1,6 @@
 -- Results in a buffer that grows.
-use Rattle.verify.proofs.Words.{◌≡◌, ℕ, zero, suc, ◌+◌, ◌-◌, ◌<◌, ◌≤◌, List, [], ◌∷◌, ◌++◌, length, map, take, drop, get_or, replicate, slice_get, slice_set, Some, refl, option_map, sym, ◌∙◌, ap, subst, arith, length-append, length-drop, length-map, map-set, take-map, drop-map, map_push, take_rest, slice_get-map, slice_get-get_or}
-use Rattle.verify.proofs.Words.{ExpressionPlace, seen_at, AreWithin, AreInside, map-seen-more, within-weaken, within-snoc, within-take, within-drop, within-get, within-at, seen-get, length-seen, seen-last, inside-more, inside-none, Results, with_result, IsSaved, seen, AreKept, below, top, weight_limit}
+use Rattle.verify.proofs.Words.{◌≡◌, ℕ, zero, suc, ◌+◌, ◌-◌, ◌<◌, ◌≤◌, List, [], ◌∷◌, ◌++◌, length, map, take, drop, get_or, replicate, slice_get, slice_set, Some, refl, option_map, sym, ◌∙◌, ap, subst, arith, length-append, length-drop, length-map, map-set, take-map, drop-map, map_push, take_rest, slice_get-map, slice_get-get_or, get_or_from_slice_get}
+use Rattle.verify.proofs.Words.{ExpressionPlace, seen_at, AreWithin, AreInside, map-seen-more, within-weaken, within-snoc, within-take, within-drop, within-get, within-at, seen-get, length-seen, seen-last, inside-more, inside-none, Results, with_result, IsSaved, seen, AreKept, Keeps, below, top, weight_limit, get-last}
 
 pub map-drop : {A B : Type 0} (f : A → B) (k : ℕ) (xs : List A) → map f (drop k xs) ≡ drop k (map f xs)
 map-drop f k xs = sym (drop-map f k xs)
@@ -11,7 +11,7 @@ results-same {A} a b c d w v p q r =
     ap (λ s. f s c w) p ∙ (ap (λ t. f b t w) q ∙ ap (λ n. f b d n) r)
 
 -- the buffer grew, and the weight with it
-grown-kept : (xs ys zs : List ℕ) (images : List (ℕ × ExpressionPlace)) (stack saved : List ExpressionPlace) (w v : ℕ) → AreKept xs images stack saved w → zs ≡ xs ++ ys → v ≡ w + length ys → v ≤ weight_limit → AreKept zs images stack saved v
+pub grown-kept : (xs ys zs : List ℕ) (images : List (ℕ × ExpressionPlace)) (stack saved : List ExpressionPlace) (w v : ℕ) → AreKept xs images stack saved w → zs ≡ xs ++ ys → v ≡ w + length ys → v ≤ weight_limit → AreKept zs images stack saved v
 grown-kept xs ys zs images stack saved w v k e weighs light =
     let longer : length xs ≤ length zs = omega (arith, ap length e, length-append xs ys) in
     let few = k.few in
@@ -24,11 +24,11 @@ grown-kept xs ys zs images stack saved w v k e weighs light =
     }
 
 -- the place of what was written at its end
-new-place : (xs ys zs : List ℕ) (p : ExpressionPlace) → zs ≡ xs ++ ys → p.start ≡ length xs → p.end ≡ length zs → (p.start ≤ p.end) × (p.end ≤ length zs)
+pub new-place : (xs ys zs : List ℕ) (p : ExpressionPlace) → zs ≡ xs ++ ys → p.start ≡ length xs → p.end ≡ length zs → (p.start ≤ p.end) × (p.end ≤ length zs)
 new-place xs ys zs p e low high = (omega (arith, ap length e, length-append xs ys, low, high), omega (arith, high))
 
 -- a place on top
-pushed-kept : (xs : List ℕ) (images : List (ℕ × ExpressionPlace)) (stack saved stack' : List ExpressionPlace) (w : ℕ) (p : ExpressionPlace) → AreKept xs images stack saved w → (p.start ≤ p.end) × (p.end ≤ length xs) → stack' ≡ stack ++ p ∷ []
+pub pushed-kept : (xs : List ℕ) (images : List (ℕ × ExpressionPlace)) (stack saved stack' : List ExpressionPlace) (w : ℕ) (p : ExpressionPlace) → AreKept xs images stack saved w → (p.start ≤ p.end) × (p.end ≤ length xs) → stack' ≡ stack ++ p ∷ []
     → AreKept xs images stack' saved w
 pushed-kept xs images stack saved stack' w p k b whole =
     record { images_inside = k.images_inside; stack_within = subst (AreWithin (length xs)) (sym whole) (within-snoc (length xs) stack p k.stack_within b.0 b.1); saved_within = k.saved_within; few = k.few; light = k.light }
@@ -51,37 +51,20 @@ within-set n k [] p w low high = tt
 within-set n zero (q ∷ ps) p w low high = (low, high, w.2)
 within-set n (suc k) (q ∷ ps) p w low high = (w.0, w.1, within-set n k ps p w.2 low high)
 
--- a result was written at the end of the buffer, and kept
-pub given-cut : (xs ys zs : List ℕ) (images : List (ℕ × ExpressionPlace)) (stack saved stack' saved' : List ExpressionPlace) (w v k : ℕ) (p : ExpressionPlace) → AreKept xs images stack saved w
-    → zs ≡ xs ++ ys → p.start ≡ length xs → p.end ≡ length zs → stack' ≡ stack → saved' ≡ slice_set saved k p → v ≡ w + length ys → v ≤ weight_limit → AreKept zs images stack' saved' v
-given-cut xs ys zs images stack saved stack' saved' w v k p kept e low high same set weighs light =
-    let g = grown-kept xs ys zs images stack saved w v kept e weighs light in
-    let b = new-place xs ys zs p e low high in
-    record {
-      images_inside = g.images_inside;
-      stack_within = subst (AreWithin (length zs)) (sym same) g.stack_within;
-      saved_within = subst (AreWithin (length zs)) (sym set) (within-set (length zs) k saved p g.saved_within b.0 b.1);
-      few = g.few;
-      light = light;
-    }
+pub kept-keep : (xs : List ℕ) (images : List (ℕ × ExpressionPlace)) (stack saved saved' : List ExpressionPlace) (w k label : ℕ) (p : ExpressionPlace) → AreKept xs images stack saved w → slice_get stack k ≡ Some p → saved' ≡ slice_set saved label p
+    → AreKept xs images stack saved' w
+kept-keep xs images stack saved saved' w k label p a h e =
+    let b = within-get (length xs) k stack p a.stack_within h in
+    record { images_inside = a.images_inside; stack_within = a.stack_within; saved_within = subst (AreWithin (length xs)) (sym e) (within-set (length xs) label saved p a.saved_within b.0 b.1); few = a.few; light = a.light }
 
-pub given-kept : (xs ys zs : List ℕ) (images : List (ℕ × ExpressionPlace)) (stack saved stack' saved' : List ExpressionPlace) (w v k : ℕ) (p : ExpressionPlace) → AreKept xs images stack saved w
-    → zs ≡ xs ++ ys → p.start ≡ length xs → p.end ≡ length zs → stack' ≡ stack ++ p ∷ [] → saved' ≡ slice_set saved k p → v ≡ w + length ys → v ≤ weight_limit
-    → AreKept zs images stack' saved' v
-given-kept xs ys zs images stack saved stack' saved' w v k p kept e low high whole set weighs light =
-    pushed-kept zs images stack saved' stack' v p (given-cut xs ys zs images stack saved stack saved' w v k p kept e low high refl set weighs light) (new-place xs ys zs p e low high) whole
-
-pub given-seen : (xs ys zs : List ℕ) (images : List (ℕ × ExpressionPlace)) (stack saved stack' saved' : List ExpressionPlace) (w v k : ℕ) (p : ExpressionPlace) → AreKept xs images stack saved w
-    → zs ≡ xs ++ ys → p.start ≡ length xs → p.end ≡ length zs → stack' ≡ stack ++ p ∷ [] → saved' ≡ slice_set saved k p → v ≡ w + length ys
-    → seen zs stack' saved' v ≡ (let r : Results ℕ = record { stack = map (seen_at xs) stack ++ ys ∷ []; saved = slice_set (map (seen_at xs) saved) k ys; weight = w + length ys } in r)
-given-seen xs ys zs images stack saved stack' saved' w v k p kept e low high whole set weighs =
-    let added = added-seen xs ys zs stack stack saved stack' w v p kept.saved_within kept.stack_within e low high whole weighs in
-    results-same (map (seen_at zs) stack') (map (seen_at xs) stack ++ ys ∷ []) (map (seen_at zs) saved') (slice_set (map (seen_at xs) saved) k ys) v (w + length ys)
-    (ap (λ r. r.stack) added)
-    (ap (map (seen_at zs)) set ∙ (map-set (seen_at zs) saved k p
-    ∙ (ap (λ r. slice_set r k (seen_at zs p)) (ap (λ s. map (seen_at s) saved) e ∙ map-seen-more xs ys saved kept.saved_within)
-    ∙ ap (slice_set (map (seen_at xs) saved) k) (seen-last xs ys zs p e low high))))
-    weighs
+pub keep-seen : (xs : List ℕ) (stack saved saved' : List ExpressionPlace) (w label : ℕ) (p : ExpressionPlace) → slice_get stack (length stack - 1) ≡ Some p → saved' ≡ slice_set saved label p → Keeps (seen xs stack saved w) (seen xs stack saved' w) label
+keep-seen xs stack saved saved' w label p last set = λ rest e split.
+    let low = length stack - 1 in
+    let same : seen_at xs p ≡ e =
+    sym (get_or_from_slice_get (map (seen_at xs) stack) low (seen_at xs p) [] (slice_get-map (seen_at xs) stack low ∙ ap (option_map (seen_at xs)) last))
+    ∙ (ap (λ r. get_or r low []) split ∙ get-last rest e low [] (omega (arith, ap length split, length-append rest (e ∷ []), length-map stack (seen_at xs)))) in
+    results-same (map (seen_at xs) stack) (map (seen_at xs) stack) (map (seen_at xs) saved') (slice_set (map (seen_at xs) saved) label e) w w refl
+    (ap (map (seen_at xs)) set ∙ (map-set (seen_at xs) saved label p ∙ ap (slice_set (map (seen_at xs) saved) label) same)) refl
 
 -- ---- marked and recalled
 

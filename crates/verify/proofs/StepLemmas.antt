@@ -1,23 +1,29 @@
 -- What the code knows at each exit of a step, as a fact of the machine.
-use Rattle.verify.proofs.Words.{◌≡◌, ℕ, suc, ◌+◌, ◌-◌, ◌<◌, ◌≤◌, Bool, true, false, List, [], ◌∷◌, ◌++◌, length, map, take, drop, get_or, Some, Result, Ok, Err, IfOk, refl, IsTrue, nat_lt, nat_eq, replicate, slice_get, slice_set, sym, ◌∙◌, ap, subst, arith, true≢false, length-append, AllocError, nat_tests, length-map, map-append, take-append-drop, take_all, drop_all, drop_more, map_more, drop-append-le, drop-set-lt, length-set, length-replicate, get_or-set_same, get_or-set_other, get_or-replicate, get_or_from_slice_get, slice_get-get_or}
-use Rattle.verify.proofs.Words.{item-cite, item-recall, Name, Stmt, Database, stmt_at, expr_of, name_at, decode, Item, Cite, Recall, IsHypothesis, Carries, Results, State, start, of_hypothesis, Runs, with_result, Adds, Marks, Recalls, Gives, AreBelow, AllBelow, named, AreNamed, Goes, behind, HasCited, IsGiven, AreGiven, AreKnown, GoesOn, AreLegal, item_of, IsRight, weight_limit, some-same, decode-injective, below-group, LabelEntry, Nothing, IsEntry, AreEntries, get-front}
-use Rattle.verify.proofs.Named.{goes-recall, goes-mark, named-result, result-named, all-drop, all-set, all-snoc, all-none, get-drop}
+use Rattle.verify.proofs.Words.{◌≡◌, ℕ, suc, ◌+◌, ◌-◌, ◌<◌, ◌≤◌, Bool, true, false, List, [], ◌∷◌, ◌++◌, length, map, take, drop, get_or, Some, refl, IsTrue, nat_lt, nat_eq, replicate, slice_get, slice_set, sym, ◌∙◌, ap, subst, arith, true≢false, length-append, nat_tests, length-map, map-append, take-append-drop, take_all, take_more, same_from_push, map_push, append-nil, nil_from_length, drop_all, drop_more, map_more, drop-append-le, drop-set-lt, length-set, length-replicate, get_or-set_same, get_or-set_other, get_or-replicate, get_or_from_slice_get, get_or_default, slice_get-get_or}
+use Rattle.verify.proofs.Words.{item-cite, item-recall, Name, Stmt, Database, stmt_at, expr_of, name_at, decode, Item, Cite, Recall, Results, State, start, Cites, of_hypothesis, of_assertion, premises, Expr, Runs, with_result, Adds, Marks, Recalls, Keeps, AreBelow, AllBelow, named, AreNamed, Goes, behind, HasCited, IsGiven, AreGiven, AreKnown, GoesOn, AreLegal, item_of, IsRight, weight_limit, decode-injective, below-group, LabelEntry, Nothing, IsEntry, AreEntries, get-front}
+use Rattle.verify.proofs.Named.{goes-recall, goes-mark, named-result, result-named, all-drop, all-set, all-snoc, all-none, all-at, get-drop}
 use Rattle.verify.proofs.Decide.{cites_same, refuted_at_end, refuted_at_step, accepts_right}
 use Rattle.verify.proofs.Complete.{runs_append}
-use Rattle.verify.specs.declared.label_table.LabelEntry.TheVariants.{Hypothesis}
+use Rattle.verify.proofs.LabelTableLemmas.{entry_at}
 use Rattle.verify.proofs.ResultPlaceLemmas.{map-drop, results-same}
+
+-- a citation that takes no results gives the same over any others
+cites-alone : (S : Database) (at : ℕ) (label : Name) (stack below : List Expr) (e : Expr) → Cites S at label stack below e → length stack ≤ length below → (other : List Expr) → Cites S at label other other e
+cites-alone S at label stack below e (of_hypothesis i s carries is same all) less other = of_hypothesis i s carries is same refl
+cites-alone S at label stack below e (of_assertion a s σ carries is all same) less other =
+    let none = nil_from_length (premises S a s σ) (omega (arith, less, ap length all, length-append below (premises S a s σ))) in
+    of_assertion a s σ carries is (sym (append-nil other) ∙ ap (λ r. other ++ r) (sym none)) same
 
 module _ (S : Database) (names : List Name) (at : ℕ) (legal : AreLegal S names) where
   module _ (old new : Results ℕ) (an : AreNamed names old) where
-    hypothesis-result : (label : Name) (i : ℕ) (s : Stmt) → Carries S i s label → (ok : Bool) (e : List ℕ) → IsHypothesis S at i s → decode names e ≡ expr_of s → AreBelow (length names) e
-        → Adds ok old new old.stack e → Goes ok S at names (Cite label) old new
-    hypothesis-result label i s carries true e active same codes adds = (
-      (map (decode names) old.stack, decode names e, of_hypothesis i s carries active same refl, ap (named names) adds ∙ named-result names old old.stack e),
+    pub given-result : (label : Name) (ok : Bool) (e : List ℕ) → Cites S at label (map (decode names) old.stack) (map (decode names) old.stack) (decode names e) → AreBelow (length names) e → Adds ok old new old.stack e → Goes ok S at names (Cite label) old new
+    given-result label true e cites codes adds = (
+      (map (decode names) old.stack, decode names e, cites, ap (named names) adds ∙ named-result names old old.stack e),
       subst (AreNamed names) (sym adds) (result-named names old old.stack e an an.stack_named codes),
     )
-    hypothesis-result label i s carries false e active same codes heavy = λ next p.
-        let one = (cites_same S at (legal.single at) legal.once label (map (decode names) old.stack) p.0 (map (decode names) old.stack) p.1 (expr_of s) p.2 (of_hypothesis i s carries active refl refl)).1 in
-        let len : length p.1 ≡ length e = ap length one ∙ (ap length (sym same) ∙ length-map e (name_at names)) in
+    given-result label false e cites codes heavy = λ next p.
+        let one = (cites_same S at (legal.single at) legal.once label (map (decode names) old.stack) p.0 (map (decode names) old.stack) p.1 (decode names e) p.2 cites).1 in
+        let len : length p.1 ≡ length e = ap length one ∙ length-map e (name_at names) in
         let w = ap (λ s'. s'.weight) p.3 in
         omega (arith, heavy, len, w)
 
@@ -96,65 +102,72 @@ module _ (S : Database) (names : List Name) (at : ℕ) where
       let w = ap (λ (st : State). st.weight) p.3 in
       omega (arith, heavy, w)
 
-  module _ (legal : AreLegal S names) (table : List LabelEntry) (old new : Results ℕ) (known : AreKnown S names table old) where
+  module _ (legal : AreLegal S names) (table : List LabelEntry) (old new : Results ℕ) (known : AreKnown S at names table old) where
     -- behind the results of the labels, codes stand for names
     below_named : AreNamed names (behind (length table) old)
     below_named = behind-named (length table) old known.are_named
 
     -- what is known after an item that was done
-    known-if : (P : Bool → Type 0) → (P true → AreKnown S names table new) → (ok : Bool) → P ok → IsTrue ok → AreKnown S names table new
+    known-if : (P : Bool → Type 0) → (P true → AreKnown S at names table new) → (ok : Bool) → P ok → IsTrue ok → AreKnown S at names table new
     known-if P f true p t = f p
     known-if P f false p t = absurd (true≢false (sym t))
 
-    -- an assertion leaves what is saved
-    pub cite-on : (labels : List Name) (number k a : ℕ) (s : Stmt) (r : Result Bool AllocError) → number ≡ suc k → AreEntries S at labels table → k < length table → Carries S a s (get_or labels k [])
-        → IfOk r (HasCited S at names a old new) → IfOk r (λ ok. GoesOn ok S at names table (item_of labels number) old new)
-    cite-on labels number k a s (Err e) is are within carries cited = tt
-    cite-on labels number k a s (Ok ok) is are within carries cited =
-        let goes = cited.0 (get_or labels k []) s carries in (
-          cite-number S names at legal (behind (length table) old) (behind (length table) new) ok labels number k is (let c = are.count in omega (arith, within, c)) (cite-behind (length table) ok (get_or labels k []) old new goes),
-          λ t. known-if (λ b. Goes b S at names (Cite (get_or labels k [])) old new) (λ g. record { are_named = g.1; given = subst (AreGiven S names table) (sym (cited.1 t)) known.given }) ok goes t,
-        )
+    -- ---- a label that is cited, by what it names
 
-    -- ---- a hypothesis that is written out
+    module _ (labels : List Name) (number k : ℕ) (d : LabelEntry) (by_number : number ≡ suc k) (are : AreEntries S at labels table) (within : k < length table) where
+      pub cited-on : (ok : Bool) → HasCited S at names (get_or table k d) old new ok → GoesOn ok S at names table (item_of labels number) old new
+      cited-on ok cited =
+          let goes = cited.0 (get_or labels k []) (entry_at S at labels table k d are within) in (
+            cite-number S names at legal (behind (length table) old) (behind (length table) new) ok labels number k by_number (let c = are.count in omega (arith, within, c)) (cite-behind (length table) ok (get_or labels k []) old new goes),
+            λ t. known-if (λ b. Goes b S at names (Cite (get_or labels k [])) old new) (λ g. record { are_named = g.1; given = subst (AreGiven S at names table) (sym (cited.1 t)) known.given }) ok goes t,
+          )
 
-    module _ (labels : List Name) (number k i : ℕ) (s : Stmt) (e : List ℕ) (is : get_or table k Nothing ≡ Hypothesis i) (by_number : number ≡ suc k) (are : AreEntries S at labels table) (within : k < length table)
-        (carries : Carries S i s (get_or labels k [])) (active : IsHypothesis S at i s) (same : decode names e ≡ expr_of s) (codes : AreBelow (length names) e) where
-      give-adds : (ok : Bool) → Gives ok old new k e → Adds ok (behind (length table) old) (behind (length table) new) old.stack e
-      give-adds false gives = gives
-      give-adds true gives =
-          ap (behind (length table)) gives
-          ∙ results-same (old.stack ++ e ∷ []) (old.stack ++ e ∷ []) (drop (length table) (slice_set old.saved k e)) (drop (length table) old.saved) (old.weight + length e) (old.weight + length e)
-          refl (drop-set-lt (length table) old.saved k e within) refl
+      -- where no results were taken, what is given is kept for the label
+      module _ (last : Results ℕ) (more : length old.stack < length new.stack) (keeps : Keeps new last k) (cited : HasCited S at names (get_or table k d) old new true) where
+        abbrev e : List ℕ
+        e = get_or new.stack (length new.stack - 1) []
 
-      give-known : Gives true old new k e → AreKnown S names table new
-      give-known gives = subst (AreKnown S names table) (sym gives) (record {
-        are_named = record { stack_named = all-snoc (length names) old.stack e known.are_named.stack_named codes; saved_named = all-set (length names) k old.saved e known.are_named.saved_named codes };
-        given = record { enough = subst (λ n. length table ≤ n) (sym (length-set old.saved k e)) known.given.enough; each = λ j less. by j less (nat_eq k j) refl };
-      })
-        where
-          by : (j : ℕ) → j < length table → (b : Bool) → nat_eq k j ≡ b → IsGiven S names (get_or table j Nothing) (get_or (slice_set old.saved k e) j [])
-          by j less true t =
-              let one : k ≡ j = grind (arith, nat_tests) in
-              let enough = known.given.enough in
-              subst (λ n. IsGiven S names (get_or table n Nothing) (get_or (slice_set old.saved k e) n [])) one
-              (subst (λ v. IsGiven S names v (get_or (slice_set old.saved k e) k [])) (sym is)
-              (λ some t stands. ap (decode names) (get_or-set_same old.saved k e [] (omega (arith, within, enough))) ∙ (same ∙ ap expr_of (some-same active.stands stands))))
-          by j less false t =
-              let other : k ≡ j → ⊥ = λ q. (let x : nat_eq k j ≡ true = grind (arith, nat_tests) in true≢false (sym x ∙ t)) in
-              subst (IsGiven S names (get_or table j Nothing)) (sym (get_or-set_other old.saved k j e [] (λ q. other (sym q)))) (known.given.each j less)
+        split : new.stack ≡ take (length new.stack - 1) new.stack ++ e ∷ []
+        split = sym (take_all (length new.stack - 1 + 1) new.stack (omega (arith, more))) ∙ take_more new.stack (length new.stack - 1) [] (omega (arith, more))
 
-      pub give-on : (ok : Bool) → Gives ok old new k e → GoesOn ok S at names table (item_of labels number) old new
-      give-on ok gives = (
-        cite-number S names at legal (behind (length table) old) (behind (length table) new) ok labels number k by_number (let c = are.count in omega (arith, within, c))
-            (hypothesis-result S names at legal (behind (length table) old) (behind (length table) new) below_named (get_or labels k []) i s carries ok e active same codes (give-adds ok gives)),
-        known-if (λ b. Gives b old new k e) give-known ok gives,
-      )
+        kept : last ≡ (let r : Results ℕ = record { stack = new.stack; saved = slice_set new.saved k e; weight = new.weight } in r)
+        kept = keeps _ e split
+
+        gives : (label : Name) → IsEntry S at label (get_or table k Nothing) → (stack : List Expr) → Cites S at label stack stack (decode names e)
+        gives label is stack =
+            let run = (cited.0 label (subst (IsEntry S at label) (get_or_default table k Nothing d within) is)).0 in
+            let same = same_from_push run.0 _ run.1 (decode names e) (sym (ap (λ (st : State). st.stack) run.3) ∙ (ap (map (decode names)) split ∙ map_push (decode names) _ e)) in
+            let len = ap length same.0 ∙ length-map _ (decode names) in
+            let all = ap length split ∙ length-append _ (e ∷ []) in
+            subst (Cites S at label stack stack) same.1 (cites-alone S at label (map (decode names) old.stack) run.0 run.1 run.2 (omega (arith, len, all, more, length-map old.stack (decode names))) stack)
+
+        kept-known : AreKnown S at names table new → AreKnown S at names table last
+        kept-known a = subst (AreKnown S at names table) (sym kept) (record {
+          are_named = record { stack_named = a.are_named.stack_named; saved_named = all-set (length names) k new.saved e a.are_named.saved_named (all-at (length names) (length new.stack - 1) new.stack a.are_named.stack_named) };
+          given = record { enough = subst (λ n. length table ≤ n) (sym (length-set new.saved k e)) a.given.enough; each = λ j less. by j less (nat_eq k j) refl };
+        })
+          where
+            by : (j : ℕ) → j < length table → (b : Bool) → nat_eq k j ≡ b → IsGiven S at names (get_or table j Nothing) (get_or (slice_set new.saved k e) j [])
+            by j less true t =
+                let one : k ≡ j = grind (arith, nat_tests) in
+                let enough = a.given.enough in
+                subst (λ n. IsGiven S at names (get_or table n Nothing) (get_or (slice_set new.saved k e) n [])) one
+                (λ some label is stack. subst (λ x. Cites S at label stack stack (decode names x)) (sym (get_or-set_same new.saved k e [] (omega (arith, within, enough)))) (gives label is stack))
+            by j less false t =
+                let other : k ≡ j → ⊥ = λ q. (let x : nat_eq k j ≡ true = grind (arith, nat_tests) in true≢false (sym x ∙ t)) in
+                subst (IsGiven S at names (get_or table j Nothing)) (sym (get_or-set_other new.saved k j e [] (λ q. other (sym q)))) (a.given.each j less)
+
+        pub kept-on : GoesOn true S at names table (item_of labels number) old last
+        kept-on =
+            let on = cited-on true cited in
+            let same : behind (length table) new ≡ behind (length table) last =
+            sym (ap (behind (length table)) kept ∙ results-same new.stack new.stack (drop (length table) (slice_set new.saved k e)) (drop (length table) new.saved) new.weight new.weight refl (drop-set-lt (length table) new.saved k e within) refl) in
+            (subst (Goes true S at names (item_of labels number) (behind (length table) old)) same on.0, λ t. kept-known (on.1 refl))
 
     -- ---- a result that is saved
 
-    recall-known : (k : ℕ) → Recalls true old new (suc k) → AreKnown S names table new
-    recall-known k r = subst (AreKnown S names table) (sym r.2) (record {
+    recall-known : (k : ℕ) → Recalls true old new (suc k) → AreKnown S at names table new
+    recall-known k r = subst (AreKnown S at names table) (sym r.2) (record {
       are_named = record { stack_named = all-snoc (length names) old.stack r.0 known.are_named.stack_named (below-group (length names) old.saved k r.0 known.are_named.saved_named r.1); saved_named = known.are_named.saved_named };
       given = known.given;
     })
@@ -175,7 +188,9 @@ module _ (S : Database) (names : List Name) (at : ℕ) where
         → GoesOn ok S at names table (item_of labels number) old new
     known-on labels k number ok is are within some recalls = (
       cite-number S names at legal (behind (length table) old) (behind (length table) new) ok labels number k is (let c = are.count in omega (arith, within, c))
-          (by (get_or table k Nothing) (are.each k (let c = are.count in omega (arith, within, c))) (known.given.each k within)),
+          (given-result S names at legal (behind (length table) old) (behind (length table) new) below_named (get_or labels k []) ok (get_or old.saved k [])
+          (known.given.each k within some (get_or labels k []) (are.each k (let c = are.count in omega (arith, within, c))) (map (decode names) old.stack))
+          (below-group (length names) old.saved k (get_or old.saved k []) known.are_named.saved_named there) (adds ok recalls)),
       known-if (λ b. Recalls b old new (suc k)) (recall-known k) ok recalls,
     )
       where
@@ -185,12 +200,6 @@ module _ (S : Database) (names : List Name) (at : ℕ) where
         adds : (b : Bool) → Recalls b old new (suc k) → Adds b (behind (length table) old) (behind (length table) new) old.stack (get_or old.saved k [])
         adds true h = ap (behind (length table)) (h.2 ∙ ap (with_result old old.stack) (sym (get_or_from_slice_get old.saved k h.0 [] h.1)))
         adds false h = h (get_or old.saved k []) there
-
-        by : (entry : LabelEntry) → IsEntry S at (get_or labels k []) entry → IsGiven S names entry (get_or old.saved k []) → Goes ok S at names (Cite (get_or labels k [])) (behind (length table) old) (behind (length table) new)
-        by (Hypothesis i) entry given =
-            hypothesis-result S names at legal (behind (length table) old) (behind (length table) new) below_named (get_or labels k []) i entry.0 entry.1 ok (get_or old.saved k []) entry.2
-            (given some entry.0 entry.2.stands) (below-group (length names) old.saved k (get_or old.saved k []) known.are_named.saved_named there) (adds ok recalls)
-        by other entry given = absurd (omega (arith, some, ap length given))
 
     pub has-on : (labels : List Name) (k number : ℕ) (ok : Bool) → number ≡ suc k → AreEntries S at labels table → (k < length table → 0 < length (get_or old.saved k [])) × Recalls ok old new (suc k) → GoesOn ok S at names table (item_of labels number) old new
     has-on labels k number ok is are recalls = by (nat_lt k (length table)) refl
@@ -221,31 +230,30 @@ module _ (S : Database) (names : List Name) (at : ℕ) where
         last-named [] e p = p.0
         last-named (x ∷ b) e p = last-named b e p.1
 
-        marked : Marks true old new → AreKnown S names table new
+        marked : Marks true old new → AreKnown S at names table new
         marked h =
             let enough = known.given.enough in
-            subst (AreKnown S names table) (sym h.3) (record {
+            subst (AreKnown S at names table) (sym h.3) (record {
               are_named = record {
                 stack_named = known.are_named.stack_named;
                 saved_named = all-snoc (length names) old.saved h.1 known.are_named.saved_named (last-named h.0 h.1 (subst (AllBelow (length names)) h.2 known.are_named.stack_named));
               };
               given = record {
                 enough = omega (arith, enough, length-append old.saved (h.1 ∷ []));
-                each = λ k less. subst (IsGiven S names (get_or table k Nothing)) (sym (get-front old.saved (h.1 ∷ []) k [] (omega (arith, enough, less)))) (known.given.each k less);
+                each = λ k less. subst (IsGiven S at names (get_or table k Nothing)) (sym (get-front old.saved (h.1 ∷ []) k [] (omega (arith, enough, less)))) (known.given.each k less);
               };
             })
 
   -- ---- the start
 
-  pub start-known : (table : List LabelEntry) (st : Results ℕ) → st ≡ (let r : Results ℕ = record { stack = []; saved = replicate (length table) []; weight = 0 } in r) → AreKnown S names table st
-  start-known table st is = subst (AreKnown S names table) (sym is) (record {
+  pub start-known : (table : List LabelEntry) (st : Results ℕ) → st ≡ (let r : Results ℕ = record { stack = []; saved = replicate (length table) []; weight = 0 } in r) → AreKnown S at names table st
+  start-known table st is = subst (AreKnown S at names table) (sym is) (record {
     are_named = record { stack_named = tt; saved_named = all-none (length names) (length table) };
-    given = record { enough = (let l = length-replicate (length table) (let r : List ℕ = [] in r) in omega (arith, l)); each = λ k less. by k less (get_or table k Nothing) };
+    given = record {
+      enough = (let l = length-replicate (length table) (let r : List ℕ = [] in r) in omega (arith, l));
+      each = λ k less some. absurd (omega (arith, some, ap length (get_or-replicate (length table) k (let r : List ℕ = [] in r) [] less)));
+    };
   })
-    where
-      by : (k : ℕ) → k < length table → (entry : LabelEntry) → IsGiven S names entry (get_or (let r : List (List ℕ) = replicate (length table) [] in r) k [])
-      by k less (Hypothesis i) = λ some. absurd (omega (arith, some, ap length (get_or-replicate (length table) k (let r : List ℕ = [] in r) [] less)))
-      by k less entry = get_or-replicate (length table) k [] [] less
 
 pub start-behind : (n : ℕ) (st : Results ℕ) → st ≡ (let r : Results ℕ = record { stack = []; saved = replicate n []; weight = 0 } in r) → behind n st ≡ (let r : Results ℕ = record { stack = []; saved = []; weight = 0 } in r)
 start-behind n st is = ap (behind n) is ∙ results-same [] [] (drop n (replicate n [])) [] 0 0 refl (drop_all n (replicate n []) (omega (arith, length-replicate n (let r : List ℕ = [] in r)))) refl

@@ -29,7 +29,7 @@ pub use Rattle.scope.specs.Active.{active_from, bare, bares, before, expr_of, is
 pub use Rattle.std.proofs.Common.{Bool, IfOk, IsTrue, List, Ok, Result, Some, [], add-zero, add_assoc, ap, append-nil, append_assoc, arith, drop, false, get_or, inl, inr, length, length-append, length-drop, map, not, refl, slice_get, subst, sym, take, true, true≢false, zero-add, ℕ, ◌++◌, ◌+◌, ◌-◌, ◌<◌, ◌↔◌, ◌∙◌, ◌∷◌, ◌≡◌, ◌≤◌}
 pub use Rattle.std.proofs.lemmas.Bool.{and_from, leb-true, lt-ltb, ltb-true, not-false, not-true, or_left, or_right}
 pub use Rattle.std.proofs.lemmas.Bool.Decides.{nat_tests}
-pub use Rattle.std.proofs.lemmas.List.{drop-append-le, drop-drop, drop-map, drop-set-lt, drop-take, drop_all, drop_at, drop_more, ext_get_or, get_or-replicate, get_or-set_other, get_or-set_same, get_or_default, length-map, length-replicate, length-set, length-take-le, length_push, map-append, map-set, map_more, map_push, same_from_push, take-append-drop, take-map, take_all, take_at, take_more, take_rest}
+pub use Rattle.std.proofs.lemmas.List.{drop-append-le, drop-drop, drop-map, drop-set-lt, drop-take, drop_all, drop_at, drop_more, ext_get_or, get_or-replicate, get_or-set_other, get_or-set_same, get_or_default, length-map, length-replicate, length-set, length-take-le, length_push, map-append, map-set, map_more, map_push, nil_from_length, same_from_push, take-append-drop, take-map, take_all, take_at, take_more, take_rest}
 pub use Rattle.std.proofs.lemmas.Option.{get_or_from_slice_get, same_Some, slice_get-get_or, slice_get-map, slice_get_within}
 pub use Rattle.std.proofs.lemmas.Result.{IfOk-at_ok, IfOk-weaker}
 pub use Rattle.std.proofs.lemmas.Slice.Eq.{bytes_eq-Decides}
@@ -57,7 +57,7 @@ pub use Rattle.verify.specs.Machine.{Cites, IsSaved, Results, Runs, State, Steps
 pub use Rattle.verify.specs.Plan.{AreOrdered, IsAfter, IsPlan, built, built_from, derive, pick, trees_of}
 pub use Rattle.verify.specs.Proves.{Proves, label_or_none, mandatory_labels}
 pub use Rattle.verify.specs.ReadPlaces.{BeginsWith, ReadTo, ReadsAll, tail_of}
-pub use Rattle.verify.specs.ResultPlaces.{Adds, AreKept, Gives, Marks, Recalls, below, seen, top}
+pub use Rattle.verify.specs.ResultPlaces.{Adds, AreKept, Keeps, Marks, Recalls, below, seen, top}
 pub use Rattle.verify.specs.Right.{Derives, IsProvable, IsRight, IsSmall, Says, weight_limit}
 pub use Rattle.verify.specs.Spells.{IsCitable, Spells, SpellsAll, cites_assertion, cites_hypothesis, marks, recalls, spells_more, spells_none}
 pub use Rattle.verify.specs.declared.label_table.LabelEntry.{LabelEntry}

@@ -1,12 +1,13 @@
 -- What one item does to results of numbers, said over the names that they stand for.
 -- Metamath, 4.2.6 and appendix B; `Machine` over names.
 -- The code knows numbers alone; each has a name.
-use Rattle.std.specs.Prelude.{◌≡◌, ℕ, ◌<◌, ◌≤◌, Bool, true, false, IsTrue, List, [], length, map, drop, get_or, Some}
-use Rattle.verify.specs.Words.{Name, Stmt, Database, before, stmt_at, expr_of, AllBelow, Item, Carries, Cite}
+use Rattle.std.specs.Prelude.{◌≡◌, ℕ, ◌<◌, ◌≤◌, Bool, true, false, IsTrue, List, [], length, map, drop, get_or}
+use Rattle.verify.specs.Words.{Name, Stmt, Expr, Database, before, AllBelow, Item, Cite}
 use Rattle.names.specs.Codes.{decode}
 use Rattle.verify.specs.declared.label_table.LabelEntry.{LabelEntry}
-use Rattle.verify.specs.declared.label_table.LabelEntry.TheVariants.{Hypothesis, Nothing}
-use Rattle.verify.specs.Machine.{Results, State, Steps}
+use Rattle.verify.specs.declared.label_table.LabelEntry.TheVariants.{Nothing}
+use Rattle.verify.specs.LabelTable.{IsEntry}
+use Rattle.verify.specs.Machine.{Results, State, Cites, Steps}
 use Rattle.verify.specs.Right.{weight_limit}
 use Rattle.frame.specs.AtPosition.{AreLegal}
 use Rattle.frame.specs.FrameOf.{HasAssertion}
@@ -27,9 +28,9 @@ abbrev pub Goes : Bool → Database → ℕ → List Name → Item → Results �
 Goes true S at names item old new = Steps S at (named names old) item (named names new) × AreNamed names new
 Goes false S at names item old new = (next : State) → Steps S at (named names old) item next → weight_limit < next.weight
 
--- the assertion at a was cited, or it cannot be within the limit
-abbrev pub HasCited : Database → ℕ → List Name → ℕ → Results ℕ → Results ℕ → Bool → Type 0
-HasCited S at names a old new ok = ((label : Name) (s : Stmt) → Carries S a s label → Goes ok S at names (Cite label) old new) × (IsTrue ok → new.saved ≡ old.saved)
+-- a label that names this was cited, or it cannot be within the limit
+abbrev pub HasCited : Database → ℕ → List Name → LabelEntry → Results ℕ → Results ℕ → Bool → Type 0
+HasCited S at names entry old new ok = ((label : Name) → IsEntry S at label entry → Goes ok S at names (Cite label) old new) × (IsTrue ok → new.saved ≡ old.saved)
 
 -- ---- results that are kept for the labels of the table, before those that were marked
 
@@ -37,22 +38,21 @@ HasCited S at names a old new ok = ((label : Name) (s : Stmt) → Carries S a s 
 abbrev pub behind : ℕ → Results ℕ → Results ℕ
 behind n st = record { stack = st.stack; saved = drop n st.saved; weight = st.weight }
 
--- what is kept for a label is nothing, or the expression of the hypothesis that it names
-abbrev pub IsGiven : Database → List Name → LabelEntry → List ℕ → Type 0
-IsGiven S names (Hypothesis i) e = 0 < length e → (s : Stmt) → stmt_at S i ≡ Some s → decode names e ≡ expr_of s
-IsGiven S names other e = e ≡ []
+-- what is kept for a label is nothing, or what its citation gives over any results, none of which it takes
+abbrev pub IsGiven : Database → ℕ → List Name → LabelEntry → List ℕ → Type 0
+IsGiven S at names entry e = 0 < length e → (label : Name) → IsEntry S at label entry → (stack : List Expr) → Cites S at label stack stack (decode names e)
 
-pub record AreGiven (S : Database) (names : List Name) (table : List LabelEntry) (saved : List (List ℕ)) : Type 0 where
+pub record AreGiven (S : Database) (at : ℕ) (names : List Name) (table : List LabelEntry) (saved : List (List ℕ)) : Type 0 where
   pub enough : length table ≤ length saved
-  pub each : (k : ℕ) → k < length table → IsGiven S names (get_or table k Nothing) (get_or saved k [])
+  pub each : (k : ℕ) → k < length table → IsGiven S at names (get_or table k Nothing) (get_or saved k [])
 
-pub record AreKnown (S : Database) (names : List Name) (table : List LabelEntry) (st : Results ℕ) : Type 0 where
+pub record AreKnown (S : Database) (at : ℕ) (names : List Name) (table : List LabelEntry) (st : Results ℕ) : Type 0 where
   pub are_named : AreNamed names st
-  pub given : AreGiven S names table st.saved
+  pub given : AreGiven S at names table st.saved
 
 -- the same of an item where the first results are kept for labels
 abbrev pub GoesOn : Bool → Database → ℕ → List Name → List LabelEntry → Item → Results ℕ → Results ℕ → Type 0
-GoesOn ok S at names table item old new = Goes ok S at names item (behind (length table) old) (behind (length table) new) × (IsTrue ok → AreKnown S names table new)
+GoesOn ok S at names table item old new = Goes ok S at names item (behind (length table) old) (behind (length table) new) × (IsTrue ok → AreKnown S at names table new)
 
 -- ---- what an item rests on
 

@@ -36,10 +36,9 @@ abbrev pub Adds : {A : Type 0} → Bool → Results A → Results A → List (Li
 Adds true old new stack e = new ≡ with_result old stack e
 Adds false old new stack e = weight_limit < old.weight + length e
 
--- the result is added and kept as number k from 0, or it is too heavy
-abbrev pub Gives : {A : Type 0} → Bool → Results A → Results A → ℕ → List A → Type 0
-Gives true old new k e = new ≡ record { stack = old.stack ++ e ∷ []; saved = slice_set old.saved k e; weight = old.weight + length e }
-Gives false old new k e = weight_limit < old.weight + length e
+-- the last result is kept as number k from 0
+abbrev pub Keeps : {A : Type 0} → Results A → Results A → ℕ → Type 0
+Keeps {A} old new k = (stack : List (List A)) (e : List A) → old.stack ≡ stack ++ e ∷ [] → new ≡ record { stack = old.stack; saved = slice_set old.saved k e; weight = old.weight }
 
 -- the last result was marked, or there is none
 abbrev pub Marks : {A : Type 0} → Bool → Results A → Results A → Type 0

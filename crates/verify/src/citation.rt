@@ -1,7 +1,7 @@
 //! One item of a proof.
 
 ghost use Rattle.std.specs.Prelude.{◌≡◌, List, Some, IfOk};
-ghost use Rattle.{mm_lex.specs.Alphabet.Name, mm_read.specs.declared.stmt.Stmt.Stmt as Statement, scope.specs.Active.stmt_at, frame.specs.Cited.IsCited, proof_code.specs.ItemNumbers.item_of, subst.specs.Findings.IsKnown, verify.specs.Goes.HasCited, verify.specs.Goes.AreKnown, verify.specs.Goes.GoesOn, verify.specs.Goes.IsReady, verify.specs.Goes.MayCite, verify.specs.LabelTable.AreEntries};
+ghost use Rattle.{mm_lex.specs.Alphabet.Name, mm_read.specs.declared.stmt.Stmt.Stmt as Statement, scope.specs.Active.stmt_at, frame.specs.Cited.IsCited, proof_code.specs.ItemNumbers.item_of, subst.specs.Findings.IsKnown, verify.specs.Goes.AreKnown, verify.specs.Goes.AreNamed, verify.specs.Goes.HasCited, verify.specs.Goes.GoesOn, verify.specs.Goes.IsReady, verify.specs.Goes.MayCite, verify.specs.LabelTable.AreEntries, verify.specs.LabelTable.IsEntry};
 
 use crate::label_table::LabelEntry;
 use crate::results::Results;
@@ -37,7 +37,7 @@ fn cite_parts(
 ) -> Result<bool, AllocError>
     requires may { MayCite claim.now position findings.old results.old.results }
     requires cited { (s : Statement) → stmt_at claim.now.frames.now.statements position ≡ Some s → IsCited claim.now.frames.now.statements claim.now.frames.now.names position s cited.now }
-    ensures goes { IfOk result (HasCited claim.now.frames.now.statements claim.now.at claim.now.frames.now.names position results.old.results results.new.results) }
+    ensures goes { IfOk result (HasCited claim.now.frames.now.statements claim.now.at claim.now.frames.now.names (LabelEntry.Assertion position) results.old.results results.new.results) }
     ensures found { IsKnown claim.now.pairs findings.new }
 {
     let count = cited.hypotheses.len();
@@ -61,7 +61,7 @@ fn cite_parts(
 #[inline(never)]
 fn cite_long(claim: &Claim<'_>, position: usize, buffers: &mut Buffers) -> Result<bool, AllocError>
     requires { MayCite claim.now position buffers.old.findings buffers.old.results.results }
-    ensures goes { IfOk result (HasCited claim.now.frames.now.statements claim.now.at claim.now.frames.now.names position buffers.old.results.results buffers.new.results.results) }
+    ensures goes { IfOk result (HasCited claim.now.frames.now.statements claim.now.at claim.now.frames.now.names (LabelEntry.Assertion position) buffers.old.results.results buffers.new.results.results) }
     ensures found { IsKnown claim.now.pairs buffers.new.findings }
 {
     claim.frames.gather(position, &mut buffers.gathered)?;
@@ -75,7 +75,7 @@ fn cite_long(claim: &Claim<'_>, position: usize, buffers: &mut Buffers) -> Resul
 #[inline(never)]
 fn cite(claim: &Claim<'_>, position: usize, buffers: &mut Buffers) -> Result<bool, AllocError>
     requires { MayCite claim.now position buffers.old.findings buffers.old.results.results }
-    ensures goes { IfOk result (HasCited claim.now.frames.now.statements claim.now.at claim.now.frames.now.names position buffers.old.results.results buffers.new.results.results) }
+    ensures goes { IfOk result (HasCited claim.now.frames.now.statements claim.now.at claim.now.frames.now.names (LabelEntry.Assertion position) buffers.old.results.results buffers.new.results.results) }
     ensures found { IsKnown claim.now.pairs buffers.new.findings }
 {
     let Some(cited) = claim.frames.cited(position) else {
@@ -86,7 +86,27 @@ fn cite(claim: &Claim<'_>, position: usize, buffers: &mut Buffers) -> Result<boo
     cite_parts(claim, position, &cited, findings, results)
 }
 
-/// Does one item, by its number.
+/// Cites a label, by what it names.
+#[inline(always)]
+fn cite_entry(
+    claim: &Claim<'_>,
+    entry: LabelEntry,
+    buffers: &mut Buffers,
+) -> Result<bool, AllocError>
+    requires ready { IsReady claim.now buffers.old.findings }
+    requires named { AreNamed claim.now.frames.now.names buffers.old.results.results }
+    requires entry { (label : Name) × IsEntry claim.now.frames.now.statements claim.now.at label entry }
+    ensures found { IsKnown claim.now.pairs buffers.new.findings }
+    ensures goes { IfOk result (HasCited claim.now.frames.now.statements claim.now.at claim.now.frames.now.names entry buffers.old.results.results buffers.new.results.results) }
+{
+    match entry {
+        LabelEntry::Hypothesis(i) => buffers.results.add(claim.frames.expr(i)),
+        LabelEntry::Assertion(position) => cite(claim, position, buffers),
+        LabelEntry::Nothing => Ok(false),
+    }
+}
+
+/// Does one item, by its number. What a citation gives that takes no results is kept for its label.
 pub fn step(
     claim: &Claim<'_>,
     table: &[LabelEntry],
@@ -94,7 +114,7 @@ pub fn step(
     buffers: &mut Buffers,
 ) -> Result<bool, AllocError>
     requires ready { IsReady claim.now buffers.old.findings }
-    requires known { AreKnown claim.now.frames.now.statements claim.now.frames.now.names table.now buffers.old.results.results }
+    requires known { AreKnown claim.now.frames.now.statements claim.now.at claim.now.frames.now.names table.now buffers.old.results.results }
     requires entries { (labels : List Name) × AreEntries claim.now.frames.now.statements claim.now.at labels table.now }
     ensures found { IsKnown claim.now.pairs buffers.new.findings }
     ensures goes { (labels : List Name) → AreEntries claim.now.frames.now.statements claim.now.at labels table.now
@@ -107,9 +127,10 @@ pub fn step(
     if let Some(done) = buffers.results.recall(index, table.len())? {
         return Ok(done);
     }
-    match table[index] {
-        LabelEntry::Hypothesis(i) => buffers.results.give(index, claim.frames.expr(i)),
-        LabelEntry::Assertion(position) => cite(claim, position, buffers),
-        LabelEntry::Nothing => Ok(false),
+    let waiting = buffers.results.len();
+    let done = cite_entry(claim, table[index], buffers)?;
+    if done && waiting < buffers.results.len() {
+        buffers.results.keep(index);
     }
+    Ok(done)
 }

@@ -1,7 +1,7 @@
 //! The results of a proof so far, as ranges of one buffer.
 
 ghost use Rattle.std.specs.Prelude.{take, ℕ, ◌≡◌, suc, ◌<◌, ◌≤◌, ◌↔◌, ◌∷◌, ◌++◌, [], length, map, get_or, replicate, IfOk, OnOk, OnErr, IsTrue};
-ghost use Rattle.{names.specs.Codes.decode, names.specs.Codes.AreDistinct, frame.specs.Below.AllBelow, frame.specs.Disjoint.are_groups_apart, frame.specs.AtPosition.AreLegal, frame.specs.Substitution.code_apply, frame.specs.Substitution.images_of_names, subst.specs.Findings.IsKnown, subst.specs.Images.AreOver, subst.specs.ExpressionPlaces.AreWithin, subst.specs.ExpressionPlaces.AreInside, verify.specs.ReadPlaces.ReadsAll, verify.specs.Fits.AreDifferent, verify.specs.Fits.AreStanding, verify.specs.Fits.Reads, verify.specs.Fits.DoFit, verify.specs.Machine.with_result, verify.specs.Machine.with_mark, verify.specs.Machine.IsSaved, verify.specs.ResultPlaces.below, verify.specs.ResultPlaces.top, verify.specs.ResultPlaces.Adds, verify.specs.ResultPlaces.Gives, verify.specs.ResultPlaces.Marks, verify.specs.ResultPlaces.Finds, verify.specs.Right.weight_limit};
+ghost use Rattle.{names.specs.Codes.decode, names.specs.Codes.AreDistinct, frame.specs.Below.AllBelow, frame.specs.Disjoint.are_groups_apart, frame.specs.AtPosition.AreLegal, frame.specs.Substitution.code_apply, frame.specs.Substitution.images_of_names, subst.specs.Findings.IsKnown, subst.specs.Images.AreOver, subst.specs.ExpressionPlaces.AreWithin, subst.specs.ExpressionPlaces.AreInside, verify.specs.ReadPlaces.ReadsAll, verify.specs.Fits.AreDifferent, verify.specs.Fits.AreStanding, verify.specs.Fits.Reads, verify.specs.Fits.DoFit, verify.specs.Machine.with_result, verify.specs.Machine.with_mark, verify.specs.Machine.IsSaved, verify.specs.ResultPlaces.below, verify.specs.ResultPlaces.top, verify.specs.ResultPlaces.Adds, verify.specs.ResultPlaces.Keeps, verify.specs.ResultPlaces.Marks, verify.specs.ResultPlaces.Finds, verify.specs.Right.weight_limit};
 
 use entries::{Groups, Hypotheses, Hypothesis};
 use frame::{Frames, Pairs};
@@ -14,8 +14,8 @@ use subst::{
 
 /// The results of a proof so far, their symbols in one buffer, and the images that were read off the last of them.
 ///
-/// A hypothesis is written out once, where it is cited first: what is saved begins with a place for each label, which
-/// is empty until then, and goes on with the results that were marked.
+/// What a label gives that takes no results is written out once, where it is cited first: what is saved begins with a place
+/// for each label, which is empty until then, and goes on with the results that were marked.
 #[derive(Drop)]
 pub struct Results {
     symbols: Buffer,
@@ -63,11 +63,10 @@ impl Results {
         Ok(())
     }
 
-    /// Adds a result that is written out, and keeps it for the label of that number. It comes once a label.
+    /// Adds a result that is written out.
     #[inline(never)]
-    pub fn give(&mut self, label: usize, expr: &[u32]) -> Result<bool, AllocError>
-        requires { label < length self.old.results.saved }
-        ensures { IfOk result (λ ok. Gives ok self.old.results self.new.results label expr.now) }
+    pub fn add(&mut self, expr: &[u32]) -> Result<bool, AllocError>
+        ensures { IfOk result (λ ok. Adds ok self.old.results self.new.results self.old.results.stack expr.now) }
     {
         if expr.len() > SYMBOLS_LIMIT - self.weight {
             return Ok(false);
@@ -76,9 +75,18 @@ impl Results {
         self.symbols.extend(expr)?;
         self.weight += expr.len();
         let place = place_between(start, self.symbols.len());
-        self.saved[label] = place;
         self.stack.push(place)?;
         Ok(true)
+    }
+
+    /// Keeps the last result for the label of that number.
+    pub fn keep(&mut self, label: usize)
+        requires { label < length self.old.results.saved }
+        ensures { Keeps self.old.results self.new.results label }
+    {
+        if let Some(&place) = self.stack.last() {
+            self.saved[label] = place;
+        }
     }
 
     /// Marks the last result.

@@ -7,7 +7,7 @@ use Rattle.verify.proofs.checker.run.Given as goal
 abbrev pub invariant-loop-number : goal.invariant-loop-number
 invariant-loop-number l =
     (legal : AreLegal l.frames.statements l.frames.names)
-    × AreKnown l.frames.statements l.frames.names l.table l.buffers.results.results
+    × AreKnown l.frames.statements l.at l.frames.names l.table l.buffers.results.results
     × ((labels : List Name) → AreEntries l.frames.statements l.at labels l.table
     → Reached l.frames.statements l.frames.names l.at legal (map (item_of labels) (take l.number-index l.numbers)) (behind (length l.table) l.buffers.results.results))
     × IsKnown l.claim.pairs l.buffers.findings
