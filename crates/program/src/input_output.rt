@@ -32,11 +32,11 @@ fn read_at_most<I: Read>(
     input: &mut I,
     most: usize,
 ) -> Result<Vec<u8>, ReadFailure> {
+    let mut text = Vec::new(alloc);
+    let _ = text.reserve(most.min(MOST_BYTES));
     let Ok(mut part) = vec![in alloc; 0u8; PART] else {
         return Err(ReadFailure::Memory);
     };
-    let mut text = Vec::new(alloc);
-    let _ = text.reserve(most.min(MOST_BYTES));
     for _ in 0..u64::MAX {
         let wanted = most.saturating_sub(text.len()).min(part.len());
         if wanted == 0 {
