@@ -74,11 +74,15 @@ kept-mark xs images stack saved saved' w p k a h e =
     let b = within-get (length xs) k stack p a.stack_within h in
     record { images_inside = a.images_inside; stack_within = a.stack_within; saved_within = subst (AreWithin (length xs)) (sym e) (within-snoc (length xs) saved p a.saved_within b.0 b.1); few = a.few; light = a.light }
 
-pub kept-recall : (xs : List ℕ) (images : List (ℕ × ExpressionPlace)) (stack stack' saved : List ExpressionPlace) (w v : ℕ) (p : ExpressionPlace) → AreKept xs images stack saved w → (p.start ≤ p.end) × (p.end ≤ length xs)
+-- a saved place lies among the symbols
+pub saved-at : (n k : ℕ) (ps : List ExpressionPlace) (p d : ExpressionPlace) → AreWithin n ps → k < length ps → p ≡ get_or ps k d → (p.start ≤ p.end) × (p.end ≤ n)
+saved-at n k ps p d w less at = subst (λ q. (q.start ≤ q.end) × (q.end ≤ n)) (sym at) (within-at n k ps d w less)
+
+pub kept-recall : (xs : List ℕ) (images : List (ℕ × ExpressionPlace)) (stack stack' saved : List ExpressionPlace) (w v k : ℕ) (p : ExpressionPlace) → AreKept xs images stack saved w → k < length saved → p ≡ get_or saved k p
     → stack' ≡ stack ++ p ∷ [] → w ≤ v → v ≤ weight_limit → AreKept xs images stack' saved v
-kept-recall xs images stack stack' saved w v p a b e more light =
+kept-recall xs images stack stack' saved w v k p a less at e more light =
     let few = a.few in
-    pushed-kept xs images stack saved stack' v p (record { images_inside = a.images_inside; stack_within = a.stack_within; saved_within = a.saved_within; few = omega (arith, few, more); light = light }) b e
+    pushed-kept xs images stack saved stack' v p (record { images_inside = a.images_inside; stack_within = a.stack_within; saved_within = a.saved_within; few = omega (arith, few, more); light = light }) (saved-at (length xs) k saved p p a.saved_within less at) e
 
 pub get-map : {A B : Type 0} (f : A → B) (xs : List A) (k : ℕ) (y : B) → slice_get (map f xs) k ≡ Some y → (d : A) → y ≡ f (get_or xs k d)
 get-map f [] k y h d = cc
@@ -92,7 +96,7 @@ get-map-some f xs k d h = slice_get-map f xs k ∙ ap (option_map f) (slice_get-
 pub recall-seen : (xs : List ℕ) (stack stack' saved : List ExpressionPlace) (w v k : ℕ) (d p : ExpressionPlace) → AreWithin (length xs) saved → k < length saved → p ≡ get_or saved k d
     → stack' ≡ stack ++ p ∷ [] → v ≡ w + (p.end - p.start) → (e : List ℕ) × IsSaved (map (seen_at xs) saved) (suc k) e × (seen xs stack' saved v ≡ with_result (seen xs stack saved w) (map (seen_at xs) stack) e)
 recall-seen xs stack stack' saved w v k d p a less at whole weighs =
-    let b : (p.start ≤ p.end) × (p.end ≤ length xs) = subst (λ q. (q.start ≤ q.end) × (q.end ≤ length xs)) (sym at) (within-at (length xs) k saved d a less) in
+    let b = saved-at (length xs) k saved p d a less at in
     let len : length (seen_at xs p) ≡ p.end - p.start = length-seen xs p b.0 b.1 in (
       seen_at xs p,
       get-map-some (seen_at xs) saved k d less ∙ ap (λ q. Some (seen_at xs q)) (sym at),
@@ -104,7 +108,7 @@ recall-seen xs stack stack' saved w v k d p a less at whole weighs =
 pub recall-heavy : (xs : List ℕ) (saved : List ExpressionPlace) (w k : ℕ) (d p : ExpressionPlace) → AreWithin (length xs) saved → w ≤ weight_limit → k < length saved → p ≡ get_or saved k d
     → weight_limit - w < p.end - p.start → (e : List ℕ) → IsSaved (map (seen_at xs) saved) (suc k) e → weight_limit < w + length e
 recall-heavy xs saved w k d p a light less at heavy e h =
-    let b : (p.start ≤ p.end) × (p.end ≤ length xs) = subst (λ q. (q.start ≤ q.end) × (q.end ≤ length xs)) (sym at) (within-at (length xs) k saved d a less) in
+    let b = saved-at (length xs) k saved p d a less at in
     let len : length (seen_at xs p) ≡ p.end - p.start = length-seen xs p b.0 b.1 in
     let same : e ≡ seen_at xs p = get-map (seen_at xs) saved k e h d ∙ ap (seen_at xs) (sym at) in
     omega (arith, ap length same, len, heavy, light)

@@ -113,8 +113,12 @@ impl Results {
         }
         let place = self.saved[index];
         let len = (place.end - place.start) as usize;
-        if len == 0 && index < labels {
-            return Ok(None);
+        if len == 0 {
+            if index < labels {
+                return Ok(None);
+            }
+            self.stack.push(place)?;
+            return Ok(Some(true));
         }
         if len > SYMBOLS_LIMIT - self.weight {
             return Ok(Some(false));

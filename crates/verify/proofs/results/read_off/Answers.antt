@@ -8,9 +8,7 @@ bounds-symbols-place c =
     let none : ExpressionPlace = record { start = 0; end = 0 } in
     let less = slice_get_within c.args.hypotheses.now c.loop-k.k c.get.result c.get.ensures in
     let w = within-at (length c.args.symbols.now) c.loop-k.k c.args.places.now none c.requires.within (let s = c.requires.same in omega (arith, s, less)) in
-    let low = c.if-place.false in
-    let high = w.1 in
-    omega (arith, low, high)
+    omega (arith, c.if-place.false, w.1)
 
 pub returns-then-first-heads-clause-ok : goal.returns-then-first-heads-clause-ok
 returns-then-first-heads-clause-ok c =
