@@ -30,15 +30,16 @@ pub fn conclude(
     ensures place { IfOk result (λ place. (place.start ≡ length symbols.old) × (place.end ≡ length symbols.new)) }
 {
     let start = symbols.len();
-    if !read_off(
+    let Some(_) = read_off(
         images,
         symbols.as_slice(),
         cited.heads,
         &cited.hypotheses,
         places,
-    )? {
+    )?
+    else {
         unreachable!();
-    }
+    };
     if !symbols.add_applied(images, cited.conclusion, SYMBOLS_LIMIT - start)? {
         return Err(AllocError);
     }

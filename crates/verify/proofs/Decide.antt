@@ -129,5 +129,4 @@ module _ (S : Database) (at : ℕ) (single : IsSingle S at) (once : HasLabelsOnc
       let q : Runs S at st (item ∷ rest) a.end = runs_rest front (item ∷ rest) start st a.end a.runs p in
       let heavy = none q.0 q.1 in
       let more = runs_weight rest q.0 a.end q.2 in
-      let light = a.light in
-      omega (arith, heavy, more, light)
+      omega (arith, heavy, more, a.light)

@@ -100,9 +100,7 @@ module _ (S : Database) (at : ℕ) (label : Name) where
       let n : d ≡ a = once d a r s label q carries in
       let v : r ≡ s = some-same q.stands (ap (stmt_at S) n ∙ carries.stands) in
       let m : length kids ≡ length (hypotheses (before S a) s) = many ∙ (ap (λ k. length (hypotheses (before S k) r)) n ∙ ap (λ w. length (hypotheses (before S a) w)) v) in
-      let l = ap length whole in
-      let l' = length-append b kids in
-      omega (arith, m, l, l')
+      omega (arith, m, ap length whole, length-append b kids)
 
   pub too-few : HasLabelsOnce S → (a : ℕ) (s : Stmt) → Carries S a s label → IsCitable S at a s → (old new : Trees) (count : ℕ) → count ≡ length (hypotheses (before S a) s) → length old.stack < count → Grew false S at old (Cite label) new
   too-few once a s carries citable old new count same few = λ next p. let h = builds-takes once a s carries citable old.stack p.0 p.1 p.2 in omega (arith, h, same, few)

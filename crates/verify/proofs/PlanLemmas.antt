@@ -11,9 +11,7 @@ built-snoc ts (m ∷ ns) n = built-snoc (ts ++ derive ts m ∷ []) ns n
 pub length-built : (ts : List Derivation) (ns : List Node) → length (built_from ts ns) ≡ length ts + length ns
 length-built ts [] = omega arith
 length-built ts (n ∷ ns) =
-    let r = length-built (ts ++ derive ts n ∷ []) ns in
-    let l = length-append ts (derive ts n ∷ []) in
-    omega (arith, r, l)
+    omega (arith, length-built (ts ++ derive ts n ∷ []) ns, length-append ts (derive ts n ∷ []))
 
 pub length-built' : (ns : List Node) → length (built ns) ≡ length ns
 length-built' ns = let r = length-built [] ns in omega (arith, r)
@@ -180,11 +178,7 @@ measured-more ns i d extents extents' e h so is grown =
 
 pub measured-length : (ns : List Node) (i : ℕ) (extents : List Extent) → i ≤ length ns → extents ≡ map extent_of (built (take i ns)) → length extents ≡ i
 measured-length ns i extents h so =
-    let a = ap length so in
-    let b = length-map (built (take i ns)) extent_of in
-    let c = length-built' (take i ns) in
-    let d = Rattle.std.proofs.lemmas.List.length-take-le i ns h in
-    omega (arith, a, b, c, d)
+    omega (arith, ap length so, length-map (built (take i ns)) extent_of, length-built' (take i ns), Rattle.std.proofs.lemmas.List.length-take-le i ns h)
 
 -- nodes behind others change nothing of them
 built-grows : (ts : List Derivation) (ns : List Node) → (us : List Derivation) × (built_from ts ns ≡ ts ++ us)

@@ -1,6 +1,7 @@
 -- Images read off results, one hypothesis after another, and results held against `$e`, by numbers and by names.
-use Rattle.verify.proofs.Words.{◌≡◌, ℕ, zero, suc, ◌+◌, ◌-◌, ◌<◌, ◌≤◌, nat_eq, nat_lt, Bool, true, false, cond, List, [], ◌∷◌, length, map, take, drop, get_or, slice_get, Some, None, refl, ◌↔◌, IsTrue, sym, ◌∙◌, ap, subst, arith, true≢false, nat_tests, slice_get_within, slice_get-get_or, same_Some, drop_more, drop-take, drop-drop}
-use Rattle.verify.proofs.Words.{head_of, code_image, applied, CodeImages, code_apply, images_of_names, ExpressionPlace, seen_at, images_at, AreWithin, image-some, image-none, within-get, length-seen, Hypothesis, Float, Essential, AreDifferent, IsTyped, Reads, IsStanding, AreStanding, FitsOne, tail_of, BeginsWith, ReadTo, ReadsAll, some-same, decode-injective, Name, Stmt, Database, stmt_at, expr_of, decode, AreDistinct, AreBelow, AllBelow, expr_at, option_expr, AreOver, substitution_over_names}
+use Rattle.verify.proofs.Words.{◌≡◌, ℕ, zero, suc, ◌+◌, ◌-◌, ◌<◌, ◌≤◌, min, nat_eq, nat_lt, Bool, true, false, cond, List, [], ◌∷◌, length, map, take, drop, get_or, slice_get, Some, None, refl, ◌↔◌, IsTrue, sym, ◌∙◌, ap, subst, arith, true≢false, nat_tests, slice_get_within, slice_get-get_or, same_Some, drop_more, drop-take, drop-drop}
+use Rattle.verify.proofs.Words.{head_of, code_image, applied, CodeImages, code_apply, images_of_names, ExpressionPlace, seen_at, images_at, AreWithin, image-some, image-none, within-get, length-seen, Hypothesis, Float, Essential, AreDifferent, AreFloats, AreFront, IsTyped, Reads, IsStanding, AreStanding, FitsOne, tail_of, BeginsWith, IsMistyped, ReadTo, ReadsAll, some-same, decode-injective, Name, Stmt, Database, stmt_at, expr_of, decode, AreDistinct, AreBelow, AllBelow, expr_at, option_expr, AreOver, substitution_over_names}
+use Rattle.std.specs.Prelude.{◌^◌}
 use Rattle.std.specs.Map.{lookup}
 use Rattle.verify.proofs.CitingLemmas.{get-decode, get-map-of}
 use Rattle.verify.proofs.Named.{all-at}
@@ -13,10 +14,6 @@ module _ (symbols heads : List ℕ) (hs : List Hypothesis) (places : List Expres
     same_number : (y : ℕ) → nat_eq y x ≡ true → y ≡ x
     same_number y e = grind (arith, nat_tests, e)
 
-    -- and x passes the test
-    number_same : (y : ℕ) → y ≡ x → nat_eq y x ≡ true
-    number_same y e = grind (arith, nat_tests, e)
-
     float-each : (k y : ℕ) (q : ExpressionPlace) → k < i + 1 → slice_get hs k ≡ Some (Float y) → slice_get places k ≡ Some q → BeginsWith symbols (get_or heads k 0) q × (lookup (nat_eq y) new ≡ Some (tail_of q))
     float-each k y q h kind' at = let b = by (nat_eq y x) refl in (b.0, set y ∙ b.1)
       where
@@ -26,7 +23,7 @@ module _ (symbols heads : List ℕ) (hs : List Hypothesis) (places : List Expres
             let same : p ≡ q = some-same at_place (ap (slice_get places) (sym one) ∙ at) in
             (subst (λ v. BeginsWith symbols (get_or heads k 0) v) same (subst (λ n. BeginsWith symbols (get_or heads n 0) p) (sym one) low), ap (λ v. Some (tail_of v)) same)
         by false e =
-            let other : k ≡ i → ⊥ = λ one. (let v : Some (Float y) ≡ Some (Float x) = sym kind' ∙ (ap (slice_get hs) one ∙ kind) in let same : y ≡ x = cc in true≢false (sym (number_same y same) ∙ e)) in
+            let other : k ≡ i → ⊥ = λ one. (let v : Some (Float y) ≡ Some (Float x) = sym kind' ∙ (ap (slice_get hs) one ∙ kind) in let same : y ≡ x = cc in let t : nat_eq y x ≡ true = grind (arith, nat_tests, same) in true≢false (sym t ∙ e)) in
             r.each k y q (omega (arith, h, other)) kind' at
 
     float-own : (y : ℕ) → ((k : ℕ) → k < i + 1 → slice_get hs k ≡ Some (Float y) → ⊥) → lookup (nat_eq y) new ≡ None
@@ -39,11 +36,45 @@ module _ (symbols heads : List ℕ) (hs : List Hypothesis) (places : List Expres
     pub float-next : ReadTo (i + 1) symbols heads hs places new
     float-next = record { each = float-each; own = float-own }
 
-  pub essential-next : (q : ℕ) → slice_get hs i ≡ Some (Essential q) → (images : List (ℕ × ExpressionPlace)) → ReadTo i symbols heads hs places images → ReadTo (i + 1) symbols heads hs places images
-  essential-next q kind images r = record {
-    each = λ k x p h kind' at. (let other : k ≡ i → ⊥ = λ one. (let f : Some (Float x) ≡ Some (Essential q) = sym kind' ∙ (ap (slice_get hs) one ∙ kind) in cc) in r.each k x p (omega (arith, h, other)) kind' at);
-    own = λ x none. r.own x (λ k h. none k (omega (arith, h)));
+  -- a hypothesis that is no `$f`, or none
+  pub other-next : ((x : ℕ) → slice_get hs i ≡ Some (Float x) → ⊥) → (images : List (ℕ × ExpressionPlace)) → ReadTo i symbols heads hs places images → ReadTo (i + 1) symbols heads hs places images
+  other-next none images r = record {
+    each = λ k x p h kind at. r.each k x p (let other : k ≡ i → ⊥ = λ one. none x (ap (slice_get hs) (sym one) ∙ kind) in omega (arith, h, other)) kind at;
+    own = λ x free. r.own x (λ k h. free k (omega (arith, h)));
   }
+
+  -- behind the `$f` that stand first
+  pub front-next : (n : ℕ) → i < 2 ^ 64 → AreFront hs i → n ≡ min (i + 1) (2 ^ 64 - 1) → (images : List (ℕ × ExpressionPlace)) → ReadTo i symbols heads hs places images → ReadTo n symbols heads hs places images
+  front-next n low front is images r = split (nat_lt i n) refl
+    where
+      split : (b : Bool) → nat_lt i n ≡ b → ReadTo n symbols heads hs places images
+      split true e = let next : i + 1 ≡ n = grind (arith, e, is, low) in subst (λ m. ReadTo m symbols heads hs places images) next (other-next front.last images r)
+      split false e = let same : i ≡ n = grind (arith, e, is, low) in subst (λ m. ReadTo m symbols heads hs places images) same r
+
+  pub read-whole : (images : List (ℕ × ExpressionPlace)) → length hs ≤ i → ReadTo i symbols heads hs places images → ReadTo (length hs) symbols heads hs places images
+  read-whole images past r = record {
+    each = λ k x p h. r.each k x p (omega (arith, h, past));
+    own = λ x free. r.own x (λ k h at. free k (slice_get_within hs k (Float x) at) at);
+  }
+
+-- ---- a result and its hypothesis
+
+pub place-at : (hs : List Hypothesis) (places : List ExpressionPlace) (k : ℕ) (h : Hypothesis) (d : ExpressionPlace) → length places ≡ length hs → slice_get hs k ≡ Some h → slice_get places k ≡ Some (get_or places k d)
+place-at hs places k h d same at = let less = slice_get_within hs k h at in slice_get-get_or places k d (omega (arith, less, same))
+
+pub place-within : (n : ℕ) (hs : List Hypothesis) (places : List ExpressionPlace) (k : ℕ) (h : Hypothesis) (d : ExpressionPlace) → length places ≡ length hs → slice_get hs k ≡ Some h → AreWithin n places → (get_or places k d).end ≤ n
+place-within n hs places k h d same at within = (within-get n k places (get_or places k d) within (place-at hs places k h d same at)).1
+
+pub mistyped : (symbols heads : List ℕ) (hs : List Hypothesis) (places : List ExpressionPlace) (k x : ℕ) (d : ExpressionPlace) (ok : Bool) → length places ≡ length hs → slice_get hs k ≡ Some (Float x)
+    → IsTrue ok ↔ BeginsWith symbols (get_or heads k 0) (get_or places k d) → ok ≡ false → IsMistyped symbols heads hs places
+mistyped symbols heads hs places k x d ok same at begins fails = (k, x, get_or places k d, at, place-at hs places k (Float x) d same at, λ b. true≢false (sym (begins.1 b) ∙ fails))
+
+pub floats-next : (hs : List Hypothesis) (k x : ℕ) → slice_get hs k ≡ Some (Float x) → AreFloats hs k → AreFloats hs (k + 1)
+floats-next hs k x at before j less = split (nat_lt j k) refl
+  where
+    split : (b : Bool) → nat_lt j k ≡ b → (y : ℕ) × (slice_get hs j ≡ Some (Float y))
+    split true e = before j (grind (arith, e))
+    split false e = let same : j ≡ k = grind (arith, e, less) in (x, ap (slice_get hs) same ∙ at)
 
 -- ---- places as lists of symbols
 
@@ -76,10 +107,7 @@ pub reads-seen : (ok : Bool) (symbols heads : List ℕ) (hs : List Hypothesis) (
 reads-seen true symbols heads hs places images count within r = record { typed = typed; image = image; own = λ x none. image-none symbols images x (r.own x (λ k less. none k)) }
   where
     there : (k x : ℕ) → slice_get hs k ≡ Some (Float x) → (p : ExpressionPlace) × (slice_get places k ≡ Some p)
-    there k x kind =
-        let none : ExpressionPlace = record { start = 0; end = 0 } in
-        let less = slice_get_within hs k (Float x) kind in
-        (get_or places k none, slice_get-get_or places k none (omega (arith, less, count)))
+    there k x kind = let none : ExpressionPlace = record { start = 0; end = 0 } in (get_or places k none, place-at hs places k (Float x) none count kind)
 
     typed : (k x : ℕ) → slice_get hs k ≡ Some (Float x) → IsTyped (get_or heads k 0) (get_or (map (seen_at symbols) places) k [])
     typed k x kind =

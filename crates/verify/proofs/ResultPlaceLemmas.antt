@@ -117,10 +117,8 @@ recall-heavy xs saved w k d p a light less at heavy e h =
 pub some-saved : (xs : List ℕ) (saved : List ExpressionPlace) (k : ℕ) (p d : ExpressionPlace) → AreWithin (length xs) saved → k < length saved → p ≡ get_or saved k d → p.start < p.end → 0 < length (get_or (map (seen_at xs) saved) k [])
 some-saved xs saved k p d a within at less =
     let b = within-at (length xs) k saved d a within in
-    let len = length-seen xs (get_or saved k d) b.0 b.1 in
     let more : (get_or saved k d).start < (get_or saved k d).end = subst (λ r. r.start < r.end) at less in
-    let same = ap length (seen-get xs k saved d within) in
-    omega (arith, len, more, same)
+    omega (arith, length-seen xs (get_or saved k d) b.0 b.1, more, ap length (seen-get xs k saved d within))
 
 -- places of no symbols
 pub within-none : (n m : ℕ) → AreWithin m (replicate n (let p : ExpressionPlace = record { start = 0; end = 0 } in p))

@@ -49,14 +49,14 @@ pub use Rattle.subst.specs.declared.expression_place.ExpressionPlace.{Expression
 pub use Rattle.verify.specs.Concludes.{ConcludeAll, Concludes}
 pub use Rattle.verify.specs.Derivations.{Derivation, Derivations, apply, depth, depth_in, derivation_of, derivation_step, from_list, hyp, more, node_count, nodes_in, none}
 pub use Rattle.verify.specs.Extents.{extent_of}
-pub use Rattle.verify.specs.Fits.{AreDifferent, AreRead, AreStanding, DoFit, FitsOne, IsStanding, IsTyped, Reads}
+pub use Rattle.verify.specs.Fits.{AreDifferent, AreFloats, AreFront, AreRead, AreStanding, DoFit, FitsOne, IsStanding, IsTyped, Reads}
 pub use Rattle.verify.specs.Goes.{AreGiven, AreKnown, AreNamed, Goes, GoesOn, HasCited, IsGiven, MayCite, behind, named}
 pub use Rattle.verify.specs.Growth.{Builds, Grew, Grows, GrowsBy, IsKept, Trees, a_hypothesis, an_assertion, trees, with_tree}
 pub use Rattle.verify.specs.LabelTable.{AreEntries, IsEntry, is_hypothesis_among}
 pub use Rattle.verify.specs.Machine.{Cites, IsSaved, Results, Runs, State, Steps, of_assertion, of_hypothesis, start, with_mark, with_result}
 pub use Rattle.verify.specs.Plan.{AreOrdered, IsAfter, IsPlan, built, built_from, derive, pick, trees_of}
 pub use Rattle.verify.specs.Proves.{Proves, label_or_none, mandatory_labels}
-pub use Rattle.verify.specs.ReadPlaces.{BeginsWith, ReadTo, ReadsAll, tail_of}
+pub use Rattle.verify.specs.ReadPlaces.{BeginsWith, IsMistyped, ReadTo, ReadsAll, tail_of}
 pub use Rattle.verify.specs.ResultPlaces.{Adds, AreKept, Keeps, Marks, Recalls, below, seen, top}
 pub use Rattle.verify.specs.Right.{Derives, IsProvable, IsRight, IsSmall, Says, weight_limit}
 pub use Rattle.verify.specs.Spells.{IsCitable, Spells, SpellsAll, cites_assertion, cites_hypothesis, marks, recalls, spells_more, spells_none}

@@ -1,13 +1,22 @@
 -- What the results for the mandatory hypotheses of an assertion must be.
 -- Metamath, 4.2.6: what stands behind the first symbol of the result for a `$f` is the image of its variable.
 -- The code looks at first symbols, reads the images off the results, and holds each `$e` under them against its result.
-use Rattle.std.specs.Prelude.{◌≡◌, ℕ, ◌<◌, Bool, true, false, List, [], ◌∷◌, length, drop, get_or, slice_get, Some}
+use Rattle.std.specs.Prelude.{◌≡◌, ℕ, ◌<◌, ◌≤◌, Bool, true, false, List, [], ◌∷◌, length, drop, get_or, slice_get, Some}
 use Rattle.verify.specs.Words.{Stmt, Expr, Database, stmt_at, Images, applied, CodeImages, code_image, expr_at, Hypothesis, Float, Essential}
 use Rattle.frame.specs.Cited.{head_of}
 
 -- the `$f` are of different variables
 pub record AreDifferent (hs : List Hypothesis) : Type 0 where
   pub each : (j k x : ℕ) → slice_get hs j ≡ Some (Float x) → slice_get hs k ≡ Some (Float x) → j ≡ k
+
+-- the first n are `$f`, and the next one is none
+abbrev pub AreFloats : List Hypothesis → ℕ → Type 0
+AreFloats hs n = (k : ℕ) → k < n → (x : ℕ) × (slice_get hs k ≡ Some (Float x))
+
+pub record AreFront (hs : List Hypothesis) (n : ℕ) : Type 0 where
+  pub within : n ≤ length hs
+  pub floats : AreFloats hs n
+  pub last : (x : ℕ) → slice_get hs n ≡ Some (Float x) → ⊥
 
 -- a statement stands at the position of a `$e`
 abbrev pub IsStanding : Database → Hypothesis → Type 0

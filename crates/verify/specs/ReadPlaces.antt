@@ -18,8 +18,12 @@ pub record ReadTo (n : ℕ) (symbols heads : List ℕ) (hs : List Hypothesis) (p
   pub each : (k x : ℕ) (p : ExpressionPlace) → k < n → slice_get hs k ≡ Some (Float x) → slice_get places k ≡ Some p → BeginsWith symbols (get_or heads k 0) p × (lookup (nat_eq x) images ≡ Some (tail_of p))
   pub own : (x : ℕ) → ((k : ℕ) → k < n → slice_get hs k ≡ Some (Float x) → ⊥) → lookup (nat_eq x) images ≡ None
 
+-- the result for some `$f` begins otherwise
+abbrev pub IsMistyped : List ℕ → List ℕ → List Hypothesis → List ExpressionPlace → Type 0
+IsMistyped symbols heads hs places =
+    (k : ℕ) × (x : ℕ) × (p : ExpressionPlace) × (slice_get hs k ≡ Some (Float x)) × (slice_get places k ≡ Some p) × (BeginsWith symbols (get_or heads k 0) p → ⊥)
+
 -- all of them were set, or a result begins otherwise
 abbrev pub ReadsAll : Bool → ℕ → List ℕ → List ℕ → List Hypothesis → List ExpressionPlace → List (ℕ × ExpressionPlace) → Type 0
 ReadsAll true n symbols heads hs places images = ReadTo n symbols heads hs places images
-ReadsAll false n symbols heads hs places images =
-    (k : ℕ) × (x : ℕ) × (p : ExpressionPlace) × (slice_get hs k ≡ Some (Float x)) × (slice_get places k ≡ Some p) × (BeginsWith symbols (get_or heads k 0) p → ⊥)
+ReadsAll false n symbols heads hs places images = IsMistyped symbols heads hs places

@@ -44,10 +44,10 @@ fn cite_parts(
     if count > results.len() {
         return Ok(false);
     }
-    if !results.read_images(cited.heads, &cited.hypotheses)? {
+    let Some(front) = results.read_images(cited.heads, &cited.hypotheses)? else {
         return Ok(false);
-    }
-    if !results.fits(claim.frames, &cited.hypotheses) {
+    };
+    if !results.fits(claim.frames, &cited.hypotheses, front) {
         return Ok(false);
     }
     if !results.are_apart(&claim.pairs, &cited.groups, findings) {

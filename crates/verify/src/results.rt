@@ -1,7 +1,7 @@
 //! The results of a proof so far, as ranges of one buffer.
 
-ghost use Rattle.std.specs.Prelude.{take, ℕ, ◌≡◌, suc, ◌<◌, ◌≤◌, ◌↔◌, ◌∷◌, ◌++◌, [], length, map, get_or, replicate, IfOk, OnOk, OnErr, IsTrue};
-ghost use Rattle.{names.specs.Codes.decode, names.specs.Codes.AreDistinct, frame.specs.Below.AllBelow, frame.specs.Disjoint.are_groups_apart, frame.specs.AtPosition.AreLegal, frame.specs.Substitution.code_apply, frame.specs.Substitution.images_of_names, subst.specs.Findings.IsKnown, subst.specs.Images.AreOver, subst.specs.ExpressionPlaces.AreWithin, subst.specs.ExpressionPlaces.AreInside, verify.specs.ReadPlaces.ReadsAll, verify.specs.Fits.AreDifferent, verify.specs.Fits.AreStanding, verify.specs.Fits.Reads, verify.specs.Fits.DoFit, verify.specs.Machine.with_result, verify.specs.Machine.with_mark, verify.specs.Machine.IsSaved, verify.specs.ResultPlaces.below, verify.specs.ResultPlaces.top, verify.specs.ResultPlaces.Adds, verify.specs.ResultPlaces.Keeps, verify.specs.ResultPlaces.Marks, verify.specs.ResultPlaces.Finds, verify.specs.Right.weight_limit};
+ghost use Rattle.std.specs.Prelude.{take, ℕ, ◌≡◌, suc, ◌<◌, ◌≤◌, ◌↔◌, ◌∷◌, ◌++◌, [], length, map, get_or, replicate, nat_eq, ◌==◌, Some, is_some, if◌then◌else◌, IfOk, IfSome, MatchOption, OnOk, OnErr, IsTrue};
+ghost use Rattle.{names.specs.Codes.decode, names.specs.Codes.AreDistinct, frame.specs.Below.AllBelow, frame.specs.Disjoint.are_groups_apart, frame.specs.AtPosition.AreLegal, frame.specs.Substitution.code_apply, frame.specs.Substitution.images_of_names, subst.specs.Findings.IsKnown, subst.specs.Images.AreOver, subst.specs.ExpressionPlaces.AreWithin, subst.specs.ExpressionPlaces.AreInside, std.specs.Map.lookup, verify.specs.ReadPlaces.ReadTo, verify.specs.ReadPlaces.ReadsAll, verify.specs.ReadPlaces.IsMistyped, verify.specs.ReadPlaces.BeginsWith, verify.specs.ReadPlaces.tail_of, verify.specs.Fits.AreFront, verify.specs.Fits.AreDifferent, verify.specs.Fits.AreStanding, verify.specs.Fits.Reads, verify.specs.Fits.DoFit, verify.specs.Machine.with_result, verify.specs.Machine.with_mark, verify.specs.Machine.IsSaved, verify.specs.ResultPlaces.below, verify.specs.ResultPlaces.top, verify.specs.ResultPlaces.Adds, verify.specs.ResultPlaces.Keeps, verify.specs.ResultPlaces.Marks, verify.specs.ResultPlaces.Finds, verify.specs.Right.weight_limit};
 
 use entries::{Groups, Hypotheses, Hypothesis};
 use frame::{Frames, Pairs};
@@ -128,28 +128,31 @@ impl Results {
         Ok(Some(true))
     }
 
-    /// Reads the images of the variables of the `$f` off the last results, one for each hypothesis; or finds one that
-    /// does not begin with the symbol that its `$f` asks for.
+    /// Reads the images of the variables of the `$f` off the last results, one for each hypothesis, and tells how many `$f`
+    /// stand before all `$e`; or finds one that does not begin with the symbol that its `$f` asks for.
     #[inline(always)]
     pub fn read_images(
         &mut self,
         heads: &[u32],
         hypotheses: &Hypotheses<'_>,
-    ) -> Result<bool, AllocError>
+    ) -> Result<Option<usize>, AllocError>
         requires same { length heads.now ≡ length hypotheses.now }
         requires count { length hypotheses.now ≤ length self.old.results.stack }
         requires different { AreDifferent hypotheses.now }
         ensures same { self.new.results ≡ self.old.results }
-        ensures read { IfOk result (λ ok. Reads ok heads.now hypotheses.now (top (length hypotheses.now) self.old.results.stack) self.new.images) }
+        ensures read { IfOk result (λ r. Reads (is_some r) heads.now hypotheses.now (top (length hypotheses.now) self.old.results.stack) self.new.images) }
+        ensures floats { IfOk result (λ r. IfSome r (AreFront hypotheses.now)) }
     {
         let places = &self.stack[self.stack.len() - hypotheses.len()..];
         let symbols = self.symbols.as_slice();
         read_off(&mut self.images, symbols, heads, hypotheses, places)
     }
 
-    /// Whether the last results are the expressions of the `$e` with the images put in. Of a `$f` nothing is asked here.
+    /// Whether the last results are the expressions of the `$e`, before which `front` `$f` stand, with the images put in. Of
+    /// a `$f` nothing is asked here.
     #[inline(always)]
-    pub fn fits(&self, frames: &Frames, hypotheses: &Hypotheses<'_>) -> bool
+    pub fn fits(&self, frames: &Frames, hypotheses: &Hypotheses<'_>, front: usize) -> bool
+        requires front { AreFront hypotheses.now front }
         requires legal { AreLegal frames.now.statements frames.now.names }
         requires standing { AreStanding frames.now.statements hypotheses.now }
         requires count { length hypotheses.now ≤ length self.now.results.stack }
@@ -158,7 +161,7 @@ impl Results {
         ensures { IsTrue result ↔ DoFit frames.now.statements (images_of_names frames.now.names self.now.images) hypotheses.now (map (decode frames.now.names) (top (length hypotheses.now) self.now.results.stack)) }
     {
         let places = &self.stack[self.stack.len() - hypotheses.len()..];
-        for k in 0..hypotheses.len() {
+        for k in front..hypotheses.len() {
             if let Hypothesis::Essential(position) = hypotheses.get(k) {
                 let expr = frames.expr(position as usize);
                 if !self.symbols.matches(&self.images, expr, places[k]) {
@@ -241,8 +244,82 @@ fn put_behind(
     Ok(())
 }
 
-/// Sets the images of the variables of all `$f`, and no other, to what stands behind the first symbols of their results;
-/// or finds a result that begins with another symbol than the one asked for.
+/// Sets the image of a variable to what stands behind the first symbol of a result, where this is the one asked for.
+#[inline(always)]
+fn read_one(
+    images: &mut ImagePlaces,
+    symbols: &[u32],
+    head: u32,
+    variable: u32,
+    place: ExpressionPlace,
+) -> Result<bool, AllocError>
+    requires { place.end ≤ length symbols.now }
+    ensures begins { IfOk result (λ ok. IsTrue ok ↔ BeginsWith symbols.now head place) }
+    ensures set { IfOk result (λ ok. IsTrue ok → (y : ℕ) → lookup (nat_eq y) images.new ≡ (if y == variable then Some (tail_of place) else lookup (nat_eq y) images.old)) }
+    ensures inside { (n : ℕ) → place.end ≤ n → AreInside n images.old → AreInside n images.new }
+{
+    if place.start >= place.end || symbols[place.start as usize] != head {
+        return Ok(false);
+    }
+    let behind = ExpressionPlace {
+        start: place.start + 1,
+        end: place.end,
+    };
+    images.set(variable, behind)?;
+    Ok(true)
+}
+
+/// The same of a `$f` that stands behind a `$e`.
+#[cold]
+#[inline(never)]
+fn read_more(
+    images: &mut ImagePlaces,
+    symbols: &[u32],
+    head: u32,
+    variable: u32,
+    place: ExpressionPlace,
+) -> Result<bool, AllocError>
+    requires { place.end ≤ length symbols.now }
+    ensures begins { IfOk result (λ ok. IsTrue ok ↔ BeginsWith symbols.now head place) }
+    ensures set { IfOk result (λ ok. IsTrue ok → (y : ℕ) → lookup (nat_eq y) images.new ≡ (if y == variable then Some (tail_of place) else lookup (nat_eq y) images.old)) }
+    ensures inside { (n : ℕ) → place.end ≤ n → AreInside n images.old → AreInside n images.new }
+{
+    read_one(images, symbols, head, variable, place)
+}
+
+/// Sets the images of the variables of the `$f` that stand before all other hypotheses, and tells how many these are; or
+/// finds a result that begins with another symbol than the one asked for.
+#[inline(always)]
+fn read_front(
+    images: &mut ImagePlaces,
+    symbols: &[u32],
+    heads: &[u32],
+    hypotheses: &Hypotheses<'_>,
+    places: &[ExpressionPlace],
+) -> Result<Option<usize>, AllocError>
+    requires same { length places.now ≡ length hypotheses.now }
+    requires heads { length heads.now ≡ length hypotheses.now }
+    requires within { AreWithin (length symbols.now) places.now }
+    requires different { AreDifferent hypotheses.now }
+    requires none { images.old ≡ [] }
+    ensures read { IfOk result (λ r. MatchOption r (IsMistyped symbols.now heads.now hypotheses.now places.now) (λ n. ReadTo n symbols.now heads.now hypotheses.now places.now images.new)) }
+    ensures floats { IfOk result (λ r. IfSome r (AreFront hypotheses.now)) }
+    ensures inside { (n : ℕ) → AreWithin n places.now → AreInside n images.new }
+{
+    for k in 0..hypotheses.len() {
+        let Hypothesis::Float(variable) = hypotheses.get(k) else {
+            return Ok(Some(k));
+        };
+        if !read_one(images, symbols, heads[k], variable, places[k])? {
+            return Ok(None);
+        }
+    }
+    Ok(Some(hypotheses.len()))
+}
+
+/// Sets the images of the variables of all `$f`, and no other, to what stands behind the first symbols of their results,
+/// and tells how many `$f` stand before all other hypotheses; or finds a result that begins with another symbol than the
+/// one asked for.
 #[inline(always)]
 pub fn read_off(
     images: &mut ImagePlaces,
@@ -250,31 +327,25 @@ pub fn read_off(
     heads: &[u32],
     hypotheses: &Hypotheses<'_>,
     places: &[ExpressionPlace],
-) -> Result<bool, AllocError>
+) -> Result<Option<usize>, AllocError>
     requires same { length places.now ≡ length hypotheses.now }
     requires heads { length heads.now ≡ length hypotheses.now }
     requires within { AreWithin (length symbols.now) places.now }
     requires different { AreDifferent hypotheses.now }
-    ensures ok { IfOk result (λ ok. ReadsAll ok (length hypotheses.now) symbols.now heads.now hypotheses.now places.now images.new) }
+    ensures ok { IfOk result (λ r. ReadsAll (is_some r) (length hypotheses.now) symbols.now heads.now hypotheses.now places.now images.new) }
+    ensures floats { IfOk result (λ r. IfSome r (AreFront hypotheses.now)) }
     ensures inside { (n : ℕ) → AreWithin n places.now → AreInside n images.new }
 {
     images.clear();
-    for k in 0..hypotheses.len() {
+    let Some(front) = read_front(images, symbols, heads, hypotheses, places)? else {
+        return Ok(None);
+    };
+    for k in front.saturating_add(1)..hypotheses.len() {
         if let Hypothesis::Float(variable) = hypotheses.get(k) {
-            let place = places[k];
-            if place.start >= place.end {
-                return Ok(false);
+            if !read_more(images, symbols, heads[k], variable, places[k])? {
+                return Ok(None);
             }
-            let first = symbols[place.start as usize];
-            if first != heads[k] {
-                return Ok(false);
-            }
-            let behind = ExpressionPlace {
-                start: place.start + 1,
-                end: place.end,
-            };
-            images.set(variable, behind)?;
         }
     }
-    Ok(true)
+    Ok(Some(front))
 }

@@ -1,4 +1,4 @@
-use Rattle.verify.proofs.Words.{◌≡◌, ℕ, ◌<◌, ◌↔◌, Bool, true, false, IsTrue, List, length, map, arith, sym, ap, ◌∙◌, subst, IfOk-weaker, Name, Database, decode, AllBelow, are_groups_apart, CodeImages, images_of_names, AreOver, Hypothesis, Reads, DoFit, Results, below, top, Adds}
+use Rattle.verify.proofs.Words.{◌≡◌, ℕ, ◌<◌, ◌↔◌, Bool, true, false, is_some, IsTrue, List, length, map, arith, sym, ap, ◌∙◌, subst, IfOk-weaker, Name, Database, decode, AllBelow, are_groups_apart, CodeImages, images_of_names, AreOver, Hypothesis, Reads, DoFit, Results, below, top, Adds}
 use Rattle.verify.proofs.MandatoryAsked.{asked-lengths, asked-different, asked-standing}
 use Rattle.verify.proofs.CitationLemmas.{over-read, has-cited, not-cited}
 use Rattle.verify.proofs.citation.cite_parts.Goals as goal
@@ -20,56 +20,46 @@ adds-as : (ok : Bool) (old old' new : Results ℕ) (m n : ℕ) (e : List ℕ) �
 adds-as ok old old' new m n e same count h = subst (λ (v : Results ℕ). Adds ok v new (below n v.stack) e) same (subst (λ k. Adds ok old new (below k old.stack) e) count h)
 
 pub read_images-requires-clause-same : goal.read_images-requires-clause-same
-read_images-requires-clause-same c =
-    let cited = c.requires.cited c.requires.may.assertion.0 c.requires.may.assertion.1.0 in
-    let l = asked-lengths c.args.claim.now.frames.now.statements c.args.claim.now.frames.now.names _ c.args.cited.now.heads.now c.args.cited.now.hypotheses cited.asked in
-    l.0 ∙ sym l.1
+read_images-requires-clause-same c = let l = asked-lengths _ _ _ _ _ (c.requires.cited c.requires.may.assertion.0 c.requires.may.assertion.1.0).asked in l.0 ∙ sym l.1
 
 pub read_images-requires-clause-different : goal.read_images-requires-clause-different
-read_images-requires-clause-different c =
-    let cited = c.requires.cited c.requires.may.assertion.0 c.requires.may.assertion.1.0 in
-    asked-different c.args.claim.now.frames.now.statements c.args.claim.now.frames.now.names c.args.position c.requires.may.assertion.0 c.args.cited.now.heads.now c.args.cited.now.hypotheses
-    (c.requires.may.ready.legal.bound _ c.requires.may.assertion.0 c.requires.may.assertion.1) cited.asked
+read_images-requires-clause-different c = asked-different _ _ _ c.requires.may.assertion.0 _ _ (c.requires.may.ready.legal.bound _ c.requires.may.assertion.0 c.requires.may.assertion.1) (c.requires.cited c.requires.may.assertion.0 c.requires.may.assertion.1.0).asked
 
 pub fits-requires-clause-standing : goal.fits-requires-clause-standing
-fits-requires-clause-standing c =
-    let cited = c.requires.cited c.requires.may.assertion.0 c.requires.may.assertion.1.0 in
-    asked-standing c.args.claim.now.frames.now.statements c.args.claim.now.frames.now.names _ c.args.cited.now.heads.now c.args.cited.now.hypotheses cited.asked
+fits-requires-clause-standing c = asked-standing _ _ _ _ _ (c.requires.cited c.requires.may.assertion.0 c.requires.may.assertion.1.0).asked
 
 pub fits-requires-clause-over : goal.fits-requires-clause-over
-fits-requires-clause-over c = over-read _ _ _ _ c.requires.may c.args.cited.now c.requires.cited c.read_images.new.self.images (let h = c.if-count-len.false in omega (arith, h, c.len.ensures)) (reads-as _ true _ _ _ _ c.if-not-branch.false c.in_ok-read_images.ensures.read)
+fits-requires-clause-over c = over-read _ _ _ _ c.requires.may c.args.cited.now c.requires.cited c.read_images.new.self.images (let h = c.if-count-len.false in omega (arith, h, c.len.ensures)) (reads-as _ true _ _ _ _ (ap is_some c.in-Some.is) c.in_ok-front.ensures.read)
 
 pub are_apart-requires-clause-over : goal.are_apart-requires-clause-over
-are_apart-requires-clause-over c = subst (λ v. AreOver v c.read_images.new.self.images) (sym c.requires.may.ready.names) (over-read _ _ _ _ c.requires.may c.args.cited.now c.requires.cited c.read_images.new.self.images (let h = c.if-count-len.false in omega (arith, h, c.len.ensures)) (reads-as _ true _ _ _ _ c.if-not-branch.false c.in_ok-read_images.ensures.read))
+are_apart-requires-clause-over c = subst (λ v. AreOver v c.read_images.new.self.images) (sym c.requires.may.ready.names) (over-read _ _ _ _ c.requires.may c.args.cited.now c.requires.cited c.read_images.new.self.images (let h = c.if-count-len.false in omega (arith, h, c.len.ensures)) (reads-as _ true _ _ _ _ (ap is_some c.in-Some.is) c.in_ok-front.ensures.read))
 
 pub returns-then-count-len-clause-goes : goal.returns-then-count-len-clause-goes
 returns-then-count-len-clause-goes c =
     let few : length c.args.results.now.results.stack < length c.args.cited.now.hypotheses = omega (arith, c.if-count-len.true, c.len.ensures) in
     not-cited _ _ _ _ c.requires.may c.args.cited.now c.requires.cited c.args.results.now.results (λ f m. (let many = m.many in omega (arith, few, many)))
 
-pub returns-then-not-branch-clause-goes : goal.returns-then-not-branch-clause-goes
-returns-then-not-branch-clause-goes c =
-    let r = reads-as _ false _ _ _ _ c.if-not-branch.true c.in_ok-read_images.ensures.read in
+pub returns-in_default-clause-goes : goal.returns-in_default-clause-goes
+returns-in_default-clause-goes c =
+    let r = reads-as _ false _ _ _ _ (ap is_some c.in_default.is) c.in_ok-front.ensures.read in
     not-cited _ _ _ _ c.requires.may c.args.cited.now c.requires.cited c.read_images.new.self.results (λ f m. r.3 (m.typed r.0 r.1 r.2))
 
 pub returns-then-not-fits-clause-goes : goal.returns-then-not-fits-clause-goes
 returns-then-not-fits-clause-goes c =
     not-cited _ _ _ _ c.requires.may c.args.cited.now c.requires.cited c.read_images.new.self.results
-    (λ f m. (let e = (fit-as _ _ _ _ _ _ _ (ap (λ (v : Results ℕ). v.stack) c.in_ok-read_images.ensures.same) c.fits.ensures).1 (m.fits c.read_images.new.self.images (reads-as _ true _ _ _ _ c.if-not-branch.false c.in_ok-read_images.ensures.read)) in let t = c.if-not-fits.true in cc))
+    (λ f m. (let e = (fit-as _ _ _ _ _ _ _ (ap (λ (v : Results ℕ). v.stack) c.in_ok-front.ensures.same) c.fits.ensures).1 (m.fits c.read_images.new.self.images (reads-as _ true _ _ _ _ (ap is_some c.in-Some.is) c.in_ok-front.ensures.read)) in let t = c.if-not-fits.true in cc))
 
 pub returns-then-not-are_apart-clause-goes : goal.returns-then-not-are_apart-clause-goes
 returns-then-not-are_apart-clause-goes c =
     not-cited _ _ _ _ c.requires.may c.args.cited.now c.requires.cited c.read_images.new.self.results
-    (λ f m. (let e : true ≡ false = sym (m.apart c.read_images.new.self.images (reads-as _ true _ _ _ _ c.if-not-branch.false c.in_ok-read_images.ensures.read)) ∙ apart-by _ _ _ _ _ c.read_images.new.self.images c.args.cited.now.groups _ c.requires.may.ready.active c.requires.may.ready.names c.are_apart.ensures.apart c.if-not-are_apart.true in cc))
+    (λ f m. (let e : true ≡ false = sym (m.apart c.read_images.new.self.images (reads-as _ true _ _ _ _ (ap is_some c.in-Some.is) c.in_ok-front.ensures.read)) ∙ apart-by _ _ _ _ _ c.read_images.new.self.images c.args.cited.now.groups _ c.requires.may.ready.active c.requires.may.ready.names c.are_apart.ensures.apart c.if-not-are_apart.true in cc))
 
 pub returns-clause-goes : goal.returns-clause-goes
 returns-clause-goes c =
     IfOk-weaker c.apply.result _ _
-    (λ ok adds. has-cited _ _ _ _ c.requires.may c.args.cited.now c.requires.cited ok _ c.read_images.new.self.images (let h = c.if-count-len.false in omega (arith, h, c.len.ensures)) (reads-as _ true _ _ _ _ c.if-not-branch.false c.in_ok-read_images.ensures.read) ((fit-as _ _ _ _ _ _ _ (ap (λ (v : Results ℕ). v.stack) c.in_ok-read_images.ensures.same) c.fits.ensures).0 c.if-not-fits.false)
+    (λ ok adds. has-cited _ _ _ _ c.requires.may c.args.cited.now c.requires.cited ok _ c.read_images.new.self.images (let h = c.if-count-len.false in omega (arith, h, c.len.ensures)) (reads-as _ true _ _ _ _ (ap is_some c.in-Some.is) c.in_ok-front.ensures.read) ((fit-as _ _ _ _ _ _ _ (ap (λ (v : Results ℕ). v.stack) c.in_ok-front.ensures.same) c.fits.ensures).0 c.if-not-fits.false)
     (apart-by _ _ _ _ _ c.read_images.new.self.images c.args.cited.now.groups _ c.requires.may.ready.active c.requires.may.ready.names c.are_apart.ensures.apart c.if-not-are_apart.false)
-    (adds-as ok c.read_images.new.self.results _ _ _ _ _ c.in_ok-read_images.ensures.same c.len-count.ensures adds)) c.apply.ensures
+    (adds-as ok c.read_images.new.self.results _ _ _ _ _ c.in_ok-front.ensures.same c.len-count.ensures adds)) c.apply.ensures
 
 pub are_apart-requires-clause-below : goal.are_apart-requires-clause-below
-are_apart-requires-clause-below c =
-    let cited = c.requires.cited c.requires.may.assertion.0 c.requires.may.assertion.1.0 in
-    subst (λ ns. AllBelow (length ns) c.args.cited.now.groups) (sym c.requires.may.ready.names) cited.groups_below
+are_apart-requires-clause-below c = subst (λ ns. AllBelow (length ns) c.args.cited.now.groups) (sym c.requires.may.ready.names) (c.requires.cited c.requires.may.assertion.0 c.requires.may.assertion.1.0).groups_below

@@ -1,46 +1,39 @@
-use Rattle.verify.proofs.Words.{◌<◌, ◌+◌, ◌∙◌, ℕ, length, arith, ap, sym, subst, get_or, Some, slice_get-get_or, slice_get_within, within-at, inside-set, ExpressionPlace, AreWithin, AreInside, tail_of, ReadTo}
-use Rattle.verify.proofs.ReadImageLemmas.{float-next, essential-next}
-use Rattle.verify.proofs.results.read_off.Goals.{in-Float+else-place+else-first-heads+in_ok-set, in_default}
+use Rattle.verify.proofs.Words.{◌≡◌, ℕ, ◌+◌, ◌∙◌, ap, arith, List, sym, subst, ExpressionPlace, Some, Float, Essential, AreWithin, AreInside, IsMistyped, ReadTo, AreFront}
+use Rattle.std.specs.Prelude.{IfSome, MatchOption}
+use Rattle.verify.proofs.ReadImageLemmas.{float-next, front-next, other-next, read-whole, mistyped, place-at, place-within}
+use Rattle.verify.proofs.results.read_off.Goals.{in-Float+in_ok-read_more+else-not-branch, in_default-get}
 use Rattle.verify.proofs.results.read_off.Goals as goal
 
-pub bounds-symbols-place : goal.bounds-symbols-place
-bounds-symbols-place c =
-    let none : ExpressionPlace = record { start = 0; end = 0 } in
-    let less = slice_get_within c.args.hypotheses.now c.loop-k.k c.get.result c.get.ensures in
-    let w = within-at (length c.args.symbols.now) c.loop-k.k c.args.places.now none c.requires.within (let s = c.requires.same in omega (arith, s, less)) in
-    omega (arith, c.if-place.false, w.1)
+pub loop-k-init : goal.loop-k-init
+loop-k-init c =
+    let read = subst (λ r. MatchOption r (IsMistyped c.args.symbols.now c.args.heads.now c.args.hypotheses.now c.args.places.now) (λ n. ReadTo n c.args.symbols.now c.args.heads.now c.args.hypotheses.now c.args.places.now c.read_front.new.images)) c.in-Some.is c.in_ok-front.ensures.read in
+    let front = subst (λ r. IfSome r (AreFront c.args.hypotheses.now)) c.in-Some.is c.in_ok-front.ensures.floats in
+    (front-next _ _ _ _ _ _ (omega (arith, front.within, c.len-k-end.type_inv, c.len-k-end.ensures)) front c.saturating_add-k.ensures _ read, c.read_front.ensures.inside)
 
-pub returns-then-first-heads-clause-ok : goal.returns-then-first-heads-clause-ok
-returns-then-first-heads-clause-ok c =
-    let less = slice_get_within c.args.hypotheses.now c.loop-k.k c.get.result c.get.ensures in (
-      c.loop-k.k,
-      c.in-Float.variable,
-      _,
-      c.get.ensures ∙ ap Some c.in-Float.is,
-      slice_get-get_or c.args.places.now c.loop-k.k _ (let s = c.requires.same in omega (arith, s, less)),
-      λ begins. c.if-first-heads.true begins.1,
-    )
+pub read_more-requires : goal.read_more-requires
+read_more-requires c = place-within _ _ _ _ _ _ c.requires.same c.get.ensures c.requires.within
+
+pub returns-in_err-read_more-clause-inside : goal.returns-in_err-read_more-clause-inside
+returns-in_err-read_more-clause-inside c n w = c.read_more.ensures.inside n (place-within _ _ _ _ _ _ c.requires.same c.get.ensures w) (c.loop-k.invariant.1 n w)
+
+pub returns-then-not-branch-clause-ok : goal.returns-then-not-branch-clause-ok
+returns-then-not-branch-clause-ok c = mistyped _ _ _ _ _ _ _ _ c.requires.same (c.get.ensures ∙ ap Some c.in-Float.is) c.in_ok-read_more.ensures.begins c.if-not-branch.true
+
+pub returns-then-not-branch-clause-inside : goal.returns-then-not-branch-clause-inside
+returns-then-not-branch-clause-inside c n w = c.read_more.ensures.inside n (place-within _ _ _ _ _ _ c.requires.same c.get.ensures w) (c.loop-k.invariant.1 n w)
 
 pub loop-k-preserved : goal.loop-k-preserved
 loop-k-preserved c =
-    let symbols = c.args.symbols.now in
-    let heads = c.args.heads.now in
-    let hs = c.args.hypotheses.now in
-    let places = c.args.places.now in
-    let k = c.loop-k.k in
-    let none : ExpressionPlace = record { start = 0; end = 0 } in
-    let p = get_or places k none in
-    let less = slice_get_within hs k c.get.result c.get.ensures in
-    let there : k < length places = (let s = c.requires.same in omega (arith, s, less)) in
-    let low = c.loop-k.invariant.0 in
+    let P : ℕ → List (ℕ × ExpressionPlace) → Type 0 = λ n v. ReadTo n c.args.symbols.now c.args.heads.now c.args.hypotheses.now c.args.places.now v × ((m : ℕ) → AreWithin m c.args.places.now → AreInside m v) in
     elim c.match-get.branch [
-      | in-Float+else-place+else-first-heads+in_ok-set w ↦
-          subst (λ v. ReadTo (k + 1) symbols heads hs places v × ((n : ℕ) → AreWithin n places → AreInside n v)) (sym w.images-is) (
-            float-next symbols heads hs places k c.requires.different p (slice_get-get_or places k none there) w.in-Float.variable (c.get.ensures ∙ ap Some w.in-Float.is) c.loop-k.images w.set.new.self low
-                (w.if-place.false, w.if-first-heads.false) w.in_ok-set.ensures.ok,
-            λ n within. inside-set n c.loop-k.images w.set.new.self w.in-Float.variable (tail_of p) (c.loop-k.invariant.1 n within) w.in_ok-set.ensures.ok (let h = w.if-place.false in omega (arith, h)) (within-at n k places none within there).1,
+      | in-Float+in_ok-read_more+else-not-branch w ↦
+          let float = c.get.ensures ∙ ap Some w.in-Float.is in
+          subst (P (c.loop-k.k + 1)) (sym w.images-is) (
+            float-next _ _ _ _ _ c.requires.different _ (place-at _ _ _ _ _ c.requires.same float) _ float _ _ c.loop-k.invariant.0 (w.in_ok-read_more.ensures.begins.0 w.if-not-branch.false) (w.in_ok-read_more.ensures.set w.if-not-branch.false),
+            λ n within. w.read_more.ensures.inside n (place-within _ _ _ _ _ _ c.requires.same c.get.ensures within) (c.loop-k.invariant.1 n within),
           )
-      | in_default w ↦
-          subst (λ v. ReadTo (k + 1) symbols heads hs places v × ((n : ℕ) → AreWithin n places → AreInside n v)) (sym w.images-is)
-          (essential-next symbols heads hs places k w.in_default.field-0 (c.get.ensures ∙ ap Some w.in_default.is) c.loop-k.images low, c.loop-k.invariant.1)
+      | in_default-get w ↦ subst (P (c.loop-k.k + 1)) (sym w.images-is) (other-next _ _ _ _ _ (λ x e. (let f : Some (Float x) ≡ Some (Essential w.in_default-get.field-0) = sym e ∙ (c.get.ensures ∙ ap Some w.in_default-get.is) in cc)) _ c.loop-k.invariant.0, c.loop-k.invariant.1)
     ]
+
+pub returns-clause-ok : goal.returns-clause-ok
+returns-clause-ok c = read-whole _ _ _ _ c.loop-k.k _ (omega (arith, c.loop-k-test.false, c.len-k-end.ensures)) c.loop-k.invariant.0

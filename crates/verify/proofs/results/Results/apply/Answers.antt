@@ -27,12 +27,8 @@ pub invariant_of-self-2 : goal.invariant_of-self-2
 invariant_of-self-2 c =
     let g = appended _ _ _ _ _ c.if-not-branch.false c.in_ok-add_applied.ensures.ok in
     let more = grown c.self.inside.symbols _ _ c.len-start.result c.len-3.result g.0 c.len-start.ensures.len c.len-3.ensures.len in
-    let k = c.len.result - c.args.r in
-    let p = c.place_between-place.result in
-    let low = c.place_between-place.ensures.0 ∙ c.len-start.ensures.len in
-    let high = c.place_between-place.ensures.1 ∙ c.len-2.ensures.len in
-    apply-kept c.self.inside.symbols _ _ c.self.inside.images c.self.inside.stack.items c.self.inside.saved.items _ c.self.inside.weight _ k p c.self.invariant g.0 low high
-    c.in_ok-put_behind.ensures.ok
+    apply-kept c.self.inside.symbols _ _ c.self.inside.images c.self.inside.stack.items c.self.inside.saved.items _ c.self.inside.weight _ (c.len.result - c.args.r) c.place_between-place.result c.self.invariant g.0
+    (c.place_between-place.ensures.0 ∙ c.len-start.ensures.len) (c.place_between-place.ensures.1 ∙ c.len-2.ensures.len) c.in_ok-put_behind.ensures.ok
     (ap (λ n. c.self.inside.weight + n) more) (end_light c.self.inside.weight _ c.len-start.result c.len-3.result _ refl c.self.invariant.light more g.1)
 
 pub returns : goal.returns
@@ -41,5 +37,4 @@ returns c =
     let more = grown c.self.inside.symbols _ _ c.len-start.result c.len-3.result g.0 c.len-start.ensures.len c.len-3.ensures.len in
     rw (← c.self.view_is) (apply-seen c.self.inside.symbols _ _ c.self.inside.images c.self.inside.stack.items c.self.inside.saved.items _ c.self.inside.weight _ (c.len.result - c.args.r) c.args.r c.place_between-place.result c.self.invariant
     (omega (arith, c.len.ensures)) g.0 (c.place_between-place.ensures.0 ∙ c.len-start.ensures.len) (c.place_between-place.ensures.1 ∙ c.len-2.ensures.len)
-    c.in_ok-put_behind.ensures.ok
-    (ap (λ n. c.self.inside.weight + n) more))
+    c.in_ok-put_behind.ensures.ok (ap (λ n. c.self.inside.weight + n) more))

@@ -1,9 +1,12 @@
-use Rattle.verify.proofs.Words.{◌≡◌, ℕ, ◌-◌, [], true, false, slice_get, length, map, get_or, Some, ap, arith, refl, ◌∙◌, slice_get_within, stands-within, decode, images_of_names, Hypothesis, Float, Essential, FitsOne, top}
+use Rattle.verify.proofs.Words.{◌≡◌, sym, subst, same_Some, ℕ, ◌-◌, [], true, false, length, map, get_or, Some, ap, arith, refl, ◌∙◌, slice_get_within, stands-within, decode, images_of_names, Hypothesis, Float, Essential, FitsOne, top}
 use Rattle.verify.proofs.Named.{all-drop}
 use Rattle.verify.proofs.ResultPlaceLemmas.{seen_place}
 use Rattle.verify.proofs.ReadImageLemmas.{standing-at, fits-essential, one-more}
 use Rattle.verify.proofs.results.Results.fits.Goals.{in-Essential+else-not-matches, in_default}
 use Rattle.verify.proofs.results.Results.fits.Goals as goal
+
+pub loop-k-init : goal.loop-k-init
+loop-k-init c j h less at = let x = c.requires.front.floats j less in subst (λ g. FitsOne c.args.frames.now.statements (images_of_names c.args.frames.now.names c.args.self.now.images) g (get_or (map (decode c.args.frames.now.names) (top (length c.args.hypotheses.now) c.args.self.now.results.stack)) j [])) (same_Some (Float x.0) h (sym x.1 ∙ at)) tt
 
 pub expr-expr-requires : goal.expr-expr-requires
 expr-expr-requires c =
@@ -11,21 +14,14 @@ expr-expr-requires c =
     stands-within c.args.frames.now.statements c.in-Essential.position s.0 s.1
 
 pub matches-requires-clause-place : goal.matches-requires-clause-place
-matches-requires-clause-place c =
-    (seen_place c.self.inside.symbols c.self.inside.stack.items c.deref.result.now c.args.self.now.results.stack (c.len.result - c.len-2.result) c.len-2.result c.loop-k.k _ c.deref.ensures.value
-    (ap (λ v. v.results.stack) c.self.view_is) (omega (arith, c.len.ensures)) (omega (arith, c.requires.count, c.len-2.ensures)) (let w = slice_get_within c.args.hypotheses.now c.loop-k.k c.get.result c.get.ensures in omega (arith, w, c.len-2.ensures)) c.self.invariant.stack_within).0
+matches-requires-clause-place c = (seen_place c.self.inside.symbols c.self.inside.stack.items c.deref.result.now c.args.self.now.results.stack (c.len.result - c.len-2.result) c.len-2.result c.loop-k.k _ c.deref.ensures.value (ap (λ v. v.results.stack) c.self.view_is) (omega (arith, c.len.ensures)) (omega (arith, c.requires.count, c.len-2.ensures)) (let w = slice_get_within c.args.hypotheses.now c.loop-k.k c.get.result c.get.ensures in omega (arith, w, c.len-2.ensures)) c.self.invariant.stack_within).0
 
 pub returns-then-not-matches : goal.returns-then-not-matches
 returns-then-not-matches c =
-    let names = c.args.frames.now.names in
-    let hs = c.args.hypotheses.now in
-    let stack = c.args.self.now.results.stack in
-    let at : slice_get hs c.loop-k.k ≡ Some (Essential c.in-Essential.position) = c.get.ensures ∙ ap Some c.in-Essential.is in
-    let place = seen_place c.self.inside.symbols c.self.inside.stack.items c.deref.result.now c.args.self.now.results.stack (c.len.result - c.len-2.result) c.len-2.result c.loop-k.k _ c.deref.ensures.value
-    (ap (λ v. v.results.stack) c.self.view_is) (omega (arith, c.len.ensures)) (omega (arith, c.requires.count, c.len-2.ensures)) (let w = slice_get_within c.args.hypotheses.now c.loop-k.k c.get.result c.get.ensures in omega (arith, w, c.len-2.ensures)) c.self.invariant.stack_within in
-    let iff = fits-essential c.args.frames.now.statements names hs (top (length hs) stack) c.args.self.now.images _ c.loop-k.k c.in-Essential.position _ c.expr-expr.result.now c.matches.result c.requires.legal.distinct c.requires.standing at c.expr-expr.ensures.same
-    c.expr-expr.ensures.codes c.requires.over (all-drop (length names) (length stack - length hs) stack c.requires.named) (ap (λ v. v.images) c.self.view_is)
-    (place.1 ∙ ap (λ n. get_or (top n stack) c.loop-k.k []) c.len-2.ensures) c.matches.ensures in
+    let at = c.get.ensures ∙ ap Some c.in-Essential.is in
+    let place = seen_place c.self.inside.symbols c.self.inside.stack.items c.deref.result.now c.args.self.now.results.stack (c.len.result - c.len-2.result) c.len-2.result c.loop-k.k _ c.deref.ensures.value (ap (λ v. v.results.stack) c.self.view_is) (omega (arith, c.len.ensures)) (omega (arith, c.requires.count, c.len-2.ensures)) (let w = slice_get_within c.args.hypotheses.now c.loop-k.k c.get.result c.get.ensures in omega (arith, w, c.len-2.ensures)) c.self.invariant.stack_within in
+    let iff = fits-essential _ _ _ _ _ _ _ _ _ _ _ c.requires.legal.distinct c.requires.standing at c.expr-expr.ensures.same c.expr-expr.ensures.codes c.requires.over (all-drop _ (length c.args.self.now.results.stack - length c.args.hypotheses.now) _ c.requires.named)
+    (ap (λ v. v.images) c.self.view_is) (place.1 ∙ ap (λ n. get_or (top n c.args.self.now.results.stack) c.loop-k.k []) c.len-2.ensures) c.matches.ensures in
     (λ t. (let e : false ≡ true = t in cc), λ fit. let t = iff.1 (fit.each c.loop-k.k (Essential c.in-Essential.position) at) in let u = c.if-not-matches.true in cc)
 
 pub loop-k-preserved : goal.loop-k-preserved
@@ -33,17 +29,12 @@ loop-k-preserved c =
     let P : ℕ → Hypothesis → Type 0 = λ j h. FitsOne c.args.frames.now.statements (images_of_names c.args.frames.now.names c.args.self.now.images) h (get_or (map (decode c.args.frames.now.names) (top (length c.args.hypotheses.now) c.args.self.now.results.stack)) j []) in
     elim c.match-get.branch [
       | in-Essential+else-not-matches w ↦
-          let names = c.args.frames.now.names in
-          let hs = c.args.hypotheses.now in
-          let stack = c.args.self.now.results.stack in
-          let at : slice_get hs c.loop-k.k ≡ Some (Essential w.in-Essential.position) = c.get.ensures ∙ ap Some w.in-Essential.is in
-          let place = seen_place c.self.inside.symbols c.self.inside.stack.items c.deref.result.now c.args.self.now.results.stack (c.len.result - c.len-2.result) c.len-2.result c.loop-k.k _ c.deref.ensures.value
-          (ap (λ v. v.results.stack) c.self.view_is) (omega (arith, c.len.ensures)) (omega (arith, c.requires.count, c.len-2.ensures)) (let w = slice_get_within c.args.hypotheses.now c.loop-k.k c.get.result c.get.ensures in omega (arith, w, c.len-2.ensures)) c.self.invariant.stack_within in
-          let iff = fits-essential c.args.frames.now.statements names hs (top (length hs) stack) c.args.self.now.images _ c.loop-k.k w.in-Essential.position _ w.expr-expr.result.now w.matches.result c.requires.legal.distinct c.requires.standing at w.expr-expr.ensures.same
-          w.expr-expr.ensures.codes c.requires.over (all-drop (length names) (length stack - length hs) stack c.requires.named) (ap (λ v. v.images) c.self.view_is)
-          (place.1 ∙ ap (λ n. get_or (top n stack) c.loop-k.k []) c.len-2.ensures) w.matches.ensures in
-          one-more P hs c.loop-k.k (Essential w.in-Essential.position) at c.loop-k.invariant (iff.0 w.if-not-matches.false)
-      | in_default w ↦ one-more P c.args.hypotheses.now c.loop-k.k (Float w.in_default.field-0) (c.get.ensures ∙ ap Some w.in_default.is) c.loop-k.invariant tt
+          let at = c.get.ensures ∙ ap Some w.in-Essential.is in
+          let place = seen_place c.self.inside.symbols c.self.inside.stack.items c.deref.result.now c.args.self.now.results.stack (c.len.result - c.len-2.result) c.len-2.result c.loop-k.k _ c.deref.ensures.value (ap (λ v. v.results.stack) c.self.view_is) (omega (arith, c.len.ensures)) (omega (arith, c.requires.count, c.len-2.ensures)) (let w = slice_get_within c.args.hypotheses.now c.loop-k.k c.get.result c.get.ensures in omega (arith, w, c.len-2.ensures)) c.self.invariant.stack_within in
+          let iff = fits-essential _ _ _ _ _ _ _ _ _ _ _ c.requires.legal.distinct c.requires.standing at w.expr-expr.ensures.same w.expr-expr.ensures.codes c.requires.over (all-drop _ (length c.args.self.now.results.stack - length c.args.hypotheses.now) _ c.requires.named)
+          (ap (λ v. v.images) c.self.view_is) (place.1 ∙ ap (λ n. get_or (top n c.args.self.now.results.stack) c.loop-k.k []) c.len-2.ensures) w.matches.ensures in
+          one-more P _ c.loop-k.k (Essential w.in-Essential.position) at c.loop-k.invariant (iff.0 w.if-not-matches.false)
+      | in_default w ↦ one-more P _ c.loop-k.k (Float w.in_default.field-0) (c.get.ensures ∙ ap Some w.in_default.is) c.loop-k.invariant tt
     ]
 
 pub returns : goal.returns
