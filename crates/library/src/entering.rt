@@ -114,11 +114,11 @@ pub(crate) fn enter_ahead<G: Gate + Sync, R: Threads + Sync>(
     entered
 }
 
-/// How many of the first statements are judged ahead: three eighths of many, up to where no block is open.
+/// How many of the first statements are judged ahead: five sixteenths of many, up to where no block is open.
 fn count_ahead(statements: &[Stmt]) -> usize
     ensures { result ≤ length statements.now }
 {
-    let near = (statements.len() / 8 * 3).max(MANY);
+    let near = (statements.len() / 16 * 5).max(MANY);
     let mut open = 0usize;
     for (index, statement) in statements.iter().enumerate() {
         match statement {
