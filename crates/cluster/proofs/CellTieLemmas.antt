@@ -8,7 +8,7 @@ use Rattle.net.specs.declared.fault.StepFault.{StepFault}
 use Rattle.net.specs.declared.fault.StepFault.TheVariants.{NoNode}
 use Rattle.net.specs.World.{World, log_at, log, log_after}
 use Rattle.net.specs.Agree.{IsBeginningOf}
-use Rattle.switch.specs.Switch.{Shared, world_of}
+use Rattle.switch.specs.Switch.{SwitchView, world_of}
 use Rattle.switch.specs.Belonging.{BeginsLog}
 use Rattle.world.specs.declared.carried.Carried.{Carried}
 use Rattle.world.specs.Carried.{carried_size}
@@ -26,7 +26,7 @@ shown_is log slot None h = sym h
 shown_is log slot (Some e) h = sym h
 
 -- where a call fails that succeeds if node k is there, the log of node k is empty
-pub none_shown : (s : Shared Carried) (k : ℕ) {A : Type 0} (fault : StepFault) (r : Result A StepFault) → r ≡ Err fault → ForOk (world_of carried_size s) (λ w. IsSome (slice_get w.nodes k) → IsOk r) → log_after (world_of carried_size s) k ≡ []
+pub none_shown : (s : SwitchView Carried) (k : ℕ) {A : Type 0} (fault : StepFault) (r : Result A StepFault) → r ≡ Err fault → ForOk (world_of carried_size s) (λ w. IsSome (slice_get w.nodes k) → IsOk r) → log_after (world_of carried_size s) k ≡ []
 none_shown s k {A} fault r is node = by_world (world_of carried_size s) refl where
   by_node : (o : Option (Node Carried)) → (IsSome o → IsOk r) → log_at o ≡ []
   by_node None there = refl
@@ -37,7 +37,7 @@ none_shown s k {A} fault r is node = by_world (world_of carried_size s) refl whe
   by_world (Err f) at = refl
 
 -- The cell of a node that restarted.
-pub restarted_belongs : (old new : Cell) (was now : Shared Carried) → new ≡ new_cell old.at → length now.places ≡ length was.places → Belongs old was → Belongs new now
+pub restarted_belongs : (old new : Cell) (was now : SwitchView Carried) → new ≡ new_cell old.at → length now.stores ≡ length was.stores → Belongs old was → Belongs new now
 restarted_belongs old new was now is count b = subst (λ (c : Cell). Belongs c now) (sym is) record {
   node = let low = b.node in omega (arith, low, count);
   begins = (log_after (world_of carried_size now) old.at, refl);
@@ -57,7 +57,7 @@ one_more_begins {A} xs ys x h at =
     let rest = get_past xs h.0 x (ap (λ (zs : List A). slice_get zs (length xs)) h.1 ∙ at) in
     (rest.0, append_assoc xs (x ∷ []) rest.0 ∙ ap (λ (zs : List A). xs ++ zs) (sym rest.1) ∙ h.1)
 
-module _ (s : Shared Carried) (k : ℕ) (old new : List (Option Carried)) (b : BeginsLog carried_size s k old) where
+module _ (s : SwitchView Carried) (k : ℕ) (old new : List (Option Carried)) (b : BeginsLog carried_size s k old) where
   -- entries that are the same begin the log
   as_begun : new ≡ old → BeginsLog carried_size s k new
   as_begun is = subst (λ (es : List (Option Carried)). BeginsLog carried_size s k es) (sym is) b
@@ -89,7 +89,7 @@ adds_takes k node es fs None (Ok true) h = elim h [ ]
 adds_takes k node es fs None (Ok false) h = ap (λ (gs : List (Option Carried)). cell_of k gs node) h
 adds_takes k node es fs None (Err fault) h = elim h [ ]
 
-module _ (s : Shared Carried) (k : ℕ) (node : NodeLibrary) (es : List (Option Carried)) (now : Cell) (seen : cell_of k es node ≡ now) where
+module _ (s : SwitchView Carried) (k : ℕ) (node : NodeLibrary) (es : List (Option Carried)) (now : Cell) (seen : cell_of k es node ≡ now) where
   -- the cell takes over the next entry of its node's log, as it is shown
   pub takes_over : (fs : List (Option Carried)) (found : Option (Bor (Option Carried))) (slot : ℕ) → slot ≡ length es
       → MatchOption found (slice_get (log_after (world_of carried_size s) k) slot ≡ None) (λ (e : Bor (Option Carried)). slice_get (log_after (world_of carried_size s) k) slot ≡ Some e.now)

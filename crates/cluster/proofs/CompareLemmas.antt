@@ -14,11 +14,11 @@ use Rattle.world.specs.Headline.{Headline}
 use Rattle.world.proofs.EntryLogs.{entries_begin}
 use Rattle.world.proofs.HeadlineLemmas.{headline_holds}
 use Rattle.world.proofs.ReplicasLemmas.{of_longer}
-use Rattle.switch.specs.Switch.{Shared, world_of}
+use Rattle.switch.specs.Switch.{SwitchView, world_of}
 use Rattle.cluster.specs.Cell.{Cell, IsCell}
 use Rattle.cluster.specs.Belongs.{Belongs}
 
-module _ (s : Shared Carried) (w : World Carried) (is : world_of carried_size s ≡ Ok w) where
+module _ (s : SwitchView Carried) (w : World Carried) (is : world_of carried_size s ≡ Ok w) where
   abbrev taken : Taken Carried
   taken = record { weights = s.weights; events = s.history }
 
@@ -32,10 +32,12 @@ module _ (s : Shared Carried) (w : World Carried) (is : world_of carried_size s 
   agree_in one other b d h k =
       let line : Headline taken = headline_holds taken (subst (λ (r : Result (World Carried) StepFault). IsOk r) (sym is) refl) in
       let moment : IsMoment carried_size taken w = record { early = s.history; begins = ([], append-nil s.history); is_after = is } in
-      line.libraries_agree w w moment moment one.at other.at one.node.applied other.node.applied one.node.library other.node.library (of_log one b h).library (of_log other d k).library
+      line.libraries_agree one.node.library other.node.library
+      record { world = w; moment = moment; node = one.at; applied = one.node.applied; of_log = (of_log one b h).library }
+      record { world = w; moment = moment; node = other.at; applied = other.node.applied; of_log = (of_log other d k).library }
 
 -- the statements of two cells of one switch agree
-pub cells_agree : (one other : Cell) (s : Shared Carried) → IsOk (world_of carried_size s) → Belongs one s → Belongs other s → IsCell one → IsCell other → Agree one.node.library.statements other.node.library.statements
+pub cells_agree : (one other : Cell) (s : SwitchView Carried) → IsOk (world_of carried_size s) → Belongs one s → Belongs other s → IsCell one → IsCell other → Agree one.node.library.statements other.node.library.statements
 cells_agree one other s ok b d h k = from (world_of carried_size s) refl ok where
   from : (r : Result (World Carried) StepFault) → world_of carried_size s ≡ r → IsOk r → Agree one.node.library.statements other.node.library.statements
   from (Ok w) is ok = agree_in s w is one other b d h k

@@ -4,7 +4,7 @@
 use Rattle.std.specs.Prelude.{◌≡◌, ◌<◌, ℕ, List, Some, length, slice_get}
 use Rattle.mm_read.specs.Statements.{Database}
 use Rattle.net.specs.Agree.{IsBeginningOf}
-use Rattle.switch.specs.Switch.{Shared}
+use Rattle.switch.specs.Switch.{SwitchView}
 use Rattle.switch.specs.Belonging.{BeginsLog}
 use Rattle.world.specs.declared.carried.Carried.{Carried}
 use Rattle.world.specs.Carried.{carried_size}
@@ -13,12 +13,12 @@ use Rattle.cluster.specs.declared.compare.Ahead.TheVariants.{First, Same, Second
 use Rattle.cluster.specs.Cell.{Cell}
 
 -- the cell is of the switch: what it took over begins its node's log
-abbrev pub Belongs : Cell → Shared Carried → Type 0
-Belongs c shared = BeginsLog carried_size shared c.at c.entries
+abbrev pub Belongs : Cell → SwitchView Carried → Type 0
+Belongs c switch = BeginsLog carried_size switch c.at c.entries
 
 -- each of them is
-abbrev pub EachBelongs : List Cell → Shared Carried → Type 0
-EachBelongs cells shared = (k : ℕ) (c : Cell) → slice_get cells k ≡ Some c → Belongs c shared
+abbrev pub EachBelongs : List Cell → SwitchView Carried → Type 0
+EachBelongs cells switch = (k : ℕ) (c : Cell) → slice_get cells k ≡ Some c → Belongs c switch
 
 -- which library has more statements: the other's statements begin its own
 abbrev pub IsAhead : Ahead → Database → Database → Type 0

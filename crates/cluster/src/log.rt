@@ -12,9 +12,9 @@ use switch::Switch;
 use synod::Keep;
 use world::Carried;
 
-/// Whether node `k` is there, and the entries begin its log.
+/// Tells whether node `k` is there, and the entries are a prefix of its log.
 ///
-/// Cost: the size of the entries.
+/// Cost: the size of the entries, each compared with one of the log.
 pub(crate) fn begins_log<K: Keep<Carried>>(
     switch: &Switch<Carried, K>,
     k: u8,
@@ -31,7 +31,7 @@ pub(crate) fn begins_log<K: Keep<Carried>>(
     }
 }
 
-/// Whether the entries begin the log of node `k`, which is empty where there is none.
+/// Tells whether the entries are a prefix of the log of node `k`, which is empty where there is no such node.
 fn begins<K: Keep<Carried>>(switch: &Switch<Carried, K>, k: u8, entries: &[Option<Carried>]) -> bool
     requires { length entries.now ≤ SLOTS }
     ensures { IsTrue result ↔ IsBeginningOf entries.now (log_after (world_of carried_size switch.now) k) }
@@ -44,7 +44,7 @@ fn begins<K: Keep<Carried>>(switch: &Switch<Carried, K>, k: u8, entries: &[Optio
     true
 }
 
-/// Whether it is the entry of node `k`'s log at that slot.
+/// Tells whether it is the entry of node `k`'s log at that slot.
 fn is_entry<K: Keep<Carried>>(
     switch: &Switch<Carried, K>,
     k: u8,
@@ -59,29 +59,19 @@ fn is_entry<K: Keep<Carried>>(
     }
 }
 
-/// Whether the entry was found.
+/// Tells whether the entry was found: the same no-operation, text or charter of one author and serial number.
 fn is_found(found: Option<&Option<Carried>>, entry: &Option<Carried>) -> bool
     ensures { IsTrue result ↔ (option_map (λ e. e.now) found.entry ≡ Some entry.now) }
 {
-    match found {
-        Some(found) => is_same(found, entry),
-        None => false,
-    }
-}
-
-/// Whether they are the same entry of a log.
-fn is_same(one: &Option<Carried>, other: &Option<Carried>) -> bool
-    ensures { IsTrue result ↔ (one.now ≡ other.now) }
-{
-    match (one, other) {
-        (Some(one), Some(other)) => is_same_entry(&one.0, &other.0),
-        (None, None) => true,
+    match (found, entry) {
+        (Some(Some(Carried(one))), Some(Carried(other))) => is_same(one, other),
+        (Some(None), None) => true,
         _ => false,
     }
 }
 
-/// Whether they are the same entry of a library.
-fn is_same_entry(one: &Entry, other: &Entry) -> bool
+/// Tells whether two entries are the same.
+fn is_same(one: &Entry, other: &Entry) -> bool
     ensures { IsTrue result ↔ (one.now ≡ other.now) }
 {
     match (one, other) {
@@ -102,7 +92,7 @@ fn is_same_entry(one: &Entry, other: &Entry) -> bool
     }
 }
 
-/// Whether they are the same text of one author under one number.
+/// Tells whether two texts are the same.
 fn is_same_text(one: &Submission, other: &Submission) -> bool
     ensures { IsTrue result ↔ (one.now ≡ other.now) }
 {

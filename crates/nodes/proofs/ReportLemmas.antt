@@ -1,15 +1,73 @@
--- What a report counts: one node more.
-use Rattle.std.proofs.Common.{◌≡◌, ℕ, ◌+◌, List, [], ◌∷◌, ◌++◌, ap, sym, ◌∙◌, add-one, sum}
-use Rattle.std.proofs.lemmas.List.Sums.{sum_by_push}
+-- What a report counts: one event more.
+use Rattle.std.proofs.Common.{◌≡◌, ℕ, zero, suc, ◌+◌, ◌<◌, ◌≤◌, ◌==◌, Bool, true, false, List, [], ◌∷◌, ◌++◌, length, get_or, set, replicate, sum, Some, None, Result, Ok, Err, refl, ap, ◌∙◌, arith, if◌then◌else◌}
+use Rattle.std.specs.Prelude.{IsOk}
+use Rattle.std.specs.Result.{ForOk}
+use Rattle.std.proofs.lemmas.Bool.Decides.{nat_tests}
+use Rattle.std.proofs.lemmas.List.Sums.{sum_by-set, get_or-le-sum_by}
 use Rattle.net.specs.World.{World}
 use Rattle.net.specs.declared.event.Event.{Event}
-use Rattle.nodes.specs.Report.{own_events, own_counts}
+use Rattle.net.specs.declared.fault.StepFault.{StepFault}
+use Rattle.net.specs.KeptPart.{node_of}
+use Rattle.switch.specs.Switch.{SwitchView, world_of}
+use Rattle.world.specs.declared.carried.Carried.{Carried}
+use Rattle.world.specs.Carried.{carried_size}
+use Rattle.nodes.specs.Report.{is_own, own_events, own_counts, with_one, IsReport}
 
--- a sum with one count more is the sum of the counts with that one behind them
-pub one_count : (total count : ℕ) (old new : List ℕ) → total ≡ sum old → new ≡ old ++ count ∷ [] → total + count ≡ sum new
-one_count total count old new is pushed = ap (λ (n : ℕ). n + count) is ∙ sym (sum_by_push (λ n. n) old count) ∙ ap (λ (xs : List ℕ). sum xs) (sym pushed)
+-- The counts with one more at a node.
 
--- the counts of the first nodes, with the count of the next one behind them, are those of one node more
-pub one_more : {V : Type 0} (w : World V) (events : List (Event V)) (k count : ℕ) (old new : List ℕ) → old ≡ own_counts w k events → count ≡ own_events w k events → new ≡ old ++ count ∷ [] → new ≡ own_counts w (k + 1) events
-one_more w events k count old new counts is pushed =
-    pushed ∙ ap (λ (xs : List ℕ). xs ++ count ∷ []) counts ∙ ap (λ (n : ℕ). own_counts w k events ++ n ∷ []) is ∙ ap (λ (n : ℕ). own_counts w n events) (sym (add-one k))
+plus-none : (k : ℕ) (c : ℕ) (cs ds : List ℕ) (b : Bool) → b ≡ false → cs ≡ ds → ((c + (if b then 1 else 0)) ∷ cs) ≡ c ∷ ds
+plus-none k c cs ds b no same = ap (λ (t : Bool). (c + (if t then 1 else 0)) ∷ cs) no ∙ (let z : c + 0 ≡ c = omega arith in ap (λ (n : ℕ). n ∷ cs) z) ∙ ap (λ (ns : List ℕ). c ∷ ns) same
+
+pub with_one-none : (k : ℕ) (cs : List ℕ) → with_one k None cs ≡ cs
+with_one-none k [] = refl
+with_one-none k (c ∷ cs) = plus-none k c (with_one (suc k) None cs) cs false refl (with_one-none (suc k) cs)
+
+-- a node before the first
+with_one-before : (k j : ℕ) (cs : List ℕ) → j < k → with_one k (Some j) cs ≡ cs
+with_one-before k j [] low = refl
+with_one-before k j (c ∷ cs) low = plus-none k c (with_one (suc k) (Some j) cs) cs (j == k) (grind (arith, nat_tests)) (with_one-before (suc k) j cs (omega arith))
+
+-- a node after the last
+pub with_one-past : (k j : ℕ) (cs : List ℕ) → k + length cs ≤ j → with_one k (Some j) cs ≡ cs
+with_one-past k j [] high = refl
+with_one-past k j (c ∷ cs) high = plus-none k c (with_one (suc k) (Some j) cs) cs (j == k) (let other : k < j = omega arith in grind (arith, nat_tests)) (with_one-past (suc k) j cs (omega arith))
+
+-- one of them
+pub with_one-at : (k j i : ℕ) (cs : List ℕ) → j ≡ k + i → i < length cs → with_one k (Some j) cs ≡ set cs i (get_or cs i 0 + 1)
+with_one-at k j i [] is low = absurd (omega arith)
+with_one-at k j zero (c ∷ cs) is low =
+    let yes : (j == k) ≡ true = grind (arith, nat_tests) in
+    ap (λ (t : Bool). (c + (if t then 1 else 0)) ∷ with_one (suc k) (Some j) cs) yes ∙ ap (λ (ns : List ℕ). (c + 1) ∷ ns) (with_one-before (suc k) j cs (omega arith))
+with_one-at k j (suc i) (c ∷ cs) is low =
+    plus-none k c (with_one (suc k) (Some j) cs) (set cs i (get_or cs i 0 + 1)) (j == k) (let other : k < j = omega arith in grind (arith, nat_tests)) (with_one-at (suc k) j i cs (omega arith) (omega arith))
+
+-- the sum is one more
+pub one_more : (cs : List ℕ) (i : ℕ) → i < length cs → sum (set cs i (get_or cs i 0 + 1)) ≡ sum cs + 1
+one_more cs i low = let more : sum (set cs i (get_or cs i 0 + 1)) + get_or cs i 0 ≡ sum cs + (get_or cs i 0 + 1) = sum_by-set (λ n. n) cs i (get_or cs i 0 + 1) 0 low in omega (arith, more)
+
+-- a count is no more than the sum
+pub within_sum : (cs : List ℕ) (i : ℕ) → i < length cs → get_or cs i 0 ≤ sum cs
+within_sum cs i low = get_or-le-sum_by (λ n. n) cs i 0 low
+
+-- The counts of a history with one event more.
+
+own_events-push : {V : Type 0} (w : World V) (k : ℕ) (es : List (Event V)) (e : Event V) → own_events w k (es ++ e ∷ []) ≡ own_events w k es + (if is_own w k e then 1 else 0)
+own_events-push w k [] e = omega arith
+own_events-push w k (x ∷ es) e = let rest = own_events-push w k es e in omega (arith, rest)
+
+pub own_counts-push : {V : Type 0} (w : World V) (k n : ℕ) (es : List (Event V)) (e : Event V) → own_counts w k n (es ++ e ∷ []) ≡ with_one k (node_of w e) (own_counts w k n es)
+own_counts-push w k zero es e = refl
+own_counts-push w k (suc n) es e =
+    ap (λ (c : ℕ). c ∷ own_counts w (suc k) n (es ++ e ∷ [])) (own_events-push w k es e)
+    ∙ ap (λ (cs : List ℕ). (own_events w k es + (if is_own w k e then 1 else 0)) ∷ cs) (own_counts-push w (suc k) n es e)
+
+pub own_counts-none : {V : Type 0} (w : World V) (k n : ℕ) → own_counts w k n [] ≡ replicate n 0
+own_counts-none w k zero = refl
+own_counts-none w k (suc n) = ap (λ (cs : List ℕ). 0 ∷ cs) (own_counts-none w (suc k) n)
+
+-- The counts in the world after the history.
+pub report_of : (switch : SwitchView Carried) (nodes : ℕ) (handled : List ℕ) → IsOk (world_of carried_size switch) → ForOk (world_of carried_size switch) (λ w. handled ≡ own_counts w 0 nodes switch.history) → IsReport switch nodes handled
+report_of switch nodes handled ok counts = from (world_of carried_size switch) refl ok where
+  from : (r : Result (World Carried) StepFault) → world_of carried_size switch ≡ r → IsOk r → IsReport switch nodes handled
+  from (Ok w) is ok = record { world = w; is_after = is; counts = counts w is }
+  from (Err fault) is ok = let no : false ≡ true = ok in cc

@@ -5,7 +5,7 @@ use Rattle.synod.specs.declared.change.Change.{Change}
 use Rattle.synod.specs.declared.change.Change.TheVariants.{Round, Promise, Entry}
 use Rattle.synod.specs.declared.change.Held.{Held}
 use Rattle.synod.specs.Record.{Kept, changed_by}
-use Rattle.switch.specs.Seat.{IsWithOrWithout}
+use Rattle.switch.specs.NodeStore.{IsWithOrWithout}
 
 -- an entry that is put twice at one slot
 put_twice : {T : Type 0} (xs : List (Option T)) (s : ℕ) (v : T) → put_at (put_at xs s v) s v ≡ put_at xs s v

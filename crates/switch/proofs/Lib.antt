@@ -1,5 +1,5 @@
 mod KeepLemmas
-pub mod SeatsLemmas
+pub mod StoresLemmas
 mod SwitchLemmas
 mod CallLemmas
 mod DispatchLemmas

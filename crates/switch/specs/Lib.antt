@@ -1,3 +1,3 @@
-pub mod Seat
+pub mod NodeStore
 pub mod Switch
 pub mod Belonging

@@ -38,12 +38,14 @@ statements_agree xs ys one other (inr h) p q =
 pub headline_of : (taken : Taken Carried) → Agreement carried_size taken → Headline taken
 headline_of taken agreement = record {
   agreement = agreement;
-  libraries_agree = λ w x m n j k a b one other p q.
-      statements_agree (take a (entries_of (log w j))) (take b (entries_of (log x k))) one other
-      (takes_agree a b (entries_of (log w j)) (entries_of (log x k)) (entries_agree (log w j) (log x k) (agreement.logs_agree w x m n j k))) p q;
-  libraries_good = λ w m k a library p. library-good (take a (entries_of (log w k))) library p;
-  derived = λ w m k a library p at stmt provable.
-      let proved = (library-good (take a (entries_of (log w k))) library p).proved at stmt provable in
+  libraries_agree = λ one other p q.
+      let xs = entries_of (log p.world p.node) in
+      let ys = entries_of (log q.world q.node) in
+      statements_agree (take p.applied xs) (take q.applied ys) one other
+      (takes_agree p.applied q.applied xs ys (entries_agree (log p.world p.node) (log q.world q.node) (agreement.logs_agree p.world q.world p.moment q.moment p.node q.node))) p.of_log q.of_log;
+  libraries_good = λ library p. library-good (take p.applied (entries_of (log p.world p.node))) library p.of_log;
+  derived = λ library p at stmt provable.
+      let proved = (library-good (take p.applied (entries_of (log p.world p.node))) library p.of_log).proved at stmt provable in
       record { stmt = proved.right.1.stmt; derivation = proved.right.0; stands = proved.right.1.stands; concludes = proved.right.1.concludes };
 }
 

@@ -81,7 +81,7 @@ pub record IsApplied (old : Replicas) (k : ℕ) (entry : Option Entry) (verdict 
   pub applies : Applies before.library entry verdict library
   pub becomes : new ≡ record { taken = old.taken; libraries = slice_set old.libraries k (record { applied = before.applied + 1; library = library }) }
 
--- the entry is applied with this verdict, or there is none; or there is no memory, and the library stays at its entry
+-- the entry is applied with this verdict, or there is none; or an allocation fails, and the library stays at its entry
 abbrev pub AppliesNext : NodeLibrary → NodeLibrary → Option (Option Entry) → Result (Option Verdict) StepFault → Type 0
 AppliesNext old new None (Ok None) = new ≡ old
 AppliesNext old new None (Ok (Some verdict)) = ⊥

@@ -2,7 +2,7 @@
 ghost use Rattle.std.specs.Prelude.{◌≡◌, ◌+◌, Ok, Some, None, length, IfOk, OnOk, OnErr, is_ok, if◌then◌else◌};
 ghost use Rattle.synod.specs.Record.{changed_by};
 ghost use Rattle.net.specs.Due.{change_in, posts_of};
-ghost use Rattle.switch.specs.Seat.{Fails, IsWithOrWithout, change_owed, owed_in, posts_owed, standing_of, up, down};
+ghost use Rattle.switch.specs.NodeStore.{Fails, IsWithOrWithout, change_owed, owed_in, posts_owed, standing_of, up, down};
 ghost use Rattle.switch.specs.Switch.{is_down, standing_seen};
 
 use net::Due;
@@ -20,25 +20,25 @@ pub(crate) enum Standing<V> {
 
 /// A node's keep, and whether the node is up.
 #[derive(Drop)]
-pub(crate) struct Seat<V: Value, K: Keep<V>> {
+pub(crate) struct NodeStore<V: Value, K: Keep<V>> {
     keep: K,
     standing: Standing<V>,
 }
 
-impl<V: Value, K: Keep<V>> Model for Seat<V, K> {
-    ghost use Rattle.switch.specs.Seat.{Seated, standing_of};
+impl<V: Value, K: Keep<V>> Model for NodeStore<V, K> {
+    ghost use Rattle.switch.specs.NodeStore.{StoreState, standing_of};
 
-    ghost Value = { Seated V };
+    ghost Value = { StoreState V };
 
     ghost view = { λ s. record { kept = K.kept s.keep; failures = K.failures s.keep; standing = standing_of s.standing } };
 }
 
-impl<V: Value, K: Keep<V>> Seat<V, K> {
+impl<V: Value, K: Keep<V>> NodeStore<V, K> {
     /// That of a node that is up.
     pub fn new(keep: K) -> Self
         ensures { result ≡ record { kept = K.kept keep; failures = K.failures keep; standing = up } }
     {
-        Seat {
+        NodeStore {
             keep,
             standing: Standing::Up,
         }

@@ -7,8 +7,8 @@ use Rattle.synod.specs.declared.change.Change.{Change}
 use Rattle.synod.specs.Record.{Kept, changed_by}
 use Rattle.synod.specs.Node.{Node, kept_of}
 use Rattle.net.specs.Due.{Due, change_in, posts_of}
-use Rattle.switch.specs.declared.seat.Standing.{Standing as Stands}
-use Rattle.switch.specs.declared.seat.Standing.TheVariants.{Up, Down}
+use Rattle.switch.specs.declared.node_store.Standing.{Standing as Stands}
+use Rattle.switch.specs.declared.node_store.Standing.TheVariants.{Up, Down}
 
 -- up; or down, with what is owed, if anything
 pub data Standing (A : Type 0) : Type 0 where
@@ -19,7 +19,7 @@ abbrev pub standing_of : {V : Type 0} → Stands V → Standing (Due V)
 standing_of Up = up
 standing_of (Down due) = down due
 
-pub record Seated (V : Type 0) : Type 0 where
+pub record StoreState (V : Type 0) : Type 0 where
   pub kept : Kept V  -- what the keep would load
   pub failures : ℕ  -- how many calls of the keep failed
   pub standing : Standing (Due V)
@@ -49,6 +49,6 @@ IsRecordOf n up kept = kept ≡ kept_of n
 IsRecordOf n (down o) kept = IsWithOrWithout (kept_of n) (change_owed o) kept
 
 -- a call of the keep failed
-pub record Fails {V : Type 0} (old : Seated V) (change : Option (Change V)) (left : Standing (Due V)) (new : Seated V) : Type 0 where
+pub record Fails {V : Type 0} (old : StoreState V) (change : Option (Change V)) (left : Standing (Due V)) (new : StoreState V) : Type 0 where
   pub kept : IsWithOrWithout old.kept change new.kept
   pub rest : new ≡ record { kept = new.kept; failures = old.failures + 1; standing = left }
