@@ -1,21 +1,6 @@
 -- What a call leaves of the tie between cells and switch, and what the tie gives.
-use Rattle.std.proofs.Common.{◌≡◌, ℕ, suc, ◌<◌, Bool, true, false, List, [], ◌∷◌, ◌++◌, length, slice_get, Option, Some, None, Result, Ok, Err, refl, ap, sym, ◌∙◌, subst, arith, append_assoc}
-use Rattle.std.specs.Prelude.{IsOk, IsSome, MatchOption, option_map}
-use Rattle.std.specs.Borrow.{Bor}
-use Rattle.std.specs.Result.{ForOk}
-use Rattle.synod.specs.Node.{Node}
-use Rattle.net.specs.declared.fault.StepFault.{StepFault}
-use Rattle.net.specs.declared.fault.StepFault.TheVariants.{NoNode}
-use Rattle.net.specs.World.{World, log_at, log, log_after}
-use Rattle.net.specs.Agree.{IsBeginningOf}
-use Rattle.switch.specs.Switch.{SwitchView, world_of}
-use Rattle.switch.specs.Belonging.{BeginsLog}
-use Rattle.world.specs.declared.carried.Carried.{Carried}
-use Rattle.world.specs.Carried.{carried_size}
-use Rattle.world.specs.Replicas.{NodeLibrary}
-use Rattle.cluster.specs.Cell.{Cell, new_cell, AddsEntry, TakesOver}
-use Rattle.cluster.specs.Belongs.{Belongs}
-use Rattle.library.proofs.FrontLemmas.{get-front}
+use Rattle.cluster.proofs.Words.{◌≡◌, ℕ, suc, ◌<◌, Bool, true, false, List, [], ◌∷◌, ◌++◌, length, slice_get, Option, Some, None, Result, Ok, Err, refl, ap, sym, ◌∙◌, subst, arith, append_assoc, IsOk, IsSome, MatchOption, option_map, Bor, ForOk}
+use Rattle.cluster.proofs.Words.{Node, StepFault, NoNode, World, log_at, log, log_after, IsBeginningOf, SwitchView, world_of, BeginsLog, Carried, carried_size, NodeLibrary, Cell, new_cell, AddsEntry, TakesOver, Belongs, get-front}
 
 -- What a switch shows of a log.
 

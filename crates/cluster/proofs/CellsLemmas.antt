@@ -1,12 +1,6 @@
 -- New cells, one after another.
-use Rattle.std.proofs.Common.{◌≡◌, ℕ, zero, suc, ◌+◌, ◌<◌, List, [], ◌∷◌, ◌++◌, length, take, slice_get, Some, refl, ap, sym, ◌∙◌, subst, arith, add-one, le_of_suc-le-suc}
-use Rattle.net.specs.World.{log_after}
-use Rattle.switch.specs.Switch.{SwitchView, new_views, world_of}
-use Rattle.world.specs.declared.carried.Carried.{Carried}
-use Rattle.world.specs.Carried.{carried_size}
-use Rattle.cluster.specs.Cell.{Cell, new_cell}
-use Rattle.cluster.specs.Belongs.{Belongs, EachBelongs}
-use Rattle.cluster.specs.Cells.{new_cells}
+use Rattle.cluster.proofs.Words.{◌≡◌, ℕ, zero, suc, ◌+◌, ◌<◌, List, [], ◌∷◌, ◌++◌, length, take, slice_get, Some, refl, ap, sym, ◌∙◌, subst, arith, add-one, le_of_suc-le-suc}
+use Rattle.cluster.proofs.Words.{log_after, SwitchView, new_views, world_of, Carried, carried_size, Cell, new_cell, Belongs, EachBelongs, new_cells}
 
 new_cells-take : (k i : ℕ) (ws : List ℕ) → i < length ws → new_cells k (take (suc i) ws) ≡ new_cells k (take i ws) ++ new_cell (k + i) ∷ []
 new_cells-take k i [] h = absurd (omega arith)

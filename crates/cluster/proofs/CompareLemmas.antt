@@ -1,22 +1,6 @@
 -- The libraries of two cells of one switch are one the beginning of the other.
-use Rattle.std.proofs.Common.{◌≡◌, ◌+◌, ◌<◌, ◌≤◌, true, false, List, [], ◌∷◌, ◌++◌, length, inl, inr, Option, Result, Ok, Err, refl, ap, sym, ◌∙◌, subst, arith, append-nil, length-append}
-use Rattle.std.specs.Prelude.{IsOk}
-use Rattle.mm_read.specs.Statements.{Database}
-use Rattle.world.specs.declared.carried.Carried.{Carried}
-use Rattle.net.specs.declared.fault.StepFault.{StepFault}
-use Rattle.net.specs.World.{World, log, log_after}
-use Rattle.net.specs.Agree.{IsBeginningOf, Agree}
-use Rattle.net.specs.Taken.{Taken}
-use Rattle.net.specs.History.{IsMoment}
-use Rattle.world.specs.Carried.{carried_size, entries_of}
-use Rattle.world.specs.Replicas.{IsOfLog}
-use Rattle.world.specs.Headline.{Headline}
-use Rattle.world.proofs.EntryLogs.{entries_begin}
-use Rattle.world.proofs.HeadlineLemmas.{headline_holds}
-use Rattle.world.proofs.ReplicasLemmas.{of_longer}
-use Rattle.switch.specs.Switch.{SwitchView, world_of}
-use Rattle.cluster.specs.Cell.{Cell, IsCell}
-use Rattle.cluster.specs.Belongs.{Belongs}
+use Rattle.cluster.proofs.Words.{◌≡◌, ◌+◌, ◌<◌, ◌≤◌, true, false, List, [], ◌∷◌, ◌++◌, length, inl, inr, Option, Result, Ok, Err, refl, ap, sym, ◌∙◌, subst, arith, append-nil, length-append, IsOk}
+use Rattle.cluster.proofs.Words.{Database, Carried, StepFault, World, log, log_after, IsBeginningOf, Agree, Taken, IsMoment, carried_size, entries_of, IsOfLog, Headline, entries_begin, headline_holds, of_longer, SwitchView, world_of, Cell, IsCell, Belongs}
 
 module _ (s : SwitchView Carried) (w : World Carried) (is : world_of carried_size s ≡ Ok w) where
   abbrev taken : Taken Carried

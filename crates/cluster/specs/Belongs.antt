@@ -2,12 +2,7 @@
 -- Source: Lamport, Paxos Made Simple, section 3: all servers execute the same commands, each as far as it learned them.
 -- The code tests the tie entry by entry where switch and cell are both at hand, since two locks share no fact.
 use Rattle.std.specs.Prelude.{◌≡◌, ◌<◌, ℕ, List, Some, length, slice_get}
-use Rattle.mm_read.specs.Statements.{Database}
-use Rattle.net.specs.Agree.{IsBeginningOf}
-use Rattle.switch.specs.Switch.{SwitchView}
-use Rattle.switch.specs.Belonging.{BeginsLog}
-use Rattle.world.specs.declared.carried.Carried.{Carried}
-use Rattle.world.specs.Carried.{carried_size}
+use Rattle.cluster.specs.Words.{Database, IsBeginningOf, SwitchView, BeginsLog, Carried, carried_size}
 use Rattle.cluster.specs.declared.compare.Ahead.{Ahead}
 use Rattle.cluster.specs.declared.compare.Ahead.TheVariants.{First, Same, Second}
 use Rattle.cluster.specs.Cell.{Cell}

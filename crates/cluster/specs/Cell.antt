@@ -2,13 +2,7 @@
 -- Source: Lamport, Paxos Made Simple, section 3: a server executes the commands in the order of their numbers.
 -- The code keeps these under a lock of their own; that the entries begin the log of their core is tested where both are at hand.
 use Rattle.std.specs.Prelude.{◌≡◌, ℕ, ◌+◌, ◌≤◌, Bool, true, false, List, [], ◌∷◌, ◌++◌, Option, Some, None, Result, Ok, Err, length, slice_get}
-use Rattle.slots.specs.declared.slots.TheConstants.{SLOTS}
-use Rattle.library.specs.declared.entry.Entry.{Entry}
-use Rattle.world.specs.declared.carried.Carried.{Carried}
-use Rattle.net.specs.declared.fault.StepFault.{StepFault}
-use Rattle.net.specs.declared.fault.StepFault.TheVariants.{Memory}
-use Rattle.world.specs.Carried.{entries_of}
-use Rattle.world.specs.Replicas.{NodeLibrary, new_library, IsOfLog}
+use Rattle.cluster.specs.Words.{SLOTS, Entry, Carried, StepFault, Memory, entries_of, NodeLibrary, new_library, IsOfLog}
 
 pub record Cell : Type 0 where
   pub at : ℕ

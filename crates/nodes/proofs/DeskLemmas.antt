@@ -1,13 +1,5 @@
 -- What a desk does is an event of the switch: the call under the lock says so.
-use Rattle.std.proofs.Common.{◌≡◌, ℕ, List, [], ◌∷◌, ◌++◌, Result, Ok, Err, refl, sym, subst}
-use Rattle.std.specs.Prelude.{IfErr, IsErrAnd}
-use Rattle.net.specs.declared.event.Event.{Event}
-use Rattle.net.specs.declared.event.Event.TheVariants.{Deliver}
-use Rattle.net.specs.declared.fault.StepFault.{StepFault}
-use Rattle.switch.specs.Switch.{SwitchView, Plays}
-use Rattle.world.specs.declared.carried.Carried.{Carried}
-use Rattle.world.specs.Carried.{carried_size}
-use Rattle.nodes.specs.Desk.{AnswersAs, DeliversAll}
+use Rattle.nodes.proofs.Words.{◌≡◌, ℕ, List, [], ◌∷◌, ◌++◌, Result, Ok, Err, refl, sym, subst, IfErr, IsErrAnd, Event, Deliver, StepFault, SwitchView, Plays, Carried, carried_size, AnswersAs, DeliversAll}
 
 -- A fault that `?` hands on.
 pub handed : {A : Type 0} (P : StepFault → Type 0) (r : Result A StepFault) (fault : StepFault) → IsErrAnd r (λ f. f ≡ fault) → P fault → IfErr r P

@@ -1,17 +1,6 @@
 -- What a report counts: one event more.
-use Rattle.std.proofs.Common.{◌≡◌, ℕ, zero, suc, ◌+◌, ◌<◌, ◌≤◌, ◌==◌, Bool, true, false, List, [], ◌∷◌, ◌++◌, length, get_or, set, replicate, sum, Some, None, Result, Ok, Err, refl, ap, ◌∙◌, arith, if◌then◌else◌}
-use Rattle.std.specs.Prelude.{IsOk}
-use Rattle.std.specs.Result.{ForOk}
-use Rattle.std.proofs.lemmas.Bool.Decides.{nat_tests}
-use Rattle.std.proofs.lemmas.List.Sums.{sum_by-set, get_or-le-sum_by}
-use Rattle.net.specs.World.{World}
-use Rattle.net.specs.declared.event.Event.{Event}
-use Rattle.net.specs.declared.fault.StepFault.{StepFault}
-use Rattle.net.specs.KeptPart.{node_of}
-use Rattle.switch.specs.Switch.{SwitchView, world_of}
-use Rattle.world.specs.declared.carried.Carried.{Carried}
-use Rattle.world.specs.Carried.{carried_size}
-use Rattle.nodes.specs.Report.{is_own, own_events, own_counts, with_one, IsReport}
+use Rattle.nodes.proofs.Words.{◌≡◌, ℕ, zero, suc, ◌+◌, ◌<◌, ◌≤◌, ◌==◌, Bool, true, false, List, [], ◌∷◌, ◌++◌, length, get_or, set, replicate, sum, Some, None, Result, Ok, Err, refl, ap, ◌∙◌, arith, if◌then◌else◌, IsOk, ForOk, nat_tests, sum_by-set, get_or-le-sum_by}
+use Rattle.nodes.proofs.Words.{World, Event, StepFault, node_of, SwitchView, world_of, Carried, carried_size, is_own, own_events, own_counts, with_one, IsReport}
 
 -- The counts with one more at a node.
 

@@ -2,20 +2,7 @@
 -- Source: this project's profile.
 -- The code lets the locks go before it answers, so what is said is said of some such values.
 use Rattle.std.specs.Prelude.{◌≡◌, ◌⊎◌, ℕ, List, [], ◌∷◌, Option, Result, Ok, Err}
-use Rattle.library.specs.declared.listed.Listed.{Listed}
-use Rattle.library.specs.declared.verdict.Verdict.{Verdict}
-use Rattle.library.specs.LibraryOf.{status}
-use Rattle.library.specs.Listed.{listed}
-use Rattle.world.specs.declared.carried.Carried.{Carried}
-use Rattle.cluster.specs.declared.compare.Ahead.{Ahead}
-use Rattle.net.specs.declared.event.Event.{Event}
-use Rattle.net.specs.declared.event.Event.TheVariants.{Deliver, Restart}
-use Rattle.net.specs.declared.fault.StepFault.{StepFault}
-use Rattle.net.specs.declared.fault.StepFault.TheVariants.{Apart, Stopped}
-use Rattle.world.specs.Carried.{carried_size}
-use Rattle.switch.specs.Switch.{SwitchView, Plays}
-use Rattle.cluster.specs.Belongs.{Belongs, IsAhead}
-use Rattle.cluster.specs.Cell.{Cell, IsCell}
+use Rattle.nodes.specs.Words.{Listed, Verdict, status, listed, Carried, Ahead, Event, Deliver, Restart, StepFault, Apart, Stopped, carried_size, SwitchView, Plays, Belongs, IsAhead, Cell, IsCell}
 
 -- the assertions of the library of node k's cell
 pub record IsListed (k : ℕ) (list : List Listed) : Type 0 where

@@ -2,12 +2,7 @@
 -- Source: this project's profile.
 -- The code goes through the history once, and adds one to the count of each event's node.
 use Rattle.std.specs.Prelude.{◌≡◌, ℕ, zero, suc, ◌+◌, ◌==◌, Bool, false, List, [], ◌∷◌, Option, Some, None, Ok, if◌then◌else◌}
-use Rattle.world.specs.declared.carried.Carried.{Carried}
-use Rattle.net.specs.declared.event.Event.{Event}
-use Rattle.net.specs.World.{World}
-use Rattle.net.specs.KeptPart.{node_of}
-use Rattle.switch.specs.Switch.{SwitchView, world_of}
-use Rattle.world.specs.Carried.{carried_size}
+use Rattle.nodes.specs.Words.{Carried, Event, World, node_of, SwitchView, world_of, carried_size}
 
 abbrev pub is_node : ℕ → Option ℕ → Bool
 is_node k None = false

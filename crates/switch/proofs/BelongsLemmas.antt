@@ -1,30 +1,8 @@
--- What begins a log goes on to begin it, whatever event comes, but for a restart of its own node.
-use Rattle.std.proofs.Common.{◌≡◌, ◌≢◌, ℕ, ◌<◌, ◌==◌, Bool, true, false, List, [], ◌∷◌, ◌++◌, length, slice_get, inl, inr, Option, Some, None, Result, Ok, Err, refl, ap, sym, ◌∙◌, subst, arith, append-nil, nat_lt, ◌+◌}
-use Rattle.std.specs.Prelude.{IsSome, OnErr}
-use Rattle.std.specs.Option.{option_map}
-use Rattle.std.proofs.lemmas.Bool.Decides.{nat_tests}
-use Rattle.std.proofs.lemmas.List.{length-set}
-use Rattle.synod.specs.declared.packet.Packet.{Packet}
-use Rattle.synod.specs.declared.change.Change.{Change}
-use Rattle.synod.specs.declared.refusal.Refusal.{Refusal}
-use Rattle.synod.specs.Node.{Node, Stepped}
-use Rattle.synod.specs.Proposer.{offered, begun}
-use Rattle.synod.specs.Step.{on_packet, restarted}
-use Rattle.net.specs.declared.event.TheConstants.{MOST_EVENTS}
-use Rattle.net.specs.declared.event.Event.{Event}
-use Rattle.net.specs.declared.event.Event.TheVariants.{Offer, Begin, Deliver, Restart}
-use Rattle.net.specs.declared.fault.StepFault.{StepFault}
-use Rattle.net.specs.World.{World, at_node, delivered, happens_at, happens, log, log_after, all_happen, start}
-use Rattle.net.specs.Agree.{IsAfter, IsBeginningOf}
-use Rattle.net.specs.KeptPart.{node_of, change_of}
-use Rattle.net.proofs.EveryEvent.{IfTaken, if_taken, spent_or}
-use Rattle.net.proofs.TwoMoments.{all_happen-append}
-use Rattle.net.proofs.TakenLemmas.{after-push}
-use Rattle.net.proofs.LogsGrow.{log_grows}
-use Rattle.net.proofs.Beginnings.{then_begins}
-use Rattle.switch.specs.NodeStore.{Standing, up, down}
-use Rattle.switch.specs.Switch.{StoreView, SwitchView, world_of, with_store, with_event, IsViewOf, AreStores, is_down, is_down_view, is_down_at, due, change_due, events_due, FailsAt, TakesAt, ActsUp, RevivesAt, Revives, ActsDown, Acts}
-use Rattle.switch.specs.Belonging.{BeginsLog, StaysBelonging, KeepsLogs}
+-- A prefix of a node's log stays one, whatever event comes, but for a restart of that node.
+use Rattle.switch.proofs.Words.{◌≡◌, ◌≢◌, ℕ, ◌<◌, ◌==◌, Bool, true, false, List, [], ◌∷◌, ◌++◌, length, slice_get, inl, inr, Option, Some, None, Result, Ok, Err, refl, ap, sym, ◌∙◌, subst, arith, nat_lt, ◌+◌, IsSome, OnErr, option_map, nat_tests, length-set}
+use Rattle.switch.proofs.Words.{Packet, Change, Refusal, Node, Stepped, offered, begun, on_packet, restarted, MOST_EVENTS, Event, Offer, Begin, Deliver, Restart, StepFault, World, at_node, delivered, happens_at, happens, log, log_after, all_happen, start, IsAfter, IsBeginningOf, node_of, change_of, IfTaken, if_taken, spent_or, all_happen-append, after-push, log_grows, then_begins, Standing, up, down, StoreView, SwitchView, world_of, with_store, IsViewOf, AreStores, is_down, is_down_view, is_down_at, due, change_due, events_due, FailsAt, TakesAt, ActsUp, RevivesAt, Revives, ActsDown, Acts, BeginsLog, StaysBelonging, KeepsLogs}
+use Rattle.std.proofs.Common.{append-nil}
+use Rattle.switch.specs.Switch.{with_event}
 
 -- The node of an event that is taken is there.
 
@@ -62,14 +40,14 @@ module _ {V : Type 0} (size : V → ℕ) (w : World V) where
 log_goes_on : {V : Type 0} (size : V → ℕ) (w : World V) (e : Event V) (x : World V) → happens size w e ≡ Ok x → (j : ℕ) → e ≢ Restart j → IsBeginningOf (log w j) (log x j)
 log_goes_on {V} size w e x happened j other = if_taken (λ (y : World V). IsBeginningOf (log w j) (log y j)) (happens size w e) x happened (log_grows size w j e other)
 
--- What a call leaves.
+-- The logs after a call.
 
 module _ {V : Type 0} (size : V → ℕ) (old : SwitchView V) where
   -- where nothing has changed, what begins a log still begins it
   pub same_stays : (new : SwitchView V) → new ≡ old → StaysBelonging size old new
   same_stays new is k entries h = subst (λ (s : SwitchView V). BeginsLog size s k entries) (sym is) h
 
-  -- only a view is another
+  -- only a store changes
   view_stays : (new : SwitchView V) (k : ℕ) (view : StoreView V) → new ≡ with_store old k view → StaysBelonging size old new
   view_stays new k view is j entries h = subst (λ (s : SwitchView V). BeginsLog size s j entries) (sym is) record {
     node = subst (λ (n : ℕ). j < n) (sym (length-set old.stores k view)) h.node;
@@ -101,7 +79,7 @@ module _ {V : Type 0} (size : V → ℕ) (old : SwitchView V) where
         j entries (log_goes_on size w e x happened j other) h
 
     module _ (stores : AreStores size w old.stores) where
-      -- a node that is there has its view
+      -- a node that is there has its store
       view_there : (k : ℕ) → IsSome (slice_get w.nodes k) → (view : StoreView V) × (slice_get old.stores k ≡ Some view)
       view_there k there = both (slice_get w.nodes k) (slice_get old.stores k) refl there (stores k) where
         both : (n : Option (Node V)) (o : Option (StoreView V)) → slice_get old.stores k ≡ o → IsSome n → IsViewOf size w n o → (view : StoreView V) × (slice_get old.stores k ≡ Some view)

@@ -1,23 +1,7 @@
--- What a call on one node answers: the fields are what is seen, and the world is the one after the history.
-use Rattle.std.proofs.Common.{◌≡◌, ℕ, ◌+◌, ◌<◌, false, List, [], ◌∷◌, ◌++◌, length, set, slice_get, inl, inr, Option, Some, None, Result, Ok, Err, refl, ap, sym, ◌∙◌, subst, arith}
-use Rattle.std.specs.Prelude.{IfErr, OnOk, IsOkUnless}
-use Rattle.std.specs.Result.{ForOk}
-use Rattle.synod.specs.declared.packet.Packet.{Packet}
-use Rattle.synod.specs.declared.change.Change.{Change}
-use Rattle.synod.specs.Record.{Kept, changed_by}
-use Rattle.synod.specs.Node.{Node, Stepped, kept_of}
-use Rattle.net.specs.declared.event.TheConstants.{MOST_EVENTS}
-use Rattle.net.specs.declared.event.Event.{Event}
-use Rattle.net.specs.declared.fault.StepFault.{StepFault}
-use Rattle.net.specs.declared.fault.StepFault.TheVariants.{Memory, Device}
-use Rattle.net.specs.World.{World, stepped, happens, packets_after}
-use Rattle.net.specs.Taken.{Taken, with_event, world_of as world_of_taken}
-use Rattle.net.specs.KeptPart.{addressed, node_of, change_of}
-use Rattle.net.specs.Due.{Due, NetView, IsDue, IsEventAt, IsStill, IsTaken, change_in, step_of}
-use Rattle.std.proofs.lemmas.Option.{slice_get_within}
-use Rattle.net.proofs.TakenLemmas.{after-push, length-nodes_of}
-use Rattle.switch.specs.NodeStore.{Standing, up, down, StoreState, IsRecordOf, IsWithOrWithout, Fails, change_owed}
-use Rattle.switch.specs.Switch.{StoreView, SwitchView, event_owed, standing_seen, view_of, views_of, IsOwing, IsSwitch, world_of, IsRecordIn, IsViewOf, AreStores, is_down_at, with_store, due, TakesAt, ActsUp}
+-- The answer of a call on one node: contracts see the fields, and the world is the one after the history.
+use Rattle.switch.proofs.Words.{◌≡◌, ℕ, ◌+◌, ◌<◌, false, List, [], ◌∷◌, ◌++◌, length, set, slice_get, inl, inr, Option, Some, None, Result, Ok, Err, refl, ap, sym, ◌∙◌, subst, arith, IfErr, OnOk, IsOkUnless, ForOk, slice_get_within}
+use Rattle.switch.proofs.Words.{Packet, Change, Kept, changed_by, Node, Stepped, kept_of, MOST_EVENTS, Event, StepFault, Memory, Device, World, stepped, happens, packets_after, Taken, world_of_taken, addressed, node_of, change_of, Due, NetView, IsDue, IsEventAt, IsStill, IsTaken, change_in, step_of, after-push, length-nodes_of, Standing, up, down, StoreState, IsRecordOf, IsWithOrWithout, Fails, change_owed, StoreView, SwitchView, event_owed, standing_seen, view_of, views_of, IsOwing, IsSwitch, world_of, IsRecordIn, IsViewOf, AreStores, is_down_at, with_store, due, TakesAt, ActsUp}
+use Rattle.net.specs.Taken.{with_event}
 use Rattle.switch.proofs.StoresLemmas.{views_of-set, view_at, view_past, item_at, up_at}
 use Rattle.switch.proofs.SwitchLemmas.{switch_view, other_store, committed, node_is, at, happens_is, change_is, change_told, changes}
 
@@ -56,7 +40,7 @@ module _ {V : Type 0} (size : V → ℕ) (net : NetView V) (stores : List (Store
   pub node_seen : (e : Event V) (o : Option ℕ) → o ≡ addressed net.packets e → ForOk (world_of size now) (λ x. node_of x e ≡ o)
   node_seen e o is = of_world (λ s x. node_of x e ≡ o) (ap (λ (ps : List (Packet V)). addressed ps e) h.world.posted ∙ sym is)
 
-  -- Each node has its view.
+  -- Each node has its store.
 
   -- each node has a store
   pub store_there : (k : ℕ) (n : Node V) → slice_get w.nodes k ≡ Some n → (store : StoreState V) × (slice_get stores k ≡ Some store)

@@ -1,24 +1,6 @@
 -- Which nodes there are, the dispatch of an event by its node, and a call as its function has it.
-use Rattle.std.proofs.Common.{◌≡◌, ℕ, zero, suc, ◌<◌, ◌≤◌, nat_lt, Bool, true, false, List, [], ◌∷◌, length, get_or, set, slice_get, Option, Some, None, Result, Ok, Err, refl, ap, sym, ◌∙◌, subst, arith}
-use Rattle.std.specs.Prelude.{◌↔◌, IsOk, IsSome}
-use Rattle.std.proofs.lemmas.Bool.Decides.{nat_tests}
-use Rattle.std.specs.Result.{ForOk}
-use Rattle.synod.specs.declared.change.Change.{Change}
-use Rattle.synod.specs.Record.{changed_by}
-use Rattle.synod.specs.Node.{Node, kept_of}
-use Rattle.net.specs.declared.event.TheConstants.{MOST_EVENTS}
-use Rattle.net.specs.declared.event.Event.{Event}
-use Rattle.net.specs.declared.event.Event.TheVariants.{Offer, Begin, Deliver, Restart}
-use Rattle.net.specs.declared.fault.StepFault.{StepFault}
-use Rattle.net.specs.declared.fault.StepFault.TheVariants.{Device, Down, NoNode}
-use Rattle.net.specs.World.{World, packets_after}
-use Rattle.net.specs.Taken.{Taken, world_of as world_of_taken}
-use Rattle.net.specs.KeptPart.{node_of}
-use Rattle.net.specs.Due.{Due, NetView, IsDue, IsStill, IsTaken, change_in}
-use Rattle.std.proofs.lemmas.Option.{slice_get_within, slice_get_read}
-use Rattle.net.proofs.TakenLemmas.{length-nodes_of, count_shown}
-use Rattle.switch.specs.NodeStore.{up, down, StoreState, Fails, change_owed}
-use Rattle.switch.specs.Switch.{SwitchView, event_owed, IsOwing, IsSwitch, world_of, is_down_at, due, ActsUp, ActsDown, Acts}
+use Rattle.switch.proofs.Words.{◌≡◌, ℕ, zero, suc, ◌<◌, ◌≤◌, nat_lt, Bool, true, false, List, [], ◌∷◌, length, get_or, set, slice_get, Option, Some, None, Result, Ok, Err, refl, ap, sym, ◌∙◌, subst, arith, ◌↔◌, IsOk, IsSome, nat_tests, ForOk, slice_get_within, slice_get_read}
+use Rattle.switch.proofs.Words.{Change, changed_by, Node, kept_of, MOST_EVENTS, Event, Offer, Begin, Deliver, Restart, StepFault, Device, Down, NoNode, World, packets_after, Taken, world_of_taken, node_of, Due, NetView, IsDue, IsStill, IsTaken, change_in, length-nodes_of, count_shown, up, down, StoreState, Fails, change_owed, SwitchView, event_owed, IsOwing, IsSwitch, world_of, is_down_at, due, ActsUp, ActsDown, Acts}
 use Rattle.switch.proofs.StoresLemmas.{count_views, down_view}
 use Rattle.switch.proofs.SwitchLemmas.{switch_view, still_switch}
 use Rattle.switch.proofs.CallLemmas.{still_view, of_world, after_is, is_up_at, kept_up, failed, failed_acts, played, played_acts}

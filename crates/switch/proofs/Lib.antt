@@ -1,3 +1,4 @@
+pub mod Words
 mod KeepLemmas
 pub mod StoresLemmas
 mod SwitchLemmas

@@ -1,13 +1,7 @@
 -- What is owed at a node that is down: that it can be taken, and the switch once it is.
-use Rattle.std.proofs.Common.{◌≡◌, ℕ, ◌+◌, ◌<◌, ◌≤◌, List, ◌++◌, length, set, slice_get, Option, Some, None, refl, ap, sym, ◌∙◌, subst, arith, append-nil}
-use Rattle.synod.specs.Record.{changed_by}
-use Rattle.synod.specs.Node.{Node, kept_of}
-use Rattle.net.specs.declared.event.TheConstants.{MOST_EVENTS}
-use Rattle.net.specs.World.{World}
-use Rattle.net.specs.Taken.{Taken}
-use Rattle.net.specs.Due.{Due, NetView, HasRoom, step_of}
-use Rattle.switch.specs.NodeStore.{Standing, up, down, StoreState, change_owed, posts_owed, IsRecordOf}
-use Rattle.switch.specs.Switch.{event_owed, IsOwing, IsSwitch, CanTakeOwed, TakesOwed, change_due, events_due}
+use Rattle.switch.proofs.Words.{◌≡◌, ℕ, ◌+◌, ◌<◌, ◌≤◌, List, ◌++◌, length, set, slice_get, Option, Some, None, refl, ap, sym, ◌∙◌, subst, arith}
+use Rattle.switch.proofs.Words.{changed_by, Node, kept_of, MOST_EVENTS, World, Taken, Due, NetView, HasRoom, step_of, Standing, up, down, StoreState, change_owed, posts_owed, IsRecordOf, event_owed, IsOwing, IsSwitch, CanTakeOwed, TakesOwed, change_due, events_due}
+use Rattle.std.proofs.Common.{append-nil}
 use Rattle.switch.proofs.KeepLemmas.{with_either}
 use Rattle.switch.proofs.SwitchLemmas.{other_store, node_is, committed, change_told, changes}
 

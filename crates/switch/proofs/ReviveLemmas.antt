@@ -1,33 +1,6 @@
 -- The restart of a node that is down: what is owed is taken first.
-use Rattle.std.proofs.Common.{◌≡◌, ℕ, ◌+◌, ◌<◌, ◌≤◌, true, List, [], ◌∷◌, ◌++◌, length, get_or, set, slice_get, inl, inr, Option, Some, None, Result, Ok, Err, refl, ap, sym, ◌∙◌, subst, arith, length-append}
-use Rattle.std.specs.List.{AllByRecursion}
-use Rattle.std.specs.Option.{option_map}
-use Rattle.std.specs.Result.{ForOk}
-use Rattle.std.proofs.lemmas.List.{length-set}
-use Rattle.std.proofs.lemmas.Option.{slice_get_read}
-use Rattle.synod.specs.declared.packet.Packet.{Packet}
-use Rattle.synod.specs.declared.packet.Body.TheVariants.{Ask}
-use Rattle.synod.specs.declared.change.Change.{Change}
-use Rattle.synod.specs.Packets.{IsPost, to_others}
-use Rattle.synod.specs.Record.{Kept, changed_by}
-use Rattle.synod.specs.Node.{Node, Stepped, kept_of}
-use Rattle.synod.specs.Core.{Core}
-use Rattle.synod.specs.Step.{reloaded, restarted}
-use Rattle.net.specs.declared.event.TheConstants.{MOST_EVENTS}
-use Rattle.net.specs.declared.event.Event.{Event}
-use Rattle.net.specs.declared.event.Event.TheVariants.{Restart}
-use Rattle.net.specs.declared.fault.StepFault.{StepFault}
-use Rattle.net.specs.declared.fault.StepFault.TheVariants.{Memory, Device}
-use Rattle.net.specs.World.{World, packets_after}
-use Rattle.net.specs.Agree.{IsAfter}
-use Rattle.net.specs.Taken.{Taken, world_of as world_of_taken}
-use Rattle.net.specs.KeptPart.{kept_part}
-use Rattle.net.specs.Due.{Work, steps, restarts, Due, NetView, HasRoom, IsDue, IsReadyAt, IsOfEvent, IsEventAt, ComesTo, IsTaken, posts_of, step_of, loads, loads_due}
-use Rattle.net.proofs.GrowingLists.{at_set, set_twice}
-use Rattle.net.proofs.EventsDue.{comes_restart}
-use Rattle.net.proofs.TakenLemmas.{set_same}
-use Rattle.switch.specs.NodeStore.{Standing, up, down, StoreState, owed_in, change_owed, posts_owed, IsRecordOf, IsWithOrWithout, Fails}
-use Rattle.switch.specs.Switch.{StoreView, SwitchView, event_owed, standing_seen, view_of, views_of, IsOwing, IsStore, IsSwitch, CanTakeOwed, TakesOwed, world_of, is_down_at, events_due, with_store, RevivesAt, Revives}
+use Rattle.switch.proofs.Words.{◌≡◌, ℕ, ◌+◌, ◌<◌, ◌≤◌, true, List, [], ◌∷◌, ◌++◌, length, get_or, set, slice_get, inl, inr, Option, Some, None, Result, Ok, Err, refl, ap, sym, ◌∙◌, subst, arith, length-append, AllByRecursion, option_map, ForOk, length-set, slice_get_read}
+use Rattle.switch.proofs.Words.{Packet, Ask, Change, IsPost, to_others, Kept, changed_by, Node, Stepped, kept_of, Core, reloaded, restarted, MOST_EVENTS, Event, Restart, StepFault, Memory, Device, World, packets_after, IsAfter, Taken, world_of_taken, kept_part, Work, steps, restarts, Due, NetView, HasRoom, IsDue, IsReadyAt, IsOfEvent, IsEventAt, ComesTo, IsTaken, posts_of, step_of, loads, loads_due, at_set, set_twice, comes_restart, set_same, Standing, up, down, StoreState, owed_in, change_owed, posts_owed, IsRecordOf, IsWithOrWithout, Fails, StoreView, SwitchView, event_owed, standing_seen, view_of, views_of, IsOwing, IsStore, IsSwitch, CanTakeOwed, TakesOwed, world_of, is_down_at, events_due, with_store, RevivesAt, Revives}
 use Rattle.switch.proofs.KeepLemmas.{either_twice}
 use Rattle.switch.proofs.StoresLemmas.{views_of-set, view_at, item_at, down_at, few_due}
 use Rattle.switch.proofs.SwitchLemmas.{switch_view, core_node, own_number, own_weights, other_store, at, node_is, committed}

@@ -1,20 +1,7 @@
 -- A restart of a node that is down and finds no room in the history, or no memory.
-use Rattle.std.proofs.Common.{◌≡◌, ℕ, ◌+◌, ◌<◌, ◌≤◌, true, false, List, length, slice_get, inl, Option, Some, None, Result, Ok, Err, refl, ap, sym, ◌∙◌, subst, arith}
-use Rattle.std.specs.Result.{ForOk}
-use Rattle.synod.specs.Node.{Node}
-use Rattle.synod.specs.Step.{restarted}
-use Rattle.net.specs.declared.event.TheConstants.{MOST_EVENTS}
-use Rattle.net.specs.declared.event.Event.{Event}
-use Rattle.net.specs.declared.event.Event.TheVariants.{Restart}
-use Rattle.net.specs.declared.fault.StepFault.{StepFault}
-use Rattle.net.specs.declared.fault.StepFault.TheVariants.{Memory, EventsSpent}
-use Rattle.std.specs.Prelude.{OnOk, IsOkUnless}
-use Rattle.net.specs.World.{World, stepped, at_node}
-use Rattle.net.specs.Taken.{with_event, world_of as world_of_taken}
-use Rattle.net.specs.Due.{Due, NetView}
-use Rattle.net.proofs.TakenLemmas.{set_same, next_is}
-use Rattle.switch.specs.NodeStore.{down, StoreState}
-use Rattle.switch.specs.Switch.{StoreView, SwitchView, views_of, IsSwitch, world_of, is_down_at, is_down_view, with_store, Revives}
+use Rattle.switch.proofs.Words.{◌≡◌, ℕ, ◌+◌, ◌<◌, ◌≤◌, true, false, List, length, slice_get, inl, Option, Some, None, Result, Ok, Err, refl, ap, sym, ◌∙◌, subst, arith, ForOk, OnOk, IsOkUnless}
+use Rattle.switch.proofs.Words.{Node, restarted, MOST_EVENTS, Event, Restart, StepFault, Memory, EventsSpent, World, stepped, at_node, world_of_taken, Due, NetView, set_same, next_is, down, StoreState, StoreView, SwitchView, views_of, IsSwitch, world_of, is_down_at, is_down_view, with_store, Revives}
+use Rattle.net.specs.Taken.{with_event}
 use Rattle.switch.proofs.StoresLemmas.{view_past}
 use Rattle.switch.proofs.SwitchLemmas.{switch_view}
 use Rattle.switch.proofs.CallLemmas.{of_world, node_there}

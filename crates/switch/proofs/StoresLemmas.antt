@@ -1,27 +1,20 @@
 -- Stores and their views, one after another and one by one.
-use Rattle.std.proofs.Common.{◌≡◌, ◌≢◌, ℕ, zero, suc, ◌+◌, ◌<◌, ◌≤◌, ◌==◌, Bool, true, false, List, [], ◌∷◌, ◌++◌, length, get_or, remove, set, slice_get, slice_index_or, Option, Some, None, refl, ap, sym, ◌∙◌, subst, arith, append_assoc, append-nil, le_of_suc-le-suc}
-use Rattle.std.specs.List.{AllByRecursion}
-use Rattle.std.proofs.lemmas.Bool.Decides.{nat_tests}
-use Rattle.synod.specs.Record.{Kept, new_kept}
-use Rattle.synod.specs.Node.{Node}
-use Rattle.net.specs.declared.event.Event.{Event}
-use Rattle.net.specs.Due.{Due}
-use Rattle.net.proofs.GrowingLists.{at_set, at_set_other}
-use Rattle.switch.specs.NodeStore.{Standing, up, down, StoreState}
-use Rattle.switch.specs.Switch.{StoreView, standing_seen, view_of, views_of, new_views, new_stores, is_down, is_down_view, is_down_at, events_due}
+use Rattle.switch.proofs.Words.{◌≡◌, ◌≢◌, ℕ, zero, suc, ◌+◌, ◌<◌, ◌≤◌, ◌==◌, Bool, true, false, List, [], ◌∷◌, ◌++◌, length, get_or, remove, set, slice_get, slice_index_or, Option, Some, None, refl, ap, sym, ◌∙◌, subst, arith, append_assoc, le_of_suc-le-suc, AllByRecursion, nat_tests}
+use Rattle.switch.proofs.Words.{Kept, new_kept, Node, Event, Due, at_set, at_set_other, Standing, up, down, StoreState, StoreView, standing_seen, view_of, views_of, new_views, new_stores, is_down, is_down_view, is_down_at, events_due}
+use Rattle.std.proofs.Common.{append-nil}
 
 pub views_of-set : {V : Type 0} (stores : List (StoreState V)) (k : ℕ) (store : StoreState V) → views_of (set stores k store) ≡ set (views_of stores) k (view_of store)
 views_of-set [] k store = refl
 views_of-set (s ∷ stores) zero store = refl
 views_of-set (s ∷ stores) (suc k) store = ap (λ ps. view_of s ∷ ps) (views_of-set stores k store)
 
--- the view of a store stands where the store stands
+-- the view of a store has its index
 pub view_at : {V : Type 0} (stores : List (StoreState V)) (k : ℕ) (store : StoreState V) → slice_get stores k ≡ Some store → slice_get (views_of stores) k ≡ Some (view_of store)
 view_at [] k store e = cc
 view_at {V} (s ∷ stores) zero store e = let same : s ≡ store = cc in ap (λ (x : StoreState V). let o : Option (StoreView V) = Some (view_of x) in o) same
 view_at (s ∷ stores) (suc k) store e = view_at stores k store e
 
--- where no store stands, no view stands
+-- where there is no store, there is no view
 pub view_past : {V : Type 0} (stores : List (StoreState V)) (k : ℕ) → slice_get stores k ≡ None → slice_get (views_of stores) k ≡ None
 view_past [] k e = refl
 view_past (s ∷ stores) zero e = cc
@@ -38,13 +31,13 @@ item_at [] k low = absurd (omega arith)
 item_at (x ∷ xs) zero low = (x, refl)
 item_at (x ∷ xs) (suc k) low = item_at xs k (le_of_suc-le-suc low)
 
--- what is read twice at one view of a list is the same
+-- two reads at one index of a list give one element
 pub same_at : {A : Type 0} (xs : List A) (k : ℕ) (x y : A) → k < length xs → x ≡ get_or xs k x → y ≡ get_or xs k y → x ≡ y
 same_at [] k x y low is other = absurd (omega arith)
 same_at (z ∷ xs) zero x y low is other = is ∙ sym other
 same_at (z ∷ xs) (suc k) x y low is other = same_at xs k x y (le_of_suc-le-suc low) is other
 
--- What is so of each node and its store, once one of the stores is another.
+-- A fact of each node and its store, once one of the stores has changed.
 pub each_after : {V : Type 0} (nodes : List (Node V)) (stores : List (StoreState V)) (P : ℕ → Node V → StoreState V → Type 0) (k : ℕ) (store new : StoreState V) → slice_get stores k ≡ Some store
     → ((m : Node V) → slice_get nodes k ≡ Some m → P k m new) → ((j : ℕ) (m : Node V) (s : StoreState V) → k ≢ j → slice_get nodes j ≡ Some m → slice_get stores j ≡ Some s → P j m s)
     → (j : ℕ) (m : Node V) (s : StoreState V) → slice_get nodes j ≡ Some m → slice_get (set stores k new) j ≡ Some s → P j m s

@@ -1,37 +1,14 @@
--- What a switch keeps after its net or one of its stores has changed.
-use Rattle.std.proofs.Common.{◌≡◌, ◌≢◌, ℕ, zero, suc, ◌<◌, ◌≤◌, List, [], ◌∷◌, ◌++◌, length, set, slice_get, Option, Some, None, Ok, refl, ap, sym, ◌∙◌, subst, arith, append_assoc, append-nil}
-use Rattle.std.specs.List.{AllByRecursion}
-use Rattle.std.specs.Option.{option_map}
-use Rattle.std.proofs.lemmas.List.{length-set}
-use Rattle.synod.specs.declared.packet.Packet.{Packet}
-use Rattle.synod.specs.declared.change.Change.{Change}
-use Rattle.synod.specs.Packets.{IsPost}
-use Rattle.synod.specs.Record.{Kept, changed_by, new_kept}
-use Rattle.synod.specs.Node.{Node, Stepped, kept_of, new_node}
-use Rattle.synod.specs.Core.{Core}
-use Rattle.net.specs.declared.event.TheConstants.{MOST_EVENTS}
-use Rattle.net.specs.declared.event.Event.{Event}
-use Rattle.net.specs.World.{World, start, nodes_from, stepped, happens, happens_at, after, offers_of}
-use Rattle.net.specs.Agree.{IsAfter}
-use Rattle.net.specs.Taken.{Taken, nodes_of, AreOfWorld, with_event}
-use Rattle.net.specs.KeptPart.{change_of, kept_part}
-use Rattle.net.specs.Due.{Work, steps, restarts, Due, change_in, posts_of, step_of, IsEventAt, NetView, AreStill, IsStill, IsDue, IsTaken}
-use Rattle.net.proofs.GrowingLists.{at_set, at_set_other}
-use Rattle.net.proofs.EveryEvent.{if_taken, node_at, holds_after}
-use Rattle.net.proofs.TwoMoments.{world_lasts}
-use Rattle.net.proofs.KeptPartLemmas.{Happens, event_moves}
-use Rattle.net.proofs.TakenLemmas.{taken_count, happens-not_spent, events_within, rooms_stay, makes, nodes_of-set}
-use Rattle.net.proofs.EventsDue.{nodes_found, nodes_still, due_still}
-use Rattle.net.proofs.DueTaken.{posts_same}
-use Rattle.switch.specs.NodeStore.{Standing, up, down, StoreState, IsRecordOf}
-use Rattle.switch.specs.Switch.{SwitchView, views_of, new_stores, IsOwing, IsStore, IsSwitch}
+-- A switch after its net or one of its stores has changed.
+use Rattle.switch.proofs.Words.{◌≡◌, ◌≢◌, ℕ, zero, suc, ◌<◌, ◌≤◌, List, [], ◌∷◌, ◌++◌, length, set, slice_get, Option, Some, None, Ok, refl, ap, sym, ◌∙◌, subst, arith, append_assoc, AllByRecursion, option_map, length-set}
+use Rattle.switch.proofs.Words.{Packet, Change, IsPost, Kept, changed_by, new_kept, Node, Stepped, kept_of, new_node, Core, MOST_EVENTS, Event, World, start, nodes_from, stepped, happens, happens_at, after, offers_of, IsAfter, Taken, nodes_of, AreOfWorld, change_of, kept_part, Work, steps, restarts, Due, change_in, posts_of, step_of, IsEventAt, NetView, AreStill, IsStill, IsDue, IsTaken, at_set, at_set_other, if_taken, node_at, holds_after, world_lasts, Happens, event_moves, taken_count, happens-not_spent, events_within, rooms_stay, makes, nodes_of-set, nodes_found, nodes_still, due_still, posts_same, Standing, up, down, StoreState, IsRecordOf, SwitchView, views_of, new_stores, IsOwing, IsStore, IsSwitch, all_append}
+use Rattle.std.proofs.Common.{append-nil}
+use Rattle.net.specs.Taken.{with_event}
 use Rattle.switch.proofs.StoresLemmas.{each_after, new_at, count_stores}
-use Rattle.synod.proofs.NodeKeeps.{all_append}
 
 abbrev pub switch_view : {V : Type 0} → NetView V → List (StoreState V) → SwitchView V
 switch_view net stores = record { weights = net.taken.weights; history = net.taken.events; stores = views_of stores }
 
--- the same net, where only rooms are others
+-- the world stays, where only rooms change
 still_world : {V : Type 0} (size : V → ℕ) (a b : NetView V) → IsStill a b → AreOfWorld size a.taken a.cores a.packets → AreOfWorld size b.taken b.cores b.packets
 still_world {V} size a b still h =
     subst (λ (t : Taken V). AreOfWorld size t b.cores b.packets) (sym still.taken)
@@ -100,13 +77,13 @@ module _ {V : Type 0} (size : V → ℕ) (net : NetView V) (stores : List (Store
       (node_at w.weights (offers_of net.taken.events) holds.ledger w.nodes 0 k n at holds.nodes).weights
       ∙ (world_lasts size net.taken.weights [] net.taken.events (start net.taken.weights) w refl h.world.is_after).weights
 
-  -- the node at view k has the number k
+  -- the node at index k has the number k
   pub own_number : (k : ℕ) (n : Node V) → slice_get w.nodes k ≡ Some n → n.me ≡ k
   own_number k n at =
       let holds = holds_after size net.taken.weights net.taken.events w h.world.is_after in
       (node_at w.weights (offers_of net.taken.events) holds.ledger w.nodes 0 k n at holds.nodes).me ∙ omega arith
 
-  -- Rooms alone are others.
+  -- Only rooms change.
 
   -- what is owed is still due
   still_owing : (b : NetView V) → IsStill net b → (k : ℕ) (s : Standing (Due V)) → IsOwing size net k s → IsOwing size b k s
@@ -127,7 +104,7 @@ module _ {V : Type 0} (size : V → ℕ) (net : NetView V) (stores : List (Store
             record { fits = own.fits; owing = still_owing b still k store.standing own.owing });
       }
 
-  -- One store is another.
+  -- One store changes.
 
   -- a new store that fits its node leaves a switch
   pub other_store : (k : ℕ) (n : Node V) (store new : StoreState V) → slice_get w.nodes k ≡ Some n → slice_get stores k ≡ Some store → IsStore size net k n new → IsSwitch size net (set stores k new)

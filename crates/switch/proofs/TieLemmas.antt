@@ -1,16 +1,6 @@
--- What a call leaves of what begins a log, and what it answers by `?`.
-use Rattle.std.proofs.Common.{◌≡◌, ℕ, true, false, List, Option, Some, None, Result, Ok, Err, refl, ap, sym, ◌∙◌, subst, slice_get}
-use Rattle.std.specs.Prelude.{IsErrAnd}
-use Rattle.std.specs.Result.{ForOk}
-use Rattle.net.specs.declared.event.Event.{Event}
-use Rattle.net.specs.declared.fault.StepFault.{StepFault}
-use Rattle.net.specs.declared.fault.StepFault.TheVariants.{Memory}
-use Rattle.net.specs.World.{World}
-use Rattle.net.specs.KeptPart.{addressed, node_of}
-use Rattle.net.specs.Due.{Due, NetView}
-use Rattle.switch.specs.NodeStore.{Standing, up, down, StoreState}
-use Rattle.switch.specs.Switch.{StoreView, SwitchView, standing_seen, view_of, views_of, IsOwing, IsSwitch, is_down_at, world_of, ActsUp, ActsDown, Revives, Acts, Plays}
-use Rattle.switch.specs.Belonging.{KeepsLogs}
+-- A call as a whole: its answer in the world after the history, and the logs after it.
+use Rattle.switch.proofs.Words.{◌≡◌, ℕ, true, false, List, Option, Some, None, Result, Ok, Err, refl, ap, sym, ◌∙◌, subst, slice_get, IsErrAnd, ForOk}
+use Rattle.switch.proofs.Words.{Event, StepFault, Memory, World, addressed, node_of, Due, NetView, Standing, up, down, StoreState, StoreView, SwitchView, standing_seen, view_of, views_of, IsOwing, IsSwitch, is_down_at, world_of, ActsUp, ActsDown, Revives, Acts, Plays, KeepsLogs}
 use Rattle.switch.proofs.StoresLemmas.{view_at, view_past}
 use Rattle.switch.proofs.SwitchLemmas.{switch_view, at}
 use Rattle.switch.proofs.CallLemmas.{stores_are, after_is, node_there, node_seen}
@@ -48,7 +38,7 @@ module _ {V : Type 0} (size : V → ℕ) (net : NetView V) (stores : List (Store
       let same : o.event ≡ e = cc in
       ap (λ (v : Event V). node_of h.world.world v) (sym same) ∙ (at size net stores h o owing.1).node ∙ ap (λ (i : ℕ). let p : Option ℕ = Some i in p) owing.0
 
-  -- the same of what is owed at a view that is seen
+  -- what is owed at a store that is seen is an event of its node
   owed_at : (k : ℕ) (o : Option (StoreState V)) → slice_get stores k ≡ o → (view : StoreView V) → slice_get (views_of stores) k ≡ Some view → (e : Event V) → view.standing ≡ down (Some e) → node_of h.world.world e ≡ Some k
   owed_at k None none view is e stands = let no : None ≡ Some view = sym (view_past stores k none) ∙ is in cc
   owed_at k (Some store) some view is e stands =

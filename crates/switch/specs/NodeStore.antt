@@ -1,12 +1,8 @@
--- What stands beside a node: the record of its keep, and whether it is up, or down since a call of its keep failed.
+-- A node's store: the record of its keep, and whether the node is up, or down since a call of its keep failed.
 -- Source: Lamport, Paxos Made Simple, section 2.5: what an acceptor must remember is in stable storage before it is seen.
--- The code has the keep itself. Contracts see what the keep would load, how often it failed, and the event that is owed.
+-- The code has the keep itself. Contracts see the record that it would load, how often it failed, and the event that is owed.
 use Rattle.std.specs.Prelude.{◌≡◌, ◌⊎◌, ◌+◌, ℕ, List, [], Option, Some, None}
-use Rattle.synod.specs.declared.packet.Packet.{Packet}
-use Rattle.synod.specs.declared.change.Change.{Change}
-use Rattle.synod.specs.Record.{Kept, changed_by}
-use Rattle.synod.specs.Node.{Node, kept_of}
-use Rattle.net.specs.Due.{Due, change_in, posts_of}
+use Rattle.switch.specs.Words.{Packet, Change, Kept, changed_by, Node, kept_of, Due, change_in, posts_of}
 use Rattle.switch.specs.declared.node_store.Standing.{Standing as Stands}
 use Rattle.switch.specs.declared.node_store.Standing.TheVariants.{Up, Down}
 

@@ -1,25 +1,13 @@
--- What the nodes of a cluster share: the history, and of each node the record of its keep and whether it is up.
+-- The switch that the nodes of a cluster share: its history, and for each node the record of its keep and whether it is up.
 -- Source: Lamport, Paxos Made Simple, section 3; that a node with a failed store is down is this project's profile.
 -- The code has a net beside the keeps; the type keeps that its state is that of the world after the history.
 use Rattle.std.specs.Prelude.{◌≡◌, ◌⊎◌, ◌+◌, ◌≤◌, ◌<◌, ℕ, Bool, true, false, List, [], ◌∷◌, ◌++◌, Option, Some, None, Result, Ok, Err, length, slice_get, slice_set}
-use Rattle.synod.specs.declared.change.Change.{Change}
-use Rattle.synod.specs.Record.{Kept, changed_by, new_kept}
-use Rattle.synod.specs.Node.{Node, kept_of}
-use Rattle.net.specs.declared.event.TheConstants.{MOST_EVENTS}
-use Rattle.net.specs.declared.event.Event.{Event}
-use Rattle.net.specs.declared.event.Event.TheVariants.{Offer, Begin, Deliver, Restart}
-use Rattle.net.specs.declared.fault.StepFault.{StepFault}
-use Rattle.net.specs.declared.fault.StepFault.TheVariants.{Memory, Device, Down, EventsSpent}
-use Rattle.net.specs.World.{World, happens, after}
-use Rattle.net.specs.Agree.{IsAfter}
-use Rattle.net.specs.Taken.{AreOfWorld}
-use Rattle.net.specs.KeptPart.{node_of, change_of, kept_part}
-use Rattle.net.specs.Due.{Due, NetView, IsDue, HasRoom, IsTaken, posts_of}
+use Rattle.switch.specs.Words.{Change, Kept, changed_by, new_kept, Node, kept_of, MOST_EVENTS, Event, Offer, Begin, Deliver, Restart, StepFault, Memory, Device, Down, EventsSpent, World, happens, after, IsAfter, AreOfWorld, node_of, change_of, kept_part, Due, NetView, IsDue, HasRoom, IsTaken, posts_of}
 use Rattle.switch.specs.NodeStore.{Standing, up, down, StoreState, IsRecordOf, IsWithOrWithout}
 
 -- What contracts see.
 
--- of a node: what its keep would load, how often the keep failed, and whether it is up; while it is down the event whose store failed
+-- a node's store: the record that its keep would load, how often the keep failed, and whether the node is up; while it is down, the event whose store failed
 pub record StoreView (V : Type 0) : Type 0 where
   pub kept : Kept V
   pub failures : ℕ
@@ -45,7 +33,7 @@ abbrev pub views_of : {V : Type 0} → List (StoreState V) → List (StoreView V
 views_of [] = []
 views_of (store ∷ stores) = view_of store ∷ views_of stores
 
--- the views of new nodes with these keeps, whose calls failed so often
+-- the stores of new nodes, as seen, with these keeps, whose calls failed so often
 abbrev pub new_views : {V K : Type 0} → (K → ℕ) → List K → List (StoreView V)
 new_views failures [] = []
 new_views failures (keep ∷ keeps) = record { kept = new_kept; failures = failures keep; standing = up } ∷ new_views failures keeps
@@ -78,7 +66,7 @@ pub record IsSwitch {V : Type 0} (size : V → ℕ) (net : NetView V) (stores : 
 
 -- the world after the history
 abbrev pub world_of : {V : Type 0} → (V → ℕ) → SwitchView V → Result (World V) StepFault
-world_of size switch_view = after size switch_view.weights switch_view.history
+world_of size switch = after size switch.weights switch.history
 
 -- the change that is owed, in that world
 abbrev pub change_due : {V : Type 0} → (V → ℕ) → World V → Option (Event V) → Option (Change V)
@@ -96,7 +84,7 @@ IsViewOf size w (Some n) (Some view) = IsRecordIn size w n view.standing view.ke
 IsViewOf size w None (Some view) = ⊥
 IsViewOf size w (Some n) None = ⊥
 
--- each node has its view
+-- each node has its store
 abbrev pub AreStores : {V : Type 0} → (V → ℕ) → World V → List (StoreView V) → Type 0
 AreStores size w stores = (k : ℕ) → IsViewOf size w (slice_get w.nodes k) (slice_get stores k)
 
@@ -127,7 +115,7 @@ abbrev pub with_event : {V : Type 0} → SwitchView V → ℕ → StoreView V �
 with_event old k view change e =
     record (with_store old k record { kept = changed_by view.kept change; failures = view.failures; standing = view.standing }) { history = old.history ++ e ∷ [] }
 
--- what a node owes whose keep failed at the event: a restart stores nothing
+-- the event that a node owes if its keep fails at this event: a restart stores nothing
 abbrev pub due : {V : Type 0} → Event V → Option (Event V)
 due (Offer k v) = Some (Offer k v)
 due (Begin k) = Some (Begin k)
@@ -140,7 +128,7 @@ pub record FailsAt {V : Type 0} (old new : SwitchView V) (k : ℕ) (view : Store
   pub either : IsWithOrWithout view.kept change kept
   pub rest : new ≡ with_store old k record { kept = kept; failures = view.failures + 1; standing = left }
 
--- an event that meets no fault is taken, x being the world after it; or there is no memory, or the store failed
+-- an event that meets no fault is taken, x being the world after it; or an allocation failed, or the store failed
 abbrev pub TakesAt : {V : Type 0} → SwitchView V → SwitchView V → Event V → ℕ → StoreView V → Option (Change V) → World V → Result ℕ StepFault → Type 0
 TakesAt old new e k view change x (Ok count) = (new ≡ with_event old k view change e) × (count ≡ length x.packets)
 TakesAt old new e k view change x (Err fault) = ((fault ≡ Memory) × (new ≡ old)) ⊎ ((fault ≡ Device) × FailsAt old new k view change (down (due e)))

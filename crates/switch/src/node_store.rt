@@ -1,4 +1,4 @@
-//! What stands beside a node: its keep, and whether it is up, or down since a call of its keep failed.
+//! A node's store: its keep, and whether the node is up, or down since a call of its keep failed.
 ghost use Rattle.std.specs.Prelude.{◌≡◌, ◌+◌, Ok, Some, None, length, IfOk, OnOk, OnErr, is_ok, if◌then◌else◌};
 ghost use Rattle.synod.specs.Record.{changed_by};
 ghost use Rattle.net.specs.Due.{change_in, posts_of};
@@ -14,7 +14,7 @@ use synod::{Failed, Keep, Record, Value};
 #[derive(Drop)]
 pub(crate) enum Standing<V> {
     Up,
-    /// A call of the keep failed. The event that it failed to store, if that was a store.
+    /// A call of the keep failed: a load, or the store of this event.
     Down(Option<Due<V>>),
 }
 
@@ -34,7 +34,7 @@ impl<V: Value, K: Keep<V>> Model for NodeStore<V, K> {
 }
 
 impl<V: Value, K: Keep<V>> NodeStore<V, K> {
-    /// That of a node that is up.
+    /// Makes the store of a node that is up.
     pub fn new(keep: K) -> Self
         ensures { result ≡ record { kept = K.kept keep; failures = K.failures keep; standing = up } }
     {
@@ -44,7 +44,7 @@ impl<V: Value, K: Keep<V>> NodeStore<V, K> {
         }
     }
 
-    /// Whether the node is down.
+    /// Tells whether the node is down.
     pub fn is_down(&self) -> bool
         ensures { result ≡ is_down (standing_seen self.now.standing) }
     {
@@ -54,8 +54,7 @@ impl<V: Value, K: Keep<V>> NodeStore<V, K> {
         }
     }
 
-    /// Makes the change of an event that is due, and gives the event back. Where that fails, the node is down, and the event is
-    /// kept.
+    /// Stores the change of an event that is due, and returns the event. Where that fails, the node is down and owes the event.
     pub fn store(&mut self, due: Due<V>) -> Result<Due<V>, Failed>
         ensures stored { OnOk result (self.new ≡ record { kept = changed_by self.old.kept (change_in due.work); failures = self.old.failures; standing = self.old.standing }) }
         ensures due { IfOk result (λ same. same ≡ due) }
@@ -70,7 +69,7 @@ impl<V: Value, K: Keep<V>> NodeStore<V, K> {
         }
     }
 
-    /// The record that is kept. Where the load fails, the node is down, and owes nothing.
+    /// Loads the record. Where that fails, the node is down and owes nothing.
     pub fn load(&mut self) -> Result<Record<V>, Failed>
         ensures loaded { IfOk result (λ loaded. loaded.kept ≡ self.old.kept) }
         ensures same { OnOk result (self.new ≡ self.old) }
@@ -85,7 +84,7 @@ impl<V: Value, K: Keep<V>> NodeStore<V, K> {
         }
     }
 
-    /// How many packets are owed.
+    /// Returns how many packets the event that is owed posts.
     pub fn count_owed(&self) -> usize
         ensures { result ≡ length (posts_owed (owed_in self.now.standing)) }
     {
@@ -96,8 +95,8 @@ impl<V: Value, K: Keep<V>> NodeStore<V, K> {
         }
     }
 
-    /// Makes the change that is owed, if there is one, and loads the record: the node is up, and gives the event that it owed.
-    /// Where a call of the keep fails, it stays down.
+    /// Stores the change that is owed, if there is one, and loads the record: the node is up. Returns the event that it owed. Where a
+    /// call of the keep fails, the node stays down.
     pub fn repair(&mut self) -> Result<(Option<Due<V>>, Record<V>), Failed>
         ensures owed { IfOk result (λ made. made.0 ≡ owed_in self.old.standing) }
         ensures loaded { IfOk result (λ made. made.1.kept ≡ changed_by self.old.kept (change_owed (owed_in self.old.standing))) }
@@ -109,7 +108,7 @@ impl<V: Value, K: Keep<V>> NodeStore<V, K> {
         Ok((self.take_owed(), record))
     }
 
-    /// Makes the change that is owed, if there is one.
+    /// Stores the change that is owed, if there is one.
     fn store_owed(&mut self) -> Result<(), Failed>
         ensures stored { OnOk result (self.new ≡ record { kept = changed_by self.old.kept (change_owed (owed_in self.old.standing)); failures = self.old.failures; standing = self.old.standing }) }
         ensures failed { OnErr result (Fails self.old (change_owed (owed_in self.old.standing)) self.old.standing self.new) }
@@ -121,7 +120,7 @@ impl<V: Value, K: Keep<V>> NodeStore<V, K> {
         }
     }
 
-    /// The node is up, and gives the event that it owed.
+    /// Makes the node up. Returns the event that it owed.
     fn take_owed(&mut self) -> Option<Due<V>>
         ensures owed { result ≡ owed_in self.old.standing }
         ensures up { self.new ≡ record { kept = self.old.kept; failures = self.old.failures; standing = up } }
@@ -133,7 +132,7 @@ impl<V: Value, K: Keep<V>> NodeStore<V, K> {
     }
 }
 
-/// Makes the change of an event that is due, if it makes one.
+/// Stores the change of an event that is due, if it makes one.
 fn store_change<V: Value, K: Keep<V>>(keep: &mut K, due: &Due<V>) -> Result<(), Failed>
     ensures stored { OnOk result (K.kept keep.new ≡ changed_by (K.kept keep.old) (change_in due.now.work)) }
     ensures failed { OnErr result (IsWithOrWithout (K.kept keep.old) (change_in due.now.work) (K.kept keep.new)) }

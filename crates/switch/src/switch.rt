@@ -1,4 +1,4 @@
-//! What the nodes share: the net, and of each node its keep.
+//! The switch that the nodes share: the net, and each node's store.
 ghost use Rattle.std.specs.Prelude.{◌≡◌, ◌↔◌, ◌<◌, ◌≤◌, Ok, Err, Some, None, [], length, slice_get, IsOk, IsSome, IfOk, IsOkUnless, MatchOption, MatchResult};
 ghost use Rattle.std.specs.List.{AllByRecursion};
 ghost use Rattle.std.specs.Result.{ForOk};
@@ -16,8 +16,8 @@ use std::alloc::{AllocError, Global};
 use std::marker::Model;
 use synod::{Keep, Packet, Value, Weights};
 
-/// The history of the nodes, and what it led to. It is seen as the history and, of each node, what its keep would load,
-/// how often the keep failed, and whether the node is up.
+/// The nodes of one agreement, their packets and their stores. Contracts see the history and, for each node, the record that its
+/// keep would load, how often the keep failed, and whether the node is up.
 #[derive(Drop)]
 pub struct Switch<V: Value, K: Keep<V>> {
     pub(crate) net: Net<V>,
@@ -35,7 +35,7 @@ impl<V: Value, K: Keep<V>> Model for Switch<V, K> {
 }
 
 impl<V: Value, K: Keep<V>> Switch<V, K> {
-    /// New nodes with their keeps, one for each weight, before any event.
+    /// Makes new nodes with their keeps, one for each weight, before any event.
     pub fn new(alloc: Global, weights: Weights, keeps: Vec<K>) -> Result<Self, StepFault>
         requires count { length keeps.items ≡ length weights }
         requires new { AllByRecursion (λ keep. K.kept keep ≡ new_kept) keeps.items }
@@ -60,7 +60,7 @@ impl<V: Value, K: Keep<V>> Switch<V, K> {
         }
     }
 
-    /// Entry `slot` of the log of node `k`. It takes no memory.
+    /// Returns entry `slot` of the log of node `k`, or `NoNode`. Does not allocate.
     pub fn entry(&self, k: u8, slot: u32) -> Result<Option<&Option<V>>, StepFault>
         ensures entry { IfOk result (λ found. MatchOption found (slice_get (log_after (world_of V.bytes self.now) k) slot ≡ None) (λ entry. slice_get (log_after (world_of V.bytes self.now) k) slot ≡ Some entry.now)) }
         ensures below { IfOk result (λ found. IsSome found → slot < SLOTS) }
@@ -72,7 +72,7 @@ impl<V: Value, K: Keep<V>> Switch<V, K> {
         self.net.entry(k, slot)
     }
 
-    /// The events that were taken.
+    /// Returns the events taken, in order.
     ///
     /// The nodes and the packets are those of the world after them, and the record of each keep is the kept part of its
     /// node: while the node is down, with or without the change whose store failed.
@@ -85,8 +85,8 @@ impl<V: Value, K: Keep<V>> Switch<V, K> {
         self.net.history()
     }
 
-    /// Returns the node of an event, if its number or its packet's receiver names one: a delivery is of the node that its packet
-    /// is addressed to.
+    /// Returns the number of the node of an event: of a delivery that of the node that its packet is addressed to, or `None` where
+    /// there is no such packet.
     pub fn node_of(&self, event: &Event<V>) -> Option<u8>
         ensures node { ForOk (world_of V.bytes self.now) (λ world. result ≡ node_of world event.now) }
         ensures taken { IsOk (world_of V.bytes self.now) }
@@ -103,7 +103,7 @@ impl<V: Value, K: Keep<V>> Switch<V, K> {
     }
 }
 
-/// The stores of nodes that are up, with their keeps.
+/// Makes the stores of nodes that are up, with their keeps.
 fn new_stores<V: Value, K: Keep<V>>(
     alloc: Global,
     keeps: Vec<K>,

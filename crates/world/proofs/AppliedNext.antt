@@ -1,16 +1,6 @@
 -- The answer of a call that applies the next entry of a node's log.
-use Rattle.std.proofs.Common.{◌≡◌, ℕ, List, set, slice_get, Option, Some, None, Result, Ok, Err, refl, ap, sym, ◌∙◌, subst}
-use Rattle.std.specs.Prelude.{IfOk, IfSome, IsSomeAnd, IsOkUnless, OnErr, MatchOption, option_map}
-use Rattle.std.specs.Borrow.{Bor}
-use Rattle.library.specs.declared.entry.Entry.{Entry}
-use Rattle.library.specs.declared.verdict.Verdict.{Verdict}
-use Rattle.world.specs.declared.carried.Carried.{Carried}
-use Rattle.net.specs.declared.fault.StepFault.{StepFault}
-use Rattle.net.specs.declared.fault.StepFault.TheVariants.{Memory}
-use Rattle.net.specs.World.{log}
-use Rattle.world.specs.Carried.{entry_of, entries_of}
-use Rattle.world.specs.Replicas.{NodeLibrary, Replicas, log_entries, IsOfLog, AreReplicas, AppliesNext, next_of, next_entry, IsApplied}
-use Rattle.net.proofs.TakenLemmas.{set_same}
+use Rattle.world.proofs.Words.{◌≡◌, ℕ, List, set, slice_get, Option, Some, None, Result, Ok, Err, refl, ap, sym, ◌∙◌, subst, IfOk, IfSome, IsSomeAnd, IsOkUnless, OnErr, MatchOption, option_map, Bor}
+use Rattle.world.proofs.Words.{Entry, Verdict, Carried, StepFault, Memory, log, entry_of, entries_of, NodeLibrary, Replicas, log_entries, IsOfLog, AreReplicas, AppliesNext, next_of, next_entry, IsApplied, set_same}
 use Rattle.world.proofs.EntryLogs.{entries_of-get, entries_of-none}
 use Rattle.world.proofs.ReplicasLemmas.{of_log_applied, applied_are_replicas}
 

@@ -1,19 +1,6 @@
 -- The headline: logs of entries agree, the library of a log begins that of a longer one, and each library of a log is good.
-use Rattle.std.proofs.Common.{◌≡◌, ℕ, zero, suc, true, false, List, [], ◌∷◌, take, Option, Result, Ok, Err, inl, inr, refl, ap, sym, subst}
-use Rattle.std.specs.Prelude.{IsOk}
-use Rattle.library.specs.declared.entry.Entry.{Entry}
-use Rattle.library.specs.LibraryOf.{Replica, IsLibraryOf}
-use Rattle.library.proofs.LibraryLemmas.{library-begins, library-good}
-use Rattle.world.specs.declared.carried.Carried.{Carried}
-use Rattle.net.specs.declared.fault.StepFault.{StepFault}
-use Rattle.net.specs.World.{World, log}
-use Rattle.net.specs.Agree.{IsBeginningOf, Agree}
-use Rattle.net.specs.Taken.{Taken, world_of}
-use Rattle.net.specs.History.{Agreement}
-use Rattle.world.specs.Carried.{carried_size, entries_of}
-use Rattle.world.specs.Headline.{Headline, HeadlineHolds}
-use Rattle.net.proofs.Beginnings.{then_begins, beginnings_agree}
-use Rattle.net.proofs.HistoryLemmas.{agreement_of}
+use Rattle.world.proofs.Words.{◌≡◌, ℕ, zero, suc, true, false, List, [], ◌∷◌, take, Option, Result, Ok, Err, inl, inr, refl, ap, sym, subst, IsOk}
+use Rattle.world.proofs.Words.{Entry, Replica, IsLibraryOf, library-begins, library-good, Carried, StepFault, World, log, IsBeginningOf, Agree, Taken, world_of, Agreement, carried_size, entries_of, Headline, HeadlineHolds, then_begins, beginnings_agree, agreement_of}
 use Rattle.world.proofs.EntryLogs.{entries_agree}
 
 -- the first elements of a list are a beginning of it

@@ -3,19 +3,8 @@
 -- Source: Lamport, Paxos Made Simple, section 3; Megill and Wheeler, Metamath, 2nd ed. 2019, 4.2.
 -- The code has none of this; it follows from agreement and from the library of a log.
 use Rattle.std.specs.Prelude.{◌≡◌, ℕ, Some, IsOk, take}
-use Rattle.mm_read.specs.declared.stmt.Stmt.{Stmt}
-use Rattle.mm_read.specs.Statements.{Database}
-use Rattle.scope.specs.Active.{bares, stmt_at, expr_of}
-use Rattle.verify.specs.Derivations.{Derivation}
-use Rattle.verify.specs.Concludes.{Concludes}
-use Rattle.verify.specs.Right.{IsProvable}
-use Rattle.library.specs.LibraryOf.{Replica, IsLibraryOf}
-use Rattle.library.specs.Good.{Good}
+use Rattle.world.specs.Words.{Stmt, Database, bares, stmt_at, expr_of, Derivation, Concludes, IsProvable, Replica, IsLibraryOf, Good, World, log, Agree, Taken, world_of, IsMoment, Agreement}
 use Rattle.world.specs.declared.carried.Carried.{Carried}
-use Rattle.net.specs.World.{World, log}
-use Rattle.net.specs.Agree.{Agree}
-use Rattle.net.specs.Taken.{Taken, world_of}
-use Rattle.net.specs.History.{IsMoment, Agreement}
 use Rattle.world.specs.Carried.{carried_size, entries_of}
 
 -- a library of the history: at a moment of it, that of the first entries of a node's log, of any number

@@ -1,6 +1,4 @@
-use Rattle.std.proofs.Common.{length, ap, ◌∙◌}
-use Rattle.world.specs.declared.carried.Carried.{Carried}
-use Rattle.switch.specs.Switch.{SwitchView}
+use Rattle.cluster.proofs.Words.{length, ap, ◌∙◌, Carried, SwitchView}
 use Rattle.cluster.proofs.CellsLemmas.{count_new_views, new_belong}
 use Rattle.cluster.proofs.cell.cells.Goals as goal
 

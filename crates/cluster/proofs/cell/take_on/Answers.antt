@@ -1,12 +1,4 @@
-use Rattle.std.proofs.Common.{Option, length, refl, sym, subst, arith}
-use Rattle.std.specs.Prelude.{option_map}
-use Rattle.std.specs.Borrow.{Bor}
-use Rattle.net.specs.World.{log_after}
-use Rattle.switch.specs.Switch.{world_of}
-use Rattle.switch.specs.Belonging.{BeginsLog}
-use Rattle.world.specs.declared.carried.Carried.{Carried}
-use Rattle.world.specs.Carried.{carried_size}
-use Rattle.cluster.specs.Cell.{Cell}
+use Rattle.cluster.proofs.Words.{Option, length, refl, sym, subst, arith, option_map, Bor, log_after, world_of, BeginsLog, Carried, carried_size, Cell}
 use Rattle.cluster.proofs.CellLemmas.{stays_cell, below_some}
 use Rattle.cluster.proofs.CellTieLemmas.{shown_is, taken_belongs, takes_over, there_is, none_is, none_takes}
 use Rattle.cluster.proofs.cell.take_on.Goals as goal

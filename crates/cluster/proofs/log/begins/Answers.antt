@@ -1,7 +1,4 @@
-use Rattle.std.proofs.Common.{refl, arith}
-use Rattle.net.specs.World.{log_after}
-use Rattle.switch.specs.Switch.{world_of}
-use Rattle.world.specs.Carried.{carried_size}
+use Rattle.cluster.proofs.Words.{refl, arith, log_after, world_of, carried_size}
 use Rattle.cluster.proofs.CellTieLemmas.{all_found}
 use Rattle.cluster.proofs.log.begins.Goals as goal
 

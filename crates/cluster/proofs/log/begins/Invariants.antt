@@ -1,7 +1,4 @@
-use Rattle.std.proofs.Common.{◌≡◌, ℕ, ◌<◌, slice_get}
-use Rattle.net.specs.World.{log_after}
-use Rattle.switch.specs.Switch.{world_of}
-use Rattle.world.specs.Carried.{carried_size}
+use Rattle.cluster.proofs.Words.{◌≡◌, ℕ, ◌<◌, slice_get, log_after, world_of, carried_size}
 use Rattle.cluster.proofs.log.begins.Given as goal
 
 -- the entries gone through are those of the log

@@ -1,4 +1,4 @@
-use Rattle.std.proofs.Common.{◌≡◌, ◌∙◌, sym, true, false}
+use Rattle.cluster.proofs.Words.{◌≡◌, ◌∙◌, sym, true, false}
 use Rattle.cluster.proofs.log.begins_log.Goals as goal
 
 pub returns-then-is_ok-clause-begins : goal.returns-then-is_ok-clause-begins

@@ -1,8 +1,4 @@
-use Rattle.std.proofs.Common.{◌≡◌, ◌∙◌, ap, sym, true, false, List, Option, Some, None, slice_get}
-use Rattle.net.specs.World.{log_after}
-use Rattle.switch.specs.Switch.{world_of}
-use Rattle.world.specs.declared.carried.Carried.{Carried}
-use Rattle.world.specs.Carried.{carried_size}
+use Rattle.cluster.proofs.Words.{◌≡◌, ◌∙◌, ap, sym, true, false, List, Option, Some, None, slice_get, log_after, world_of, Carried, carried_size}
 use Rattle.cluster.proofs.CellTieLemmas.{shown_is, none_shown}
 use Rattle.cluster.proofs.log.is_entry.Goals as goal
 

@@ -1,8 +1,4 @@
-use Rattle.std.proofs.Common.{◌≡◌, ◌≤◌, sum, take}
-use Rattle.std.specs.Result.{ForOk}
-use Rattle.world.specs.Carried.{carried_size}
-use Rattle.switch.specs.Switch.{world_of}
-use Rattle.nodes.specs.Report.{own_counts}
+use Rattle.nodes.proofs.Words.{◌≡◌, ◌≤◌, sum, take, ForOk, carried_size, world_of, own_counts}
 use Rattle.nodes.proofs.report.count_events.Given as goal
 
 -- the counts are those of the events gone through

@@ -1,9 +1,5 @@
-use Rattle.std.proofs.Common.{◌≡◌, List, ◌++◌, ◌∷◌, [], ap, sym, ◌∙◌}
-use Rattle.std.specs.Vec.Iter.{into_iter_items}
-use Rattle.std.proofs.lemmas.List.{append-nil, nil_from_length}
-use Rattle.net.proofs.HistoryLemmas.{taken_front}
-use Rattle.switch.specs.NodeStore.{StoreState}
-use Rattle.switch.specs.Switch.{new_stores}
+use Rattle.switch.proofs.Words.{◌≡◌, List, ◌++◌, ◌∷◌, [], ap, sym, ◌∙◌, into_iter_items, nil_from_length, taken_front, StoreState, new_stores}
+use Rattle.std.proofs.lemmas.List.{append-nil}
 use Rattle.switch.proofs.StoresLemmas.{new_stores-push}
 use Rattle.switch.proofs.switch.new_stores.Goals as goal
 

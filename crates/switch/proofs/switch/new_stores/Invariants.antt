@@ -1,5 +1,4 @@
-use Rattle.std.proofs.Common.{◌≡◌}
-use Rattle.switch.specs.Switch.{new_stores}
+use Rattle.switch.proofs.Words.{◌≡◌, new_stores}
 use Rattle.switch.proofs.switch.new_stores.Given as goal
 
 abbrev pub invariant-loop-keep : goal.invariant-loop-keep

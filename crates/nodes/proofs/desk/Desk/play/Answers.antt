@@ -1,5 +1,4 @@
-use Rattle.std.proofs.Common.{inr}
-use Rattle.nodes.specs.Desk.{IsPlayFault}
+use Rattle.nodes.proofs.Words.{inr, IsPlayFault}
 use Rattle.nodes.proofs.DeskLemmas.{handed}
 use Rattle.nodes.proofs.desk.Desk.play.Goals as goal
 

@@ -1,6 +1,4 @@
-use Rattle.std.proofs.Common.{◌≡◌, ℕ, Ok, Err, inr, subst}
-use Rattle.net.specs.declared.event.Event.TheVariants.{Restart}
-use Rattle.nodes.specs.Desk.{IsPlayed, IsRestartFault}
+use Rattle.nodes.proofs.Words.{◌≡◌, ℕ, Ok, Err, inr, subst, Restart, IsPlayed, IsRestartFault}
 use Rattle.nodes.proofs.DeskLemmas.{handed}
 use Rattle.nodes.proofs.desk.Desk.restart.Goals as goal
 

@@ -1,5 +1,4 @@
-use Rattle.std.proofs.Common.{take}
-use Rattle.nodes.specs.Desk.{DeliversAll}
+use Rattle.nodes.proofs.Words.{take, DeliversAll}
 use Rattle.nodes.proofs.shared_switch.SharedSwitch.deliver_all.Given as goal
 
 -- the packets gone through are delivered

@@ -1,4 +1,4 @@
-use Rattle.net.specs.declared.event.Event.TheVariants.{Restart}
+use Rattle.nodes.proofs.Words.{Restart}
 use Rattle.nodes.proofs.DeskLemmas.{answers_err}
 use Rattle.nodes.proofs.shared_switch.SharedSwitch.restart.Goals as goal
 

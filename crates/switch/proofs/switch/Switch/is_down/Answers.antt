@@ -1,7 +1,4 @@
-use Rattle.std.proofs.Common.{ℕ, List, Option, Some, length, get_or, ap, sym, ◌∙◌, arith, refl}
-use Rattle.std.proofs.lemmas.Option.{slice_get_past, slice_get_read}
-use Rattle.switch.specs.NodeStore.{StoreState}
-use Rattle.switch.specs.Switch.{StoreView, SwitchView, is_down_at, is_down_view}
+use Rattle.switch.proofs.Words.{ℕ, List, Option, Some, length, get_or, ap, sym, ◌∙◌, arith, refl, slice_get_past, slice_get_read, StoreState, StoreView, SwitchView, is_down_at, is_down_view}
 use Rattle.switch.proofs.StoresLemmas.{view_at, view_past}
 use Rattle.switch.proofs.switch.Switch.is_down.Goals as goal
 

@@ -1,8 +1,4 @@
-use Rattle.std.proofs.Common.{List, ap, refl, ◌∙◌}
-use Rattle.net.specs.Taken.{Taken}
-use Rattle.net.proofs.TakenLemmas.{count_shown}
-use Rattle.switch.specs.NodeStore.{StoreState}
-use Rattle.switch.specs.Switch.{views_of}
+use Rattle.switch.proofs.Words.{List, ap, refl, ◌∙◌, Taken, count_shown, StoreState, views_of}
 use Rattle.switch.proofs.StoresLemmas.{views_new}
 use Rattle.switch.proofs.SwitchLemmas.{starts}
 use Rattle.switch.proofs.CallLemmas.{view_is_same}

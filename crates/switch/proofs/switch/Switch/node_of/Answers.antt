@@ -1,4 +1,4 @@
-use Rattle.std.proofs.Common.{sym}
+use Rattle.switch.proofs.Words.{sym}
 use Rattle.switch.proofs.CallLemmas.{node_seen}
 use Rattle.switch.proofs.switch.Switch.node_of.Goals as goal
 

@@ -1,9 +1,4 @@
-use Rattle.std.proofs.Common.{ℕ, false, Result, Err, subst, sym, ◌∙◌}
-use Rattle.std.specs.Result.{ForOk}
-use Rattle.net.specs.declared.event.Event.{Event}
-use Rattle.net.specs.declared.fault.StepFault.{StepFault}
-use Rattle.net.specs.declared.fault.StepFault.TheVariants.{Down}
-use Rattle.switch.specs.Switch.{ActsDown, ActsUp, world_of}
+use Rattle.switch.proofs.Words.{ℕ, false, Result, Err, subst, sym, ◌∙◌, ForOk, Event, StepFault, Down, ActsDown, ActsUp, world_of}
 use Rattle.switch.proofs.DispatchLemmas.{no_restart, refused_down, test_at}
 use Rattle.switch.proofs.TieLemmas.{found_at, plays_down, plays_up}
 use Rattle.switch.proofs.switch.Switch.play.Goals as goal

@@ -1,9 +1,4 @@
-use Rattle.std.proofs.Common.{Option, None, refl, ap, sym, subst, ◌∙◌, arith}
-use Rattle.synod.specs.declared.change.Change.{Change}
-use Rattle.synod.specs.Record.{changed_by}
-use Rattle.net.specs.declared.event.Event.TheVariants.{Restart}
-use Rattle.net.specs.Due.{Due, IsDue, IsTaken, loads_due}
-use Rattle.switch.specs.NodeStore.{StoreState}
+use Rattle.switch.proofs.Words.{Option, None, refl, ap, sym, subst, ◌∙◌, arith, Change, changed_by, Restart, Due, IsDue, IsTaken, loads_due, StoreState}
 use Rattle.switch.proofs.SwitchLemmas.{still_switch}
 use Rattle.switch.proofs.CallLemmas.{still_view, ready_fails}
 use Rattle.switch.proofs.DispatchLemmas.{in_stores, kept_is, call_failed, call_played}

@@ -1,12 +1,5 @@
-use Rattle.std.proofs.Common.{◌≡◌, ◌+◌, ℕ, List, length, ap, refl, sym, subst, ◌∙◌, arith}
-use Rattle.net.specs.declared.event.Event.{Event}
-use Rattle.net.specs.Taken.{Taken}
-use Rattle.synod.specs.declared.packet.Packet.{Packet}
-use Rattle.net.specs.Due.{Due, HasRoom, IsDue, IsTaken, posts_of}
-use Rattle.switch.specs.NodeStore.{StoreState, owed_in, posts_owed}
+use Rattle.switch.proofs.Words.{◌≡◌, ◌+◌, ℕ, List, length, ap, refl, sym, subst, ◌∙◌, arith, Event, Taken, Packet, Due, HasRoom, IsDue, IsTaken, posts_of, StoreState, owed_in, posts_owed, due_still, still_more}
 use Rattle.switch.proofs.StoresLemmas.{same_at}
-use Rattle.net.proofs.EventsDue.{due_still}
-use Rattle.net.proofs.StepsDue.{still_more}
 use Rattle.switch.proofs.SwitchLemmas.{still_switch}
 use Rattle.switch.proofs.CallLemmas.{still_view}
 use Rattle.switch.proofs.DispatchLemmas.{in_stores}

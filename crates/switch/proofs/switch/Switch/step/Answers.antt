@@ -1,6 +1,4 @@
-use Rattle.std.proofs.Common.{Option, Some, refl, ap, sym, subst, ◌∙◌, arith}
-use Rattle.net.specs.declared.event.Event.{Event}
-use Rattle.net.specs.Due.{Due, IsTaken}
+use Rattle.switch.proofs.Words.{Option, Some, refl, ap, sym, subst, ◌∙◌, arith, Event, Due, IsTaken}
 use Rattle.switch.proofs.SwitchLemmas.{still_switch}
 use Rattle.switch.proofs.CallLemmas.{still_view, ready_fails}
 use Rattle.switch.proofs.DispatchLemmas.{in_stores, call_failed, call_played}
