@@ -1,4 +1,4 @@
--- The libraries of two cells of one switch are one the beginning of the other.
+-- Of the libraries of two cells of one switch one is a prefix of the other.
 use Rattle.cluster.proofs.Words.{◌≡◌, ◌+◌, ◌<◌, ◌≤◌, true, false, List, [], ◌∷◌, ◌++◌, length, inl, inr, Option, Result, Ok, Err, refl, ap, sym, ◌∙◌, subst, arith, append-nil, length-append, IsOk}
 use Rattle.cluster.proofs.Words.{Database, Carried, StepFault, World, log, log_after, IsBeginningOf, Agree, Taken, IsMoment, carried_size, entries_of, IsOfLog, Headline, entries_begin, headline_holds, of_longer, SwitchView, world_of, Cell, IsCell, Belongs}
 
@@ -40,7 +40,7 @@ module _ (xs ys : Database) where
   is_second (inl h) more = (h, more)
   is_second (inr h) more = let count : length ys + length h.0 ≡ length xs = sym (length-append ys h.0) ∙ ap (λ (zs : Database). length zs) h.1 in absurd (omega (arith, count, more))
 
--- a beginning that is no shorter than the list is the list
+-- a prefix that is no shorter than the list is the list
 all_begun : (xs ys : Database) → IsBeginningOf xs ys → length ys ≤ length xs → xs ≡ ys
 all_begun xs ys h few = by_rest h.0 h.1 where
   by_rest : (rest : Database) → xs ++ rest ≡ ys → xs ≡ ys

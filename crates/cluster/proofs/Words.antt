@@ -15,9 +15,10 @@ pub use Rattle.net.specs.declared.fault.StepFault.{StepFault}
 pub use Rattle.net.specs.declared.fault.StepFault.TheVariants.{NoNode}
 pub use Rattle.slots.specs.FiniteMap.{entry_at, put_at, trim_head, trimmed}
 pub use Rattle.slots.specs.declared.slots.TheConstants.{SLOTS}
-pub use Rattle.std.proofs.Common.{Bool, Err, List, None, Ok, Option, Result, Some, [], add-one, ap, append-nil, append_assoc, arith, false, inl, inr, le_of_suc-le-suc, length, length-append, refl, slice_get, subst, suc, sym, take, true, zero, ℕ, ◌++◌, ◌+◌, ◌<◌, ◌∙◌, ◌∷◌, ◌≡◌, ◌≤◌}
+pub use Rattle.std.proofs.lemmas.Bool.Decides.{nat_tests}
+pub use Rattle.std.proofs.Common.{Bool, Err, List, None, Ok, Option, Result, Some, [], add-one, ap, append-nil, append_assoc, arith, false, inl, inr, le_of_suc-le-suc, length, length-append, nat_lt, refl, slice_get, subst, suc, sym, take, true, zero, ℕ, ◌++◌, ◌+◌, ◌<◌, ◌∙◌, ◌∷◌, ◌≡◌, ◌≤◌}
 pub use Rattle.std.specs.Borrow.{Bor}
-pub use Rattle.std.specs.Prelude.{IsOk, IsSome, MatchOption, option_map}
+pub use Rattle.std.specs.Prelude.{IsOk, IsSome, MatchOption, is_err, option_map}
 pub use Rattle.std.specs.Result.{ForOk}
 pub use Rattle.switch.specs.Belonging.{BeginsLog}
 pub use Rattle.switch.specs.Switch.{SwitchView, new_views, world_of}

@@ -1,11 +1,10 @@
 //! The cell of a node: the entries that were taken over from its log, and the library of those applied.
-ghost use Rattle.std.specs.Prelude.{◌≡◌, ◌↔◌, IsTrue, ◌<◌, [], Ok, Err, Some, None, length, slice_get, option_map, IsOk, IsSome, IfOk, OnOk, OnErr, IsOkUnless};
+ghost use Rattle.std.specs.Prelude.{◌≡◌, ◌↔◌, ◌<◌, ◌≤◌, IsTrue, [], Ok, Err, Some, None, length, slice_get, option_map, IsOk, IfOk, OnOk, OnErr, IsOkUnless};
 ghost use Rattle.std.specs.List.{AllByRecursion};
-ghost use Rattle.std.specs.Result.{ForOk};
 ghost use Rattle.library.specs.Listed.{listed};
 ghost use Rattle.synod.specs.Record.{new_kept};
 ghost use Rattle.net.specs.declared.fault.StepFault.TheVariants.{NoNode, Memory};
-ghost use Rattle.net.specs.World.{World, log};
+ghost use Rattle.net.specs.World.{log_after};
 ghost use Rattle.world.specs.Carried.{carried_size};
 ghost use Rattle.world.specs.Replicas.{AppliesNext};
 ghost use Rattle.switch.specs.Switch.{new_views, world_of};
@@ -108,8 +107,8 @@ pub fn take_on<K: Keep<Carried>>(
     switch: &Switch<Carried, K>,
 ) -> Result<bool, StepFault>
     ensures taken { IsOk (world_of carried_size switch.now) }
-    ensures no_node { ForOk (world_of carried_size switch.now) (λ world. slice_get world.nodes cell.old.at ≡ None → (result ≡ Err NoNode) × (cell.new ≡ cell.old)) }
-    ensures takes { ForOk (world_of carried_size switch.now) (λ world. IsSome (slice_get world.nodes cell.old.at) → TakesOver cell.old cell.new (slice_get (log world cell.old.at) (length cell.old.entries)) result) }
+    ensures no_node { length switch.now.stores ≤ cell.old.at → (result ≡ Err NoNode) × (cell.new ≡ cell.old) }
+    ensures takes { cell.old.at < length switch.now.stores → TakesOver cell.old cell.new (slice_get (log_after (world_of carried_size switch.now) cell.old.at) (length cell.old.entries)) result }
     ensures belongs { Belongs cell.old switch.now → Belongs cell.new switch.now }
 {
     let slot = cell.entries.len() as u32;

@@ -2,7 +2,6 @@
 ghost use Rattle.std.specs.Prelude.{◌≡◌, ◌↔◌, ◌≤◌, ◌<◌, Some, length, slice_get, option_map, IsTrue, IsOk};
 ghost use Rattle.slots.specs.declared.slots.TheConstants.{SLOTS};
 ghost use Rattle.net.specs.World.{log_after};
-ghost use Rattle.net.specs.Agree.{IsBeginningOf};
 ghost use Rattle.switch.specs.Switch.{world_of};
 ghost use Rattle.switch.specs.Belonging.{BeginsLog};
 ghost use Rattle.world.specs.Carried.{carried_size};
@@ -24,18 +23,9 @@ pub(crate) fn begins_log<K: Keep<Carried>>(
     ensures begins { IsTrue result ↔ BeginsLog carried_size switch.now k entries.now }
     ensures taken { IsOk (world_of carried_size switch.now) }
 {
-    if switch.entry(k, 0).is_ok() {
-        begins(switch, k, entries)
-    } else {
-        false
+    if switch.entry(k, 0).is_err() {
+        return false;
     }
-}
-
-/// Tells whether the entries are a prefix of the log of node `k`, which is empty where there is no such node.
-fn begins<K: Keep<Carried>>(switch: &Switch<Carried, K>, k: u8, entries: &[Option<Carried>]) -> bool
-    requires { length entries.now ≤ SLOTS }
-    ensures { IsTrue result ↔ IsBeginningOf entries.now (log_after (world_of carried_size switch.now) k) }
-{
     for slot in 0..entries.len() {
         if !is_entry(switch, k, slot as u32, &entries[slot]) {
             return false;
@@ -51,6 +41,7 @@ fn is_entry<K: Keep<Carried>>(
     slot: u32,
     entry: &Option<Carried>,
 ) -> bool
+    requires { k < length switch.now.stores }
     ensures { IsTrue result ↔ (slice_get (log_after (world_of carried_size switch.now) k) slot ≡ Some entry.now) }
 {
     match switch.entry(k, slot) {

@@ -1,5 +1,5 @@
 -- What a report counts: one event more.
-use Rattle.nodes.proofs.Words.{◌≡◌, ℕ, zero, suc, ◌+◌, ◌<◌, ◌≤◌, ◌==◌, Bool, true, false, List, [], ◌∷◌, ◌++◌, length, get_or, set, replicate, sum, Some, None, Result, Ok, Err, refl, ap, ◌∙◌, arith, if◌then◌else◌, IsOk, ForOk, nat_tests, sum_by-set, get_or-le-sum_by}
+use Rattle.nodes.proofs.Words.{◌≡◌, ℕ, zero, suc, ◌+◌, ◌*◌, ◌<◌, ◌≤◌, ◌==◌, Bool, true, false, List, [], ◌∷◌, ◌++◌, length, get_or, set, take, replicate, sum, Option, Some, None, Result, Ok, Err, refl, sym, ap, ◌∙◌, arith, if◌then◌else◌, IsOk, ForOk, nat_tests, take_more, sum_by-replicate, sum_by-set, get_or-le-sum_by}
 use Rattle.nodes.proofs.Words.{World, Event, StepFault, node_of, SwitchView, world_of, Carried, carried_size, is_own, own_events, own_counts, with_one, IsReport}
 
 -- The counts with one more at a node.
@@ -30,6 +30,10 @@ with_one-at k j zero (c ∷ cs) is low =
 with_one-at k j (suc i) (c ∷ cs) is low =
     plus-none k c (with_one (suc k) (Some j) cs) (set cs i (get_or cs i 0 + 1)) (j == k) (let other : k < j = omega arith in grind (arith, nat_tests)) (with_one-at (suc k) j i cs (omega arith) (omega arith))
 
+-- no count is raised yet
+pub no_sum : (cs : List ℕ) (n : ℕ) → cs ≡ replicate n 0 → 0 ≡ sum cs
+no_sum cs n is = let zeros : sum (replicate n 0) ≡ n * 0 = sum_by-replicate (λ m. m) n 0 in let same = ap (λ (ns : List ℕ). sum ns) is in omega (arith, zeros, same)
+
 -- the sum is one more
 pub one_more : (cs : List ℕ) (i : ℕ) → i < length cs → sum (set cs i (get_or cs i 0 + 1)) ≡ sum cs + 1
 one_more cs i low = let more : sum (set cs i (get_or cs i 0 + 1)) + get_or cs i 0 ≡ sum cs + (get_or cs i 0 + 1) = sum_by-set (λ n. n) cs i (get_or cs i 0 + 1) 0 low in omega (arith, more)
@@ -53,6 +57,13 @@ own_counts-push w k (suc n) es e =
 pub own_counts-none : {V : Type 0} (w : World V) (k n : ℕ) → own_counts w k n [] ≡ replicate n 0
 own_counts-none w k zero = refl
 own_counts-none w k (suc n) = ap (λ (cs : List ℕ). 0 ∷ cs) (own_counts-none w (suc k) n)
+
+-- the counts of the events gone through, with one event more
+pub counts_more : {V : Type 0} (w : World V) (nodes : ℕ) (es : List (Event V)) (i : ℕ) (e : Event V) (o : Option ℕ) (old new : List ℕ) → e ≡ get_or es i e → i < length es → o ≡ node_of w e
+    → old ≡ own_counts w 0 nodes (take i es) → new ≡ with_one 0 o old → new ≡ own_counts w 0 nodes (take (i + 1) es)
+counts_more {V} w nodes es i e o old new is low node was added =
+    added ∙ ap (λ (p : Option ℕ). with_one 0 p old) node ∙ ap (λ (cs : List ℕ). with_one 0 (node_of w e) cs) was ∙ sym (own_counts-push w 0 nodes (take i es) e)
+    ∙ ap (λ (ds : List (Event V)). own_counts w 0 nodes ds) (ap (λ (x : Event V). take i es ++ x ∷ []) is ∙ sym (take_more es i e low))
 
 -- The counts in the world after the history.
 pub report_of : (switch : SwitchView Carried) (nodes : ℕ) (handled : List ℕ) → IsOk (world_of carried_size switch) → ForOk (world_of carried_size switch) (λ w. handled ≡ own_counts w 0 nodes switch.history) → IsReport switch nodes handled

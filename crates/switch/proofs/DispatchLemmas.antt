@@ -1,51 +1,13 @@
--- Which nodes there are, the dispatch of an event by its node, and a call as its function has it.
+-- How many nodes there are, the dispatch of an event by its node, and a call as its function has it.
 use Rattle.switch.proofs.Words.{◌≡◌, ℕ, zero, suc, ◌<◌, ◌≤◌, nat_lt, Bool, true, false, List, [], ◌∷◌, length, get_or, set, slice_get, Option, Some, None, Result, Ok, Err, refl, ap, sym, ◌∙◌, subst, arith, ◌↔◌, IsOk, IsSome, nat_tests, ForOk, slice_get_within, slice_get_read}
 use Rattle.switch.proofs.Words.{Change, changed_by, Node, kept_of, MOST_EVENTS, Event, Offer, Begin, Deliver, Restart, StepFault, Device, Down, NoNode, World, packets_after, Taken, world_of_taken, node_of, Due, NetView, IsDue, IsStill, IsTaken, change_in, length-nodes_of, count_shown, up, down, StoreState, Fails, change_owed, SwitchView, event_owed, IsOwing, IsSwitch, world_of, is_down_at, due, ActsUp, ActsDown, Acts}
 use Rattle.switch.proofs.StoresLemmas.{count_views, down_view}
 use Rattle.switch.proofs.SwitchLemmas.{switch_view, still_switch}
 use Rattle.switch.proofs.CallLemmas.{still_view, of_world, after_is, is_up_at, kept_up, failed, failed_acts, played, played_acts}
 
--- Which nodes there are.
-
-module _ {V : Type 0} (size : V → ℕ) (net : NetView V) (stores : List (StoreState V)) (h : IsSwitch size net stores) (now : SwitchView V) (seen : switch_view net stores ≡ now) where
-  -- the world has as many nodes as there are weights
-  count_nodes : length h.world.world.nodes ≡ length net.taken.weights
-  count_nodes = ap (λ (ns : List (Node V)). length ns) h.world.nodes ∙ length-nodes_of net.cores ∙ count_shown size net.taken net.taken net.cores net.packets h.world refl
-
-  -- as many views are seen as there are weights
-  count_now : length now.stores ≡ length net.taken.weights
-  count_now = ap (λ (s : SwitchView V). length s.stores) (sym seen) ∙ count_views stores ∙ h.count ∙ count_shown size net.taken net.taken net.cores net.packets h.world refl
-
-  -- where nothing stands in a list, the list has ended
-  past_none : {A : Type 0} (xs : List A) (k : ℕ) → slice_get xs k ≡ None → length xs ≤ k
-  past_none [] k is = omega arith
-  past_none (x ∷ xs) zero is = cc
-  past_none (x ∷ xs) (suc k) is = let past = past_none xs k is in omega (arith, past)
-
-  -- where something stands in a list, the list has not ended
-  some_in : {A : Type 0} (xs : List A) (k : ℕ) → IsSome (slice_get xs k) → k < length xs
-  some_in [] k is = let no : false ≡ true = is in cc
-  some_in (x ∷ xs) zero is = omega arith
-  some_in (x ∷ xs) (suc k) is = let low = some_in xs k is in omega (arith, low)
-
-  module _ (A : Type 0) (k : ℕ) (r : Result A StepFault) (no_node : length net.taken.weights ≤ k → r ≡ Err NoNode) (node : k < length net.taken.weights → IsOk r) where
-    -- a number that no node of the world has is answered NoNode
-    pub told_no_node : ForOk (world_of size now) (λ x. slice_get x.nodes k ≡ None → r ≡ Err NoNode)
-    told_no_node = of_world size net stores h now seen (λ s x. slice_get x.nodes k ≡ None → r ≡ Err NoNode) (λ none. no_node (let past = past_none h.world.world.nodes k none in let count = count_nodes in omega (arith, past, count)))
-
-    -- a number that a node of the world has is answered with no fault
-    pub told_node : ForOk (world_of size now) (λ x. IsSome (slice_get x.nodes k) → IsOk r)
-    told_node = of_world size net stores h now seen (λ s x. IsSome (slice_get x.nodes k) → IsOk r) (λ some. node (let low = some_in h.world.world.nodes k some in let count = count_nodes in omega (arith, low, count)))
-
-    -- a number is answered with no fault just where a view has it
-    pub told_store : IsOk r ↔ k < length now.stores
-    told_store = (λ ok. by_test (nat_lt k (length net.taken.weights)) refl ok, λ low. node (let count = count_now in omega (arith, low, count))) where
-      by_test : (t : Bool) → nat_lt k (length net.taken.weights) ≡ t → IsOk r → k < length now.stores
-      by_test true test ok = let low : k < length net.taken.weights = grind (arith, nat_tests) in let count = count_now in omega (arith, low, count)
-      by_test false test ok =
-          let past : length net.taken.weights ≤ k = grind (arith, nat_tests) in
-          let no : IsOk (let a : Result A StepFault = Err NoNode in a) = subst (λ (a : Result A StepFault). IsOk a) (no_node past) ok in
-          let never : false ≡ true = no in cc
+-- as many stores are seen as there are weights
+pub count_now : {V : Type 0} (size : V → ℕ) (net : NetView V) (stores : List (StoreState V)) (h : IsSwitch size net stores) (now : SwitchView V) (seen : switch_view net stores ≡ now) → length now.stores ≡ length net.taken.weights
+count_now {V} size net stores h now seen = ap (λ (s : SwitchView V). length s.stores) (sym seen) ∙ count_views stores ∙ h.count ∙ count_shown size net.taken net.taken net.cores net.packets h.world refl
 
 -- The dispatch of an event by its node.
 

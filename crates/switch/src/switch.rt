@@ -1,5 +1,5 @@
 //! The switch that the nodes share: the net, and each node's store.
-ghost use Rattle.std.specs.Prelude.{◌≡◌, ◌↔◌, ◌<◌, ◌≤◌, Ok, Err, Some, None, [], length, slice_get, IsOk, IsSome, IfOk, IsOkUnless, MatchOption, MatchResult};
+ghost use Rattle.std.specs.Prelude.{◌≡◌, ◌<◌, ◌≤◌, Ok, Err, Some, None, [], length, slice_get, IsOk, IsSome, IfOk, IsOkUnless, MatchOption, MatchResult};
 ghost use Rattle.std.specs.List.{AllByRecursion};
 ghost use Rattle.std.specs.Result.{ForOk};
 ghost use Rattle.slots.specs.declared.slots.TheConstants.{SLOTS};
@@ -64,9 +64,8 @@ impl<V: Value, K: Keep<V>> Switch<V, K> {
     pub fn entry(&self, k: u8, slot: u32) -> Result<Option<&Option<V>>, StepFault>
         ensures entry { IfOk result (λ found. MatchOption found (slice_get (log_after (world_of V.bytes self.now) k) slot ≡ None) (λ entry. slice_get (log_after (world_of V.bytes self.now) k) slot ≡ Some entry.now)) }
         ensures below { IfOk result (λ found. IsSome found → slot < SLOTS) }
-        ensures no_node { ForOk (world_of V.bytes self.now) (λ world. slice_get world.nodes k ≡ None → result ≡ Err NoNode) }
-        ensures node { ForOk (world_of V.bytes self.now) (λ world. IsSome (slice_get world.nodes k) → IsOk result) }
-        ensures there { IsOk result ↔ k < length self.now.stores }
+        ensures no_node { length self.now.stores ≤ k → result ≡ Err NoNode }
+        ensures node { k < length self.now.stores → IsOk result }
         ensures taken { IsOk (world_of V.bytes self.now) }
     {
         self.net.entry(k, slot)
