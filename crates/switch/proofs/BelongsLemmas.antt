@@ -54,10 +54,6 @@ module _ {V : Type 0} (size : V → ℕ) (old : SwitchView V) where
     begins = h.begins;
   }
 
-  -- where a call of the keep failed, the history and so each log is as before
-  fails_stay : (new : SwitchView V) (k : ℕ) (view : StoreView V) (change : Option (Change V)) (left : Standing (Event V)) → FailsAt old new k view change left → StaysBelonging size old new
-  fails_stay new k view change left h = view_stays new k (record { kept = h.kept; failures = view.failures + 1; standing = left }) h.rest
-
   module _ (w : World V) (was : world_of size old ≡ Ok w) where
     -- a history of which x is the world
     longer_stays : (new : SwitchView V) (x : World V) → world_of size new ≡ Ok x → length new.stores ≡ length old.stores → (j : ℕ) (entries : List (Option V)) → IsBeginningOf (log w j) (log x j) → BeginsLog size old j entries → BeginsLog size new j entries

@@ -1,9 +1,9 @@
 -- How many nodes there are, the dispatch of an event by its node, and a call as its function has it.
-use Rattle.switch.proofs.Words.{◌≡◌, ℕ, zero, suc, ◌<◌, ◌≤◌, nat_lt, Bool, true, false, List, [], ◌∷◌, length, get_or, set, slice_get, Option, Some, None, Result, Ok, Err, refl, ap, sym, ◌∙◌, subst, arith, ◌↔◌, IsOk, IsSome, nat_tests, ForOk, slice_get_within, slice_get_read}
-use Rattle.switch.proofs.Words.{Change, changed_by, Node, kept_of, MOST_EVENTS, Event, Offer, Begin, Deliver, Restart, StepFault, Device, Down, NoNode, World, packets_after, Taken, world_of_taken, node_of, Due, NetView, IsDue, IsStill, IsTaken, change_in, length-nodes_of, count_shown, up, down, StoreState, Fails, change_owed, SwitchView, event_owed, IsOwing, IsSwitch, world_of, is_down_at, due, ActsUp, ActsDown, Acts}
-use Rattle.switch.proofs.StoresLemmas.{count_views, down_view}
+use Rattle.switch.proofs.Words.{◌≡◌, ℕ, ◌<◌, Bool, true, false, List, length, get_or, set, slice_get, Option, Some, Result, Ok, Err, refl, ap, sym, ◌∙◌, subst, arith, ForOk, slice_get_within, slice_get_read}
+use Rattle.switch.proofs.Words.{Change, changed_by, kept_of, MOST_EVENTS, Event, Offer, Begin, Deliver, Restart, StepFault, Device, Down, World, packets_after, Taken, world_of_taken, node_of, Due, NetView, IsDue, IsStill, IsTaken, change_in, count_shown, up, down, StoreState, Fails, change_owed, SwitchView, event_owed, IsOwing, IsSwitch, world_of, is_down_at, due, ActsUp, ActsDown, Acts}
+use Rattle.switch.proofs.StoresLemmas.{count_views}
 use Rattle.switch.proofs.SwitchLemmas.{switch_view, still_switch}
-use Rattle.switch.proofs.CallLemmas.{still_view, of_world, after_is, is_up_at, kept_up, failed, failed_acts, played, played_acts}
+use Rattle.switch.proofs.CallLemmas.{still_view, after_is, is_up_at, kept_up, failed, failed_acts, played, played_acts}
 
 -- as many stores are seen as there are weights
 pub count_now : {V : Type 0} (size : V → ℕ) (net : NetView V) (stores : List (StoreState V)) (h : IsSwitch size net stores) (now : SwitchView V) (seen : switch_view net stores ≡ now) → length now.stores ≡ length net.taken.weights

@@ -1,7 +1,6 @@
 -- Stores and their views, one after another and one by one.
-use Rattle.switch.proofs.Words.{◌≡◌, ◌≢◌, ℕ, zero, suc, ◌+◌, ◌<◌, ◌≤◌, ◌==◌, Bool, true, false, List, [], ◌∷◌, ◌++◌, length, get_or, remove, set, slice_get, slice_index_or, Option, Some, None, refl, ap, sym, ◌∙◌, subst, arith, append_assoc, le_of_suc-le-suc, AllByRecursion, nat_tests}
+use Rattle.switch.proofs.Words.{◌≡◌, ◌≢◌, ℕ, zero, suc, ◌+◌, ◌<◌, ◌≤◌, ◌==◌, Bool, true, false, List, [], ◌∷◌, ◌++◌, length, get_or, set, slice_get, Option, Some, None, refl, ap, sym, ◌∙◌, subst, arith, le_of_suc-le-suc, AllByRecursion, nat_tests}
 use Rattle.switch.proofs.Words.{Kept, new_kept, Node, Event, Due, at_set, at_set_other, Standing, up, down, StoreState, StoreView, standing_seen, view_of, views_of, new_views, new_stores, is_down, is_down_view, is_down_at, events_due}
-use Rattle.std.proofs.Common.{append-nil}
 
 pub views_of-set : {V : Type 0} (stores : List (StoreState V)) (k : ℕ) (store : StoreState V) → views_of (set stores k store) ≡ set (views_of stores) k (view_of store)
 views_of-set [] k store = refl
@@ -70,10 +69,6 @@ down_at stores k store is e = down_owing store.standing (sym (ap (λ o. is_down_
   down_owing : {V : Type 0} (s : Standing (Due V)) → is_down (standing_seen s) ≡ true → (o : Option (Due V)) × (s ≡ down o)
   down_owing up d = cc
   down_owing (down o) d = (o, refl)
-
--- a view that stands as down is down by the test
-pub down_view : {V : Type 0} (views : List (StoreView V)) (k : ℕ) (view : StoreView V) (e : Option (Event V)) → slice_get views k ≡ Some view → view.standing ≡ down e → is_down_at views (Some k) ≡ true
-down_view {V} views k view e found stands = ap (λ (o : Option (StoreView V)). is_down_view o) found ∙ ap (λ (s : Standing (Event V)). is_down s) stands
 
 -- New stores.
 

@@ -1,6 +1,6 @@
 -- A switch after its net or one of its stores has changed.
-use Rattle.switch.proofs.Words.{◌≡◌, ◌≢◌, ℕ, zero, suc, ◌<◌, ◌≤◌, List, [], ◌∷◌, ◌++◌, length, set, slice_get, Option, Some, None, Ok, refl, ap, sym, ◌∙◌, subst, arith, append_assoc, AllByRecursion, option_map, length-set}
-use Rattle.switch.proofs.Words.{Packet, Change, IsPost, Kept, changed_by, new_kept, Node, Stepped, kept_of, new_node, Core, MOST_EVENTS, Event, World, start, nodes_from, stepped, happens, happens_at, after, offers_of, IsAfter, Taken, nodes_of, AreOfWorld, change_of, kept_part, Work, steps, restarts, Due, change_in, posts_of, step_of, IsEventAt, NetView, AreStill, IsStill, IsDue, IsTaken, at_set, at_set_other, if_taken, node_at, holds_after, world_lasts, Happens, event_moves, taken_count, happens-not_spent, events_within, rooms_stay, makes, nodes_of-set, nodes_found, nodes_still, due_still, posts_same, Standing, up, down, StoreState, IsRecordOf, SwitchView, views_of, new_stores, IsOwing, IsStore, IsSwitch, all_append}
+use Rattle.switch.proofs.Words.{◌≡◌, ◌≢◌, ℕ, zero, suc, ◌<◌, List, [], ◌∷◌, ◌++◌, length, set, slice_get, Option, Some, None, Ok, refl, ap, sym, ◌∙◌, subst, arith, append_assoc, AllByRecursion, option_map, length-set}
+use Rattle.switch.proofs.Words.{Packet, Change, IsPost, Kept, changed_by, new_kept, Node, Stepped, kept_of, new_node, Core, MOST_EVENTS, Event, World, start, nodes_from, stepped, happens, happens_at, after, offers_of, IsAfter, Taken, nodes_of, AreOfWorld, change_of, kept_part, Work, steps, restarts, Due, change_in, posts_of, step_of, IsEventAt, NetView, AreStill, IsStill, IsDue, IsTaken, at_set, at_set_other, if_taken, node_at, holds_after, world_lasts, Happens, event_moves, taken_count, happens-not_spent, rooms_stay, makes, nodes_of-set, nodes_found, nodes_still, due_still, posts_same, Standing, up, down, StoreState, IsRecordOf, SwitchView, views_of, new_stores, IsOwing, IsStore, IsSwitch, all_append}
 use Rattle.std.proofs.Common.{append-nil}
 use Rattle.net.specs.Taken.{with_event}
 use Rattle.switch.proofs.StoresLemmas.{each_after, new_at, count_stores}
@@ -53,10 +53,6 @@ module _ {V : Type 0} (size : V → ℕ) (net : NetView V) (stores : List (Store
   -- the world counts the events of the history
   pub taken_is : w.taken ≡ length net.taken.events
   taken_is = taken_count size net.taken.weights net.taken.events w h.world.is_after
-
-  -- the history is no longer than the limit of events
-  pub within : length net.taken.events ≤ MOST_EVENTS
-  within = events_within size net.taken net.taken net.cores net.packets h.world refl
 
   -- below that limit an event is what its node makes of it
   pub has_room : (e : Event V) → length net.taken.events < MOST_EVENTS → happens size w e ≡ happens_at size w e

@@ -8,7 +8,7 @@ pub use Rattle.net.proofs.HistoryLemmas.{taken_front}
 pub use Rattle.net.proofs.KeptPartLemmas.{Happens, event_moves}
 pub use Rattle.net.proofs.LogsGrow.{log_grows}
 pub use Rattle.net.proofs.StepsDue.{still_more}
-pub use Rattle.net.proofs.TakenLemmas.{after-push, count_shown, events_within, happens-not_spent, length-nodes_of, makes, next_is, nodes_of-set, rooms_stay, set_same, taken_count}
+pub use Rattle.net.proofs.TakenLemmas.{after-push, count_shown, happens-not_spent, length-nodes_of, makes, next_is, nodes_of-set, rooms_stay, set_same, taken_count}
 pub use Rattle.net.proofs.TwoMoments.{all_happen-append, world_lasts}
 pub use Rattle.net.specs.Agree.{IsAfter, IsBeginningOf}
 pub use Rattle.net.specs.Due.{AreStill, ComesTo, Due, HasRoom, IsDue, IsEventAt, IsOfEvent, IsReadyAt, IsStill, IsTaken, NetView, Work, change_in, loads, loads_due, posts_of, restarts, step_of, steps}
@@ -19,15 +19,15 @@ pub use Rattle.net.specs.declared.event.Event.{Event}
 pub use Rattle.net.specs.declared.event.Event.TheVariants.{Begin, Deliver, Offer, Restart}
 pub use Rattle.net.specs.declared.event.TheConstants.{MOST_EVENTS}
 pub use Rattle.net.specs.declared.fault.StepFault.{StepFault}
-pub use Rattle.net.specs.declared.fault.StepFault.TheVariants.{Device, Down, EventsSpent, Memory, NoNode}
+pub use Rattle.net.specs.declared.fault.StepFault.TheVariants.{Device, Down, EventsSpent, Memory}
 pub use Rattle.slots.specs.FiniteMap.{put_at}
-pub use Rattle.std.proofs.Common.{Bool, Err, List, None, Ok, Option, Result, Some, [], ap, append_assoc, arith, false, get_or, inl, inr, le_of_suc-le-suc, length, length-append, nat_lt, refl, remove, set, slice_get, slice_index_or, subst, suc, sym, true, zero, ℕ, ◌++◌, ◌+◌, ◌<◌, ◌==◌, ◌∙◌, ◌∷◌, ◌≡◌, ◌≢◌, ◌≤◌}
+pub use Rattle.std.proofs.Common.{Bool, Err, List, None, Ok, Option, Result, Some, [], ap, append_assoc, arith, false, get_or, inl, inr, le_of_suc-le-suc, length, length-append, nat_lt, refl, set, slice_get, subst, suc, sym, true, zero, ℕ, ◌++◌, ◌+◌, ◌<◌, ◌==◌, ◌∙◌, ◌∷◌, ◌≡◌, ◌≢◌, ◌≤◌}
 pub use Rattle.std.proofs.lemmas.Bool.Decides.{nat_tests}
 pub use Rattle.std.proofs.lemmas.List.{length-set, nil_from_length}
 pub use Rattle.std.proofs.lemmas.Option.{slice_get_past, slice_get_read, slice_get_within}
 pub use Rattle.std.specs.List.{AllByRecursion}
 pub use Rattle.std.specs.Option.{option_map}
-pub use Rattle.std.specs.Prelude.{IfErr, IsErrAnd, IsOk, IsOkUnless, IsSome, OnErr, OnOk, ◌↔◌}
+pub use Rattle.std.specs.Prelude.{IfErr, IsErrAnd, IsOkUnless, IsSome, OnErr, OnOk}
 pub use Rattle.std.specs.Result.{ForOk}
 pub use Rattle.std.specs.Vec.Iter.{into_iter_items}
 pub use Rattle.switch.specs.Belonging.{BeginsLog, KeepsLogs, StaysBelonging}

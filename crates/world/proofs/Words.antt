@@ -17,14 +17,13 @@ pub use Rattle.net.specs.World.{World, all_happen, happens, log, log_after, star
 pub use Rattle.net.specs.declared.event.Event.{Event}
 pub use Rattle.net.specs.declared.event.Event.TheVariants.{Begin, Deliver, Offer, Restart}
 pub use Rattle.net.specs.declared.fault.StepFault.{StepFault}
-pub use Rattle.net.specs.declared.fault.StepFault.TheVariants.{Memory}
 pub use Rattle.std.proofs.Common.{Bool, Err, List, None, Ok, Option, Result, Some, [], add-one, ap, append_assoc, arith, false, inl, inr, length, length-append, refl, replicate, set, slice_get, subst, suc, sym, take, true, zero, ℕ, ◌++◌, ◌+◌, ◌==◌, ◌∙◌, ◌∷◌, ◌≡◌, ◌≢◌}
 pub use Rattle.std.proofs.iter.Next.{Yields-more}
 pub use Rattle.std.proofs.lemmas.Bool.Decides.{nat_tests}
 pub use Rattle.std.proofs.lemmas.List.{append-nil, length-replicate, length-set, nil_from_length, take-append-le}
 pub use Rattle.std.proofs.lemmas.Option.{slice_get_read, slice_get_within}
 pub use Rattle.std.specs.Borrow.{Bor}
-pub use Rattle.std.specs.Prelude.{IfErr, IfOk, IfSome, IsOk, IsOkUnless, IsSomeAnd, MatchOption, OnErr, option_map}
+pub use Rattle.std.specs.Prelude.{IfErr, IfOk, IfSome, IsOk, IsSomeAnd, MatchOption, option_map}
 pub use Rattle.std.specs.Vec.Iter.{into_iter_items, into_iter_steps}
 pub use Rattle.synod.proofs.LogLemmas.{take_next}
 pub use Rattle.world.specs.Carried.{all_carried, carried, carried_size, entries_of, entry_of}

@@ -1,4 +1,4 @@
-use Rattle.cluster.proofs.Words.{◌≡◌, Option, Result, Ok, Err, ap, ◌∙◌, StepFault, NoNode, length, refl, sym, subst, arith, option_map, Bor, log_after, world_of, BeginsLog, Carried, carried_size, Cell}
+use Rattle.cluster.proofs.Words.{◌≡◌, Bool, Option, Result, Ok, Err, ap, ◌∙◌, StepFault, NoNode, length, refl, sym, subst, arith, option_map, Bor, log_after, world_of, BeginsLog, Carried, carried_size, Cell}
 use Rattle.cluster.proofs.CellLemmas.{stays_cell, below_some}
 use Rattle.cluster.proofs.CellTieLemmas.{err_ok, shown_is, taken_belongs, takes_over}
 use Rattle.cluster.proofs.cell.take_on.Goals as goal

@@ -1,4 +1,4 @@
-use Rattle.cluster.proofs.Words.{◌≡◌, ◌∙◌, ap, sym, true, false, List, Option, Some, None, slice_get, log_after, world_of, Carried, carried_size}
+use Rattle.cluster.proofs.Words.{◌∙◌, sym, log_after, world_of, carried_size}
 use Rattle.cluster.proofs.CellTieLemmas.{err_ok, shown_is}
 use Rattle.cluster.proofs.log.is_entry.Goals as goal
 
