@@ -16,11 +16,11 @@ standing_of Up = up
 standing_of (Down due) = down due
 
 pub record StoreState (V : Type 0) : Type 0 where
-  pub kept : Kept V  -- what the keep would load
+  pub kept : Kept V  -- the record that the keep would load
   pub failures : ℕ  -- how many calls of the keep failed
   pub standing : Standing (Due V)
 
--- What is owed.
+-- The event that is owed: its change, its posts.
 
 abbrev pub owed_in : {V : Type 0} → Standing (Due V) → Option (Due V)
 owed_in up = None

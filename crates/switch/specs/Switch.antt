@@ -5,7 +5,7 @@ use Rattle.std.specs.Prelude.{◌≡◌, ◌⊎◌, ◌+◌, ◌≤◌, ◌<◌,
 use Rattle.switch.specs.Words.{Change, Kept, changed_by, new_kept, Node, kept_of, MOST_EVENTS, Event, Offer, Begin, Deliver, Restart, StepFault, Memory, Device, Down, EventsSpent, World, happens, after, IsAfter, AreOfWorld, node_of, change_of, kept_part, Due, NetView, IsDue, HasRoom, IsTaken, posts_of}
 use Rattle.switch.specs.NodeStore.{Standing, up, down, StoreState, IsRecordOf, IsWithOrWithout}
 
--- What contracts see.
+-- The view that contracts have.
 
 -- a node's store: the record that its keep would load, how often the keep failed, and whether the node is up; while it is down, the event whose store failed
 pub record StoreView (V : Type 0) : Type 0 where
@@ -43,9 +43,9 @@ abbrev pub new_stores : {V K : Type 0} → (K → Kept V) → (K → ℕ) → Li
 new_stores kept failures [] = []
 new_stores kept failures (keep ∷ keeps) = record { kept = kept keep; failures = failures keep; standing = up } ∷ new_stores kept failures keeps
 
--- What the type keeps.
+-- The invariant of the type.
 
--- what is owed is due at the node
+-- the event that is owed is due at the node
 abbrev pub IsOwing : {V : Type 0} → (V → ℕ) → NetView V → ℕ → Standing (Due V) → Type 0
 IsOwing size net k up = Unit {0}
 IsOwing size net k (down None) = Unit {0}
@@ -62,7 +62,7 @@ pub record IsSwitch {V : Type 0} (size : V → ℕ) (net : NetView V) (stores : 
   pub count : length stores ≡ length net.cores
   pub each : (k : ℕ) (n : Node V) (store : StoreState V) → slice_get world.world.nodes k ≡ Some n → slice_get stores k ≡ Some store → IsStore size net k n store
 
--- What the calls tell of it.
+-- The facts that the calls tell.
 
 -- the world after the history
 abbrev pub world_of : {V : Type 0} → (V → ℕ) → SwitchView V → Result (World V) StepFault
@@ -133,7 +133,7 @@ abbrev pub TakesAt : {V : Type 0} → SwitchView V → SwitchView V → Event V 
 TakesAt old new e k view change x (Ok count) = (new ≡ with_event old k view change e) × (count ≡ length x.packets)
 TakesAt old new e k view change x (Err fault) = ((fault ≡ Memory) × (new ≡ old)) ⊎ ((fault ≡ Device) × FailsAt old new k view change (down (due e)))
 
--- what an event does whose node is not down, w being the world after the old history
+-- the effect of an event whose node is not down, w being the world after the old history
 pub record ActsUp {V : Type 0} (size : V → ℕ) (w : World V) (old new : SwitchView V) (e : Event V) (result : Result ℕ StepFault) : Type 0 where
   pub refused : (fault : StepFault) → happens size w e ≡ Err fault → Refuses old new result fault
   pub taken : (x : World V) → happens size w e ≡ Ok x → (k : ℕ) → node_of w e ≡ Some k → (view : StoreView V) → slice_get old.stores k ≡ Some view → TakesAt old new e k view (change_of size w e) x result
@@ -164,21 +164,21 @@ RevivesAt size w old new k view e (Ok count) = IsRevived size old new k view e c
 RevivesAt size w old new k view e (Err fault) =
     ((fault ≡ Memory) × StaysDownAt old new k view (change_due size w e)) ⊎ ((fault ≡ Device) × FailsAt old new k view (change_due size w e) view.standing)
 
--- what a restart does at a node that is down and owes e
+-- the effect of a restart at a node that is down and owes e
 pub record Revives {V : Type 0} (size : V → ℕ) (w : World V) (old new : SwitchView V) (k : ℕ) (view : StoreView V) (e : Option (Event V)) (result : Result ℕ StepFault) : Type 0 where
   pub spent : MOST_EVENTS < length old.history + 2 → Refuses old new result EventsSpent
   pub revived : length old.history + 2 ≤ MOST_EVENTS → RevivesAt size w old new k view e result
 
 -- Every event.
 
--- what an event does whose node is down: a restart brings it up again, and every other event is refused
+-- the effect of an event whose node is down: a restart brings it up again, and every other event is refused
 abbrev pub ActsDown : {V : Type 0} → (V → ℕ) → World V → SwitchView V → SwitchView V → Event V → Result ℕ StepFault → Type 0
 ActsDown size w old new (Offer k v) result = Refuses old new result Down
 ActsDown size w old new (Begin k) result = Refuses old new result Down
 ActsDown size w old new (Deliver number) result = Refuses old new result Down
 ActsDown {V} size w old new (Restart k) result = (view : StoreView V) → slice_get old.stores k ≡ Some view → (e : Option (Event V)) → view.standing ≡ down e → Revives size w old new k view e result
 
--- what an event does, w being the world after the old history
+-- the effect of an event, w being the world after the old history
 pub record Acts {V : Type 0} (size : V → ℕ) (w : World V) (old new : SwitchView V) (e : Event V) (result : Result ℕ StepFault) : Type 0 where
   pub is_down : is_down_at old.stores (node_of w e) ≡ true → ActsDown size w old new e result
   pub is_up : is_down_at old.stores (node_of w e) ≡ false → ActsUp size w old new e result
@@ -190,7 +190,7 @@ pub record Plays {V : Type 0} (size : V → ℕ) (old new : SwitchView V) (e : E
   pub stores : AreStores size world old.stores
   pub acts : Acts size world old new e result
 
--- What is owed at the node comes first.
+-- The event that is owed at the node comes first.
 
 abbrev pub CanTakeOwed : {V : Type 0} → (V → ℕ) → NetView V → Option (Due V) → Type 0
 CanTakeOwed size net None = Unit {0}

@@ -26,7 +26,7 @@ pub record HasDerivation (S : Database) (at : ℕ) : Type 0 where
 pub record Headline (taken : Taken Carried) : Type 0 where
   -- agreement on the logs
   pub agreement : Agreement carried_size taken
-  -- of any two libraries of the history the statements of one are a prefix of the other's
+  -- the statements of one of any two libraries of the history are a prefix of the other's
   pub libraries_agree : (one other : Replica) → IsLibraryIn taken one → IsLibraryIn taken other → Agree one.statements other.statements
   -- each of them is good, and each of its provable assertions has a derivation
   pub libraries_good : (library : Replica) → IsLibraryIn taken library → Good library.statements

@@ -1,4 +1,4 @@
--- What contracts see of a world: its weights, the events that it took, and each node's library with the count of entries applied.
+-- The view that contracts have of a world: its weights, the events that it took, and each node's library with the count of entries applied.
 -- Source: Lamport, Paxos Made Simple, section 3: a server executes the commands of its log in order, each once all before it are known.
 -- The code keeps the nodes and packets too; the type keeps that each library is that of the first entries of its node's log.
 use Rattle.std.specs.Prelude.{◌≡◌, ◌+◌, ◌≤◌, ℕ, List, [], Option, Some, None, Result, Ok, Err, length, take, replicate, slice_get, slice_set}
