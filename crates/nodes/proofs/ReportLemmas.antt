@@ -1,11 +1,11 @@
 -- What a report counts: one event more.
-use Rattle.nodes.proofs.Words.{◌≡◌, ℕ, zero, suc, ◌+◌, ◌*◌, ◌<◌, ◌≤◌, ◌==◌, Bool, true, false, List, [], ◌∷◌, ◌++◌, length, get_or, set, take, replicate, sum, Option, Some, None, Result, Ok, Err, refl, sym, ap, ◌∙◌, arith, if◌then◌else◌, IsOk, ForOk, nat_tests, take_more, sum_by-replicate, sum_by-set, get_or-le-sum_by}
+use Rattle.nodes.proofs.Words.{◌≡◌, ℕ, zero, suc, ◌+◌, ◌*◌, ◌<◌, ◌≤◌, ◌==◌, nat_lt, Bool, true, false, List, [], ◌∷◌, ◌++◌, length, get_or, set, take, replicate, sum, Option, Some, None, Result, Ok, Err, refl, sym, ap, ◌∙◌, arith, if◌then◌else◌, IsOk, ForOk, nat_tests, take_more, sum_by-replicate}
 use Rattle.nodes.proofs.Words.{World, Event, StepFault, node_of, SwitchView, world_of, Carried, carried_size, is_own, own_events, own_counts, with_one, IsReport}
 
 -- The counts with one more at a node.
 
 plus-none : (k : ℕ) (c : ℕ) (cs ds : List ℕ) (b : Bool) → b ≡ false → cs ≡ ds → ((c + (if b then 1 else 0)) ∷ cs) ≡ c ∷ ds
-plus-none k c cs ds b no same = ap (λ (t : Bool). (c + (if t then 1 else 0)) ∷ cs) no ∙ (let z : c + 0 ≡ c = omega arith in ap (λ (n : ℕ). n ∷ cs) z) ∙ ap (λ (ns : List ℕ). c ∷ ns) same
+plus-none k c cs ds b off same = ap (λ (t : Bool). (c + (if t then 1 else 0)) ∷ cs) off ∙ (let z : c + 0 ≡ c = omega arith in ap (λ (n : ℕ). n ∷ cs) z) ∙ ap (λ (ns : List ℕ). c ∷ ns) same
 
 pub with_one-none : (k : ℕ) (cs : List ℕ) → with_one k None cs ≡ cs
 with_one-none k [] = refl
@@ -34,13 +34,12 @@ with_one-at k j (suc i) (c ∷ cs) is low =
 pub no_sum : (cs : List ℕ) (n : ℕ) → cs ≡ replicate n 0 → 0 ≡ sum cs
 no_sum cs n is = let zeros : sum (replicate n 0) ≡ n * 0 = sum_by-replicate (λ m. m) n 0 in let same = ap (λ (ns : List ℕ). sum ns) is in omega (arith, zeros, same)
 
--- the sum is one more
-pub one_more : (cs : List ℕ) (i : ℕ) → i < length cs → sum (set cs i (get_or cs i 0 + 1)) ≡ sum cs + 1
-one_more cs i low = let more : sum (set cs i (get_or cs i 0 + 1)) + get_or cs i 0 ≡ sum cs + (get_or cs i 0 + 1) = sum_by-set (λ n. n) cs i (get_or cs i 0 + 1) 0 low in omega (arith, more)
-
--- a count is no more than the sum
-pub within_sum : (cs : List ℕ) (i : ℕ) → i < length cs → get_or cs i 0 ≤ sum cs
-within_sum cs i low = get_or-le-sum_by (λ n. n) cs i 0 low
+-- a number that is not below a count is at least the count
+pub at_least : (k n : ℕ) → (k < n → false ≡ true) → n ≤ k
+at_least k n over = by_test (nat_lt k n) refl where
+  by_test : (t : Bool) → nat_lt k n ≡ t → n ≤ k
+  by_test true test = let never : false ≡ true = over (grind (arith, nat_tests)) in cc
+  by_test false test = grind (arith, nat_tests)
 
 -- The counts of a history with one event more.
 

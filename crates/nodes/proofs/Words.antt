@@ -8,11 +8,10 @@ pub use Rattle.net.specs.declared.event.Event.TheVariants.{Deliver, Restart}
 pub use Rattle.net.specs.declared.fault.StepFault.{StepFault}
 pub use Rattle.nodes.specs.Desk.{AnswersAs, DeliversAll, IsPlayFault, IsPlayed, IsRestartFault}
 pub use Rattle.nodes.specs.Report.{IsReport, is_own, own_counts, own_events, with_one}
-pub use Rattle.std.proofs.Common.{Bool, Err, List, None, Ok, Result, Some, [], Option, ap, arith, false, get_or, if◌then◌else◌, inr, length, refl, replicate, set, subst, suc, sum, sym, take, true, vec_len, zero, ℕ, ◌*◌, ◌++◌, ◌+◌, ◌<◌, ◌==◌, ◌∙◌, ◌∷◌, ◌≡◌, ◌≤◌}
+pub use Rattle.std.proofs.Common.{Bool, Err, List, None, Ok, Result, Some, [], Option, ap, arith, false, get_or, if◌then◌else◌, nat_lt, inr, length, refl, replicate, set, subst, suc, sum, sym, take, true, vec_len, zero, ℕ, ◌*◌, ◌++◌, ◌+◌, ◌<◌, ◌==◌, ◌∙◌, ◌∷◌, ◌≡◌, ◌≤◌}
 pub use Rattle.std.proofs.lemmas.Bool.Decides.{nat_tests}
 pub use Rattle.std.proofs.lemmas.List.{take_all, take_more}
 pub use Rattle.std.proofs.lemmas.List.Folds.{sum_by-replicate}
-pub use Rattle.std.proofs.lemmas.List.Sums.{get_or-le-sum_by, sum_by-set}
 pub use Rattle.std.specs.Prelude.{IfErr, IsErrAnd, IsOk}
 pub use Rattle.std.specs.Result.{ForOk}
 pub use Rattle.switch.specs.Switch.{Plays, SwitchView, world_of}

@@ -1,4 +1,4 @@
--- What a desk answers: what the calls of a cluster answer of the values under the locks.
+-- The answers of a desk: those of the calls of a cluster on the values under the locks.
 -- Source: this project's profile.
 -- The code lets the locks go before it answers, so what is said is said of some such values.
 use Rattle.std.specs.Prelude.{◌≡◌, ◌⊎◌, ℕ, List, [], ◌∷◌, Option, Result, Ok, Err}
@@ -29,7 +29,7 @@ pub record IsCompared (j k : ℕ) (ahead : Ahead) : Type 0 where
   pub other_belongs : Belongs other switch
   pub compares : IsAhead ahead one.node.library.statements other.node.library.statements
 
--- What a desk does: one event of the switch under the lock.
+-- The event that a call at a desk plays on the switch under the lock.
 
 -- a call answers as the switch answers the event: where it is taken, with some count of packets, else with its fault
 abbrev pub AnswersAs : {A : Type 0} → SwitchView Carried → SwitchView Carried → Event Carried → Result A StepFault → Type 0

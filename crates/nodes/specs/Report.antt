@@ -1,4 +1,4 @@
--- What the nodes did, as a report counts it.
+-- The events of each node, as a report counts them.
 -- Source: this project's profile.
 -- The code goes through the history once, and adds one to the count of each event's node.
 use Rattle.std.specs.Prelude.{◌≡◌, ℕ, zero, suc, ◌+◌, ◌==◌, Bool, false, List, [], ◌∷◌, Option, Some, None, Ok, if◌then◌else◌}
@@ -24,8 +24,8 @@ own_counts w k (suc n) events = own_events w k events ∷ own_counts w (suc k) n
 
 -- the counts of the nodes from node k on, with one more at this node, if it is one of them
 abbrev pub with_one : ℕ → Option ℕ → List ℕ → List ℕ
-with_one k node [] = []
-with_one k node (count ∷ counts) = (count + (if is_node k node then 1 else 0)) ∷ with_one (suc k) node counts
+with_one k at [] = []
+with_one k at (count ∷ counts) = (count + (if is_node k at then 1 else 0)) ∷ with_one (suc k) at counts
 
 -- the counts are those of the nodes in the history of the switch
 pub record IsReport (switch : SwitchView Carried) (nodes : ℕ) (handled : List ℕ) : Type 0 where

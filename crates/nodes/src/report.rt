@@ -1,4 +1,4 @@
-//! What the nodes did.
+//! The report of a cluster: how many events each node took part in.
 ghost use Rattle.std.specs.Prelude.{◌≡◌, ◌+◌, ◌<◌, ◌≤◌, replicate, sum};
 ghost use Rattle.net.specs.declared.event.TheConstants.{MOST_EVENTS};
 ghost use Rattle.nodes.specs.Report.{IsReport, with_one};

@@ -1,4 +1,4 @@
-//! What the switch's lock guards.
+//! The switch under its lock, and the hints of its posts.
 ghost use Rattle.std.specs.Prelude.{◌≡◌, ◌⊎◌};
 ghost use Rattle.net.specs.declared.event.Event.TheVariants.{Restart};
 ghost use Rattle.net.specs.declared.fault.StepFault.TheVariants.{EventsSpent, NoNode};
@@ -34,11 +34,7 @@ impl<K: Keep<Carried>> SharedSwitch<K> {
     /// Plays an event. Returns the hints of the packets that it posts.
     ///
     /// Errors: those of `Switch::play`. Cost: that of the event, and of its hints.
-    pub fn play(
-        &mut self,
-        alloc: Global,
-        event: Event<Carried>,
-    ) -> Result<Vec<Hint>, StepFault>
+    pub fn play(&mut self, alloc: Global, event: Event<Carried>) -> Result<Vec<Hint>, StepFault>
         ensures { AnswersAs self.old.switch self.new.switch event result }
     {
         let count = self.switch.play(event)?;
@@ -46,8 +42,8 @@ impl<K: Keep<Carried>> SharedSwitch<K> {
         Ok(self.hints(alloc, before, count))
     }
 
-    /// Restarts the cell's node. Returns the hints of the packets by which it asks each of the `others` once. What the node owed,
-    /// if it was down, has no hint: those packets are lost.
+    /// Restarts the cell's node. Returns the hints of the packets by which it asks each of the `others` once. The
+    /// packets of the event that the node owed, if it was down, have no hint: they are lost.
     ///
     /// Errors and cost: those of `cluster::restart_on`.
     pub fn restart(

@@ -11,10 +11,10 @@ loop-event-init g c = record {
 
 pub loop-event-preserved : goal.loop-event-preserved
 loop-event-preserved g c = record {
-  total = omega (arith, c.loop-event.invariant.total, c.add_one.ensures.total);
-  counts = λ w is. counts_more w c.args.nodes c.history-history.result.now c.loop-event.event-index c.event-item.result c.node_of.result c.loop-event.handled.items c.add_one.new.counts.items
-      c.event-item.is c.loop-event-test.true (c.node_of.ensures.node w is) (c.loop-event.invariant.counts w is) c.add_one.ensures.counts;
-  few = omega (arith, c.loop-event.invariant.few, c.add_one.ensures.few);
+  total = omega (arith, c.loop-event.invariant.total, c.add_one-events.ensures.total);
+  counts = λ w is. counts_more w c.args.nodes c.history-history.result.now c.loop-event.event-index c.event-item.result c.node_of.result c.loop-event.handled.items c.add_one-events.new.counts.items
+      c.event-item.is c.loop-event-test.true (c.node_of.ensures.node w is) (c.loop-event.invariant.counts w is) c.add_one-events.ensures.counts;
+  few = omega (arith, c.loop-event.invariant.few, c.add_one-events.ensures.few);
 }
 
 pub returns : goal.returns

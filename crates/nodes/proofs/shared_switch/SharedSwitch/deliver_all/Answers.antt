@@ -1,4 +1,4 @@
-use Rattle.nodes.proofs.Words.{◌≡◌, List, ℕ, ◌∷◌, ◌++◌, [], take, refl, ap, sym, ◌∙◌, subst, arith, take_all, take_more, DeliversAll}
+use Rattle.nodes.proofs.Words.{List, ℕ, take, sym, subst, arith, take_all, take_more, DeliversAll}
 use Rattle.nodes.proofs.DeskLemmas.{delivers-push}
 use Rattle.nodes.proofs.shared_switch.SharedSwitch.deliver_all.Goals as goal
 
