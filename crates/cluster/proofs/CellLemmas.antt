@@ -1,17 +1,7 @@
 -- What a cell keeps: room for its entries, and a library that is that of the first of them.
-use Rattle.std.proofs.Common.{◌≡◌, ℕ, ◌<◌, Bool, true, false, List, [], ◌∷◌, ◌++◌, length, slice_get, Option, Some, None, Result, Ok, Err, refl, ap, sym, subst, arith, length-append}
-use Rattle.std.specs.Prelude.{IsSome, option_map}
-use Rattle.std.specs.Borrow.{Bor}
-use Rattle.slots.specs.declared.slots.TheConstants.{SLOTS}
+use Rattle.cluster.proofs.Words.{◌≡◌, ℕ, ◌<◌, Bool, true, false, List, [], ◌∷◌, ◌++◌, length, slice_get, Option, Some, None, Result, Ok, Err, refl, ap, sym, subst, arith, length-append, IsSome, option_map, Bor}
+use Rattle.cluster.proofs.Words.{SLOTS, Verdict, Carried, StepFault, entry_of, entries_of, NodeLibrary, AppliesNext, entries_begin, entries_of-get, entries_of-none, of_longer, of_log_applied, Cell, IsCell, AddsEntry, next_entry}
 use Rattle.library.specs.declared.entry.Entry.{Entry}
-use Rattle.library.specs.declared.verdict.Verdict.{Verdict}
-use Rattle.world.specs.declared.carried.Carried.{Carried}
-use Rattle.net.specs.declared.fault.StepFault.{StepFault}
-use Rattle.world.specs.Carried.{entry_of, entries_of}
-use Rattle.world.specs.Replicas.{NodeLibrary, AppliesNext}
-use Rattle.world.proofs.EntryLogs.{entries_begin, entries_of-get, entries_of-none}
-use Rattle.world.proofs.ReplicasLemmas.{of_longer, of_log_applied}
-use Rattle.cluster.specs.Cell.{Cell, IsCell, AddsEntry, next_entry}
 
 -- the cell as a call sees it
 abbrev pub cell : ℕ → List (Option Carried) → NodeLibrary → Cell

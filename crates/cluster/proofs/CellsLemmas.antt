@@ -1,12 +1,6 @@
 -- New cells, one after another.
-use Rattle.std.proofs.Common.{◌≡◌, ℕ, zero, suc, ◌+◌, ◌<◌, List, [], ◌∷◌, ◌++◌, length, take, slice_get, Some, refl, ap, sym, ◌∙◌, subst, arith, add-one, le_of_suc-le-suc}
-use Rattle.net.specs.World.{log_after}
-use Rattle.switch.specs.Switch.{Shared, new_places, world_of}
-use Rattle.world.specs.declared.carried.Carried.{Carried}
-use Rattle.world.specs.Carried.{carried_size}
-use Rattle.cluster.specs.Cell.{Cell, new_cell}
-use Rattle.cluster.specs.Belongs.{Belongs, EachBelongs}
-use Rattle.cluster.specs.Cells.{new_cells}
+use Rattle.cluster.proofs.Words.{◌≡◌, ℕ, zero, suc, ◌+◌, ◌<◌, List, [], ◌∷◌, ◌++◌, length, take, slice_get, Some, refl, ap, sym, ◌∙◌, subst, arith, add-one, le_of_suc-le-suc}
+use Rattle.cluster.proofs.Words.{log_after, SwitchView, new_views, world_of, Carried, carried_size, Cell, new_cell, Belongs, EachBelongs, new_cells}
 
 new_cells-take : (k i : ℕ) (ws : List ℕ) → i < length ws → new_cells k (take (suc i) ws) ≡ new_cells k (take i ws) ++ new_cell (k + i) ∷ []
 new_cells-take k i [] h = absurd (omega arith)
@@ -32,16 +26,16 @@ new_cell_at j (suc k) (w ∷ ws) c at =
     let e : suc j + k ≡ j + suc k = omega arith in
     (rest.0 ∙ ap (λ (i : ℕ). new_cell i) e, let low = rest.1 in omega (arith, low))
 
--- there are as many new places as keeps
-pub count_new_places : (V : Type 0) {K : Type 0} (failures : K → ℕ) (keeps : List K) → length (new_places {V = V} failures keeps) ≡ length keeps
-count_new_places V failures [] = refl
-count_new_places V failures (keep ∷ keeps) = ap suc (count_new_places V failures keeps)
+-- there are as many new views as keeps
+pub count_new_views : (V : Type 0) {K : Type 0} (failures : K → ℕ) (keeps : List K) → length (new_views {V = V} failures keeps) ≡ length keeps
+count_new_views V failures [] = refl
+count_new_views V failures (keep ∷ keeps) = ap suc (count_new_views V failures keeps)
 
--- each new cell is of a switch with as many places: it has no entries yet
-pub new_belong : (ws : List ℕ) (cells : List Cell) (shared : Shared Carried) → cells ≡ new_cells 0 ws → length shared.places ≡ length ws → EachBelongs cells shared
-new_belong ws cells shared are count k c at =
+-- each new cell is of a switch with as many views: it has no entries yet
+pub new_belong : (ws : List ℕ) (cells : List Cell) (switch : SwitchView Carried) → cells ≡ new_cells 0 ws → length switch.stores ≡ length ws → EachBelongs cells switch
+new_belong ws cells switch are count k c at =
     let is = new_cell_at 0 k ws c (ap (λ (cs : List Cell). slice_get cs k) (sym are) ∙ at) in
-    subst (λ (x : Cell). Belongs x shared) (sym is.0) record {
+    subst (λ (x : Cell). Belongs x switch) (sym is.0) record {
       node = let low = is.1 in omega (arith, low, count);
-      begins = (log_after (world_of carried_size shared) (0 + k), refl);
+      begins = (log_after (world_of carried_size switch) (0 + k), refl);
     }

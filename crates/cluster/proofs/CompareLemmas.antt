@@ -1,24 +1,8 @@
--- The libraries of two cells of one switch are one the beginning of the other.
-use Rattle.std.proofs.Common.{◌≡◌, ◌+◌, ◌<◌, ◌≤◌, true, false, List, [], ◌∷◌, ◌++◌, length, inl, inr, Option, Result, Ok, Err, refl, ap, sym, ◌∙◌, subst, arith, append-nil, length-append}
-use Rattle.std.specs.Prelude.{IsOk}
-use Rattle.mm_read.specs.Statements.{Database}
-use Rattle.world.specs.declared.carried.Carried.{Carried}
-use Rattle.net.specs.declared.fault.StepFault.{StepFault}
-use Rattle.net.specs.World.{World, log, log_after}
-use Rattle.net.specs.Agree.{IsBeginningOf, Agree}
-use Rattle.net.specs.Taken.{Taken}
-use Rattle.net.specs.History.{IsMoment}
-use Rattle.world.specs.Carried.{carried_size, entries_of}
-use Rattle.world.specs.Replicas.{IsOfLog}
-use Rattle.world.specs.Headline.{Headline}
-use Rattle.world.proofs.EntryLogs.{entries_begin}
-use Rattle.world.proofs.HeadlineLemmas.{headline_holds}
-use Rattle.world.proofs.ReplicasLemmas.{of_longer}
-use Rattle.switch.specs.Switch.{Shared, world_of}
-use Rattle.cluster.specs.Cell.{Cell, IsCell}
-use Rattle.cluster.specs.Belongs.{Belongs}
+-- Of the libraries of two cells of one switch one is a prefix of the other.
+use Rattle.cluster.proofs.Words.{◌≡◌, ◌+◌, ◌<◌, ◌≤◌, true, false, List, [], ◌∷◌, ◌++◌, length, inl, inr, Option, Result, Ok, Err, refl, ap, sym, ◌∙◌, subst, arith, append-nil, length-append, IsOk}
+use Rattle.cluster.proofs.Words.{Database, Carried, StepFault, World, log, log_after, IsBeginningOf, Agree, Taken, IsMoment, carried_size, entries_of, IsOfLog, Headline, entries_begin, headline_holds, of_longer, SwitchView, world_of, Cell, IsCell, Belongs}
 
-module _ (s : Shared Carried) (w : World Carried) (is : world_of carried_size s ≡ Ok w) where
+module _ (s : SwitchView Carried) (w : World Carried) (is : world_of carried_size s ≡ Ok w) where
   abbrev taken : Taken Carried
   taken = record { weights = s.weights; events = s.history }
 
@@ -32,10 +16,12 @@ module _ (s : Shared Carried) (w : World Carried) (is : world_of carried_size s 
   agree_in one other b d h k =
       let line : Headline taken = headline_holds taken (subst (λ (r : Result (World Carried) StepFault). IsOk r) (sym is) refl) in
       let moment : IsMoment carried_size taken w = record { early = s.history; begins = ([], append-nil s.history); is_after = is } in
-      line.libraries_agree w w moment moment one.at other.at one.node.applied other.node.applied one.node.library other.node.library (of_log one b h).library (of_log other d k).library
+      line.libraries_agree one.node.library other.node.library
+      record { world = w; moment = moment; node = one.at; applied = one.node.applied; of_log = (of_log one b h).library }
+      record { world = w; moment = moment; node = other.at; applied = other.node.applied; of_log = (of_log other d k).library }
 
 -- the statements of two cells of one switch agree
-pub cells_agree : (one other : Cell) (s : Shared Carried) → IsOk (world_of carried_size s) → Belongs one s → Belongs other s → IsCell one → IsCell other → Agree one.node.library.statements other.node.library.statements
+pub cells_agree : (one other : Cell) (s : SwitchView Carried) → IsOk (world_of carried_size s) → Belongs one s → Belongs other s → IsCell one → IsCell other → Agree one.node.library.statements other.node.library.statements
 cells_agree one other s ok b d h k = from (world_of carried_size s) refl ok where
   from : (r : Result (World Carried) StepFault) → world_of carried_size s ≡ r → IsOk r → Agree one.node.library.statements other.node.library.statements
   from (Ok w) is ok = agree_in s w is one other b d h k
@@ -54,7 +40,7 @@ module _ (xs ys : Database) where
   is_second (inl h) more = (h, more)
   is_second (inr h) more = let count : length ys + length h.0 ≡ length xs = sym (length-append ys h.0) ∙ ap (λ (zs : Database). length zs) h.1 in absurd (omega (arith, count, more))
 
--- a beginning that is no shorter than the list is the list
+-- a prefix that is no shorter than the list is the list
 all_begun : (xs ys : Database) → IsBeginningOf xs ys → length ys ≤ length xs → xs ≡ ys
 all_begun xs ys h few = by_rest h.0 h.1 where
   by_rest : (rest : Database) → xs ++ rest ≡ ys → xs ≡ ys

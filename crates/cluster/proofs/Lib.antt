@@ -1,3 +1,4 @@
+pub mod Words
 mod CellsLemmas
 mod LongerRecordLemmas
 mod CellLemmas

@@ -1,11 +1,7 @@
 -- A map that ends in an entry stays one with an entry more, and is copied slot by slot.
-use Rattle.std.proofs.Common.{◌≡◌, ℕ, zero, suc, ◌+◌, ◌<◌, List, [], ◌∷◌, Option, Some, None, length, take, refl, ap, sym, ◌∙◌, subst, arith, add-one, le_of_suc-le-suc}
-use Rattle.slots.specs.FiniteMap.{entry_at, put_at, trim_head, trimmed}
-use Rattle.synod.specs.declared.change.Held.{Held}
-use Rattle.synod.specs.declared.change.Change.{Change}
-use Rattle.synod.specs.declared.change.Change.TheVariants.{Round, Promise, Entry}
-use Rattle.synod.specs.Record.{Kept, changed_by}
-use Rattle.cluster.specs.LongerRecord.{with_entry}
+use Rattle.cluster.proofs.Words.{◌≡◌, ℕ, zero, suc, ◌+◌, ◌<◌, List, [], ◌∷◌, Option, Some, None, length, take, refl, ap, sym, ◌∙◌, subst, arith, add-one, le_of_suc-le-suc}
+use Rattle.cluster.proofs.Words.{entry_at, put_at, trim_head, trimmed, Held, Change, Round, Promise, Kept, changed_by, with_entry}
+use Rattle.synod.specs.declared.change.Change.TheVariants.{Entry}
 
 -- a gap in front of entries, one of which was put, is not trimmed away
 put_head : {T : Type 0} (xs : List (Option T)) (s : ℕ) (v : T) → trim_head None (put_at xs s v) ≡ None ∷ put_at xs s v

@@ -1,26 +1,21 @@
--- Which switch a cell is of, and which of two cells of one switch is ahead.
+-- Which switch a cell belongs to, and which of two cells of one switch is ahead.
 -- Source: Lamport, Paxos Made Simple, section 3: all servers execute the same commands, each as far as it learned them.
 -- The code tests the tie entry by entry where switch and cell are both at hand, since two locks share no fact.
 use Rattle.std.specs.Prelude.{◌≡◌, ◌<◌, ℕ, List, Some, length, slice_get}
-use Rattle.mm_read.specs.Statements.{Database}
-use Rattle.net.specs.Agree.{IsBeginningOf}
-use Rattle.switch.specs.Switch.{Shared}
-use Rattle.switch.specs.Belonging.{BeginsLog}
-use Rattle.world.specs.declared.carried.Carried.{Carried}
-use Rattle.world.specs.Carried.{carried_size}
+use Rattle.cluster.specs.Words.{Database, IsBeginningOf, SwitchView, BeginsLog, Carried, carried_size}
 use Rattle.cluster.specs.declared.compare.Ahead.{Ahead}
 use Rattle.cluster.specs.declared.compare.Ahead.TheVariants.{First, Same, Second}
 use Rattle.cluster.specs.Cell.{Cell}
 
--- the cell is of the switch: what it took over begins its node's log
-abbrev pub Belongs : Cell → Shared Carried → Type 0
-Belongs c shared = BeginsLog carried_size shared c.at c.entries
+-- the cell belongs to the switch: the entries taken over are a prefix of its node's log
+abbrev pub Belongs : Cell → SwitchView Carried → Type 0
+Belongs c switch = BeginsLog carried_size switch c.at c.entries
 
--- each of them is
-abbrev pub EachBelongs : List Cell → Shared Carried → Type 0
-EachBelongs cells shared = (k : ℕ) (c : Cell) → slice_get cells k ≡ Some c → Belongs c shared
+-- each of the cells does
+abbrev pub EachBelongs : List Cell → SwitchView Carried → Type 0
+EachBelongs cells switch = (k : ℕ) (c : Cell) → slice_get cells k ≡ Some c → Belongs c switch
 
--- which library has more statements: the other's statements begin its own
+-- which library has more statements: the other's statements are a prefix of its own
 abbrev pub IsAhead : Ahead → Database → Database → Type 0
 IsAhead First one other = IsBeginningOf other one × (length other < length one)
 IsAhead Same one other = one ≡ other

@@ -1,18 +1,12 @@
--- A node's own part: what it has taken over of its log, and the library of the entries that it applied.
+-- The cell of a node: the entries that it has taken over from its log, and the library of those that it applied.
 -- Source: Lamport, Paxos Made Simple, section 3: a server executes the commands in the order of their numbers.
--- The code keeps these under a lock of their own; that the entries begin the log of their core is tested where both are at hand.
+-- The code keeps these under a lock of their own; that the entries are a prefix of the log is tested where both are at hand.
 use Rattle.std.specs.Prelude.{◌≡◌, ℕ, ◌+◌, ◌≤◌, Bool, true, false, List, [], ◌∷◌, ◌++◌, Option, Some, None, Result, Ok, Err, length, slice_get}
-use Rattle.slots.specs.declared.slots.TheConstants.{SLOTS}
-use Rattle.library.specs.declared.entry.Entry.{Entry}
-use Rattle.world.specs.declared.carried.Carried.{Carried}
-use Rattle.net.specs.declared.fault.StepFault.{StepFault}
-use Rattle.net.specs.declared.fault.StepFault.TheVariants.{Memory}
-use Rattle.world.specs.Carried.{entries_of}
-use Rattle.world.specs.Replicas.{NodeLibrary, new_library, IsOfLog}
+use Rattle.cluster.specs.Words.{SLOTS, Entry, Carried, StepFault, Memory, entries_of, NodeLibrary, new_library, IsOfLog}
 
 pub record Cell : Type 0 where
   pub at : ℕ
-  pub entries : List (Option Carried)  -- taken over, the first in first
+  pub entries : List (Option Carried)  -- taken over, in order
   pub node : NodeLibrary  -- the library, and how many of the entries made it
 
 abbrev pub new_cell : ℕ → Cell
@@ -23,16 +17,7 @@ pub record IsCell (c : Cell) : Type 0 where
   pub few : length c.entries ≤ SLOTS
   pub of_entries : IsOfLog (entries_of c.entries) c.node
 
--- the next entry is taken over, or there is none; or there is no memory for it, and nothing is taken over
-abbrev pub TakesOver : Cell → Cell → Option (Option Carried) → Result Bool StepFault → Type 0
-TakesOver old new (Some entry) (Ok true) = new ≡ record old { entries = old.entries ++ entry ∷ [] }
-TakesOver old new None (Ok true) = ⊥
-TakesOver old new None (Ok false) = new ≡ old
-TakesOver old new (Some entry) (Ok false) = ⊥
-TakesOver old new (Some entry) (Err fault) = (fault ≡ Memory) × (new ≡ old)
-TakesOver old new None (Err fault) = ⊥
-
--- the same of the entries alone
+-- the next entry is appended, or there is none; or an allocation fails, and nothing is appended
 abbrev pub AddsEntry : List (Option Carried) → List (Option Carried) → Option (Option Carried) → Result Bool StepFault → Type 0
 AddsEntry old new (Some entry) (Ok true) = new ≡ old ++ entry ∷ []
 AddsEntry old new (Some entry) (Ok false) = ⊥
@@ -40,6 +25,11 @@ AddsEntry old new (Some entry) (Err fault) = (fault ≡ Memory) × (new ≡ old)
 AddsEntry old new None (Ok true) = ⊥
 AddsEntry old new None (Ok false) = new ≡ old
 AddsEntry old new None (Err fault) = ⊥
+
+-- the cell takes over the next entry so, and the rest of it stays
+pub record TakesOver (old new : Cell) (next : Option (Option Carried)) (result : Result Bool StepFault) : Type 0 where
+  pub adds : AddsEntry old.entries new.entries next result
+  pub rest : new ≡ record old { entries = new.entries }
 
 -- the entry that is applied next, if it is taken over
 abbrev pub next_entry : Cell → Option (Option Entry)

@@ -1,3 +1,4 @@
+pub mod Words
 pub mod Cell
 pub mod Cells
 pub mod Belongs

@@ -1,22 +1,19 @@
-//! A node's own part, its cell: the entries that were taken over from its log, and the library of those applied.
-ghost use Rattle.std.specs.Prelude.{◌≡◌, ◌↔◌, IsTrue, ◌<◌, [], Ok, Err, Some, None, length, slice_get, option_map, IsOk, IsSome, IfOk, OnOk, OnErr, IsOkUnless};
+//! The cell of a node: the entries that were taken over from its log, and the library of those applied.
+ghost use Rattle.std.specs.Prelude.{◌≡◌, ◌↔◌, ◌<◌, ◌≤◌, IsTrue, [], Ok, Err, Some, None, length, slice_get, option_map, IsOk, IfOk, OnOk, OnErr, IsOkUnless};
 ghost use Rattle.std.specs.List.{AllByRecursion};
-ghost use Rattle.std.specs.Result.{ForOk};
 ghost use Rattle.library.specs.Listed.{listed};
 ghost use Rattle.synod.specs.Record.{new_kept};
 ghost use Rattle.net.specs.declared.fault.StepFault.TheVariants.{NoNode, Memory};
-ghost use Rattle.net.specs.World.{World, log};
+ghost use Rattle.net.specs.World.{log_after};
 ghost use Rattle.world.specs.Carried.{carried_size};
 ghost use Rattle.world.specs.Replicas.{AppliesNext};
-ghost use Rattle.net.specs.declared.event.Event.TheVariants.{Offer};
-ghost use Rattle.switch.specs.Switch.{ArePlaces, world_of, new_places, Acts, Restarts};
-ghost use Rattle.switch.specs.Belonging.{OthersStay, StaysBelonging};
+ghost use Rattle.switch.specs.Switch.{new_views, world_of};
 ghost use Rattle.cluster.specs.Belongs.{Belongs, EachBelongs};
 ghost use Rattle.cluster.specs.Cells.{new_cells};
 ghost use Rattle.cluster.specs.Cell.{Cell, new_cell, IsCell, AddsEntry, TakesOver, next_entry};
 
 use crate::log::begins_log;
-use library::{Entry, Library, Listed, Verdict};
+use library::{Library, Listed, Verdict};
 use net::StepFault;
 use std::alloc::{AllocError, Global};
 use std::marker::Model;
@@ -26,9 +23,9 @@ use synod::{Keep, Weights, copy_value};
 use verify_pool::{Gate, Workers};
 use world::{Carried, Replica};
 
-/// What node `at` has taken over of its log, and its library: that of the first entries taken over, as many as were applied.
+/// The entries that node `at` has taken over from its log, and its library: that of the first of them, as many as were applied.
 ///
-/// It is seen as the node's number, those entries, the count applied and what the library holds.
+/// Contracts see the node's number, those entries, the count applied and what the library holds.
 #[derive(Drop)]
 pub struct NodeCell {
     alloc: Global,
@@ -48,7 +45,7 @@ impl Model for NodeCell {
 }
 
 impl NodeCell {
-    /// Nothing is taken over. It takes no memory.
+    /// Returns the cell of a new node. Does not allocate.
     pub(crate) fn new(alloc: Global, at: u8) -> Self
         ensures { result ≡ new_cell at }
     {
@@ -60,14 +57,14 @@ impl NodeCell {
         }
     }
 
-    /// The number of its node.
+    /// Returns the number of its node.
     pub fn at(&self) -> u8
         ensures { result ≡ self.now.at }
     {
         self.at
     }
 
-    /// The library: that of the first entries taken over, as many as were applied. It takes no memory.
+    /// Returns the library: that of the first entries taken over, as many as were applied. Does not allocate.
     pub fn library(&self) -> &Library
         ensures library { result.now.replica ≡ self.now.node.library }
         ensures of_entries { IsCell self.now }
@@ -75,17 +72,25 @@ impl NodeCell {
         self.replica.library()
     }
 
-    /// Whether an entry that was taken over is still to be applied.
+    /// Tells whether an entry that was taken over is still to be applied.
     pub fn is_behind(&self) -> bool
         ensures { IsTrue result ↔ self.now.node.applied < length self.now.entries }
     {
         (self.replica.applied() as usize) < self.entries.len()
     }
+
+    /// Gives up what was taken over and applied. Does not allocate.
+    pub(crate) fn give_up(&mut self)
+        ensures { self.new ≡ new_cell self.old.at }
+    {
+        self.entries.clear();
+        self.replica.give_up(self.alloc);
+    }
 }
 
-/// Whether the cell is of that switch: its node is there, and what it took over begins the node's log.
+/// Tells whether the cell belongs to that switch: its node is there, and the entries taken over are a prefix of the node's log.
 ///
-/// Cost: the size of the entries taken over.
+/// Cost: the size of the entries taken over, each compared with one of the log.
 pub fn belongs<K: Keep<Carried>>(cell: &NodeCell, switch: &Switch<Carried, K>) -> bool
     ensures belongs { IsTrue result ↔ Belongs cell.now switch.now }
     ensures taken { IsOk (world_of carried_size switch.now) }
@@ -93,31 +98,17 @@ pub fn belongs<K: Keep<Carried>>(cell: &NodeCell, switch: &Switch<Carried, K>) -
     begins_log(switch, cell.at, &cell.entries)
 }
 
-/// An entry is offered to node `k`. It answers the count of the packets posted so far.
+/// Takes over the next entry of the node's log. Returns whether there is one.
 ///
-/// Errors: as of `begin_on`.
-pub fn offer_on<K: Keep<Carried>>(
-    switch: &mut Switch<Carried, K>,
-    k: u8,
-    entry: Entry,
-) -> Result<u64, StepFault>
-    ensures taken { IsOk (world_of carried_size switch.old) }
-    ensures places { ForOk (world_of carried_size switch.old) (λ world. ArePlaces carried_size world switch.old.places) }
-    ensures acts { ForOk (world_of carried_size switch.old) (λ world. Acts carried_size world switch.old switch.new (Offer k (record { 0 = entry })) result) }
-    ensures belonging { StaysBelonging carried_size switch.old switch.new }
-{
-    switch.offer(k, Carried(entry))
-}
-
-/// Takes over the next entry of the node's log, and answers whether there is one.
-///
-/// Errors: `NoNode` where the switch has no such node; else `Memory`, where there is one, and nothing is taken over.
+/// Errors: `NoNode` where the switch has no such node; else `Memory`, where an allocation fails: nothing is taken over then.
+/// Cost: one entry, copied.
 pub fn take_on<K: Keep<Carried>>(
     cell: &mut NodeCell,
     switch: &Switch<Carried, K>,
 ) -> Result<bool, StepFault>
-    ensures no_node { ForOk (world_of carried_size switch.now) (λ world. slice_get world.nodes cell.old.at ≡ None → (result ≡ Err NoNode) × (cell.new ≡ cell.old)) }
-    ensures takes { ForOk (world_of carried_size switch.now) (λ world. IsSome (slice_get world.nodes cell.old.at) → TakesOver cell.old cell.new (slice_get (log world cell.old.at) (length cell.old.entries)) result) }
+    ensures taken { IsOk (world_of carried_size switch.now) }
+    ensures no_node { length switch.now.stores ≤ cell.old.at → (result ≡ Err NoNode) × (cell.new ≡ cell.old) }
+    ensures takes { cell.old.at < length switch.now.stores → TakesOver cell.old cell.new (slice_get (log_after (world_of carried_size switch.now) cell.old.at) (length cell.old.entries)) result }
     ensures belongs { Belongs cell.old switch.now → Belongs cell.new switch.now }
 {
     let slot = cell.entries.len() as u32;
@@ -128,7 +119,7 @@ pub fn take_on<K: Keep<Carried>>(
     add_entry(&mut cell.entries, next)
 }
 
-/// Adds a copy of the entry that is next, where there is one.
+/// Appends a copy of the next entry, if there is one.
 fn add_entry(
     entries: &mut Vec<Option<Carried>>,
     next: Option<&Option<Carried>>,
@@ -147,7 +138,7 @@ fn add_entry(
     }
 }
 
-/// Applies the next of the entries taken over; `None` where each is applied.
+/// Applies the next of the entries taken over. Returns `None` if all are applied.
 ///
 /// Errors: `Memory`; the library then stays at its entry. Cost: that of `Library::apply` on the entry.
 pub fn apply_on(cell: &mut NodeCell) -> Result<Option<Verdict>, StepFault>
@@ -158,8 +149,8 @@ pub fn apply_on(cell: &mut NodeCell) -> Result<Option<Verdict>, StepFault>
     cell.replica.apply_next(next)
 }
 
-/// Applies the next of the entries taken over as `apply_on` does, its proofs checked by some workers side by side. Each passes the
-/// gate before each proof. No answer depends on the number of workers.
+/// Applies the next of the entries taken over as `apply_on` does, with its proofs checked by workers in parallel. Each worker
+/// passes the gate before each proof. No answer depends on the number of workers.
 ///
 /// Errors: those of `apply_on`. Cost: that of `Library::apply_with` on the entry.
 pub fn apply_on_with<G: Gate + Sync, R: Threads + Sync>(
@@ -175,16 +166,16 @@ pub fn apply_on_with<G: Gate + Sync, R: Threads + Sync>(
     cell.replica.apply_next_with(rt, next, workers, gate)
 }
 
-/// The entry of that slot, if it is taken over.
+/// Returns the entry of that slot, if it is taken over.
 fn entry_at(entries: &[Option<Carried>], slot: u32) -> Option<&Option<Carried>>
     ensures { option_map (λ e. e.now) result ≡ slice_get entries.now slot }
 {
     entries.get(slot as usize)
 }
 
-/// The assertions of the cell's library, in order.
+/// Returns the assertions of the cell's library, in order.
 ///
-/// Errors: a growth was refused. Cost: that of all statements.
+/// Errors: an allocation fails. Cost: one pass over all statements.
 pub fn list_on(cell: &NodeCell) -> Result<Vec<Listed>, AllocError>
     ensures lists { IfOk result (λ list. list.items ≡ listed cell.now.node.library.statements) }
     ensures of_entries { IsCell cell.now }
@@ -192,39 +183,7 @@ pub fn list_on(cell: &NodeCell) -> Result<Vec<Listed>, AllocError>
     cell.replica.library().list()
 }
 
-/// Restarts the cell's node: it is up with the record that its keep has, and the cell is as new: nothing is taken over, and the
-/// library is empty. It answers the count of the packets posted so far.
-///
-/// Errors: at a node that is up as of `begin_on`. At one that is down `EventsSpent` where fewer than two events are left, else
-/// `Memory` or `Device`, and it stays down. The cell is then as before.
-pub fn restart_on<K: Keep<Carried>>(
-    cell: &mut NodeCell,
-    switch: &mut Switch<Carried, K>,
-) -> Result<u64, StepFault>
-    ensures taken { IsOk (world_of carried_size switch.old) }
-    ensures places { ForOk (world_of carried_size switch.old) (λ world. ArePlaces carried_size world switch.old.places) }
-    ensures restarts { ForOk (world_of carried_size switch.old) (λ world. Restarts carried_size world switch.old switch.new cell.old.at result) }
-    ensures fresh { OnOk result (cell.new ≡ new_cell cell.old.at) }
-    ensures stays { OnErr result (cell.new ≡ cell.old) }
-    ensures belongs { Belongs cell.old switch.old → Belongs cell.new switch.new }
-    ensures others { OthersStay carried_size cell.old.at switch.old switch.new }
-{
-    let count = switch.restart(cell.at)?;
-    cell.give_up();
-    Ok(count)
-}
-
-impl NodeCell {
-    /// The cell is as new.
-    fn give_up(&mut self)
-        ensures { self.new ≡ new_cell self.old.at }
-    {
-        self.entries.clear();
-        self.replica.give_up(self.alloc);
-    }
-}
-
-/// A switch of new nodes, one for each weight, and their cells. Each keep has the record of a new node.
+/// Makes a switch of new nodes, one for each weight, and their cells. Each keep has the record of a new node.
 pub fn cells<K: Keep<Carried>>(
     alloc: Global,
     weights: Weights,
@@ -232,7 +191,7 @@ pub fn cells<K: Keep<Carried>>(
 ) -> Result<(Switch<Carried, K>, Vec<NodeCell>), StepFault>
     requires count { length keeps.items ≡ length weights }
     requires new { AllByRecursion (λ keep. K.kept keep ≡ new_kept) keeps.items }
-    ensures switch { IfOk result (λ made. made.0 ≡ record { weights = weights; history = []; places = new_places K.failures keeps.items }) }
+    ensures switch { IfOk result (λ made. made.0 ≡ record { weights = weights; history = []; stores = new_views K.failures keeps.items }) }
     ensures cells { IfOk result (λ made. made.1.items ≡ new_cells 0 weights) }
     ensures belong { IfOk result (λ made. EachBelongs made.1.items made.0) }
     ensures only_memory { IsOkUnless result Memory }
@@ -242,7 +201,7 @@ pub fn cells<K: Keep<Carried>>(
     Ok((switch, cells))
 }
 
-/// A new cell for each of the weights.
+/// Makes a new cell for each weight.
 fn cells_of(alloc: Global, weights: Weights) -> Result<Vec<NodeCell>, AllocError>
     ensures { IfOk result (λ cells. cells.items ≡ new_cells 0 weights) }
 {

@@ -8,19 +8,21 @@ use switch::Switch;
 use synod::Keep;
 use world::Carried;
 
-/// Whose library has more statements.
+/// Which of two libraries has more statements.
 #[derive(Clone, Copy, PartialEq, Eq, Debug)]
 pub enum Ahead {
-    /// The first: the second's statements begin its own.
+    /// The first: the second's statements are a prefix of its own.
     First,
     /// They have the same statements.
     Same,
-    /// The second: the first's statements begin its own.
+    /// The second: the first's statements are a prefix of its own.
     Second,
 }
 
-/// Which of two cells of one switch has the library with more statements: their logs agree, and so do their libraries. It takes
-/// no memory.
+/// Tells which of two cells of one switch has the library with more statements: their logs agree, and so do their libraries.
+/// Does not allocate.
+///
+/// Cost: constant; the two counts are compared.
 pub fn compare_on<K: Keep<Carried>>(
     one: &NodeCell,
     other: &NodeCell,
@@ -35,7 +37,7 @@ pub fn compare_on<K: Keep<Carried>>(
     ahead_of(one.library(), other.library())
 }
 
-/// Which of two libraries has more statements, where those of the one begin those of the other.
+/// Tells which of two libraries has more statements, where the statements of one are a prefix of those of the other.
 fn ahead_of(one: &Library, other: &Library) -> Ahead
     requires { Agree one.now.replica.statements other.now.replica.statements }
     ensures { IsAhead result one.now.replica.statements other.now.replica.statements }

@@ -1,21 +1,22 @@
 //! The nodes of one agreement on the entries of libraries, each with what it has taken over of its log.
 //!
 //! The contract that the crates above use is that of the calls that are lent locked values: each of `begin_on`, `offer_on`,
-//! `deliver_on` and `restart_on` is one event of a history that is taken (`Acts`, `Restarts` of `switch/specs/Switch.antt`); what
-//! `Switch::history` tells is true of every switch, and `NodeCell::library` of every cell. Cells and switch of one `cells` call
-//! stay belonging to each other, and of two such cells `compare_on` tells which library begins the other.
+//! `deliver_on` and `restart_on` is one event of a history that is taken (`Plays` of `switch/specs/Switch.antt`).
+//! `Switch::history` says what is true of every switch, and `NodeCell::library` what is true of every cell. Cells and switch of
+//! one `cells` call go on to belong to each other, and of two such cells `compare_on` tells which library is a prefix of the
+//! other.
 //!
-//! Read `memory_keep`, `cell` and `log`, then `compare`; the definitions are specs/Cell and Belongs.
+//! Read `memory_keep`, `cell`, `log` and `events`, then `compare`; the definitions are specs/Cell and Belongs.
 #![tactic(auto)]
 
 mod cell;
 mod compare;
+mod events;
 mod log;
 mod memory_keep;
 
-pub use cell::{
-    NodeCell, apply_on, apply_on_with, belongs, cells, list_on, offer_on, restart_on, take_on,
-};
+pub use cell::{NodeCell, apply_on, apply_on_with, belongs, cells, list_on, take_on};
 pub use compare::{Ahead, compare_on};
+pub use events::{begin_on, deliver_on, offer_on, restart_on};
 pub use memory_keep::MemoryKeep;
-pub use switch::{Switch, begin_on, deliver_on};
+pub use switch::Switch;

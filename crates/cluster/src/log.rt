@@ -2,7 +2,6 @@
 ghost use Rattle.std.specs.Prelude.{◌≡◌, ◌↔◌, ◌≤◌, ◌<◌, Some, length, slice_get, option_map, IsTrue, IsOk};
 ghost use Rattle.slots.specs.declared.slots.TheConstants.{SLOTS};
 ghost use Rattle.net.specs.World.{log_after};
-ghost use Rattle.net.specs.Agree.{IsBeginningOf};
 ghost use Rattle.switch.specs.Switch.{world_of};
 ghost use Rattle.switch.specs.Belonging.{BeginsLog};
 ghost use Rattle.world.specs.Carried.{carried_size};
@@ -12,9 +11,9 @@ use switch::Switch;
 use synod::Keep;
 use world::Carried;
 
-/// Whether node `k` is there, and the entries begin its log.
+/// Tells whether node `k` is there, and the entries are a prefix of its log.
 ///
-/// Cost: the size of the entries.
+/// Cost: the size of the entries, each compared with one of the log.
 pub(crate) fn begins_log<K: Keep<Carried>>(
     switch: &Switch<Carried, K>,
     k: u8,
@@ -24,18 +23,9 @@ pub(crate) fn begins_log<K: Keep<Carried>>(
     ensures begins { IsTrue result ↔ BeginsLog carried_size switch.now k entries.now }
     ensures taken { IsOk (world_of carried_size switch.now) }
 {
-    if switch.entry(k, 0).is_ok() {
-        begins(switch, k, entries)
-    } else {
-        false
+    if switch.entry(k, 0).is_err() {
+        return false;
     }
-}
-
-/// Whether the entries begin the log of node `k`, which is empty where there is none.
-fn begins<K: Keep<Carried>>(switch: &Switch<Carried, K>, k: u8, entries: &[Option<Carried>]) -> bool
-    requires { length entries.now ≤ SLOTS }
-    ensures { IsTrue result ↔ IsBeginningOf entries.now (log_after (world_of carried_size switch.now) k) }
-{
     for slot in 0..entries.len() {
         if !is_entry(switch, k, slot as u32, &entries[slot]) {
             return false;
@@ -44,13 +34,14 @@ fn begins<K: Keep<Carried>>(switch: &Switch<Carried, K>, k: u8, entries: &[Optio
     true
 }
 
-/// Whether it is the entry of node `k`'s log at that slot.
+/// Tells whether it is the entry of node `k`'s log at that slot.
 fn is_entry<K: Keep<Carried>>(
     switch: &Switch<Carried, K>,
     k: u8,
     slot: u32,
     entry: &Option<Carried>,
 ) -> bool
+    requires { k < length switch.now.stores }
     ensures { IsTrue result ↔ (slice_get (log_after (world_of carried_size switch.now) k) slot ≡ Some entry.now) }
 {
     match switch.entry(k, slot) {
@@ -59,29 +50,19 @@ fn is_entry<K: Keep<Carried>>(
     }
 }
 
-/// Whether the entry was found.
+/// Tells whether the entry was found: the same no-operation, text or charter of one author and serial number.
 fn is_found(found: Option<&Option<Carried>>, entry: &Option<Carried>) -> bool
     ensures { IsTrue result ↔ (option_map (λ e. e.now) found.entry ≡ Some entry.now) }
 {
-    match found {
-        Some(found) => is_same(found, entry),
-        None => false,
-    }
-}
-
-/// Whether they are the same entry of a log.
-fn is_same(one: &Option<Carried>, other: &Option<Carried>) -> bool
-    ensures { IsTrue result ↔ (one.now ≡ other.now) }
-{
-    match (one, other) {
-        (Some(one), Some(other)) => is_same_entry(&one.0, &other.0),
-        (None, None) => true,
+    match (found, entry) {
+        (Some(Some(Carried(one))), Some(Carried(other))) => is_same(one, other),
+        (Some(None), None) => true,
         _ => false,
     }
 }
 
-/// Whether they are the same entry of a library.
-fn is_same_entry(one: &Entry, other: &Entry) -> bool
+/// Tells whether two entries are the same.
+fn is_same(one: &Entry, other: &Entry) -> bool
     ensures { IsTrue result ↔ (one.now ≡ other.now) }
 {
     match (one, other) {
@@ -102,7 +83,7 @@ fn is_same_entry(one: &Entry, other: &Entry) -> bool
     }
 }
 
-/// Whether they are the same text of one author under one number.
+/// Tells whether two texts are the same.
 fn is_same_text(one: &Submission, other: &Submission) -> bool
     ensures { IsTrue result ↔ (one.now ≡ other.now) }
 {

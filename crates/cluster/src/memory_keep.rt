@@ -10,7 +10,7 @@ use slots::SLOTS;
 use std::alloc::{AllocError, Global};
 use synod::{Change, Failed, Held, Keep, Record, Value, copy_value};
 
-/// An acceptor's store that lasts as long as the process. Where it finds no memory, it fails.
+/// An acceptor's store that lasts as long as the process. It fails where an allocation fails.
 #[derive(Drop)]
 pub struct MemoryKeep<V: Value> {
     alloc: Global,
@@ -20,7 +20,7 @@ pub struct MemoryKeep<V: Value> {
 }
 
 impl<V: Value> MemoryKeep<V> {
-    /// The record of a new node. It takes no memory.
+    /// Makes the store of a new node. Does not allocate.
     pub fn new(alloc: Global) -> Self
         ensures kept { ⟦<MemoryKeep<V> as Keep<V>>⟧.kept result ≡ new_kept }
         ensures failures { ⟦<MemoryKeep<V> as Keep<V>>⟧.failures result ≡ 0 }
@@ -56,7 +56,7 @@ impl<V: Value> Keep<V> for MemoryKeep<V> {
     }
 }
 
-/// The same change, and room for it. No record has a slot past the limit.
+/// Copies a change, and makes room for it. No record has a slot past the limit.
 fn ready_change<V: Value>(kept: &mut Record<V>, change: &Change<V>) -> Result<Change<V>, AllocError>
     ensures change { IfOk result (λ copy. copy ≡ change.now) }
     ensures room { OnOk result (HasRoomFor kept.new.room (Some change.now)) }
@@ -78,9 +78,9 @@ fn ready_change<V: Value>(kept: &mut Record<V>, change: &Change<V>) -> Result<Ch
     }
 }
 
-/// The same record once more.
+/// Copies a record.
 ///
-/// Cost: the record, each value copied once.
+/// Cost: the slots up to the last entry, each value copied once.
 fn copy_record<V: Value>(alloc: Global, source: &Record<V>) -> Result<Record<V>, AllocError>
     requires { trimmed source.now.kept.accepted ≡ source.now.kept.accepted }
     ensures { IfOk result (λ copy. copy.kept ≡ source.now.kept) }
@@ -94,7 +94,7 @@ fn copy_record<V: Value>(alloc: Global, source: &Record<V>) -> Result<Record<V>,
     Ok(copy)
 }
 
-/// What the record has at a slot comes into the copy.
+/// Copies the entry of a slot, if there is one.
 fn copy_slot<V: Value>(
     copy: &mut Record<V>,
     source: &Record<V>,
@@ -112,7 +112,7 @@ fn copy_slot<V: Value>(
     Ok(())
 }
 
-/// The same ballot and value.
+/// Copies a ballot and its value.
 fn copy_held<V: Value>(held: &Held<V>) -> Result<Held<V>, AllocError>
     ensures { IfOk result (λ copy. copy ≡ held.now) }
 {

@@ -1,6 +1,5 @@
 -- As many locks as there are nodes.
-use Rattle.std.proofs.Common.{◌≡◌, ℕ, suc, List, [], ◌∷◌, length, refl, ap}
-use Rattle.cluster.specs.Cells.{new_cells}
+use Rattle.nodes.proofs.Words.{◌≡◌, ℕ, suc, List, [], ◌∷◌, length, refl, ap, new_cells}
 
 pub new_cells-length : (k : ℕ) (weights : List ℕ) → length (new_cells k weights) ≡ length weights
 new_cells-length k [] = refl

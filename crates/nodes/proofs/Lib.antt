@@ -1,3 +1,4 @@
+pub mod Words
 mod ReportLemmas
 mod CountLemmas
 mod DeskLemmas

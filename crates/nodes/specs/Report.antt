@@ -1,14 +1,8 @@
--- What the nodes did, as a report counts it.
+-- The events of each node, as a report counts them.
 -- Source: this project's profile.
--- The code goes through the history once for each node.
-use Rattle.std.specs.Prelude.{◌≡◌, ℕ, zero, suc, ◌+◌, ◌==◌, Bool, false, List, [], ◌∷◌, ◌++◌, Option, Some, None, if◌then◌else◌}
-use Rattle.world.specs.declared.carried.Carried.{Carried}
-use Rattle.net.specs.declared.event.Event.{Event}
-use Rattle.net.specs.World.{World}
-use Rattle.net.specs.Agree.{IsAfter}
-use Rattle.world.specs.Carried.{carried_size}
-use Rattle.net.specs.KeptPart.{node_of}
-use Rattle.switch.specs.Switch.{Shared}
+-- The code goes through the history once, and adds one to the count of each event's node.
+use Rattle.std.specs.Prelude.{◌≡◌, ℕ, zero, suc, ◌+◌, ◌==◌, Bool, false, List, [], ◌∷◌, Option, Some, None, Ok, if◌then◌else◌}
+use Rattle.nodes.specs.Words.{Carried, Event, World, node_of, SwitchView, world_of, carried_size}
 
 abbrev pub is_node : ℕ → Option ℕ → Bool
 is_node k None = false
@@ -23,14 +17,18 @@ abbrev pub own_events : {V : Type 0} → World V → ℕ → List (Event V) → 
 own_events w k [] = 0
 own_events w k (e ∷ es) = (if is_own w k e then 1 else 0) + own_events w k es
 
--- the counts of so many nodes, in order
-abbrev pub own_counts : {V : Type 0} → World V → ℕ → List (Event V) → List ℕ
-own_counts w zero events = []
-own_counts w (suc k) events = own_counts w k events ++ own_events w k events ∷ []
+-- the counts of so many nodes from node k on, in order
+abbrev pub own_counts : {V : Type 0} → World V → ℕ → ℕ → List (Event V) → List ℕ
+own_counts w k zero events = []
+own_counts w k (suc n) events = own_events w k events ∷ own_counts w (suc k) n events
 
--- the counts are those of a history that the nodes shared
-pub record IsReport (nodes : ℕ) (handled : List ℕ) : Type 0 where
-  pub shared : Shared Carried
+-- the counts of the nodes from node k on, with one more at this node, if it is one of them
+abbrev pub with_one : ℕ → Option ℕ → List ℕ → List ℕ
+with_one k at [] = []
+with_one k at (count ∷ counts) = (count + (if is_node k at then 1 else 0)) ∷ with_one (suc k) at counts
+
+-- the counts are those of the nodes in the history of the switch
+pub record IsReport (switch : SwitchView Carried) (nodes : ℕ) (handled : List ℕ) : Type 0 where
   pub world : World Carried
-  pub is_after : IsAfter carried_size shared.weights shared.history world
-  pub counts : handled ≡ own_counts world nodes shared.history
+  pub is_after : world_of carried_size switch ≡ Ok world
+  pub counts : handled ≡ own_counts world 0 nodes switch.history

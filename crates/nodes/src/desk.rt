@@ -1,24 +1,24 @@
-//! What any thread may call.
+//! The desks, at which any thread may call.
 ghost use Rattle.std.specs.Prelude.{◌≡◌, ◌≤◌, ◌<◌, ◌⊎◌, ℕ, Ok, Err, IfOk, IfErr, OnOk, IsErrAnd, IsOkUnless};
-ghost use Rattle.net.specs.declared.event.Event.TheVariants.{Offer, Begin};
+ghost use Rattle.net.specs.declared.event.Event.TheVariants.{Offer, Begin, Restart};
 ghost use Rattle.net.specs.declared.fault.StepFault.TheVariants.{NoNode, EventsSpent, Memory, Apart, Stopped};
 ghost use Rattle.cluster.specs.declared.compare.Ahead.TheVariants.{Same};
-ghost use Rattle.nodes.specs.Desk.{IsListed, IsStatus, IsCompared, IsPlayed, IsPlayFault, IsRestarted, IsRestartFault};
+ghost use Rattle.nodes.specs.Desk.{IsListed, IsStatus, IsCompared, IsPlayed, IsPlayFault, IsRestartFault};
 
-use crate::shared::Shared;
+use crate::shared_nodes::SharedNodes;
 use cluster::{Ahead, list_on};
 use library::{Entry, Listed, Verdict};
-use net::StepFault;
+use net::{Event, StepFault};
 use std::marker::Model;
 use std::sync::{Arc, Wait};
 use synod::Keep;
 use verify_pool::Gate;
 use world::Carried;
 
-/// A desk of a cluster: its calls take the locks themselves, and may wait for them. It is seen as the count of the nodes.
+/// A desk of a cluster. Its calls take the locks themselves, and may wait for them. Contracts see the count of the nodes.
 #[derive(Drop)]
 pub struct Desk<G: Gate, K: Keep<Carried>> {
-    pub(crate) shared: Arc<Shared<G, K>>,
+    pub(crate) shared: Arc<SharedNodes<G, K>>,
 }
 
 impl<G: Gate, K: Keep<Carried>> Model for Desk<G, K> {
@@ -33,48 +33,46 @@ impl<G: Gate, K: Keep<Carried>> Model for Desk<G, K> {
 impl<G: Gate, K: Keep<Carried>> Desk<G, K> {
     /// Offers an entry at node `k`.
     ///
-    /// Errors: `Stopped` once the cluster is stopped; else as of `cluster::offer_on`.
+    /// Errors: `Stopped` once the cluster is stopped; else those of `cluster::offer_on`.
     pub fn submit<R: Wait>(&self, rt: &R, k: u8, entry: Entry) -> Result<(), StepFault>
         ensures offered { OnOk result ((count : ℕ) × IsPlayed (Offer k (record { 0 = entry })) (Ok count)) }
         ensures refused { IfErr result (IsPlayFault (Offer k (record { 0 = entry }))) }
     {
-        if self.shared.is_stopped(rt) {
-            return Err(StepFault::Stopped);
-        }
-        let hints = {
-            let mut board = self.shared.board.lock(rt);
-            let answer = board.offer(k, entry);
-            board.posts(self.shared.alloc, answer)?
-        };
-        self.shared.send(rt, &hints);
-        Ok(())
+        self.play(rt, Event::Offer(k, Carried(entry)))
     }
 
-    /// Node `k` begins a ballot.
+    /// Has node `k` begin a ballot.
     ///
-    /// Errors: `Stopped` once the cluster is stopped; else as of `cluster::begin_on`.
+    /// Errors: `Stopped` once the cluster is stopped; else those of `cluster::begin_on`.
     pub fn begin<R: Wait>(&self, rt: &R, k: u8) -> Result<(), StepFault>
         ensures begun { OnOk result ((count : ℕ) × IsPlayed (Begin k) (Ok count)) }
         ensures refused { IfErr result (IsPlayFault (Begin k)) }
+    {
+        self.play(rt, Event::Begin(k))
+    }
+
+    /// Plays an event under the switch's lock, and sends the hints of its posts.
+    fn play<R: Wait>(&self, rt: &R, event: Event<Carried>) -> Result<(), StepFault>
+        ensures played { OnOk result ((count : ℕ) × IsPlayed event (Ok count)) }
+        ensures refused { IfErr result (IsPlayFault event) }
     {
         if self.shared.is_stopped(rt) {
             return Err(StepFault::Stopped);
         }
         let hints = {
-            let mut board = self.shared.board.lock(rt);
-            let answer = board.begin(k);
-            board.posts(self.shared.alloc, answer)?
+            let mut switch = self.shared.switch.lock(rt);
+            switch.play(self.shared.alloc, event)?
         };
         self.shared.send(rt, &hints);
         Ok(())
     }
 
-    /// Node `k` restarts with what its keep has.
+    /// Restarts node `k` with the record that its keep has.
     ///
     /// Errors: `Stopped` once the cluster is stopped; `EventsSpent` and then `NoNode` where there is no such node; `Apart` where the
-    /// cell is not of its node; else as of `cluster::restart_on`.
+    /// cell is not of its node; else those of `cluster::restart_on`.
     pub fn restart<R: Wait>(&self, rt: &R, k: u8) -> Result<(), StepFault>
-        ensures restarted { OnOk result ((count : ℕ) × IsRestarted k (Ok count)) }
+        ensures restarted { OnOk result ((count : ℕ) × IsPlayed (Restart k) (Ok count)) }
         ensures refused { k < self.now → IfErr result (IsRestartFault k) }
         ensures no_node { self.now ≤ k → IsErrAnd result (λ fault. (fault ≡ Stopped) ⊎ (fault ≡ EventsSpent) ⊎ (fault ≡ NoNode)) }
     {
@@ -84,23 +82,22 @@ impl<G: Gate, K: Keep<Carried>> Desk<G, K> {
         let others = self.shared.cells.len().saturating_sub(1) as u64;
         let hints = {
             let Ok(lock) = self.shared.cell(k) else {
-                return Err(self.shared.board.lock(rt).without_node());
+                return Err(self.shared.switch.lock(rt).without_node());
             };
             let mut cell = lock.lock(rt);
             if cell.at() != k {
                 return Err(StepFault::Apart);
             }
-            let mut board = self.shared.board.lock(rt);
-            let answer = board.restart(&mut cell);
-            board.asked(self.shared.alloc, others, answer)?
+            let mut switch = self.shared.switch.lock(rt);
+            switch.restart(self.shared.alloc, &mut cell, others)?
         };
         self.shared.send(rt, &hints);
         Ok(())
     }
 
-    /// The assertions of node `k`'s library, in order.
+    /// Returns the assertions of node `k`'s library, in order.
     ///
-    /// Errors: `NoNode`; else `Apart` where the cell is not of its node; else `Memory`.
+    /// Errors: `NoNode`; else `Apart` where the cell is not of its node; else `Memory`. Cost: one pass over all statements.
     pub fn list<R: Wait>(&self, rt: &R, k: u8) -> Result<Vec<Listed>, StepFault>
         ensures listed { IfOk result (λ list. IsListed k list.items) }
         ensures no_node { self.now ≤ k → result ≡ Err NoNode }
@@ -113,9 +110,9 @@ impl<G: Gate, K: Keep<Carried>> Desk<G, K> {
         Ok(list_on(&cell)?)
     }
 
-    /// The verdict of node `k`'s library on the author's entry of that number, if it is decided there.
+    /// Returns the verdict of node `k`'s library on the author's entry of that serial number, if it is decided there.
     ///
-    /// Errors: `NoNode`; else `Apart` where the cell is not of its node.
+    /// Errors: `NoNode`; else `Apart` where the cell is not of its node. Cost: that of `Library::status`.
     pub fn status<R: Wait>(
         &self,
         rt: &R,
@@ -134,9 +131,10 @@ impl<G: Gate, K: Keep<Carried>> Desk<G, K> {
         Ok(cell.library().status(author, serial))
     }
 
-    /// Which of two nodes has the library with more statements.
+    /// Tells which of two nodes has the library with more statements.
     ///
-    /// Errors: `NoNode`; else `Apart` where one of the two cells is not of the switch, or not of its node.
+    /// Errors: `NoNode`; else `Apart` where one of the two cells is not of the switch, or not of its node. Cost: the size of the
+    /// entries that both nodes took over, each compared with one of the log.
     pub fn compare<R: Wait>(&self, rt: &R, j: u8, k: u8) -> Result<Ahead, StepFault>
         ensures compared { IfOk result (λ ahead. (j ≡ k) ⊎ IsCompared j k ahead) }
         ensures no_node { (self.now ≤ j) ⊎ (self.now ≤ k) → result ≡ Err NoNode }
@@ -157,7 +155,7 @@ impl<G: Gate, K: Keep<Carried>> Desk<G, K> {
     }
 }
 
-/// The answer for the two nodes in the other order.
+/// Returns the answer for the two nodes in the other order.
 fn turned(ahead: Ahead) -> Ahead
     ensures { (j k : ℕ) → IsCompared j k ahead → IsCompared k j result }
 {

@@ -1,19 +1,19 @@
 //! The nodes of a cluster as threads of one process.
 //!
 //! The contract that the crate above uses is that of `crates/cluster`: under its locks each thread makes one event of the shared
-//! history, or applies one entry to its own library. What waits for a lock promises nothing but if it returns; the type of a
-//! `Report` keeps that its counts add up.
+//! history, or applies one entry to its own library. A call that waits for a lock promises nothing but if it returns; the type of
+//! a `Report` keeps that its counts add up.
 //!
-//! Read `weather`, `board` (what stands under the switch's lock), `shared` (the locks), `node_loop` (a node's thread), then
+//! Read `weather`, `shared_switch` (what the switch's lock guards), `shared_nodes` (the locks), `node_loop` (a node's thread), then
 //! `node_threads`, `desk` and `report`.
 #![tactic(auto)]
 
-mod board;
 mod desk;
 mod node_loop;
 mod node_threads;
 mod report;
-mod shared;
+mod shared_nodes;
+mod shared_switch;
 mod weather;
 
 pub use desk::Desk;

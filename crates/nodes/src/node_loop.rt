@@ -1,6 +1,6 @@
-//! A node's thread.
-use crate::board::Hint;
-use crate::shared::Shared;
+//! The thread of a node.
+use crate::shared_nodes::SharedNodes;
+use crate::shared_switch::Hint;
 use crate::weather::{Fate, Weather};
 use crossbeam_channel::Receiver;
 use std::iter;
@@ -10,16 +10,16 @@ use synod::Keep;
 use verify_pool::Gate;
 use world::Carried;
 
-/// How many of the hints that wait a node takes at once: each lock is taken once for all of them.
+/// How many waiting hints a node takes at most at once: each lock is taken once for all of them.
 const MOST_HINTS: usize = 32;
 
-/// Takes the hints that wait, turn after turn, until the channel ends.
+/// Takes the waiting hints, turn after turn, until the channel ends.
 pub(crate) fn run_node<
     G: Gate + Sync + Drop,
     K: Keep<Carried> + Drop,
     W: Weather + Drop,
     R: Threads + Wait + Sync + Drop,
->(rt: R, shared: Arc<Shared<G, K>>, k: u8, mut weather: W, hints: Receiver<u64>) {
+>(rt: R, shared: Arc<SharedNodes<G, K>>, k: u8, mut weather: W, hints: Receiver<u64>) {
     let mut packets = Vec::new(shared.alloc);
     for _ in rt.forever() {
         let Ok(first) = hints.recv(&rt) else {
@@ -30,7 +30,7 @@ pub(crate) fn run_node<
             .chain(hints.try_iter(&rt))
             .take(MOST_HINTS)
         {
-            // A hint for which there is no memory is a lost packet.
+            // A hint whose allocation fails is a lost packet.
             match weather.turn(number) {
                 Fate::Pass => {
                     let _ = packets.push(number);

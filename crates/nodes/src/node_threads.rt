@@ -1,16 +1,18 @@
 //! The node threads, from start to stop.
-ghost use Rattle.std.specs.Prelude.{◌≡◌, ◌≤◌, length, vec_len, IfOk, IsOkUnless};
+ghost use Rattle.std.specs.Prelude.{◌≡◌, ◌⊎◌, length, vec_len, IfOk, IfErr, IsOkUnless};
 ghost use Rattle.std.specs.Arc.{arc_value};
 ghost use Rattle.std.specs.List.{AllByRecursion};
 ghost use Rattle.synod.specs.Record.{new_kept};
-ghost use Rattle.net.specs.declared.fault.StepFault.TheVariants.{Memory};
+ghost use Rattle.net.specs.declared.fault.StepFault.TheVariants.{Memory, Stopped};
+ghost use Rattle.switch.specs.Switch.{SwitchView};
+ghost use Rattle.world.specs.declared.carried.Carried.{Carried};
 ghost use Rattle.nodes.specs.Report.{IsReport};
 
-use crate::board::Board;
 use crate::desk::Desk;
 use crate::node_loop::run_node;
 use crate::report::{Report, count_events};
-use crate::shared::Shared;
+use crate::shared_nodes::SharedNodes;
+use crate::shared_switch::SharedSwitch;
 use crate::weather::Weather;
 use cluster::{NodeCell, cells};
 use crossbeam_channel::{Receiver, Sender};
@@ -24,13 +26,13 @@ use synod::{Keep, Weights};
 use verify_pool::{Gate, Workers};
 use world::Carried;
 
-/// The node threads. It stays in its thread; where it is dropped and was not stopped, its threads wait on. It is seen as the count
-/// of the nodes.
+/// The running node threads. It stays in its thread. If it is dropped without `stop`, its threads stay blocked. Contracts see the
+/// count of the nodes.
 #[derive(Drop)]
 pub struct Cluster<G: Gate, K: Keep<Carried>> {
     alloc: Global,
     nodes: u8,
-    shared: Arc<Shared<G, K>>,
+    shared: Arc<SharedNodes<G, K>>,
     threads: Vec<JoinHandle<()>>,
 }
 
@@ -45,10 +47,10 @@ impl<G: Gate, K: Keep<Carried>> Model for Cluster<G, K> {
     ghost invariant = { λ c. vec_len (arc_value c.shared).cells ≡ c.nodes };
 }
 
-/// Makes the nodes' threads: for each weight a node with its keep, whose record is that of a new node, and its weather. The proofs
+/// Starts the nodes' threads: for each weight a node with its keep, whose record is that of a new node, and its weather. The proofs
 /// of each entry that a node applies are checked by `workers` threads.
 ///
-/// Errors: `Memory`, where a growth was refused or a thread cannot be started; those that were started have ended.
+/// Errors: `Memory`, where an allocation fails or a thread cannot be started; those that were started have ended.
 pub fn start<
     G: Gate + Send + Sync + Drop + 'static,
     W: Weather + Send + Drop + 'static,
@@ -85,14 +87,14 @@ pub fn start<
     }
 }
 
-/// The locks, with the ends at which the nodes take their hints.
+/// Makes the locks, and the receiving ends of the nodes' channels.
 fn share<G: Gate + Drop, K: Keep<Carried>>(
     alloc: Global,
     weights: Weights,
     workers: Workers,
     gate: Arc<G>,
     keeps: Vec<K>,
-) -> Result<(Arc<Shared<G, K>>, Vec<Receiver<u64>>), StepFault>
+) -> Result<(Arc<SharedNodes<G, K>>, Vec<Receiver<u64>>), StepFault>
     requires keeps { length keeps.items ≡ length weights }
     requires new { AllByRecursion (λ keep. K.kept keep ≡ new_kept) keeps.items }
     ensures cells { IfOk result (λ parts. vec_len (arc_value parts.0).cells ≡ length weights) }
@@ -101,11 +103,11 @@ fn share<G: Gate + Drop, K: Keep<Carried>>(
     let (switch, cells) = cells(alloc, weights, keeps)?;
     let cells = locks(alloc, cells)?;
     let (senders, receivers) = channels(alloc, weights.count())?;
-    let parts = Shared {
+    let parts = SharedNodes {
         alloc,
         workers,
         gate,
-        board: Mutex::new(Board::new(switch)),
+        switch: Mutex::new(SharedSwitch::new(switch)),
         cells,
         senders: Mutex::new(senders),
     };
@@ -115,7 +117,7 @@ fn share<G: Gate + Drop, K: Keep<Carried>>(
     }
 }
 
-/// A lock for each cell.
+/// Makes a lock for each cell.
 fn locks(alloc: Global, cells: Vec<NodeCell>) -> Result<Vec<Mutex<NodeCell>>, AllocError>
     ensures { IfOk result (λ locks. vec_len locks ≡ vec_len cells) }
 {
@@ -126,7 +128,7 @@ fn locks(alloc: Global, cells: Vec<NodeCell>) -> Result<Vec<Mutex<NodeCell>>, Al
     Ok(locks)
 }
 
-/// A channel for each of so many nodes.
+/// Makes a channel for each of so many nodes.
 fn channels(
     alloc: Global,
     nodes: u8,
@@ -142,7 +144,9 @@ fn channels(
 }
 
 impl<G: Gate, K: Keep<Carried>> Cluster<G, K> {
-    /// Starts the thread of node `k`. Where none can be made, nothing has changed.
+    /// Starts the thread of node `k`.
+    ///
+    /// Errors: no thread can be started; nothing has changed then.
     fn add<
         W: Weather + Send + Drop + 'static,
         R: Threads + Wait + Copy + Send + Sync + Drop + 'static,
@@ -176,7 +180,7 @@ impl<G: Gate, K: Keep<Carried>> Cluster<G, K> {
         Ok(())
     }
 
-    /// A desk of the cluster, for any thread.
+    /// Returns a desk of the cluster, for any thread.
     ///
     /// Errors: too many desks are there.
     pub fn desk(&self) -> Result<Desk<G, K>, AllocError>
@@ -186,7 +190,7 @@ impl<G: Gate, K: Keep<Carried>> Cluster<G, K> {
         Ok(Desk { shared })
     }
 
-    /// Ends the channels, and joins the threads. It takes no memory.
+    /// Ends the channels, and joins the threads. Does not allocate.
     fn end<R: Threads + Wait>(&mut self, rt: &R)
         ensures { self.new ≡ self.old }
     {
@@ -200,19 +204,20 @@ impl<G: Gate, K: Keep<Carried>> Cluster<G, K> {
         }
     }
 
-    /// Ends the channels, joins the threads, and counts what the nodes did.
+    /// Ends the channels, joins the threads, and counts each node's events.
     ///
-    /// Errors: `Stopped` where it was stopped before; else `Memory`, and the cluster goes on.
+    /// Errors: `Stopped` where it was stopped before; else `Memory`, and the cluster goes on. Cost: one pass over the history.
     pub fn stop<R: Threads + Wait>(&mut self, rt: &R) -> Result<Report, StepFault>
-        ensures report { IfOk result (λ report. IsReport self.old report.handled.items) }
+        ensures report { IfOk result (λ report. (switch : SwitchView Carried) × IsReport switch self.old report.handled.items) }
+        ensures faults { IfErr result (λ fault. (fault ≡ Stopped) ⊎ (fault ≡ Memory)) }
         ensures nodes { self.new ≡ self.old }
     {
         if self.shared.is_stopped(rt) {
             return Err(StepFault::Stopped);
         }
-        let handled = Vec::with_capacity(self.alloc, usize::from(self.nodes))?;
+        let handled = vec![in self.alloc; 0; usize::from(self.nodes)]?;
         self.end(rt);
-        let board = self.shared.board.lock(rt);
-        Ok(count_events(&board, self.nodes, handled))
+        let shared = self.shared.switch.lock(rt);
+        Ok(count_events(&shared.switch, self.nodes, handled))
     }
 }

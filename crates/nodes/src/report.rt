@@ -1,18 +1,13 @@
-//! What the nodes did.
-ghost use Rattle.std.specs.Prelude.{◌≡◌, ◌≤◌, [], length, sum, vec_capacity};
-ghost use Rattle.std.specs.Result.{ForOk};
+//! The report of a cluster: how many events each node took part in.
+ghost use Rattle.std.specs.Prelude.{◌≡◌, ◌+◌, ◌<◌, ◌≤◌, replicate, sum};
 ghost use Rattle.net.specs.declared.event.TheConstants.{MOST_EVENTS};
-ghost use Rattle.world.specs.Carried.{carried_size};
-ghost use Rattle.switch.specs.Switch.{world_of};
-ghost use Rattle.nodes.specs.Report.{IsReport, own_events};
+ghost use Rattle.nodes.specs.Report.{IsReport, with_one};
 
-use crate::board::Board;
-use net::Event;
+use cluster::Switch;
 use synod::Keep;
 use world::Carried;
 
-/// What the nodes did: the events of the history, and of each node how many of them were its own, the deliveries of packets
-/// addressed to it included.
+/// How many events each node took part in: its offers, ballots and restarts, and the deliveries of packets addressed to it.
 #[derive(Drop)]
 pub struct Report {
     pub events: u64,
@@ -20,37 +15,38 @@ pub struct Report {
     pub ghost total: { events ≡ sum handled.items },
 }
 
-/// Counts the events of so many nodes.
+/// Counts the events of each node in the history of the switch, from a count of zero for each.
+///
+/// Cost: one pass over the history.
 pub(crate) fn count_events<K: Keep<Carried>>(
-    board: &Board<K>,
+    switch: &Switch<Carried, K>,
     nodes: u8,
     mut handled: Vec<u64>,
 ) -> Report
-    requires empty { handled.items ≡ [] }
-    requires room { nodes ≤ vec_capacity handled }
-    ensures { IsReport nodes result.handled.items }
+    requires { handled.items ≡ replicate nodes 0 }
+    ensures { IsReport switch.now nodes result.handled.items }
 {
-    let history = board.switch.history();
+    let history = switch.history();
     let mut events = 0;
-    for k in 0..nodes {
-        let count = count_own(board, history, k);
-        events += count;
-        handled.push_reserved(count);
+    for event in history {
+        events += add_one(&mut handled, switch.node_of(event));
     }
     Report { events, handled }
 }
 
-/// How many of these events, which are those of the board, are node `k`'s own.
-fn count_own<K: Keep<Carried>>(board: &Board<K>, history: &[Event<Carried>], k: u8) -> u64
-    requires { length history.now ≤ MOST_EVENTS }
-    ensures own { ForOk (world_of carried_size board.now.switch) (λ world. result ≡ own_events world k history.now) }
-    ensures few { result ≤ MOST_EVENTS }
+/// Adds one to the count of a node. Returns how many counts it raised: none if there is no such node.
+fn add_one(counts: &mut Vec<u64>, node: Option<u8>) -> u64
+    requires { sum counts.old.items < MOST_EVENTS }
+    ensures counts { counts.new.items ≡ with_one 0 node counts.old.items }
+    ensures total { sum counts.new.items ≡ sum counts.old.items + result }
+    ensures few { result ≤ 1 }
 {
-    let mut count = 0;
-    for event in history {
-        if board.is_of(event, k) {
-            count += 1;
-        }
-    }
-    count
+    let Some(k) = node else {
+        return 0;
+    };
+    let Some(count) = counts.get_mut(usize::from(k)) else {
+        return 0;
+    };
+    *count += 1;
+    1
 }

@@ -1,6 +1,6 @@
-//! What becomes of hints on their way.
+//! The weather: how the network treats hints.
 
-/// What becomes of a hint.
+/// The fate of a hint on its way.
 #[derive(Clone, Copy, PartialEq, Eq, Debug)]
 pub enum Fate {
     /// Its packet is delivered.
@@ -9,17 +9,17 @@ pub enum Fate {
     Drop,
     /// Its packet is delivered twice.
     Twice,
-    /// It goes behind the hints that wait now.
+    /// It is appended to the hints that wait now.
     Later,
 }
 
-/// What a node's thread asks before each hint: how the network treats its packet.
+/// Decides how the network treats each packet. A node's thread asks it before each hint.
 pub trait Weather {
-    /// What becomes of the hint of that packet.
+    /// Returns the fate of the hint of that packet.
     fn turn(&mut self, number: u64) -> Fate;
 }
 
-/// The weather that loses, repeats and delays nothing.
+/// A weather that loses, repeats and delays nothing.
 #[derive(Clone, Copy, Debug)]
 pub struct Clear;
 

@@ -1,30 +1,8 @@
--- What begins a log goes on to begin it, whatever event comes, but for a restart of its own node.
-use Rattle.std.proofs.Common.{◌≡◌, ◌≢◌, ℕ, ◌<◌, ◌==◌, Bool, true, false, List, [], ◌∷◌, ◌++◌, length, slice_get, inl, inr, Option, Some, None, Result, Ok, Err, refl, ap, sym, ◌∙◌, subst, arith, append-nil, nat_lt, ◌+◌}
-use Rattle.std.specs.Prelude.{IsSome, OnErr}
-use Rattle.std.specs.Option.{option_map}
-use Rattle.std.proofs.lemmas.Bool.Decides.{nat_tests}
-use Rattle.std.proofs.lemmas.List.{length-set}
-use Rattle.synod.specs.declared.packet.Packet.{Packet}
-use Rattle.synod.specs.declared.change.Change.{Change}
-use Rattle.synod.specs.declared.refusal.Refusal.{Refusal}
-use Rattle.synod.specs.Node.{Node, Stepped}
-use Rattle.synod.specs.Proposer.{offered, begun}
-use Rattle.synod.specs.Step.{on_packet, restarted}
-use Rattle.net.specs.declared.event.TheConstants.{MOST_EVENTS}
-use Rattle.net.specs.declared.event.Event.{Event}
-use Rattle.net.specs.declared.event.Event.TheVariants.{Offer, Begin, Deliver, Restart}
-use Rattle.net.specs.declared.fault.StepFault.{StepFault}
-use Rattle.net.specs.World.{World, at_node, delivered, happens_at, happens, log, log_after, all_happen, start}
-use Rattle.net.specs.Agree.{IsAfter, IsBeginningOf}
-use Rattle.net.specs.KeptPart.{node_of, change_of}
-use Rattle.net.proofs.EveryEvent.{IfTaken, if_taken, spent_or}
-use Rattle.net.proofs.TwoMoments.{all_happen-append}
-use Rattle.net.proofs.TakenLemmas.{after-push}
-use Rattle.net.proofs.LogsGrow.{log_grows}
-use Rattle.net.proofs.Beginnings.{then_begins}
-use Rattle.switch.specs.Seat.{Standing, up, down}
-use Rattle.switch.specs.Switch.{Place, Shared, world_of, with_place, with_event, IsPlaceOf, ArePlaces, is_down, is_down_place, due, change_due, events_due, FailsAt, TakesAt, ActsUp, RevivesAt, ActsDown, Restarts}
-use Rattle.switch.specs.Belonging.{BeginsLog, StaysBelonging, StaysAtRestart}
+-- A prefix of a node's log stays one, whatever event comes, but for a restart of that node.
+use Rattle.switch.proofs.Words.{◌≡◌, ◌≢◌, ℕ, ◌<◌, ◌==◌, Bool, true, false, List, [], ◌∷◌, ◌++◌, length, slice_get, inl, inr, Option, Some, None, Result, Ok, Err, refl, ap, sym, ◌∙◌, subst, arith, nat_lt, ◌+◌, IsSome, OnErr, option_map, nat_tests, length-set}
+use Rattle.switch.proofs.Words.{Packet, Change, Refusal, Node, Stepped, offered, begun, on_packet, restarted, MOST_EVENTS, Event, Offer, Begin, Deliver, Restart, StepFault, World, at_node, delivered, happens_at, happens, log, log_after, all_happen, start, IsAfter, IsBeginningOf, node_of, change_of, IfTaken, if_taken, spent_or, all_happen-append, after-push, log_grows, then_begins, Standing, up, down, StoreView, SwitchView, world_of, with_store, IsViewOf, AreStores, is_down, is_down_view, is_down_at, due, change_due, events_due, FailsAt, TakesAt, ActsUp, RevivesAt, Revives, ActsDown, Acts, BeginsLog, StaysBelonging, KeepsLogs}
+use Rattle.std.proofs.Common.{append-nil}
+use Rattle.switch.specs.Switch.{with_event}
 
 -- The node of an event that is taken is there.
 
@@ -62,27 +40,23 @@ module _ {V : Type 0} (size : V → ℕ) (w : World V) where
 log_goes_on : {V : Type 0} (size : V → ℕ) (w : World V) (e : Event V) (x : World V) → happens size w e ≡ Ok x → (j : ℕ) → e ≢ Restart j → IsBeginningOf (log w j) (log x j)
 log_goes_on {V} size w e x happened j other = if_taken (λ (y : World V). IsBeginningOf (log w j) (log y j)) (happens size w e) x happened (log_grows size w j e other)
 
--- What a call leaves.
+-- The logs after a call.
 
-module _ {V : Type 0} (size : V → ℕ) (old : Shared V) where
+module _ {V : Type 0} (size : V → ℕ) (old : SwitchView V) where
   -- where nothing has changed, what begins a log still begins it
-  pub same_stays : (new : Shared V) → new ≡ old → StaysBelonging size old new
-  same_stays new is k entries h = subst (λ (s : Shared V). BeginsLog size s k entries) (sym is) h
+  pub same_stays : (new : SwitchView V) → new ≡ old → StaysBelonging size old new
+  same_stays new is k entries h = subst (λ (s : SwitchView V). BeginsLog size s k entries) (sym is) h
 
-  -- only a place is another
-  place_stays : (new : Shared V) (k : ℕ) (place : Place V) → new ≡ with_place old k place → StaysBelonging size old new
-  place_stays new k place is j entries h = subst (λ (s : Shared V). BeginsLog size s j entries) (sym is) record {
-    node = subst (λ (n : ℕ). j < n) (sym (length-set old.places k place)) h.node;
+  -- only a store changes
+  view_stays : (new : SwitchView V) (k : ℕ) (view : StoreView V) → new ≡ with_store old k view → StaysBelonging size old new
+  view_stays new k view is j entries h = subst (λ (s : SwitchView V). BeginsLog size s j entries) (sym is) record {
+    node = subst (λ (n : ℕ). j < n) (sym (length-set old.stores k view)) h.node;
     begins = h.begins;
   }
 
-  -- where a call of the keep failed, the history and so each log is as before
-  fails_stay : (new : Shared V) (k : ℕ) (place : Place V) (change : Option (Change V)) (left : Standing (Event V)) → FailsAt old new k place change left → StaysBelonging size old new
-  fails_stay new k place change left h = place_stays new k (record { kept = h.kept; failures = place.failures + 1; standing = left }) h.rest
-
   module _ (w : World V) (was : world_of size old ≡ Ok w) where
     -- a history of which x is the world
-    longer_stays : (new : Shared V) (x : World V) → world_of size new ≡ Ok x → length new.places ≡ length old.places → (j : ℕ) (entries : List (Option V)) → IsBeginningOf (log w j) (log x j) → BeginsLog size old j entries → BeginsLog size new j entries
+    longer_stays : (new : SwitchView V) (x : World V) → world_of size new ≡ Ok x → length new.stores ≡ length old.stores → (j : ℕ) (entries : List (Option V)) → IsBeginningOf (log w j) (log x j) → BeginsLog size old j entries → BeginsLog size new j entries
     longer_stays new x is count j entries grows h = record {
       node = subst (λ (n : ℕ). j < n) (sym count) h.node;
       begins =
@@ -92,51 +66,24 @@ module _ {V : Type 0} (size : V → ℕ) (old : Shared V) where
     }
 
     -- where the event is taken, and is no restart of node j, what begins the log of j begins the longer one
-    taken_stays : (new : Shared V) (k : ℕ) (place : Place V) (change : Option (Change V)) (e : Event V) (x : World V) → happens size w e ≡ Ok x → new ≡ with_event old k place change e
+    taken_stays : (new : SwitchView V) (k : ℕ) (view : StoreView V) (change : Option (Change V)) (e : Event V) (x : World V) → happens size w e ≡ Ok x → new ≡ with_event old k view change e
         → (j : ℕ) (entries : List (Option V)) → e ≢ Restart j → BeginsLog size old j entries → BeginsLog size new j entries
-    taken_stays new k place change e x happened is j entries other h =
+    taken_stays new k view change e x happened is j entries other h =
         longer_stays new x
-        (ap (λ (s : Shared V). world_of size s) is ∙ after-push size old.weights old.history w e was ∙ happened)
-        (ap (λ (s : Shared V). length s.places) is ∙ length-set old.places k _)
+        (ap (λ (s : SwitchView V). world_of size s) is ∙ after-push size old.weights old.history w e was ∙ happened)
+        (ap (λ (s : SwitchView V). length s.stores) is ∙ length-set old.stores k _)
         j entries (log_goes_on size w e x happened j other) h
 
-    module _ (places : ArePlaces size w old.places) where
-      -- a node that is there has its place
-      place_there : (k : ℕ) → IsSome (slice_get w.nodes k) → (place : Place V) × (slice_get old.places k ≡ Some place)
-      place_there k there = both (slice_get w.nodes k) (slice_get old.places k) refl there (places k) where
-        both : (n : Option (Node V)) (o : Option (Place V)) → slice_get old.places k ≡ o → IsSome n → IsPlaceOf size w n o → (place : Place V) × (slice_get old.places k ≡ Some place)
-        both n (Some place) at some is = (place, at)
+    module _ (stores : AreStores size w old.stores) where
+      -- a node that is there has its store
+      view_there : (k : ℕ) → IsSome (slice_get w.nodes k) → (view : StoreView V) × (slice_get old.stores k ≡ Some view)
+      view_there k there = both (slice_get w.nodes k) (slice_get old.stores k) refl there (stores k) where
+        both : (n : Option (Node V)) (o : Option (StoreView V)) → slice_get old.stores k ≡ o → IsSome n → IsViewOf size w n o → (view : StoreView V) × (slice_get old.stores k ≡ Some view)
+        both n (Some view) at some is = (view, at)
         both None None at some is = let no : false ≡ true = some in cc
         both (Some n) None at some is = elim is [ ]
 
-      -- an event whose node is not down
-      module _ (new : Shared V) (e : Event V) (result : Result ℕ StepFault) (acts : ActsUp size w old new e result) where
-        -- whether the event that happens is taken or its call fails, what begins a log goes on, but at a restart of its node
-        takes_stay : (x : World V) → happens size w e ≡ Ok x → (k : ℕ) (place : Place V) (r : Result ℕ StepFault) → TakesAt old new e k place (change_of size w e) x r → (j : ℕ) (entries : List (Option V)) → e ≢ Restart j → BeginsLog size old j entries → BeginsLog size new j entries
-        takes_stay x happened k place (Ok count) h j entries other b = taken_stays new k place (change_of size w e) e x happened h.0 j entries other b
-        takes_stay x happened k place (Err fault) (inl h) j entries other b = same_stays new h.1 j entries b
-        takes_stay x happened k place (Err fault) (inr h) j entries other b = fails_stay new k place (change_of size w e) (down (due e)) h.1 j entries b
-
-        -- the same whether the event happens or meets a fault
-        pub up_stays : (j : ℕ) (entries : List (Option V)) → e ≢ Restart j → BeginsLog size old j entries → BeginsLog size new j entries
-        up_stays j entries other b = by_world (happens size w e) refl where
-          by_world : (r : Result (World V) StepFault) → happens size w e ≡ r → BeginsLog size new j entries
-          by_world (Err fault) meets = same_stays new (acts.refused fault meets).1 j entries b
-          by_world (Ok x) happened =
-              let of = node_there size w e x happened in
-              let place = place_there of.k of.there in
-              takes_stay x happened of.k place.0 result (acts.taken x happened of.k of.node place.0 place.1) j entries other b
-
 -- A restart.
-
--- the restart of one node is not the restart of another
-other_restart : {V : Type 0} (j k : ℕ) → k ≢ j → let e : Event V = Restart j in e ≢ Restart k
-other_restart {V} j k other = λ same. other (let both : node_number (Restart j) ≡ node_number (Restart k) = ap node_number same in sym both) where
-  node_number : Event V → ℕ
-  node_number (Offer n v) = n
-  node_number (Begin n) = n
-  node_number (Deliver n) = n
-  node_number (Restart n) = n
 
 -- what holds anyway holds where the result is an error
 on_err : {A E P : Type 0} (r : Result A E) → P → OnErr r P
@@ -156,87 +103,99 @@ before {V} size ws es e x is = from (all_happen size es (Ok (start ws))) refl (s
   from (Ok m) at last = record { mid = m; is_after = at; happened = last }
   from (Err fault) at last = let no : Err fault ≡ Ok x = last in cc
 
-module _ {V : Type 0} (size : V → ℕ) (old : Shared V) (j : ℕ) (new : Shared V) (result : Result ℕ StepFault) where
-  -- a restart that changes nothing leaves each log
-  restart_same : new ≡ old → StaysAtRestart size j old new result
-  restart_same is = record {
+module _ {V : Type 0} (size : V → ℕ) (old : SwitchView V) (e : Event V) (new : SwitchView V) (result : Result ℕ StepFault) where
+  -- an event that changes nothing leaves each log
+  logs_same : new ≡ old → KeepsLogs size e old new result
+  logs_same is = record {
     others = λ k entries other b. same_stays size old new is k entries b;
     refused = on_err result (same_stays size old new is);
-    nodes = ap (λ (s : Shared V). length s.places) is;
+    nodes = ap (λ (s : SwitchView V). length s.stores) is;
   }
 
-  -- a restart that changes only the place of its node leaves each log
-  restart_place : (place : Place V) → new ≡ with_place old j place → StaysAtRestart size j old new result
-  restart_place place is = record {
-    others = λ k entries other b. place_stays size old new j place is k entries b;
-    refused = on_err result (place_stays size old new j place is);
-    nodes = ap (λ (s : Shared V). length s.places) is ∙ length-set old.places j place;
+  -- an event that changes only one store leaves each log
+  logs_store : (j : ℕ) (view : StoreView V) → new ≡ with_store old j view → KeepsLogs size e old new result
+  logs_store j view is = record {
+    others = λ k entries other b. view_stays size old new j view is k entries b;
+    refused = on_err result (view_stays size old new j view is);
+    nodes = ap (λ (s : SwitchView V). length s.stores) is ∙ length-set old.stores j view;
   }
 
-  -- a restart at which a call of the keep failed leaves each log
-  restart_fails : (place : Place V) (change : Option (Change V)) (left : Standing (Event V)) → FailsAt old new j place change left → StaysAtRestart size j old new result
-  restart_fails place change left h = restart_place (record { kept = h.kept; failures = place.failures + 1; standing = left }) h.rest
+  -- an event at which a call of the keep failed leaves each log
+  logs_fail : (j : ℕ) (view : StoreView V) (change : Option (Change V)) (left : Standing (Event V)) → FailsAt old new j view change left → KeepsLogs size e old new result
+  logs_fail j view change left h = logs_store j (record { kept = h.kept; failures = view.failures + 1; standing = left }) h.rest
 
-module _ {V : Type 0} (size : V → ℕ) (old : Shared V) (w : World V) (was : world_of size old ≡ Ok w) (places : ArePlaces size w old.places) (j : ℕ) (new : Shared V) where
-  -- at a node that is up
-  restart_takes : (x : World V) → happens size w (Restart j) ≡ Ok x → (k : ℕ) → node_of w (Restart j) ≡ Some k → (place : Place V) (r : Result ℕ StepFault) → TakesAt old new (Restart j) k place (change_of size w (Restart j)) x r → StaysAtRestart size j old new r
-  restart_takes x happened k is place (Ok count) h = record {
-    others = λ i entries other b. taken_stays size old w was new k place (change_of size w (Restart j)) (Restart j) x happened h.0 i entries (other_restart j i other) b;
+module _ {V : Type 0} (size : V → ℕ) (old : SwitchView V) (w : World V) (was : world_of size old ≡ Ok w) (stores : AreStores size w old.stores) (new : SwitchView V) where
+  -- an event that happens at a node that is up
+  takes_logs : (e : Event V) (x : World V) → happens size w e ≡ Ok x → (k : ℕ) (view : StoreView V) (r : Result ℕ StepFault) → TakesAt old new e k view (change_of size w e) x r → KeepsLogs size e old new r
+  takes_logs e x happened k view (Ok count) h = record {
+    others = λ i entries other b. taken_stays size old w was new k view (change_of size w e) e x happened h.0 i entries other b;
     refused = tt;
-    nodes = ap (λ (s : Shared V). length s.places) h.0 ∙ length-set old.places k _;
+    nodes = ap (λ (s : SwitchView V). length s.stores) h.0 ∙ length-set old.stores k _;
   }
-  restart_takes x happened k is place (Err fault) (inl h) = restart_same size old j new (Err fault) h.1
-  restart_takes x happened k is place (Err fault) (inr h) =
-      let same : j ≡ k = cc in
-      restart_fails size old j new (Err fault) place (change_of size w (Restart j)) (down (due (Restart j))) (subst (λ (i : ℕ). FailsAt old new i place (change_of size w (Restart j)) (down (due (Restart j)))) (sym same) h.1)
+  takes_logs e x happened k view (Err fault) (inl h) = logs_same size old e new (Err fault) h.1
+  takes_logs e x happened k view (Err fault) (inr h) = logs_fail size old e new (Err fault) k view (change_of size w e) (down (due e)) h.1
 
-  -- a restart of a node that is up, whether it happens or meets a fault
-  restart_up : (result : Result ℕ StepFault) → ActsUp size w old new (Restart j) result → StaysAtRestart size j old new result
-  restart_up result acts = by_world (happens size w (Restart j)) refl where
-    by_world : (r : Result (World V) StepFault) → happens size w (Restart j) ≡ r → StaysAtRestart size j old new result
-    by_world (Err fault) meets = restart_same size old j new result (acts.refused fault meets).1
+  -- an event whose node is up, whether it happens or meets a fault
+  up_logs : (e : Event V) (result : Result ℕ StepFault) → ActsUp size w old new e result → KeepsLogs size e old new result
+  up_logs e result acts = by_world (happens size w e) refl where
+    by_world : (r : Result (World V) StepFault) → happens size w e ≡ r → KeepsLogs size e old new result
+    by_world (Err fault) meets = logs_same size old e new result (acts.refused fault meets).1
     by_world (Ok x) happened =
-        let of = node_there size w (Restart j) x happened in
-        let place = place_there size old w was places of.k of.there in
-        restart_takes x happened of.k of.node place.0 result (acts.taken x happened of.k of.node place.0 place.1)
+        let of = node_there size w e x happened in
+        let view = view_there size old w was stores of.k of.there in
+        takes_logs e x happened of.k view.0 result (acts.taken x happened of.k of.node view.0 view.1)
 
-  -- at one that is down
-  owed_goes_on : (e : Option (Event V)) → ((ev : Event V) → e ≡ Some ev → node_of w ev ≡ Some j) → (m : World V) → IsAfter size old.weights (old.history ++ events_due e) m → (k : ℕ) → k ≢ j → IsBeginningOf (log w k) (log m k)
-  owed_goes_on None owed m is k other =
-      let both : Ok w ≡ Ok m = sym was ∙ ap (λ (es : List (Event V)). world_of size (record { weights = old.weights; history = es; places = old.places })) (sym (append-nil old.history)) ∙ is in
+  -- the logs of other nodes go on where the event that node j owes is taken
+  owed_goes_on : (j : ℕ) (e : Option (Event V)) → ((ev : Event V) → e ≡ Some ev → node_of w ev ≡ Some j) → (m : World V) → IsAfter size old.weights (old.history ++ events_due e) m → (k : ℕ) → k ≢ j → IsBeginningOf (log w k) (log m k)
+  owed_goes_on j None owed m is k other =
+      let both : Ok w ≡ Ok m = sym was ∙ ap (λ (es : List (Event V)). world_of size (record { weights = old.weights; history = es; stores = old.stores })) (sym (append-nil old.history)) ∙ is in
       let same : w ≡ m = cc in
       ([], append-nil (log w k) ∙ ap (λ (x : World V). log x k) same)
-  owed_goes_on (Some ev) owed m is k other =
+  owed_goes_on j (Some ev) owed m is k other =
       let happened : happens size w ev ≡ Ok m = sym (after-push size old.weights old.history w ev was) ∙ is in
       let not : ev ≢ Restart k = λ same. (let both : Some j ≡ Some k = sym (owed ev refl) ∙ ap (λ (e : Event V). node_of w e) same in let number : j ≡ k = cc in other (sym number)) in
       log_goes_on size w ev m happened k not
 
   -- a restart that takes what is owed first, or finds no memory, or finds that its keep fails
-  revived_stays : (place : Place V) (e : Option (Event V)) → ((ev : Event V) → e ≡ Some ev → node_of w ev ≡ Some j) → (r : Result ℕ StepFault) → RevivesAt size w old new j place e r → StaysAtRestart size j old new r
-  revived_stays place e owed (Ok count) h = record {
+  revived_logs : (j : ℕ) (view : StoreView V) (e : Option (Event V)) → ((ev : Event V) → e ≡ Some ev → node_of w ev ≡ Some j) → (r : Result ℕ StepFault) → RevivesAt size w old new j view e r → KeepsLogs size (Restart j) old new r
+  revived_logs j view e owed (Ok count) h = record {
     others = λ k entries other b.
-        (let mid = before size old.weights (old.history ++ events_due e) (Restart j) h.world h.is_after in
-        longer_stays size old w was new h.world (ap (λ (s : Shared V). world_of size s) h.rest ∙ h.is_after) counted k entries
-        (then_begins (log w k) (log mid.mid k) (log h.world k) (owed_goes_on e owed mid.mid mid.is_after k other) (log_goes_on size mid.mid (Restart j) h.world mid.happened k (other_restart j k other))) b);
+        (let apart : k ≢ j = λ same. other (ap (λ (i : ℕ). let r : Event V = Restart i in r) (sym same)) in
+        let mid = before size old.weights (old.history ++ events_due e) (Restart j) h.world h.is_after in
+        longer_stays size old w was new h.world (ap (λ (s : SwitchView V). world_of size s) h.rest ∙ h.is_after) counted k entries
+        (then_begins (log w k) (log mid.mid k) (log h.world k) (owed_goes_on j e owed mid.mid mid.is_after k apart) (log_goes_on size mid.mid (Restart j) h.world mid.happened k other)) b);
     refused = tt;
     nodes = counted;
   } where
-    counted : length new.places ≡ length old.places
-    counted = ap (λ (s : Shared V). length s.places) h.rest ∙ length-set old.places j _
-  revived_stays place e owed (Err fault) (inl h) = restart_place size old j new (Err fault) (record { kept = h.1.kept; failures = place.failures; standing = place.standing }) h.1.rest
-  revived_stays place e owed (Err fault) (inr h) = restart_fails size old j new (Err fault) place (change_due size w e) place.standing h.1
+    counted : length new.stores ≡ length old.stores
+    counted = ap (λ (s : SwitchView V). length s.stores) h.rest ∙ length-set old.stores j _
+  revived_logs j view e owed (Err fault) (inl h) = logs_store size old (Restart j) new (Err fault) j (record { kept = h.1.kept; failures = view.failures; standing = view.standing }) h.1.rest
+  revived_logs j view e owed (Err fault) (inr h) = logs_fail size old (Restart j) new (Err fault) j view (change_due size w e) view.standing h.1
 
-  -- a restart of a node that is up or down, where what its place owes is an event of its own
-  pub restart_stays : ((place : Place V) → slice_get old.places j ≡ Some place → (ev : Event V) → place.standing ≡ down (Some ev) → node_of w ev ≡ Some j) → (result : Result ℕ StepFault) → Restarts size w old new j result → StaysAtRestart size j old new result
-  restart_stays owed result h = by_place (slice_get old.places j) refl where
-    by_room : (place : Place V) (e : Option (Event V)) → ((ev : Event V) → e ≡ Some ev → node_of w ev ≡ Some j) → ActsDown size w old new j place e result → (t : Bool) → nat_lt MOST_EVENTS (length old.history + 2) ≡ t → StaysAtRestart size j old new result
-    by_room place e own acts true test = restart_same size old j new result (acts.spent (grind (arith, nat_tests))).1
-    by_room place e own acts false test = revived_stays place e own result (acts.revived (grind (arith, nat_tests)))
+  -- What a node owes is an event of its own.
+  module _ (owed : (j : ℕ) (view : StoreView V) → slice_get old.stores j ≡ Some view → (ev : Event V) → view.standing ≡ down (Some ev) → node_of w ev ≡ Some j) where
+    -- an event whose node is down
+    down_logs : (e : Event V) (result : Result ℕ StepFault) → is_down_at old.stores (node_of w e) ≡ true → ActsDown size w old new e result → KeepsLogs size e old new result
+    down_logs (Offer k v) result test acts = logs_same size old (Offer k v) new result acts.1
+    down_logs (Begin k) result test acts = logs_same size old (Begin k) new result acts.1
+    down_logs (Deliver number) result test acts = logs_same size old (Deliver number) new result acts.1
+    down_logs (Restart j) result test acts = by_view (slice_get old.stores j) refl where
+      by_room : (view : StoreView V) (e : Option (Event V)) → ((ev : Event V) → e ≡ Some ev → node_of w ev ≡ Some j) → Revives size w old new j view e result → (t : Bool) → nat_lt MOST_EVENTS (length old.history + 2) ≡ t → KeepsLogs size (Restart j) old new result
+      by_room view e own revives true test = logs_same size old (Restart j) new result (revives.spent (grind (arith, nat_tests))).1
+      by_room view e own revives false test = revived_logs j view e own result (revives.revived (grind (arith, nat_tests)))
 
-    by_standing : (place : Place V) → slice_get old.places j ≡ Some place → (s : Standing (Event V)) → place.standing ≡ s → StaysAtRestart size j old new result
-    by_standing place at up stands = restart_up result (h.is_up (ap (λ (o : Option (Place V)). is_down_place o) at ∙ ap (λ (s : Standing (Event V)). is_down s) stands))
-    by_standing place at (down e) stands = by_room place e (λ ev is. owed place at ev (stands ∙ ap (λ (o : Option (Event V)). let s : Standing (Event V) = down o in s) is)) (h.is_down place at e stands) (nat_lt MOST_EVENTS (length old.history + 2)) refl
+      by_standing : (view : StoreView V) → slice_get old.stores j ≡ Some view → (s : Standing (Event V)) → view.standing ≡ s → KeepsLogs size (Restart j) old new result
+      by_standing view at up stands =
+          let no : false ≡ true = sym (ap (λ (o : Option (StoreView V)). is_down_view o) at ∙ ap (λ (s : Standing (Event V)). is_down s) stands) ∙ test in cc
+      by_standing view at (down e) stands = by_room view e (λ ev is. owed j view at ev (stands ∙ ap (λ (o : Option (Event V)). let s : Standing (Event V) = down o in s) is)) (acts view at e stands) (nat_lt MOST_EVENTS (length old.history + 2)) refl
 
-    by_place : (o : Option (Place V)) → slice_get old.places j ≡ o → StaysAtRestart size j old new result
-    by_place None none = restart_up result (h.is_up (ap (λ (o : Option (Place V)). is_down_place o) none))
-    by_place (Some place) at = by_standing place at place.standing refl
+      by_view : (o : Option (StoreView V)) → slice_get old.stores j ≡ o → KeepsLogs size (Restart j) old new result
+      by_view None none = let no : false ≡ true = sym (ap (λ (o : Option (StoreView V)). is_down_view o) none) ∙ test in cc
+      by_view (Some view) at = by_standing view at view.standing refl
+
+    -- every event
+    pub acts_logs : (e : Event V) (result : Result ℕ StepFault) → Acts size w old new e result → KeepsLogs size e old new result
+    acts_logs e result acts = by_test (is_down_at old.stores (node_of w e)) refl where
+      by_test : (t : Bool) → is_down_at old.stores (node_of w e) ≡ t → KeepsLogs size e old new result
+      by_test true test = down_logs e result test (acts.is_down test)
+      by_test false test = up_logs e result (acts.is_up test)

@@ -1,52 +1,36 @@
--- What a call on one node answers: the fields are what is seen, and the world is the one after the history.
-use Rattle.std.proofs.Common.{◌≡◌, ℕ, ◌+◌, ◌<◌, false, List, [], ◌∷◌, ◌++◌, length, set, slice_get, inl, inr, Option, Some, None, Result, Ok, Err, refl, ap, sym, ◌∙◌, subst, arith}
-use Rattle.std.specs.Prelude.{IfErr, OnOk, IsOkUnless}
-use Rattle.std.specs.Result.{ForOk}
-use Rattle.synod.specs.declared.packet.Packet.{Packet}
-use Rattle.synod.specs.declared.change.Change.{Change}
-use Rattle.synod.specs.Record.{Kept, changed_by}
-use Rattle.synod.specs.Node.{Node, Stepped, kept_of}
-use Rattle.net.specs.declared.event.TheConstants.{MOST_EVENTS}
-use Rattle.net.specs.declared.event.Event.{Event}
-use Rattle.net.specs.declared.fault.StepFault.{StepFault}
-use Rattle.net.specs.declared.fault.StepFault.TheVariants.{Memory, Device}
-use Rattle.net.specs.World.{World, stepped, happens, packets_after}
-use Rattle.net.specs.Taken.{Taken, with_event, world_of as world_of_taken}
-use Rattle.net.specs.KeptPart.{addressed, node_of, change_of}
-use Rattle.net.specs.Due.{Due, NetView, IsDue, IsEventAt, IsStill, IsTaken, change_in, step_of}
-use Rattle.std.proofs.lemmas.Option.{slice_get_within}
-use Rattle.net.proofs.TakenLemmas.{after-push, length-nodes_of}
-use Rattle.switch.specs.Seat.{Standing, up, down, Seated, IsRecordOf, IsWithOrWithout, Fails, change_owed}
-use Rattle.switch.specs.Switch.{Place, Shared, event_owed, standing_seen, place_of, places_of, IsOwing, IsSwitch, world_of, IsRecordIn, IsPlaceOf, ArePlaces, is_down_at, with_place, due, TakesAt, ActsUp}
-use Rattle.switch.proofs.SeatsLemmas.{places_of-set, place_at, place_past, seat_in, up_at}
-use Rattle.switch.proofs.SwitchLemmas.{shared, other_seat, committed, node_is, at, happens_is, change_is, change_told, changes}
+-- The answer of a call on one node: contracts see the fields, and the world is the one after the history.
+use Rattle.switch.proofs.Words.{◌≡◌, ℕ, ◌+◌, ◌<◌, false, List, [], ◌∷◌, ◌++◌, length, set, slice_get, inl, inr, Option, Some, None, Result, Ok, Err, refl, ap, sym, ◌∙◌, subst, arith, IfErr, OnOk, IsOkUnless, ForOk, slice_get_within}
+use Rattle.switch.proofs.Words.{Packet, Change, Kept, changed_by, Node, Stepped, kept_of, MOST_EVENTS, Event, StepFault, Memory, Device, World, stepped, happens, packets_after, Taken, world_of_taken, addressed, node_of, change_of, Due, NetView, IsDue, IsEventAt, IsStill, IsTaken, change_in, step_of, after-push, length-nodes_of, Standing, up, down, StoreState, IsRecordOf, IsWithOrWithout, Fails, change_owed, StoreView, SwitchView, event_owed, standing_seen, view_of, views_of, IsOwing, IsSwitch, world_of, IsRecordIn, IsViewOf, AreStores, is_down_at, with_store, due, TakesAt, ActsUp}
+use Rattle.net.specs.Taken.{with_event}
+use Rattle.switch.proofs.StoresLemmas.{views_of-set, view_at, view_past, item_at, up_at}
+use Rattle.switch.proofs.SwitchLemmas.{switch_view, other_store, committed, node_is, at, happens_is, change_is, change_told, changes}
 
 -- views of a switch with equal parts are equal
-pub shared_is : {V : Type 0} (ws us : List ℕ) (hs gs : List (Event V)) (some others : List (Place V)) → ws ≡ us → hs ≡ gs → some ≡ others
-    → let s : Shared V = record { weights = ws; history = hs; places = some } in s ≡ record { weights = us; history = gs; places = others }
-shared_is ws us hs gs some others weights history places = cc
+pub view_is_same : {V : Type 0} (ws us : List ℕ) (hs gs : List (Event V)) (some others : List (StoreView V)) → ws ≡ us → hs ≡ gs → some ≡ others
+    → let s : SwitchView V = record { weights = ws; history = hs; stores = some } in s ≡ record { weights = us; history = gs; stores = others }
+view_is_same ws us hs gs some others weights history stores = cc
 
 -- a net that is changed in its rooms alone shows the same
-pub still_shared : {V : Type 0} (a b : NetView V) (seats : List (Seated V)) → IsStill a b → shared b seats ≡ shared a seats
-still_shared {V} a b seats still = ap (λ (t : Taken V). let s : Shared V = record { weights = t.weights; history = t.events; places = places_of seats } in s) still.taken
+pub still_view : {V : Type 0} (a b : NetView V) (stores : List (StoreState V)) → IsStill a b → switch_view b stores ≡ switch_view a stores
+still_view {V} a b stores still = ap (λ (t : Taken V). let s : SwitchView V = record { weights = t.weights; history = t.events; stores = views_of stores } in s) still.taken
 
-module _ {V : Type 0} (size : V → ℕ) (net : NetView V) (seats : List (Seated V)) (h : IsSwitch size net seats) (now : Shared V) (seen : shared net seats ≡ now) where
+module _ {V : Type 0} (size : V → ℕ) (net : NetView V) (stores : List (StoreState V)) (h : IsSwitch size net stores) (now : SwitchView V) (seen : switch_view net stores ≡ now) where
   abbrev w : World V
   w = h.world.world
 
-  abbrev old : Shared V
-  old = shared net seats
+  abbrev old : SwitchView V
+  old = switch_view net stores
 
   -- a fact of the world after the history
-  pub of_world : (P : Shared V → World V → Type 0) → P old w → ForOk (world_of size now) (λ x. P now x)
+  pub of_world : (P : SwitchView V → World V → Type 0) → P old w → ForOk (world_of size now) (λ x. P now x)
   of_world P p = λ x d.
-      let both : Ok w ≡ Ok x = sym h.world.is_after ∙ ap (λ (s : Shared V). world_of size s) seen ∙ d in
+      let both : Ok w ≡ Ok x = sym h.world.is_after ∙ ap (λ (s : SwitchView V). world_of size s) seen ∙ d in
       let same : w ≡ x = cc in
-      subst (λ (y : World V). P now y) same (subst (λ (s : Shared V). P s w) seen p)
+      subst (λ (y : World V). P now y) same (subst (λ (s : SwitchView V). P s w) seen p)
 
   -- the world that the switch keeps is the one after the history that is seen
   pub after_is : world_of size now ≡ Ok w
-  after_is = ap (λ (s : Shared V). world_of size s) (sym seen) ∙ h.world.is_after
+  after_is = ap (λ (s : SwitchView V). world_of size s) (sym seen) ∙ h.world.is_after
 
   -- the world after one event more is what the event makes of this one
   next_is : (e : Event V) → world_of_taken size (with_event net.taken e) ≡ happens size w e
@@ -56,21 +40,21 @@ module _ {V : Type 0} (size : V → ℕ) (net : NetView V) (seats : List (Seated
   pub node_seen : (e : Event V) (o : Option ℕ) → o ≡ addressed net.packets e → ForOk (world_of size now) (λ x. node_of x e ≡ o)
   node_seen e o is = of_world (λ s x. node_of x e ≡ o) (ap (λ (ps : List (Packet V)). addressed ps e) h.world.posted ∙ sym is)
 
-  -- Each node has its place.
+  -- Each node has its store.
 
-  -- each node has a seat
-  pub seat_there : (k : ℕ) (n : Node V) → slice_get w.nodes k ≡ Some n → (seat : Seated V) × (slice_get seats k ≡ Some seat)
-  seat_there k n node = seat_in seats k
+  -- each node has a store
+  pub store_there : (k : ℕ) (n : Node V) → slice_get w.nodes k ≡ Some n → (store : StoreState V) × (slice_get stores k ≡ Some store)
+  store_there k n node = item_at stores k
       (let low = slice_get_within w.nodes k n node in
       let count = h.count in
       let nodes = ap (λ (ns : List (Node V)). length ns) h.world.nodes in
       let cores = length-nodes_of net.cores in
       omega (arith, low, count, nodes, cores))
 
-  -- each seat has a node
-  pub node_there : (k : ℕ) (seat : Seated V) → slice_get seats k ≡ Some seat → (n : Node V) × (slice_get w.nodes k ≡ Some n)
-  node_there k seat is = seat_in w.nodes k
-      (let low = slice_get_within seats k seat is in
+  -- each store has a node
+  pub node_there : (k : ℕ) (store : StoreState V) → slice_get stores k ≡ Some store → (n : Node V) × (slice_get w.nodes k ≡ Some n)
+  node_there k store is = item_at w.nodes k
+      (let low = slice_get_within stores k store is in
       let count = h.count in
       let nodes = ap (λ (ns : List (Node V)). length ns) h.world.nodes in
       let cores = length-nodes_of net.cores in
@@ -80,27 +64,27 @@ module _ {V : Type 0} (size : V → ℕ) (net : NetView V) (seats : List (Seated
   record_in : (n : Node V) (k : ℕ) (s : Standing (Due V)) (kept : Kept V) → IsRecordOf n s kept → IsOwing size net k s → IsRecordIn size w n (standing_seen s) kept
   record_in n k up kept fits owing = fits
   record_in n k (down None) kept fits owing = fits
-  record_in n k (down (Some o)) kept fits owing = subst (λ (c : Option (Change V)). IsWithOrWithout (kept_of n) c kept) (change_told size net seats h o owing.1) fits
+  record_in n k (down (Some o)) kept fits owing = subst (λ (c : Option (Change V)). IsWithOrWithout (kept_of n) c kept) (change_told size net stores h o owing.1) fits
 
-  -- at each number there are a node and its place, or neither
-  place_is : (k : ℕ) (o : Option (Node V)) → slice_get w.nodes k ≡ o → (p : Option (Seated V)) → slice_get seats k ≡ p → IsPlaceOf size w (slice_get w.nodes k) (slice_get (places_of seats) k)
-  place_is k (Some n) node (Some seat) is =
-      subst (λ (o : Option (Node V)). IsPlaceOf size w o (slice_get (places_of seats) k)) (sym node)
-      (subst (λ (o : Option (Place V)). IsPlaceOf size w (Some n) o) (sym (place_at seats k seat is))
-      (let mine = h.each k n seat node is in record_in n k seat.standing seat.kept mine.fits mine.owing))
-  place_is k None none (Some seat) is = let n = node_there k seat is in let no : None ≡ Some n.0 = sym none ∙ n.1 in cc
-  place_is k (Some n) node None none = let seat = seat_there k n node in let no : None ≡ Some seat.0 = sym none ∙ seat.1 in cc
-  place_is k None nowhere None none =
-      subst (λ (o : Option (Node V)). IsPlaceOf size w o (slice_get (places_of seats) k)) (sym nowhere)
-      (subst (λ (o : Option (Place V)). IsPlaceOf size w None o) (sym (place_past seats k none)) tt)
+  -- at each number there are a node and its view, or neither
+  store_seen : (k : ℕ) (o : Option (Node V)) → slice_get w.nodes k ≡ o → (p : Option (StoreState V)) → slice_get stores k ≡ p → IsViewOf size w (slice_get w.nodes k) (slice_get (views_of stores) k)
+  store_seen k (Some n) node (Some store) is =
+      subst (λ (o : Option (Node V)). IsViewOf size w o (slice_get (views_of stores) k)) (sym node)
+      (subst (λ (o : Option (StoreView V)). IsViewOf size w (Some n) o) (sym (view_at stores k store is))
+      (let mine = h.each k n store node is in record_in n k store.standing store.kept mine.fits mine.owing))
+  store_seen k None none (Some store) is = let n = node_there k store is in let no : None ≡ Some n.0 = sym none ∙ n.1 in cc
+  store_seen k (Some n) node None none = let store = store_there k n node in let no : None ≡ Some store.0 = sym none ∙ store.1 in cc
+  store_seen k None nowhere None none =
+      subst (λ (o : Option (Node V)). IsViewOf size w o (slice_get (views_of stores) k)) (sym nowhere)
+      (subst (λ (o : Option (StoreView V)). IsViewOf size w None o) (sym (view_past stores k none)) tt)
 
-  -- the places that are seen are those of the world after the history
-  pub places_are : ForOk (world_of size now) (λ x. ArePlaces size x now.places)
-  places_are = of_world (λ s x. ArePlaces size x s.places) (λ k. place_is k (slice_get w.nodes k) refl (slice_get seats k) refl)
+  -- the views that are seen are those of the world after the history
+  pub stores_are : ForOk (world_of size now) (λ x. AreStores size x now.stores)
+  stores_are = of_world (λ s x. AreStores size x s.stores) (λ k. store_seen k (slice_get w.nodes k) refl (slice_get stores k) refl)
 
   -- An event that was not made ready.
 
-  module _ (e : Event V) (fault : StepFault) (r : Result (Due V) StepFault) (is_err : r ≡ Err fault) (new : Shared V) (same : new ≡ old) where
+  module _ (e : Event V) (fault : StepFault) (r : Result (Due V) StepFault) (is_err : r ≡ Err fault) (new : SwitchView V) (same : new ≡ old) where
     -- what is answered is the fault that the event meets, or Memory where it meets none
     not_ready : (x : Result (World V) StepFault) → happens size w e ≡ x → IfErr x (λ met. r ≡ Err met) → OnOk x (IsOkUnless r Memory) → ActsUp size w old new e (Err fault)
     not_ready (Err met) happened refused memory =
@@ -114,7 +98,7 @@ module _ {V : Type 0} (size : V → ℕ) (net : NetView V) (seats : List (Seated
         let is_memory : fault ≡ Memory = subst (λ (a : Result (Due V) StepFault). IsOkUnless a Memory) is_err memory in
         record {
           refused = λ other d. let no : Ok y ≡ Err other = sym happened ∙ d in cc;
-          taken = λ x d k node place found. inl (is_memory, same);
+          taken = λ x d k node view found. inl (is_memory, same);
         }
 
     -- the same, as the net answers it: by the world after the events taken and this one
@@ -124,83 +108,83 @@ module _ {V : Type 0} (size : V → ℕ) (net : NetView V) (seats : List (Seated
 
   -- An event that is due, at a node that is up.
 
-  module _ (d1 : Due V) (d : IsDue size net d1) (low : length net.taken.events < MOST_EVENTS) (e : Event V) (is_e : d1.event ≡ e) (seat : Seated V) (is : slice_get seats d1.at ≡ Some seat) where
+  module _ (d1 : Due V) (d : IsDue size net d1) (low : length net.taken.events < MOST_EVENTS) (e : Event V) (is_e : d1.event ≡ e) (store : StoreState V) (is : slice_get stores d1.at ≡ Some store) where
     abbrev step : Stepped V
     step = step_of d1.work d.core.node
 
     -- what the event comes to at its node is the step
     at_e : IsEventAt size w d1.at e (Ok step)
-    at_e = subst (λ (f : Event V). IsEventAt size w d1.at f (Ok step)) is_e (at size net seats h d1 d)
+    at_e = subst (λ (f : Event V). IsEventAt size w d1.at f (Ok step)) is_e (at size net stores h d1 d)
 
     -- the world after the event is this one with the step made
     happens_e : happens size w e ≡ Ok (stepped w d1.at step)
-    happens_e = ap (λ (f : Event V). happens size w f) (sym is_e) ∙ happens_is size net seats h d1 d low
+    happens_e = ap (λ (f : Event V). happens size w f) (sym is_e) ∙ happens_is size net stores h d1 d low
 
-    -- where the node of the event is not seen as down, its seat is up
-    pub is_up_at : is_down_at now.places (node_of w e) ≡ false → seat.standing ≡ up
-    is_up_at test = up_at seats d1.at seat is (ap (λ (o : Option ℕ). is_down_at (places_of seats) o) (sym at_e.node) ∙ ap (λ (s : Shared V). is_down_at s.places (node_of w e)) seen ∙ test)
+    -- where the node of the event is not seen as down, its store is up
+    pub is_up_at : is_down_at now.stores (node_of w e) ≡ false → store.standing ≡ up
+    is_up_at test = up_at stores d1.at store is (ap (λ (o : Option ℕ). is_down_at (views_of stores) o) (sym at_e.node) ∙ ap (λ (s : SwitchView V). is_down_at s.stores (node_of w e)) seen ∙ test)
 
-    module _ (is_up : seat.standing ≡ up) where
+    module _ (is_up : store.standing ≡ up) where
       -- the record of its keep is the kept part of the node
-      pub kept_up : seat.kept ≡ kept_of d.core.node
-      kept_up = subst (λ (s : Standing (Due V)). IsRecordOf d.core.node s seat.kept) is_up (h.each d1.at d.core.node seat (node_is size net seats h d1 d) is).fits
+      pub kept_up : store.kept ≡ kept_of d.core.node
+      kept_up = subst (λ (s : Standing (Due V)). IsRecordOf d.core.node s store.kept) is_up (h.each d1.at d.core.node store (node_is size net stores h d1 d) is).fits
 
-      -- what is told of the step by its own number, place and world is told by those that are found
-      told : (new : Shared V) (result : Result ℕ StepFault) → TakesAt old new e d1.at (place_of seat) (change_in d1.work) (stepped w d1.at step) result → ActsUp size w old new e result
+      -- what is told of the step by its own number, view and world is told by those that are found
+      told : (new : SwitchView V) (result : Result ℕ StepFault) → TakesAt old new e d1.at (view_of store) (change_in d1.work) (stepped w d1.at step) result → ActsUp size w old new e result
       told new result takes = record {
         refused = λ fault f. let no : Ok (stepped w d1.at step) ≡ Err fault = sym happens_e ∙ f in cc;
-        taken = λ x f j node place found.
+        taken = λ x f j node view found.
             let both : Ok (stepped w d1.at step) ≡ Ok x = sym happens_e ∙ f in
             let is_x : stepped w d1.at step ≡ x = cc in
             let nodes : Some d1.at ≡ Some j = sym at_e.node ∙ node in
             let is_j : d1.at ≡ j = cc in
-            let places : Some (place_of seat) ≡ Some place = sym (place_at seats d1.at seat is) ∙ ap (λ (i : ℕ). slice_get (places_of seats) i) is_j ∙ found in
-            let is_place : place_of seat ≡ place = cc in
-            subst (λ (y : World V). TakesAt old new e j place (change_of size w e) y result) is_x
-            (subst (λ (c : Option (Change V)). TakesAt old new e j place c (stepped w d1.at step) result) (change_is size net seats h d1 d ∙ sym at_e.change)
-            (subst (λ (p : Place V). TakesAt old new e j p (change_in d1.work) (stepped w d1.at step) result) is_place
-            (subst (λ (i : ℕ). TakesAt old new e i (place_of seat) (change_in d1.work) (stepped w d1.at step) result) is_j takes)));
+            let views : Some (view_of store) ≡ Some view = sym (view_at stores d1.at store is) ∙ ap (λ (i : ℕ). slice_get (views_of stores) i) is_j ∙ found in
+            let is_view : view_of store ≡ view = cc in
+            subst (λ (y : World V). TakesAt old new e j view (change_of size w e) y result) is_x
+            (subst (λ (c : Option (Change V)). TakesAt old new e j view c (stepped w d1.at step) result) (change_is size net stores h d1 d ∙ sym at_e.change)
+            (subst (λ (p : StoreView V). TakesAt old new e j p (change_in d1.work) (stepped w d1.at step) result) is_view
+            (subst (λ (i : ℕ). TakesAt old new e i (view_of store) (change_in d1.work) (stepped w d1.at step) result) is_j takes)));
       }
 
       -- a call of the keep failed, and o is owed
-      module _ (o : Option (Due V)) (change : Option (Change V)) (is_change : change ≡ change_in d1.work) (owes : change_owed o ≡ change) (is_due : event_owed o ≡ due e) (owing : IsOwing size net d1.at (down o)) (new : Seated V) (fails : Fails seat change (down o) new) where
-        -- the seats still make a switch
-        pub failed : IsSwitch size net (set seats d1.at new)
-        failed = other_seat size net seats h d1.at d.core.node seat new (node_is size net seats h d1 d) is record {
-          fits = subst (λ (s : Standing (Due V)). IsRecordOf d.core.node s new.kept) (sym (ap (λ (s : Seated V). s.standing) fails.rest))
+      module _ (o : Option (Due V)) (change : Option (Change V)) (is_change : change ≡ change_in d1.work) (owes : change_owed o ≡ change) (is_due : event_owed o ≡ due e) (owing : IsOwing size net d1.at (down o)) (new : StoreState V) (fails : Fails store change (down o) new) where
+        -- the stores still make a switch
+        pub failed : IsSwitch size net (set stores d1.at new)
+        failed = other_store size net stores h d1.at d.core.node store new (node_is size net stores h d1 d) is record {
+          fits = subst (λ (s : Standing (Due V)). IsRecordOf d.core.node s new.kept) (sym (ap (λ (s : StoreState V). s.standing) fails.rest))
               (subst (λ (c : Option (Change V)). IsWithOrWithout (kept_of d.core.node) c new.kept) (sym owes) (subst (λ (k : Kept V). IsWithOrWithout k change new.kept) kept_up fails.kept));
-          owing = subst (λ (s : Standing (Due V)). IsOwing size net d1.at s) (sym (ap (λ (s : Seated V). s.standing) fails.rest)) owing;
+          owing = subst (λ (s : Standing (Due V)). IsOwing size net d1.at s) (sym (ap (λ (s : StoreState V). s.standing) fails.rest)) owing;
         }
 
         -- Device is what an event answers there, and its node is down with what it owes
-        pub failed_acts : ForOk (world_of size now) (λ x. ActsUp size x now (shared net (set seats d1.at new)) e (Err Device))
-        failed_acts = of_world (λ s x. ActsUp size x s (shared net (set seats d1.at new)) e (Err Device)) (told (shared net (set seats d1.at new)) (Err Device) (inr (
+        pub failed_acts : ForOk (world_of size now) (λ x. ActsUp size x now (switch_view net (set stores d1.at new)) e (Err Device))
+        failed_acts = of_world (λ s x. ActsUp size x s (switch_view net (set stores d1.at new)) e (Err Device)) (told (switch_view net (set stores d1.at new)) (Err Device) (inr (
           refl,
           record {
             kept = new.kept;
-            either = subst (λ (c : Option (Change V)). IsWithOrWithout seat.kept c new.kept) is_change fails.kept;
-            rest = ap (λ (ps : List (Place V)). let s : Shared V = record { weights = net.taken.weights; history = net.taken.events; places = ps } in s) (places_of-set seats d1.at new)
-                ∙ ap (λ (s : Seated V). with_place old d1.at (place_of s)) fails.rest
-                ∙ ap (λ (f : Option (Event V)). with_place old d1.at record { kept = new.kept; failures = seat.failures + 1; standing = down f }) is_due;
+            either = subst (λ (c : Option (Change V)). IsWithOrWithout store.kept c new.kept) is_change fails.kept;
+            rest = ap (λ (ps : List (StoreView V)). let s : SwitchView V = record { weights = net.taken.weights; history = net.taken.events; stores = ps } in s) (views_of-set stores d1.at new)
+                ∙ ap (λ (s : StoreState V). with_store old d1.at (view_of s)) fails.rest
+                ∙ ap (λ (f : Option (Event V)). with_store old d1.at record { kept = new.kept; failures = store.failures + 1; standing = down f }) is_due;
           },
         )))
 
       -- the keep has made the change, and the event is taken
-      module _ (new : Seated V) (stored : new ≡ record { kept = changed_by seat.kept (change_in d1.work); failures = seat.failures; standing = seat.standing }) (b : NetView V) (t : IsTaken net b d1) where
-        -- the net and the seats make a switch again
-        pub played : IsSwitch size b (set seats d1.at new)
-        played = committed size net seats h d1 d low b t seat new is
-            (ap (λ (s : Seated V). s.kept) stored ∙ ap (λ (k : Kept V). changed_by k (change_in d1.work)) kept_up ∙ sym (changes size net seats h d1 d low))
-            (ap (λ (s : Seated V). s.standing) stored ∙ is_up)
+      module _ (new : StoreState V) (stored : new ≡ record { kept = changed_by store.kept (change_in d1.work); failures = store.failures; standing = store.standing }) (b : NetView V) (t : IsTaken net b d1) where
+        -- the net and the stores make a switch again
+        pub played : IsSwitch size b (set stores d1.at new)
+        played = committed size net stores h d1 d low b t store new is
+            (ap (λ (s : StoreState V). s.kept) stored ∙ ap (λ (k : Kept V). changed_by k (change_in d1.work)) kept_up ∙ sym (changes size net stores h d1 d low))
+            (ap (λ (s : StoreState V). s.standing) stored ∙ is_up)
 
         -- its world is the one before with the step made
         world_then : world_of_taken size b.taken ≡ Ok (stepped w d1.at step)
-        world_then = ap (λ (x : Taken V). world_of_taken size x) t.taken ∙ next_is d1.event ∙ happens_is size net seats h d1 d low
+        world_then = ap (λ (x : Taken V). world_of_taken size x) t.taken ∙ next_is d1.event ∙ happens_is size net stores h d1 d low
 
         -- the count of its packets is what an event answers there
-        pub played_acts : (count : ℕ) → count ≡ length (packets_after (world_of_taken size b.taken)) → ForOk (world_of size now) (λ x. ActsUp size x now (shared b (set seats d1.at new)) e (Ok count))
-        played_acts count counted = of_world (λ s x. ActsUp size x s (shared b (set seats d1.at new)) e (Ok count)) (told (shared b (set seats d1.at new)) (Ok count) (
-          shared_is _ _ _ _ _ _ (ap (λ (x : Taken V). x.weights) t.taken) (ap (λ (x : Taken V). x.events) t.taken ∙ ap (λ (f : Event V). net.taken.events ++ f ∷ []) is_e)
-              (places_of-set seats d1.at new ∙ ap (λ (s : Seated V). set (places_of seats) d1.at (place_of s)) stored),
+        pub played_acts : (count : ℕ) → count ≡ length (packets_after (world_of_taken size b.taken)) → ForOk (world_of size now) (λ x. ActsUp size x now (switch_view b (set stores d1.at new)) e (Ok count))
+        played_acts count counted = of_world (λ s x. ActsUp size x s (switch_view b (set stores d1.at new)) e (Ok count)) (told (switch_view b (set stores d1.at new)) (Ok count) (
+          view_is_same _ _ _ _ _ _ (ap (λ (x : Taken V). x.weights) t.taken) (ap (λ (x : Taken V). x.events) t.taken ∙ ap (λ (f : Event V). net.taken.events ++ f ∷ []) is_e)
+              (views_of-set stores d1.at new ∙ ap (λ (s : StoreState V). set (views_of stores) d1.at (view_of s)) stored),
           counted ∙ ap (λ (r : Result (World V) StepFault). length (packets_after r)) world_then,
         ))

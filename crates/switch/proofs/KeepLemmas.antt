@@ -1,11 +1,6 @@
 -- A record with or without a change.
-use Rattle.std.proofs.Common.{◌≡◌, ℕ, zero, suc, List, [], ◌∷◌, Option, Some, None, refl, ap, ◌∙◌, subst, inl, inr}
-use Rattle.slots.specs.FiniteMap.{put_at}
-use Rattle.synod.specs.declared.change.Change.{Change}
-use Rattle.synod.specs.declared.change.Change.TheVariants.{Round, Promise, Entry}
-use Rattle.synod.specs.declared.change.Held.{Held}
-use Rattle.synod.specs.Record.{Kept, changed_by}
-use Rattle.switch.specs.Seat.{IsWithOrWithout}
+use Rattle.switch.proofs.Words.{◌≡◌, ℕ, zero, suc, List, [], ◌∷◌, Option, Some, None, refl, ap, ◌∙◌, subst, inl, inr}
+use Rattle.switch.proofs.Words.{put_at, Change, Round, Promise, Entry, Held, Kept, changed_by, IsWithOrWithout}
 
 -- an entry that is put twice at one slot
 put_twice : {T : Type 0} (xs : List (Option T)) (s : ℕ) (v : T) → put_at (put_at xs s v) s v ≡ put_at xs s v

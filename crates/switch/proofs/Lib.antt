@@ -1,5 +1,6 @@
+pub mod Words
 mod KeepLemmas
-pub mod SeatsLemmas
+pub mod StoresLemmas
 mod SwitchLemmas
 mod CallLemmas
 mod DispatchLemmas

@@ -1,14 +1,6 @@
 -- A restart that starts from a loaded record.
-use Rattle.std.proofs.Common.{◌≡◌, ℕ, List, length, Some, None, Ok, refl, ap, sym, subst}
-use Rattle.synod.specs.declared.packet.Packet.{Packet}
-use Rattle.synod.specs.Record.{Kept}
-use Rattle.synod.specs.Node.{Node, Stepped, kept_of}
-use Rattle.net.specs.declared.event.Event.TheVariants.{Restart}
-use Rattle.net.specs.Due.{Work, steps, restarts, Due, NetView, IsDue, IsReadyAt, IsOfEvent, ComesTo, change_in, posts_of, step_of, loads, loads_due}
-use Rattle.std.specs.List.{AllByRecursion}
-use Rattle.synod.specs.Core.{Core}
-use Rattle.synod.specs.Packets.{IsPost}
-use Rattle.synod.specs.Step.{reloaded}
+use Rattle.switch.proofs.Words.{◌≡◌, ℕ, List, length, Some, None, Ok, refl, ap, sym, subst, AllByRecursion}
+use Rattle.switch.proofs.Words.{Packet, Kept, Node, Stepped, kept_of, Restart, Work, steps, restarts, Due, NetView, IsDue, IsReadyAt, IsOfEvent, ComesTo, change_in, posts_of, step_of, loads, loads_due, Core, IsPost, reloaded}
 
 -- a restart makes no change of the kept part
 pub load_change : {V : Type 0} (j : ℕ) (work : Work V) → IsOfEvent (Restart j) work → change_in work ≡ None

@@ -1,24 +1,18 @@
 -- What is owed at a node that is down: that it can be taken, and the switch once it is.
-use Rattle.std.proofs.Common.{◌≡◌, ℕ, ◌+◌, ◌<◌, ◌≤◌, List, ◌++◌, length, set, slice_get, Option, Some, None, refl, ap, sym, ◌∙◌, subst, arith, append-nil}
-use Rattle.synod.specs.Record.{changed_by}
-use Rattle.synod.specs.Node.{Node, kept_of}
-use Rattle.net.specs.declared.event.TheConstants.{MOST_EVENTS}
-use Rattle.net.specs.World.{World}
-use Rattle.net.specs.Taken.{Taken}
-use Rattle.net.specs.Due.{Due, NetView, HasRoom, step_of}
-use Rattle.switch.specs.Seat.{Standing, up, down, Seated, change_owed, posts_owed, IsRecordOf}
-use Rattle.switch.specs.Switch.{event_owed, IsOwing, IsSwitch, CanTakeOwed, TakesOwed, change_due, events_due}
+use Rattle.switch.proofs.Words.{◌≡◌, ℕ, ◌+◌, ◌<◌, ◌≤◌, List, ◌++◌, length, set, slice_get, Option, Some, None, refl, ap, sym, ◌∙◌, subst, arith}
+use Rattle.switch.proofs.Words.{changed_by, Node, kept_of, MOST_EVENTS, World, Taken, Due, NetView, HasRoom, step_of, Standing, up, down, StoreState, change_owed, posts_owed, IsRecordOf, event_owed, IsOwing, IsSwitch, CanTakeOwed, TakesOwed, change_due, events_due}
+use Rattle.std.proofs.Common.{append-nil}
 use Rattle.switch.proofs.KeepLemmas.{with_either}
-use Rattle.switch.proofs.SwitchLemmas.{other_seat, node_is, committed, change_told, changes}
+use Rattle.switch.proofs.SwitchLemmas.{other_store, node_is, committed, change_told, changes}
 
-module _ {V : Type 0} (size : V → ℕ) (net : NetView V) (seats : List (Seated V)) (h : IsSwitch size net seats) (k : ℕ) where
+module _ {V : Type 0} (size : V → ℕ) (net : NetView V) (stores : List (StoreState V)) (h : IsSwitch size net stores) (k : ℕ) where
   abbrev w : World V
   w = h.world.world
 
   -- its change is the one that the world after the history tells of its event
   pub owed_change : (o : Option (Due V)) → IsOwing size net k (down o) → change_owed o ≡ change_due size w (event_owed o)
   owed_change None q = refl
-  owed_change (Some due) q = change_told size net seats h due q.1
+  owed_change (Some due) q = change_told size net stores h due q.1
 
   module _ (room : length net.taken.events + 2 ≤ MOST_EVENTS) where
     -- it can be taken, where there is room for it and for the restart
@@ -30,17 +24,17 @@ module _ {V : Type 0} (size : V → ℕ) (net : NetView V) (seats : List (Seated
       omega (arith, room),
     )
 
-  module _ (n : Node V) (seat new : Seated V) (node_k : slice_get w.nodes k ≡ Some n) (found : slice_get seats k ≡ Some seat) (new_up : new.standing ≡ up) (room : length net.taken.events + 2 ≤ MOST_EVENTS) (m : NetView V) where
+  module _ (n : Node V) (store new : StoreState V) (node_k : slice_get w.nodes k ≡ Some n) (found : slice_get stores k ≡ Some store) (new_up : new.standing ≡ up) (room : length net.taken.events + 2 ≤ MOST_EVENTS) (m : NetView V) where
     -- the switch and the net once it is taken, the keep having made its change
-    pub owed_taken : (p : Option (Due V)) → IsOwing size net k (down p) → IsRecordOf n (down p) seat.kept → new.kept ≡ changed_by seat.kept (change_owed p) → TakesOwed net m p
-        → (switch : IsSwitch size m (set seats k new)) × (m.taken.weights ≡ net.taken.weights) × (m.taken.events ≡ net.taken.events ++ events_due (event_owed p)) × (m.packets ≡ net.packets ++ posts_owed p)
+    pub owed_taken : (p : Option (Due V)) → IsOwing size net k (down p) → IsRecordOf n (down p) store.kept → new.kept ≡ changed_by store.kept (change_owed p) → TakesOwed net m p
+        → (switch : IsSwitch size m (set stores k new)) × (m.taken.weights ≡ net.taken.weights) × (m.taken.events ≡ net.taken.events ++ events_due (event_owed p)) × (m.packets ≡ net.packets ++ posts_owed p)
         × (net.packet_room ≤ m.packet_room) × (net.event_room ≤ m.event_room)
     owed_taken None q f kept same =
-        let base : IsSwitch size net (set seats k new) = other_seat size net seats h k n seat new node_k found record {
-          fits = subst (λ (s : Standing (Due V)). IsRecordOf n s new.kept) (sym new_up) (kept ∙ with_either (kept_of n) seat.kept None f);
+        let base : IsSwitch size net (set stores k new) = other_store size net stores h k n store new node_k found record {
+          fits = subst (λ (s : Standing (Due V)). IsRecordOf n s new.kept) (sym new_up) (kept ∙ with_either (kept_of n) store.kept None f);
           owing = subst (λ (s : Standing (Due V)). IsOwing size net k s) (sym new_up) tt;
         } in (
-          subst (λ (x : NetView V). IsSwitch size x (set seats k new)) (sym same) base,
+          subst (λ (x : NetView V). IsSwitch size x (set stores k new)) (sym same) base,
           ap (λ (x : NetView V). x.taken.weights) same,
           ap (λ (x : NetView V). x.taken.events) same ∙ sym (append-nil net.taken.events),
           ap (λ (x : NetView V). x.packets) same ∙ sym (append-nil net.packets),
@@ -49,12 +43,12 @@ module _ {V : Type 0} (size : V → ℕ) (net : NetView V) (seats : List (Seated
         )
     owed_taken (Some due) q f kept t =
         let low : length net.taken.events < MOST_EVENTS = omega (arith, room) in
-        let at_k : slice_get seats due.at ≡ Some seat = ap (λ (i : ℕ). slice_get seats i) q.0 ∙ found in
+        let at_k : slice_get stores due.at ≡ Some store = ap (λ (i : ℕ). slice_get stores i) q.0 ∙ found in
         let same_node : n ≡ q.1.core.node =
-        (let both : Some n ≡ Some q.1.core.node = sym node_k ∙ ap (λ (i : ℕ). slice_get w.nodes i) (sym q.0) ∙ node_is size net seats h due q.1 in cc) in
+        (let both : Some n ≡ Some q.1.core.node = sym node_k ∙ ap (λ (i : ℕ). slice_get w.nodes i) (sym q.0) ∙ node_is size net stores h due q.1 in cc) in
         let stored : new.kept ≡ kept_of (step_of due.work q.1.core.node).node =
-        kept ∙ with_either (kept_of n) seat.kept (change_owed (Some due)) f ∙ ap (λ (x : Node V). changed_by (kept_of x) (change_owed (Some due))) same_node ∙ sym (changes size net seats h due q.1 low) in (
-          subst (λ (i : ℕ). IsSwitch size m (set seats i new)) q.0 (committed size net seats h due q.1 low m t seat new at_k stored new_up),
+        kept ∙ with_either (kept_of n) store.kept (change_owed (Some due)) f ∙ ap (λ (x : Node V). changed_by (kept_of x) (change_owed (Some due))) same_node ∙ sym (changes size net stores h due q.1 low) in (
+          subst (λ (i : ℕ). IsSwitch size m (set stores i new)) q.0 (committed size net stores h due q.1 low m t store new at_k stored new_up),
           ap (λ (x : Taken V). x.weights) t.taken,
           ap (λ (x : Taken V). x.events) t.taken,
           t.packets,

@@ -1,37 +1,14 @@
--- What a switch keeps after its net or one of its seats has changed.
-use Rattle.std.proofs.Common.{◌≡◌, ◌≢◌, ℕ, zero, suc, ◌<◌, ◌≤◌, List, [], ◌∷◌, ◌++◌, length, set, slice_get, Option, Some, None, Ok, refl, ap, sym, ◌∙◌, subst, arith, append_assoc, append-nil}
-use Rattle.std.specs.List.{AllByRecursion}
-use Rattle.std.specs.Option.{option_map}
-use Rattle.std.proofs.lemmas.List.{length-set}
-use Rattle.synod.specs.declared.packet.Packet.{Packet}
-use Rattle.synod.specs.declared.change.Change.{Change}
-use Rattle.synod.specs.Packets.{IsPost}
-use Rattle.synod.specs.Record.{Kept, changed_by, new_kept}
-use Rattle.synod.specs.Node.{Node, Stepped, kept_of, new_node}
-use Rattle.synod.specs.Core.{Core}
-use Rattle.net.specs.declared.event.TheConstants.{MOST_EVENTS}
-use Rattle.net.specs.declared.event.Event.{Event}
-use Rattle.net.specs.World.{World, start, nodes_from, stepped, happens, happens_at, after, offers_of}
-use Rattle.net.specs.Agree.{IsAfter}
-use Rattle.net.specs.Taken.{Taken, nodes_of, AreOfWorld, with_event}
-use Rattle.net.specs.KeptPart.{change_of, kept_part}
-use Rattle.net.specs.Due.{Work, steps, restarts, Due, change_in, posts_of, step_of, IsEventAt, NetView, AreStill, IsStill, IsDue, IsTaken}
-use Rattle.net.proofs.GrowingLists.{at_set, at_set_other}
-use Rattle.net.proofs.EveryEvent.{if_taken, node_at, holds_after}
-use Rattle.net.proofs.TwoMoments.{world_lasts}
-use Rattle.net.proofs.KeptPartLemmas.{Happens, event_moves}
-use Rattle.net.proofs.TakenLemmas.{taken_count, happens-not_spent, events_within, rooms_stay, makes, nodes_of-set}
-use Rattle.net.proofs.EventsDue.{nodes_found, nodes_still, due_still}
-use Rattle.net.proofs.DueTaken.{posts_same}
-use Rattle.switch.specs.Seat.{Standing, up, down, Seated, IsRecordOf}
-use Rattle.switch.specs.Switch.{Shared, places_of, new_seats, IsOwing, IsSeat, IsSwitch}
-use Rattle.switch.proofs.SeatsLemmas.{each_after, new_at, count_seats}
-use Rattle.synod.proofs.NodeKeeps.{all_append}
+-- A switch after its net or one of its stores has changed.
+use Rattle.switch.proofs.Words.{◌≡◌, ◌≢◌, ℕ, zero, suc, ◌<◌, List, [], ◌∷◌, ◌++◌, length, set, slice_get, Option, Some, None, Ok, refl, ap, sym, ◌∙◌, subst, arith, append_assoc, AllByRecursion, option_map, length-set}
+use Rattle.switch.proofs.Words.{Packet, Change, IsPost, Kept, changed_by, new_kept, Node, Stepped, kept_of, new_node, Core, MOST_EVENTS, Event, World, start, nodes_from, stepped, happens, happens_at, after, offers_of, IsAfter, Taken, nodes_of, AreOfWorld, change_of, kept_part, Work, steps, restarts, Due, change_in, posts_of, step_of, IsEventAt, NetView, AreStill, IsStill, IsDue, IsTaken, at_set, at_set_other, if_taken, node_at, holds_after, world_lasts, Happens, event_moves, taken_count, happens-not_spent, rooms_stay, makes, nodes_of-set, nodes_found, nodes_still, due_still, posts_same, Standing, up, down, StoreState, IsRecordOf, SwitchView, views_of, new_stores, IsOwing, IsStore, IsSwitch, all_append}
+use Rattle.std.proofs.Common.{append-nil}
+use Rattle.net.specs.Taken.{with_event}
+use Rattle.switch.proofs.StoresLemmas.{each_after, new_at, count_stores}
 
-abbrev pub shared : {V : Type 0} → NetView V → List (Seated V) → Shared V
-shared net seats = record { weights = net.taken.weights; history = net.taken.events; places = places_of seats }
+abbrev pub switch_view : {V : Type 0} → NetView V → List (StoreState V) → SwitchView V
+switch_view net stores = record { weights = net.taken.weights; history = net.taken.events; stores = views_of stores }
 
--- the same net, where only rooms are others
+-- the world stays, where only rooms change
 still_world : {V : Type 0} (size : V → ℕ) (a b : NetView V) → IsStill a b → AreOfWorld size a.taken a.cores a.packets → AreOfWorld size b.taken b.cores b.packets
 still_world {V} size a b still h =
     subst (λ (t : Taken V). AreOfWorld size t b.cores b.packets) (sym still.taken)
@@ -51,35 +28,31 @@ new_node_at {V} weights j zero (w ∷ ws) n at = let same : new_node j weights �
 new_node_at weights j (suc k) (w ∷ ws) n at = new_node_at weights (suc j) k ws n at
 
 -- a switch of new nodes
-pub starts : {V K : Type 0} (size : V → ℕ) (kept : K → Kept V) (failures : K → ℕ) (net : NetView V) (weights : List ℕ) (keeps : List K) (seats : List (Seated V)) → AreOfWorld size net.taken net.cores net.packets
-    → net.taken ≡ record { weights = weights; events = [] } → length net.cores ≡ length net.taken.weights → length keeps ≡ length weights → AllByRecursion (λ keep. kept keep ≡ new_kept) keeps → seats ≡ new_seats kept failures keeps → IsSwitch size net seats
-starts {V} size kept failures net weights keeps seats h is cores count new are = subst (λ (us : List (Seated V)). IsSwitch size net us) (sym are) record {
+pub starts : {V K : Type 0} (size : V → ℕ) (kept : K → Kept V) (failures : K → ℕ) (net : NetView V) (weights : List ℕ) (keeps : List K) (stores : List (StoreState V)) → AreOfWorld size net.taken net.cores net.packets
+    → net.taken ≡ record { weights = weights; events = [] } → length net.cores ≡ length net.taken.weights → length keeps ≡ length weights → AllByRecursion (λ keep. kept keep ≡ new_kept) keeps → stores ≡ new_stores kept failures keeps → IsSwitch size net stores
+starts {V} size kept failures net weights keeps stores h is cores count new are = subst (λ (us : List (StoreState V)). IsSwitch size net us) (sym are) record {
   world = h;
-  count = count_seats kept failures keeps ∙ count ∙ sym (cores ∙ ap (λ (t : Taken V). length t.weights) is);
-  each = λ k n seat at is_seat.
-      (let s = new_at kept failures keeps new k seat is_seat in
+  count = count_stores kept failures keeps ∙ count ∙ sym (cores ∙ ap (λ (t : Taken V). length t.weights) is);
+  each = λ k n store at is_store.
+      (let s = new_at kept failures keeps new k store is_store in
       let begun : Ok (start weights) ≡ Ok h.world = sym (ap (λ (t : Taken V). after size t.weights t.events) is) ∙ h.is_after in
       let same : start weights ≡ h.world = cc in
       let fits : kept_of n ≡ new_kept = new_node_at weights 0 k weights n (ap (λ (w : World V). slice_get w.nodes k) same ∙ at) in
-      subst (λ (x : Seated V). IsSeat size net k n x) refl (seat_is s.0 s.1 fits));
+      subst (λ (x : StoreState V). IsStore size net k n x) refl (store_is s.0 s.1 fits));
 } where
-  seat_is : {V : Type 0} {size : V → ℕ} {net : NetView V} {k : ℕ} {n : Node V} {seat : Seated V} → seat.kept ≡ new_kept → seat.standing ≡ up → kept_of n ≡ new_kept → IsSeat size net k n seat
-  seat_is {V} {size} {net} {k} {n} {seat} is_new is_up fits = record {
-    fits = subst (λ (s : Standing (Due V)). IsRecordOf n s seat.kept) (sym is_up) (is_new ∙ sym fits);
+  store_is : {V : Type 0} {size : V → ℕ} {net : NetView V} {k : ℕ} {n : Node V} {store : StoreState V} → store.kept ≡ new_kept → store.standing ≡ up → kept_of n ≡ new_kept → IsStore size net k n store
+  store_is {V} {size} {net} {k} {n} {store} is_new is_up fits = record {
+    fits = subst (λ (s : Standing (Due V)). IsRecordOf n s store.kept) (sym is_up) (is_new ∙ sym fits);
     owing = subst (λ (s : Standing (Due V)). IsOwing size net k s) (sym is_up) tt;
   }
 
-module _ {V : Type 0} (size : V → ℕ) (net : NetView V) (seats : List (Seated V)) (h : IsSwitch size net seats) where
+module _ {V : Type 0} (size : V → ℕ) (net : NetView V) (stores : List (StoreState V)) (h : IsSwitch size net stores) where
   abbrev w : World V
   w = h.world.world
 
   -- the world counts the events of the history
   pub taken_is : w.taken ≡ length net.taken.events
   taken_is = taken_count size net.taken.weights net.taken.events w h.world.is_after
-
-  -- the history is no longer than the limit of events
-  pub within : length net.taken.events ≤ MOST_EVENTS
-  within = events_within size net.taken net.taken net.cores net.packets h.world refl
 
   -- below that limit an event is what its node makes of it
   pub has_room : (e : Event V) → length net.taken.events < MOST_EVENTS → happens size w e ≡ happens_at size w e
@@ -100,13 +73,13 @@ module _ {V : Type 0} (size : V → ℕ) (net : NetView V) (seats : List (Seated
       (node_at w.weights (offers_of net.taken.events) holds.ledger w.nodes 0 k n at holds.nodes).weights
       ∙ (world_lasts size net.taken.weights [] net.taken.events (start net.taken.weights) w refl h.world.is_after).weights
 
-  -- the node at place k has the number k
+  -- the node at index k has the number k
   pub own_number : (k : ℕ) (n : Node V) → slice_get w.nodes k ≡ Some n → n.me ≡ k
   own_number k n at =
       let holds = holds_after size net.taken.weights net.taken.events w h.world.is_after in
       (node_at w.weights (offers_of net.taken.events) holds.ledger w.nodes 0 k n at holds.nodes).me ∙ omega arith
 
-  -- Rooms alone are others.
+  -- Only rooms change.
 
   -- what is owed is still due
   still_owing : (b : NetView V) → IsStill net b → (k : ℕ) (s : Standing (Due V)) → IsOwing size net k s → IsOwing size b k s
@@ -114,28 +87,28 @@ module _ {V : Type 0} (size : V → ℕ) (net : NetView V) (seats : List (Seated
   still_owing b still k (down None) o = tt
   still_owing b still k (down (Some due)) o = (o.0, due_still size net b due still o.1)
 
-  -- the seats still make a switch with the net
-  pub still_switch : (b : NetView V) → IsStill net b → IsSwitch size b seats
+  -- the stores still make a switch with the net
+  pub still_switch : (b : NetView V) → IsStill net b → IsSwitch size b stores
   still_switch b still =
       let there = still_world size net b still h.world in
       let same : w ≡ there.world = same_world there.world (ap (λ (t : Taken V). after size t.weights t.events) (sym still.taken) ∙ there.is_after) in
       record {
         world = there;
         count = h.count ∙ sym (still_count net.cores b.cores still.cores);
-        each = λ k n seat at is.
-            (let own = h.each k n seat (ap (λ (x : World V). slice_get x.nodes k) same ∙ at) is in
-            record { fits = own.fits; owing = still_owing b still k seat.standing own.owing });
+        each = λ k n store at is.
+            (let own = h.each k n store (ap (λ (x : World V). slice_get x.nodes k) same ∙ at) is in
+            record { fits = own.fits; owing = still_owing b still k store.standing own.owing });
       }
 
-  -- One seat is another.
+  -- One store changes.
 
-  -- a new seat that fits its node leaves a switch
-  pub other_seat : (k : ℕ) (n : Node V) (seat new : Seated V) → slice_get w.nodes k ≡ Some n → slice_get seats k ≡ Some seat → IsSeat size net k n new → IsSwitch size net (set seats k new)
-  other_seat k n seat new at is own = record {
+  -- a new store that fits its node leaves a switch
+  pub other_store : (k : ℕ) (n : Node V) (store new : StoreState V) → slice_get w.nodes k ≡ Some n → slice_get stores k ≡ Some store → IsStore size net k n new → IsSwitch size net (set stores k new)
+  other_store k n store new at is own = record {
     world = h.world;
-    count = length-set seats k new ∙ h.count;
-    each = each_after w.nodes seats (λ j m s. IsSeat size net j m s) k seat new is
-        (λ m there. (let both : Some n ≡ Some m = sym at ∙ there in let same : n ≡ m = cc in subst (λ (x : Node V). IsSeat size net k x new) same own)) (λ j m s other there is_s. h.each j m s there is_s);
+    count = length-set stores k new ∙ h.count;
+    each = each_after w.nodes stores (λ j m s. IsStore size net j m s) k store new is
+        (λ m there. (let both : Some n ≡ Some m = sym at ∙ there in let same : n ≡ m = cc in subst (λ (x : Node V). IsStore size net k x new) same own)) (λ j m s other there is_s. h.each j m s there is_s);
   }
 
   -- A due event is taken.
@@ -226,11 +199,11 @@ module _ {V : Type 0} (size : V → ℕ) (net : NetView V) (seats : List (Seated
         other_owing j apart (down (Some other)) o = (o.0, other_due other (λ e. apart (e ∙ o.0)) o.1)
 
         -- the node is up, and its keep has made the change
-        pub committed : (seat new : Seated V) → slice_get seats due.at ≡ Some seat → new.kept ≡ kept_of step.node → new.standing ≡ up → IsSwitch size b (set seats due.at new)
-        committed seat new is kept is_up = record {
+        pub committed : (store new : StoreState V) → slice_get stores due.at ≡ Some store → new.kept ≡ kept_of step.node → new.standing ≡ up → IsSwitch size b (set stores due.at new)
+        committed store new is kept is_up = record {
           world = taken_world;
-          count = length-set seats due.at new ∙ h.count ∙ sym (ap (λ (cs : List (Core V)). length cs) t.cores ∙ length-set net.cores due.at t.core);
-          each = each_after taken_world.world.nodes seats (λ j m s. IsSeat size b j m s) due.at seat new is
+          count = length-set stores due.at new ∙ h.count ∙ sym (ap (λ (cs : List (Core V)). length cs) t.cores ∙ length-set net.cores due.at t.core);
+          each = each_after taken_world.world.nodes stores (λ j m s. IsStore size b j m s) due.at store new is
               (λ m there.
               (let both : Some step.node ≡ Some m = sym (ap (λ (ns : List (Node V)). slice_get ns due.at) nodes_then ∙ at_set w.nodes due.at step.node d.core.node node_is) ∙ there in
               let same : step.node ≡ m = cc in

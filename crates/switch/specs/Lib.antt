@@ -1,3 +1,4 @@
-pub mod Seat
+pub mod Words
+pub mod NodeStore
 pub mod Switch
 pub mod Belonging

@@ -1,34 +1,22 @@
--- What the nodes of a cluster share: the history, and of each node the record of its keep and whether it is up.
+-- The switch that the nodes of a cluster share: its history, and for each node the record of its keep and whether it is up.
 -- Source: Lamport, Paxos Made Simple, section 3; that a node with a failed store is down is this project's profile.
 -- The code has a net beside the keeps; the type keeps that its state is that of the world after the history.
 use Rattle.std.specs.Prelude.{◌≡◌, ◌⊎◌, ◌+◌, ◌≤◌, ◌<◌, ℕ, Bool, true, false, List, [], ◌∷◌, ◌++◌, Option, Some, None, Result, Ok, Err, length, slice_get, slice_set}
-use Rattle.synod.specs.declared.change.Change.{Change}
-use Rattle.synod.specs.Record.{Kept, changed_by, new_kept}
-use Rattle.synod.specs.Node.{Node, kept_of}
-use Rattle.net.specs.declared.event.TheConstants.{MOST_EVENTS}
-use Rattle.net.specs.declared.event.Event.{Event}
-use Rattle.net.specs.declared.event.Event.TheVariants.{Offer, Begin, Deliver, Restart}
-use Rattle.net.specs.declared.fault.StepFault.{StepFault}
-use Rattle.net.specs.declared.fault.StepFault.TheVariants.{Memory, Device, Down, EventsSpent}
-use Rattle.net.specs.World.{World, happens, after}
-use Rattle.net.specs.Agree.{IsAfter}
-use Rattle.net.specs.Taken.{AreOfWorld}
-use Rattle.net.specs.KeptPart.{node_of, change_of, kept_part}
-use Rattle.net.specs.Due.{Due, NetView, IsDue, HasRoom, IsTaken, posts_of}
-use Rattle.switch.specs.Seat.{Standing, up, down, Seated, IsRecordOf, IsWithOrWithout}
+use Rattle.switch.specs.Words.{Change, Kept, changed_by, new_kept, Node, kept_of, MOST_EVENTS, Event, Offer, Begin, Deliver, Restart, StepFault, Memory, Device, Down, EventsSpent, World, happens, after, IsAfter, AreOfWorld, node_of, change_of, kept_part, Due, NetView, IsDue, HasRoom, IsTaken, posts_of}
+use Rattle.switch.specs.NodeStore.{Standing, up, down, StoreState, IsRecordOf, IsWithOrWithout}
 
--- What contracts see.
+-- The view that contracts have.
 
--- of a node: what its keep would load, how often the keep failed, and whether it is up; while it is down the event whose store failed
-pub record Place (V : Type 0) : Type 0 where
+-- a node's store: the record that its keep would load, how often the keep failed, and whether the node is up; while it is down, the event whose store failed
+pub record StoreView (V : Type 0) : Type 0 where
   pub kept : Kept V
   pub failures : ℕ
   pub standing : Standing (Event V)
 
-pub record Shared (V : Type 0) : Type 0 where
+pub record SwitchView (V : Type 0) : Type 0 where
   pub weights : List ℕ
   pub history : List (Event V)
-  pub places : List (Place V)
+  pub stores : List (StoreView V)
 
 abbrev pub event_owed : {V : Type 0} → Option (Due V) → Option (Event V)
 event_owed None = None
@@ -38,47 +26,47 @@ abbrev pub standing_seen : {V : Type 0} → Standing (Due V) → Standing (Event
 standing_seen up = up
 standing_seen (down o) = down (event_owed o)
 
-abbrev pub place_of : {V : Type 0} → Seated V → Place V
-place_of seat = record { kept = seat.kept; failures = seat.failures; standing = standing_seen seat.standing }
+abbrev pub view_of : {V : Type 0} → StoreState V → StoreView V
+view_of store = record { kept = store.kept; failures = store.failures; standing = standing_seen store.standing }
 
-abbrev pub places_of : {V : Type 0} → List (Seated V) → List (Place V)
-places_of [] = []
-places_of (seat ∷ seats) = place_of seat ∷ places_of seats
+abbrev pub views_of : {V : Type 0} → List (StoreState V) → List (StoreView V)
+views_of [] = []
+views_of (store ∷ stores) = view_of store ∷ views_of stores
 
--- the places of new nodes with these keeps, whose calls failed so often
-abbrev pub new_places : {V K : Type 0} → (K → ℕ) → List K → List (Place V)
-new_places failures [] = []
-new_places failures (keep ∷ keeps) = record { kept = new_kept; failures = failures keep; standing = up } ∷ new_places failures keeps
+-- the stores of new nodes, as seen, with these keeps, whose calls failed so often
+abbrev pub new_views : {V K : Type 0} → (K → ℕ) → List K → List (StoreView V)
+new_views failures [] = []
+new_views failures (keep ∷ keeps) = record { kept = new_kept; failures = failures keep; standing = up } ∷ new_views failures keeps
 
--- the seats of new nodes
-abbrev pub new_seats : {V K : Type 0} → (K → Kept V) → (K → ℕ) → List K → List (Seated V)
-new_seats kept failures [] = []
-new_seats kept failures (keep ∷ keeps) = record { kept = kept keep; failures = failures keep; standing = up } ∷ new_seats kept failures keeps
+-- the stores of new nodes
+abbrev pub new_stores : {V K : Type 0} → (K → Kept V) → (K → ℕ) → List K → List (StoreState V)
+new_stores kept failures [] = []
+new_stores kept failures (keep ∷ keeps) = record { kept = kept keep; failures = failures keep; standing = up } ∷ new_stores kept failures keeps
 
--- What the type keeps.
+-- The invariant of the type.
 
--- what is owed is due at the node
+-- the event that is owed is due at the node
 abbrev pub IsOwing : {V : Type 0} → (V → ℕ) → NetView V → ℕ → Standing (Due V) → Type 0
 IsOwing size net k up = Unit {0}
 IsOwing size net k (down None) = Unit {0}
 IsOwing size net k (down (Some due)) = (due.at ≡ k) × IsDue size net due
 
 -- the keep fits its node, and so does what is owed
-pub record IsSeat {V : Type 0} (size : V → ℕ) (net : NetView V) (k : ℕ) (n : Node V) (seat : Seated V) : Type 0 where
-  pub fits : IsRecordOf n seat.standing seat.kept
-  pub owing : IsOwing size net k seat.standing
+pub record IsStore {V : Type 0} (size : V → ℕ) (net : NetView V) (k : ℕ) (n : Node V) (store : StoreState V) : Type 0 where
+  pub fits : IsRecordOf n store.standing store.kept
+  pub owing : IsOwing size net k store.standing
 
 -- the net is that of a world, and each node has a keep that fits it
-pub record IsSwitch {V : Type 0} (size : V → ℕ) (net : NetView V) (seats : List (Seated V)) : Type 0 where
+pub record IsSwitch {V : Type 0} (size : V → ℕ) (net : NetView V) (stores : List (StoreState V)) : Type 0 where
   pub world : AreOfWorld size net.taken net.cores net.packets
-  pub count : length seats ≡ length net.cores
-  pub each : (k : ℕ) (n : Node V) (seat : Seated V) → slice_get world.world.nodes k ≡ Some n → slice_get seats k ≡ Some seat → IsSeat size net k n seat
+  pub count : length stores ≡ length net.cores
+  pub each : (k : ℕ) (n : Node V) (store : StoreState V) → slice_get world.world.nodes k ≡ Some n → slice_get stores k ≡ Some store → IsStore size net k n store
 
--- What the calls tell of it.
+-- The facts that the calls tell.
 
 -- the world after the history
-abbrev pub world_of : {V : Type 0} → (V → ℕ) → Shared V → Result (World V) StepFault
-world_of size shared = after size shared.weights shared.history
+abbrev pub world_of : {V : Type 0} → (V → ℕ) → SwitchView V → Result (World V) StepFault
+world_of size switch = after size switch.weights switch.history
 
 -- the change that is owed, in that world
 abbrev pub change_due : {V : Type 0} → (V → ℕ) → World V → Option (Event V) → Option (Change V)
@@ -90,15 +78,15 @@ abbrev pub IsRecordIn : {V : Type 0} → (V → ℕ) → World V → Node V → 
 IsRecordIn size w n up kept = kept ≡ kept_of n
 IsRecordIn size w n (down e) kept = IsWithOrWithout (kept_of n) (change_due size w e) kept
 
-abbrev pub IsPlaceOf : {V : Type 0} → (V → ℕ) → World V → Option (Node V) → Option (Place V) → Type 0
-IsPlaceOf size w None None = Unit {0}
-IsPlaceOf size w (Some n) (Some place) = IsRecordIn size w n place.standing place.kept
-IsPlaceOf size w None (Some place) = ⊥
-IsPlaceOf size w (Some n) None = ⊥
+abbrev pub IsViewOf : {V : Type 0} → (V → ℕ) → World V → Option (Node V) → Option (StoreView V) → Type 0
+IsViewOf size w None None = Unit {0}
+IsViewOf size w (Some n) (Some view) = IsRecordIn size w n view.standing view.kept
+IsViewOf size w None (Some view) = ⊥
+IsViewOf size w (Some n) None = ⊥
 
--- each node has its place
-abbrev pub ArePlaces : {V : Type 0} → (V → ℕ) → World V → List (Place V) → Type 0
-ArePlaces size w places = (k : ℕ) → IsPlaceOf size w (slice_get w.nodes k) (slice_get places k)
+-- each node has its store
+abbrev pub AreStores : {V : Type 0} → (V → ℕ) → World V → List (StoreView V) → Type 0
+AreStores size w stores = (k : ℕ) → IsViewOf size w (slice_get w.nodes k) (slice_get stores k)
 
 -- Events.
 
@@ -106,28 +94,28 @@ abbrev pub is_down : {V : Type 0} → Standing (Event V) → Bool
 is_down up = false
 is_down (down e) = true
 
-abbrev pub is_down_place : {V : Type 0} → Option (Place V) → Bool
-is_down_place None = false
-is_down_place (Some place) = is_down place.standing
+abbrev pub is_down_view : {V : Type 0} → Option (StoreView V) → Bool
+is_down_view None = false
+is_down_view (Some view) = is_down view.standing
 
 -- the node of the event is down
-abbrev pub is_down_at : {V : Type 0} → List (Place V) → Option ℕ → Bool
-is_down_at places None = false
-is_down_at places (Some k) = is_down_place (slice_get places k)
+abbrev pub is_down_at : {V : Type 0} → List (StoreView V) → Option ℕ → Bool
+is_down_at views None = false
+is_down_at views (Some k) = is_down_view (slice_get views k)
 
 -- the fault is answered, and all is as before
-abbrev pub Refuses : {V : Type 0} → Shared V → Shared V → Result ℕ StepFault → StepFault → Type 0
+abbrev pub Refuses : {V : Type 0} → SwitchView V → SwitchView V → Result ℕ StepFault → StepFault → Type 0
 Refuses old new result fault = (result ≡ Err fault) × (new ≡ old)
 
-abbrev pub with_place : {V : Type 0} → Shared V → ℕ → Place V → Shared V
-with_place old k place = record { weights = old.weights; history = old.history; places = slice_set old.places k place }
+abbrev pub with_store : {V : Type 0} → SwitchView V → ℕ → StoreView V → SwitchView V
+with_store old k view = record { weights = old.weights; history = old.history; stores = slice_set old.stores k view }
 
 -- the keep has made the change, and the event is taken
-abbrev pub with_event : {V : Type 0} → Shared V → ℕ → Place V → Option (Change V) → Event V → Shared V
-with_event old k place change e =
-    record (with_place old k record { kept = changed_by place.kept change; failures = place.failures; standing = place.standing }) { history = old.history ++ e ∷ [] }
+abbrev pub with_event : {V : Type 0} → SwitchView V → ℕ → StoreView V → Option (Change V) → Event V → SwitchView V
+with_event old k view change e =
+    record (with_store old k record { kept = changed_by view.kept change; failures = view.failures; standing = view.standing }) { history = old.history ++ e ∷ [] }
 
--- what a node owes whose keep failed at the event: a restart stores nothing
+-- the event that a node owes if its keep fails at this event: a restart stores nothing
 abbrev pub due : {V : Type 0} → Event V → Option (Event V)
 due (Offer k v) = Some (Offer k v)
 due (Begin k) = Some (Begin k)
@@ -135,62 +123,74 @@ due (Deliver number) = Some (Deliver number)
 due (Restart k) = None
 
 -- a call of node k's keep failed: its count of failures has grown, its record is old or new, and the rest is as before
-pub record FailsAt {V : Type 0} (old new : Shared V) (k : ℕ) (place : Place V) (change : Option (Change V)) (left : Standing (Event V)) : Type 0 where
+pub record FailsAt {V : Type 0} (old new : SwitchView V) (k : ℕ) (view : StoreView V) (change : Option (Change V)) (left : Standing (Event V)) : Type 0 where
   pub kept : Kept V
-  pub either : IsWithOrWithout place.kept change kept
-  pub rest : new ≡ with_place old k record { kept = kept; failures = place.failures + 1; standing = left }
+  pub either : IsWithOrWithout view.kept change kept
+  pub rest : new ≡ with_store old k record { kept = kept; failures = view.failures + 1; standing = left }
 
--- an event that meets no fault is taken, x being the world after it; or there is no memory, or the store failed
-abbrev pub TakesAt : {V : Type 0} → Shared V → Shared V → Event V → ℕ → Place V → Option (Change V) → World V → Result ℕ StepFault → Type 0
-TakesAt old new e k place change x (Ok count) = (new ≡ with_event old k place change e) × (count ≡ length x.packets)
-TakesAt old new e k place change x (Err fault) = ((fault ≡ Memory) × (new ≡ old)) ⊎ ((fault ≡ Device) × FailsAt old new k place change (down (due e)))
+-- an event that meets no fault is taken, x being the world after it; or an allocation failed, or the store failed
+abbrev pub TakesAt : {V : Type 0} → SwitchView V → SwitchView V → Event V → ℕ → StoreView V → Option (Change V) → World V → Result ℕ StepFault → Type 0
+TakesAt old new e k view change x (Ok count) = (new ≡ with_event old k view change e) × (count ≡ length x.packets)
+TakesAt old new e k view change x (Err fault) = ((fault ≡ Memory) × (new ≡ old)) ⊎ ((fault ≡ Device) × FailsAt old new k view change (down (due e)))
 
--- what an event does whose node is not down, w being the world after the old history
-pub record ActsUp {V : Type 0} (size : V → ℕ) (w : World V) (old new : Shared V) (e : Event V) (result : Result ℕ StepFault) : Type 0 where
+-- the effect of an event whose node is not down, w being the world after the old history
+pub record ActsUp {V : Type 0} (size : V → ℕ) (w : World V) (old new : SwitchView V) (e : Event V) (result : Result ℕ StepFault) : Type 0 where
   pub refused : (fault : StepFault) → happens size w e ≡ Err fault → Refuses old new result fault
-  pub taken : (x : World V) → happens size w e ≡ Ok x → (k : ℕ) → node_of w e ≡ Some k → (place : Place V) → slice_get old.places k ≡ Some place → TakesAt old new e k place (change_of size w e) x result
+  pub taken : (x : World V) → happens size w e ≡ Ok x → (k : ℕ) → node_of w e ≡ Some k → (view : StoreView V) → slice_get old.stores k ≡ Some view → TakesAt old new e k view (change_of size w e) x result
 
--- and what it does
-pub record Acts {V : Type 0} (size : V → ℕ) (w : World V) (old new : Shared V) (e : Event V) (result : Result ℕ StepFault) : Type 0 where
-  pub is_down : is_down_at old.places (node_of w e) ≡ true → Refuses old new result Down
-  pub is_up : is_down_at old.places (node_of w e) ≡ false → ActsUp size w old new e result
-
--- Restarts.
+-- Restarts of a node that is down.
 
 abbrev pub events_due : {V : Type 0} → Option (Event V) → List (Event V)
 events_due None = []
 events_due (Some e) = e ∷ []
 
 -- node k is up again with what its keep loaded: the event whose store failed, if there is one, and then the restart are taken
-pub record IsRevived {V : Type 0} (size : V → ℕ) (old new : Shared V) (k : ℕ) (place : Place V) (e : Option (Event V)) (count : ℕ) : Type 0 where
+pub record IsRevived {V : Type 0} (size : V → ℕ) (old new : SwitchView V) (k : ℕ) (view : StoreView V) (e : Option (Event V)) (count : ℕ) : Type 0 where
   pub world : World V
   pub is_after : IsAfter size old.weights (old.history ++ events_due e ++ Restart k ∷ []) world
   pub counted : count ≡ length world.packets
   pub kept : Kept V
   pub is_kept : kept_part world k ≡ Some kept
-  pub rest : new ≡ record { weights = old.weights; history = old.history ++ events_due e ++ Restart k ∷ []; places = slice_set old.places k record { kept = kept; failures = place.failures; standing = up } }
+  pub rest : new ≡ record { weights = old.weights; history = old.history ++ events_due e ++ Restart k ∷ []; stores = slice_set old.stores k record { kept = kept; failures = view.failures; standing = up } }
 
--- there is no memory: all but the record is as before
-pub record StaysDownAt {V : Type 0} (old new : Shared V) (k : ℕ) (place : Place V) (change : Option (Change V)) : Type 0 where
+-- an allocation failed: all but the record is as before
+pub record StaysDownAt {V : Type 0} (old new : SwitchView V) (k : ℕ) (view : StoreView V) (change : Option (Change V)) : Type 0 where
   pub kept : Kept V
-  pub either : IsWithOrWithout place.kept change kept
-  pub rest : new ≡ with_place old k record { kept = kept; failures = place.failures; standing = place.standing }
+  pub either : IsWithOrWithout view.kept change kept
+  pub rest : new ≡ with_store old k record { kept = kept; failures = view.failures; standing = view.standing }
 
-abbrev pub RevivesAt : {V : Type 0} → (V → ℕ) → World V → Shared V → Shared V → ℕ → Place V → Option (Event V) → Result ℕ StepFault → Type 0
-RevivesAt size w old new k place e (Ok count) = IsRevived size old new k place e count
-RevivesAt size w old new k place e (Err fault) =
-    ((fault ≡ Memory) × StaysDownAt old new k place (change_due size w e)) ⊎ ((fault ≡ Device) × FailsAt old new k place (change_due size w e) place.standing)
+abbrev pub RevivesAt : {V : Type 0} → (V → ℕ) → World V → SwitchView V → SwitchView V → ℕ → StoreView V → Option (Event V) → Result ℕ StepFault → Type 0
+RevivesAt size w old new k view e (Ok count) = IsRevived size old new k view e count
+RevivesAt size w old new k view e (Err fault) =
+    ((fault ≡ Memory) × StaysDownAt old new k view (change_due size w e)) ⊎ ((fault ≡ Device) × FailsAt old new k view (change_due size w e) view.standing)
 
--- what a restart does at a node that is down
-pub record ActsDown {V : Type 0} (size : V → ℕ) (w : World V) (old new : Shared V) (k : ℕ) (place : Place V) (e : Option (Event V)) (result : Result ℕ StepFault) : Type 0 where
+-- the effect of a restart at a node that is down and owes e
+pub record Revives {V : Type 0} (size : V → ℕ) (w : World V) (old new : SwitchView V) (k : ℕ) (view : StoreView V) (e : Option (Event V)) (result : Result ℕ StepFault) : Type 0 where
   pub spent : MOST_EVENTS < length old.history + 2 → Refuses old new result EventsSpent
-  pub revived : length old.history + 2 ≤ MOST_EVENTS → RevivesAt size w old new k place e result
+  pub revived : length old.history + 2 ≤ MOST_EVENTS → RevivesAt size w old new k view e result
 
-pub record Restarts {V : Type 0} (size : V → ℕ) (w : World V) (old new : Shared V) (k : ℕ) (result : Result ℕ StepFault) : Type 0 where
-  pub is_down : (place : Place V) → slice_get old.places k ≡ Some place → (e : Option (Event V)) → place.standing ≡ down e → ActsDown size w old new k place e result
-  pub is_up : is_down_at old.places (Some k) ≡ false → ActsUp size w old new (Restart k) result
+-- Every event.
 
--- What is owed at the node comes first.
+-- the effect of an event whose node is down: a restart brings it up again, and every other event is refused
+abbrev pub ActsDown : {V : Type 0} → (V → ℕ) → World V → SwitchView V → SwitchView V → Event V → Result ℕ StepFault → Type 0
+ActsDown size w old new (Offer k v) result = Refuses old new result Down
+ActsDown size w old new (Begin k) result = Refuses old new result Down
+ActsDown size w old new (Deliver number) result = Refuses old new result Down
+ActsDown {V} size w old new (Restart k) result = (view : StoreView V) → slice_get old.stores k ≡ Some view → (e : Option (Event V)) → view.standing ≡ down e → Revives size w old new k view e result
+
+-- the effect of an event, w being the world after the old history
+pub record Acts {V : Type 0} (size : V → ℕ) (w : World V) (old new : SwitchView V) (e : Event V) (result : Result ℕ StepFault) : Type 0 where
+  pub is_down : is_down_at old.stores (node_of w e) ≡ true → ActsDown size w old new e result
+  pub is_up : is_down_at old.stores (node_of w e) ≡ false → ActsUp size w old new e result
+
+-- the history before the event is taken, each node of its world has its store, and there the event is answered so
+pub record Plays {V : Type 0} (size : V → ℕ) (old new : SwitchView V) (e : Event V) (result : Result ℕ StepFault) : Type 0 where
+  pub world : World V
+  pub is_after : world_of size old ≡ Ok world
+  pub stores : AreStores size world old.stores
+  pub acts : Acts size world old new e result
+
+-- The event that is owed at the node comes first.
 
 abbrev pub CanTakeOwed : {V : Type 0} → (V → ℕ) → NetView V → Option (Due V) → Type 0
 CanTakeOwed size net None = Unit {0}

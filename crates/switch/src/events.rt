@@ -1,69 +1,47 @@
-//! What happens to one node of a switch.
-ghost use Rattle.std.specs.Prelude.{◌≡◌, Some, IsOk};
+//! The one way in which an event comes to a node of a switch.
+ghost use Rattle.std.specs.Prelude.{◌≡◌, Some, false};
 ghost use Rattle.std.specs.Result.{ForOk};
-ghost use Rattle.net.specs.declared.event.Event.TheVariants.{Offer, Begin, Deliver};
-ghost use Rattle.switch.specs.Switch.{Acts, ArePlaces, due, world_of};
-ghost use Rattle.switch.specs.Belonging.{StaysBelonging};
+ghost use Rattle.net.specs.KeptPart.{node_of};
+ghost use Rattle.switch.specs.Switch.{ActsUp, Plays, due, is_down_at, world_of};
+ghost use Rattle.switch.specs.Belonging.{KeepsLogs};
 
 use crate::switch::Switch;
 use net::{Event, StepFault};
 use synod::{Keep, Value};
 
 impl<V: Value, K: Keep<V>> Switch<V, K> {
-    /// An event that is no restart: at a node that is not down it is made ready, its change is stored, and it is taken. It
-    /// answers the count of the packets posted so far.
-    fn play(&mut self, event: Event<V>) -> Result<u64, StepFault>
-        requires { due event ≡ Some event }
-        ensures taken { IsOk (world_of V.bytes self.old) }
-        ensures places { ForOk (world_of V.bytes self.old) (λ world. ArePlaces V.bytes world self.old.places) }
-        ensures acts { ForOk (world_of V.bytes self.old) (λ world. Acts V.bytes world self.old self.new event result) }
-        ensures belonging { StaysBelonging V.bytes self.old self.new }
+    /// Plays an event: its node makes it ready, stores its change and takes it. A restart starts from the record that the keep
+    /// loads; at a node that is down it first stores and takes the event whose store failed. Returns the count of all packets
+    /// posted.
+    ///
+    /// Errors: `Down` where the node is down and the event is no restart; else the first fault that the event meets in the
+    /// order of `StepFault`; else `Memory`, with nothing changed, or `Device`, where the node's keep failed: the node is then
+    /// down. A restart of a node that is down meets only `EventsSpent`, where fewer than two events are left; after `Memory`
+    /// or `Device` it stays down.
+    ///
+    /// Cost: the step of the node, one packet looked up and one change stored; at a restart the record, loaded once.
+    pub fn play(&mut self, event: Event<V>) -> Result<u64, StepFault>
+        ensures plays { Plays V.bytes self.old self.new event result }
+        ensures logs { KeepsLogs V.bytes event self.old self.new result }
     {
-        if self.is_down(self.net.node_of(&event)) {
-            return Err(StepFault::Down);
+        let is_down = self.is_down(self.net.node_of(&event));
+        match event {
+            Event::Restart(k) if is_down => self.revive(k),
+            Event::Restart(k) => self.reload(k),
+            _ if is_down => Err(StepFault::Down),
+            _ => self.step(event),
         }
+    }
+
+    /// Plays an event that is no restart at a node that is up, or where there is none.
+    fn step(&mut self, event: Event<V>) -> Result<u64, StepFault>
+        requires owed { due event ≡ Some event }
+        requires up { ForOk (world_of V.bytes self.old) (λ world. is_down_at self.old.stores (node_of world event) ≡ false) }
+        ensures { ForOk (world_of V.bytes self.old) (λ world. ActsUp V.bytes world self.old self.new event result) }
+    {
         let due = self.net.ready(event)?;
         let at = due.at() as usize;
-        let due = self.seats[at].store(due)?;
+        let due = self.stores[at].store(due)?;
         Ok(self.net.commit(due))
     }
-
-    /// A value is offered to node `k`. It answers the count of the packets posted so far.
-    ///
-    /// Errors: as of `begin_on`.
-    pub fn offer(&mut self, k: u8, value: V) -> Result<u64, StepFault>
-        ensures taken { IsOk (world_of V.bytes self.old) }
-        ensures places { ForOk (world_of V.bytes self.old) (λ world. ArePlaces V.bytes world self.old.places) }
-        ensures acts { ForOk (world_of V.bytes self.old) (λ world. Acts V.bytes world self.old self.new (Offer k value) result) }
-        ensures belonging { StaysBelonging V.bytes self.old self.new }
-    {
-        self.play(Event::Offer(k, value))
-    }
-}
-
-/// Node `k` begins a ballot. It answers the count of the packets posted so far.
-///
-/// Errors: `Down` where the node is down; else the fault that the event meets in the world after the history, the first in
-/// the order of `StepFault`; else `Memory`, with nothing changed, or `Device`, where its keep failed: the node is then down.
-pub fn begin_on<V: Value, K: Keep<V>>(switch: &mut Switch<V, K>, k: u8) -> Result<u64, StepFault>
-    ensures taken { IsOk (world_of V.bytes switch.old) }
-    ensures places { ForOk (world_of V.bytes switch.old) (λ world. ArePlaces V.bytes world switch.old.places) }
-    ensures acts { ForOk (world_of V.bytes switch.old) (λ world. Acts V.bytes world switch.old switch.new (Begin k) result) }
-    ensures belonging { StaysBelonging V.bytes switch.old switch.new }
-{
-    switch.play(Event::Begin(k))
-}
-
-/// The packet of that number comes to the node that it is addressed to. It answers the count of the packets posted so far.
-///
-/// Errors: as of `begin_on`, for that node; a number that is no packet is of no node.
-pub fn deliver_on<V: Value, K: Keep<V>>(
-    switch: &mut Switch<V, K>,
-    number: u64,
-) -> Result<u64, StepFault>
-    ensures taken { IsOk (world_of V.bytes switch.old) }
-    ensures acts { ForOk (world_of V.bytes switch.old) (λ world. Acts V.bytes world switch.old switch.new (Deliver number) result) }
-    ensures belonging { StaysBelonging V.bytes switch.old switch.new }
-{
-    switch.play(Event::Deliver(number))
 }

@@ -1,16 +1,6 @@
 -- The answer of a call that applies the next entry of a node's log.
-use Rattle.std.proofs.Common.{◌≡◌, ℕ, List, set, slice_get, Option, Some, None, Result, Ok, Err, refl, ap, sym, ◌∙◌, subst}
-use Rattle.std.specs.Prelude.{IfOk, IfSome, IsSomeAnd, IsOkUnless, OnErr, MatchOption, option_map}
-use Rattle.std.specs.Borrow.{Bor}
-use Rattle.library.specs.declared.entry.Entry.{Entry}
-use Rattle.library.specs.declared.verdict.Verdict.{Verdict}
-use Rattle.world.specs.declared.carried.Carried.{Carried}
-use Rattle.net.specs.declared.fault.StepFault.{StepFault}
-use Rattle.net.specs.declared.fault.StepFault.TheVariants.{Memory}
-use Rattle.net.specs.World.{log}
-use Rattle.world.specs.Carried.{entry_of, entries_of}
-use Rattle.world.specs.Replicas.{NodeLibrary, Replicas, log_entries, IsOfLog, AreReplicas, AppliesNext, next_of, next_entry, IsApplied}
-use Rattle.net.proofs.TakenLemmas.{set_same}
+use Rattle.world.proofs.Words.{◌≡◌, ℕ, List, set, slice_get, Option, Some, None, Result, Ok, Err, refl, ap, sym, ◌∙◌, subst, IfOk, IfSome, IsSomeAnd, MatchOption, option_map, Bor}
+use Rattle.world.proofs.Words.{Entry, Verdict, Carried, StepFault, log, entry_of, entries_of, NodeLibrary, Replicas, log_entries, IsOfLog, AreReplicas, AppliesNext, next_of, next_entry, IsApplied, set_same}
 use Rattle.world.proofs.EntryLogs.{entries_of-get, entries_of-none}
 use Rattle.world.proofs.ReplicasLemmas.{of_log_applied, applied_are_replicas}
 
@@ -67,26 +57,6 @@ module _ (old : Replicas) (k : ℕ) (node next : NodeLibrary) (result : Result (
   -- where there is no next entry, the call answers none and the replicas stay
   pub call_none : next_entry old k ≡ None → (result ≡ Ok None) × (becomes ≡ old)
   call_none missing = none_at (next_entry old k) result applies missing
-
-  -- an error is Memory, whether there is an entry or not
-  memory_at : (o : Option (Option Entry)) (r : Result (Option Verdict) StepFault) → AppliesNext node next o r → IsOkUnless r Memory
-  memory_at o (Ok answer) h = tt
-  memory_at None (Err fault) h = elim h [ ]
-  memory_at (Some entry) (Err fault) h = h.0
-
-  -- the call fails for memory alone
-  pub call_memory : IsOkUnless result Memory
-  call_memory = memory_at (next_entry old k) result applies
-
-  -- an error leaves the replicas, whether there is an entry or not
-  same_at : (o : Option (Option Entry)) (r : Result (Option Verdict) StepFault) → AppliesNext node next o r → OnErr r (becomes ≡ old)
-  same_at o (Ok answer) h = tt
-  same_at None (Err fault) h = elim h [ ]
-  same_at (Some entry) (Err fault) h = unmoved h.1
-
-  -- a call that fails leaves the replicas
-  pub call_same : OnErr result (becomes ≡ old)
-  call_same = same_at (next_entry old k) result applies
 
   -- whatever the answer, the library after it is that of first entries of the log
   of_log_at : (o : Option (Option Entry)) → slice_get (log_entries old.taken k) node.applied ≡ o → (r : Result (Option Verdict) StepFault) → AppliesNext node next o r → IsOfLog (log_entries old.taken k) node

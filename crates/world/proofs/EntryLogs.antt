@@ -1,10 +1,6 @@
 -- Events and logs of entries, as those of the values that carry them.
-use Rattle.std.proofs.Common.{◌≡◌, ℕ, zero, suc, List, [], ◌∷◌, ◌++◌, slice_get, Option, Some, None, inl, inr, refl, ap, sym, ◌∙◌}
-use Rattle.library.specs.declared.entry.Entry.{Entry}
-use Rattle.world.specs.declared.carried.Carried.{Carried}
-use Rattle.net.specs.declared.event.Event.{Event}
-use Rattle.net.specs.Agree.{IsBeginningOf, Agree}
-use Rattle.world.specs.Carried.{carried, all_carried, entry_of, entries_of}
+use Rattle.world.proofs.Words.{◌≡◌, ℕ, zero, suc, List, [], ◌∷◌, ◌++◌, slice_get, Option, Some, None, inl, inr, refl, ap, sym, ◌∙◌}
+use Rattle.world.proofs.Words.{Entry, Carried, Event, IsBeginningOf, Agree, carried, all_carried, entry_of, entries_of}
 
 pub all_carried-append : (es ds : List (Event Entry)) → all_carried (es ++ ds) ≡ all_carried es ++ all_carried ds
 all_carried-append [] ds = refl

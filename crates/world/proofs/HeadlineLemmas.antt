@@ -1,19 +1,6 @@
 -- The headline: logs of entries agree, the library of a log begins that of a longer one, and each library of a log is good.
-use Rattle.std.proofs.Common.{◌≡◌, ℕ, zero, suc, true, false, List, [], ◌∷◌, take, Option, Result, Ok, Err, inl, inr, refl, ap, sym, subst}
-use Rattle.std.specs.Prelude.{IsOk}
-use Rattle.library.specs.declared.entry.Entry.{Entry}
-use Rattle.library.specs.LibraryOf.{Replica, IsLibraryOf}
-use Rattle.library.proofs.LibraryLemmas.{library-begins, library-good}
-use Rattle.world.specs.declared.carried.Carried.{Carried}
-use Rattle.net.specs.declared.fault.StepFault.{StepFault}
-use Rattle.net.specs.World.{World, log}
-use Rattle.net.specs.Agree.{IsBeginningOf, Agree}
-use Rattle.net.specs.Taken.{Taken, world_of}
-use Rattle.net.specs.History.{Agreement}
-use Rattle.world.specs.Carried.{carried_size, entries_of}
-use Rattle.world.specs.Headline.{Headline, HeadlineHolds}
-use Rattle.net.proofs.Beginnings.{then_begins, beginnings_agree}
-use Rattle.net.proofs.HistoryLemmas.{agreement_of}
+use Rattle.world.proofs.Words.{◌≡◌, ℕ, zero, suc, true, false, List, [], ◌∷◌, take, Option, Result, Ok, Err, inl, inr, refl, ap, sym, subst, IsOk}
+use Rattle.world.proofs.Words.{Entry, Replica, IsLibraryOf, library-begins, library-good, Carried, StepFault, World, log, IsBeginningOf, Agree, Taken, world_of, Agreement, carried_size, entries_of, Headline, HeadlineHolds, then_begins, beginnings_agree, agreement_of}
 use Rattle.world.proofs.EntryLogs.{entries_agree}
 
 -- the first elements of a list are a beginning of it
@@ -38,12 +25,14 @@ statements_agree xs ys one other (inr h) p q =
 pub headline_of : (taken : Taken Carried) → Agreement carried_size taken → Headline taken
 headline_of taken agreement = record {
   agreement = agreement;
-  libraries_agree = λ w x m n j k a b one other p q.
-      statements_agree (take a (entries_of (log w j))) (take b (entries_of (log x k))) one other
-      (takes_agree a b (entries_of (log w j)) (entries_of (log x k)) (entries_agree (log w j) (log x k) (agreement.logs_agree w x m n j k))) p q;
-  libraries_good = λ w m k a library p. library-good (take a (entries_of (log w k))) library p;
-  derived = λ w m k a library p at stmt provable.
-      let proved = (library-good (take a (entries_of (log w k))) library p).proved at stmt provable in
+  libraries_agree = λ one other p q.
+      let xs = entries_of (log p.world p.node) in
+      let ys = entries_of (log q.world q.node) in
+      statements_agree (take p.applied xs) (take q.applied ys) one other
+      (takes_agree p.applied q.applied xs ys (entries_agree (log p.world p.node) (log q.world q.node) (agreement.logs_agree p.world q.world p.moment q.moment p.node q.node))) p.of_log q.of_log;
+  libraries_good = λ library p. library-good (take p.applied (entries_of (log p.world p.node))) library p.of_log;
+  derived = λ library p at stmt provable.
+      let proved = (library-good (take p.applied (entries_of (log p.world p.node))) library p.of_log).proved at stmt provable in
       record { stmt = proved.right.1.stmt; derivation = proved.right.0; stands = proved.right.1.stands; concludes = proved.right.1.concludes };
 }
 

@@ -1,3 +1,4 @@
+pub mod Words
 pub mod EntryLogs
 pub mod HeadlineLemmas
 pub mod ReplicasLemmas

@@ -1,29 +1,7 @@
 -- The libraries of a world: each is that of its log, whatever event comes and whichever entry is applied.
-use Rattle.std.proofs.Common.{◌≡◌, ◌≢◌, ℕ, zero, suc, ◌+◌, ◌==◌, Bool, true, false, List, [], ◌∷◌, ◌++◌, length, take, replicate, set, slice_get, Option, Some, None, Result, Ok, Err, refl, ap, sym, ◌∙◌, subst, arith, add-one, length-append}
-use Rattle.std.specs.Prelude.{IsOk, IfErr}
-use Rattle.std.proofs.lemmas.Bool.Decides.{nat_tests}
-use Rattle.std.proofs.lemmas.List.{length-set, length-replicate, take-append-le}
-use Rattle.std.proofs.lemmas.Option.{slice_get_within}
-use Rattle.synod.proofs.LogLemmas.{take_next}
-use Rattle.library.specs.declared.entry.Entry.{Entry}
-use Rattle.library.specs.declared.verdict.Verdict.{Verdict}
-use Rattle.library.specs.LibraryOf.{Applies, IsLibraryOf}
-use Rattle.library.proofs.LibraryLemmas.{library-more}
-use Rattle.world.specs.declared.carried.Carried.{Carried}
-use Rattle.net.specs.declared.event.Event.{Event}
-use Rattle.net.specs.declared.event.Event.TheVariants.{Offer, Begin, Deliver, Restart}
-use Rattle.net.specs.declared.fault.StepFault.{StepFault}
-use Rattle.net.specs.World.{World, start, happens, all_happen, log, log_after}
-use Rattle.net.specs.Agree.{IsBeginningOf}
-use Rattle.net.specs.Taken.{Taken, world_of, with_event}
-use Rattle.world.specs.Carried.{carried_size, carried, all_carried, entries_of}
-use Rattle.world.specs.Replicas.{NodeLibrary, Replicas, new_library, new_libraries, restarts, given_up, then_event, log_entries, IsOfLog, AreReplicas}
-use Rattle.net.proofs.EveryEvent.{if_taken}
-use Rattle.net.proofs.TwoMoments.{all_happen-append}
-use Rattle.net.proofs.TakenLemmas.{after-push}
-use Rattle.net.proofs.LogsGrow.{log_grows}
+use Rattle.world.proofs.Words.{◌≡◌, ◌≢◌, ℕ, zero, suc, ◌+◌, ◌==◌, Bool, true, false, List, [], ◌∷◌, ◌++◌, length, take, replicate, set, slice_get, Option, Some, None, Result, Ok, Err, refl, ap, sym, ◌∙◌, subst, arith, add-one, length-append, IsOk, IfErr, nat_tests, length-set, length-replicate, take-append-le, slice_get_within}
+use Rattle.world.proofs.Words.{take_next, Entry, Verdict, Applies, IsLibraryOf, library-more, Carried, Event, Offer, Begin, Deliver, Restart, StepFault, World, start, happens, all_happen, log, log_after, IsBeginningOf, Taken, world_of, with_event, carried_size, carried, all_carried, entries_of, NodeLibrary, Replicas, new_library, new_libraries, restarts, given_up, then_event, log_entries, IsOfLog, AreReplicas, if_taken, all_happen-append, after-push, log_grows, at_set_other}
 use Rattle.world.proofs.EntryLogs.{all_carried-append, entries_begin}
-use Rattle.net.proofs.GrowingLists.{at_set_other}
 
 -- A library and its log.
 

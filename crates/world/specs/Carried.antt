@@ -2,11 +2,8 @@
 -- Source: Lamport, Paxos Made Simple, section 3: the values chosen are the commands of a state machine.
 -- The code wraps an entry in a type of its own; its size is the text's count of bytes, or 8 bytes a name of a charter.
 use Rattle.std.specs.Prelude.{ℕ, List, [], ◌∷◌, Option, Some, None}
-use Rattle.library.specs.declared.entry.Entry.{Entry}
-use Rattle.library.specs.LibraryOf.{size_of}
+use Rattle.world.specs.Words.{Entry, size_of, Event, Offer, Begin, Deliver, Restart}
 use Rattle.world.specs.declared.carried.Carried.{Carried}
-use Rattle.net.specs.declared.event.Event.{Event}
-use Rattle.net.specs.declared.event.Event.TheVariants.{Offer, Begin, Deliver, Restart}
 
 abbrev pub carried_size : Carried → ℕ
 carried_size c = size_of c.0

@@ -1,17 +1,9 @@
--- What contracts see of a world: its weights, the events that it took, and each node's library with the count of entries applied.
+-- The view that contracts have of a world: its weights, the events that it took, and each node's library with the count of entries applied.
 -- Source: Lamport, Paxos Made Simple, section 3: a server executes the commands of its log in order, each once all before it are known.
 -- The code keeps the nodes and packets too; the type keeps that each library is that of the first entries of its node's log.
 use Rattle.std.specs.Prelude.{◌≡◌, ◌+◌, ◌≤◌, ℕ, List, [], Option, Some, None, Result, Ok, Err, length, take, replicate, slice_get, slice_set}
-use Rattle.library.specs.declared.entry.Entry.{Entry}
-use Rattle.library.specs.declared.verdict.Verdict.{Verdict}
-use Rattle.library.specs.LibraryOf.{Replica, empty, Applies, IsLibraryOf}
+use Rattle.world.specs.Words.{Entry, Verdict, Replica, empty, Applies, IsLibraryOf, Event, StepFault, Memory, Offer, Begin, Deliver, Restart, log_after, Taken, world_of, with_event}
 use Rattle.world.specs.declared.carried.Carried.{Carried}
-use Rattle.net.specs.declared.event.Event.{Event}
-use Rattle.net.specs.declared.fault.StepFault.{StepFault}
-use Rattle.net.specs.declared.fault.StepFault.TheVariants.{Memory}
-use Rattle.net.specs.declared.event.Event.TheVariants.{Offer, Begin, Deliver, Restart}
-use Rattle.net.specs.World.{log_after}
-use Rattle.net.specs.Taken.{Taken, world_of, with_event}
 use Rattle.world.specs.Carried.{carried_size, entries_of}
 
 -- a node's library, and how many entries of its log made it
@@ -81,7 +73,7 @@ pub record IsApplied (old : Replicas) (k : ℕ) (entry : Option Entry) (verdict 
   pub applies : Applies before.library entry verdict library
   pub becomes : new ≡ record { taken = old.taken; libraries = slice_set old.libraries k (record { applied = before.applied + 1; library = library }) }
 
--- the entry is applied with this verdict, or there is none; or there is no memory, and the library stays at its entry
+-- the entry is applied with this verdict, or there is none; or an allocation fails, and the library stays at its entry
 abbrev pub AppliesNext : NodeLibrary → NodeLibrary → Option (Option Entry) → Result (Option Verdict) StepFault → Type 0
 AppliesNext old new None (Ok None) = new ≡ old
 AppliesNext old new None (Ok (Some verdict)) = ⊥

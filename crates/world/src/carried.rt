@@ -26,7 +26,7 @@ impl Value for Carried {
     }
 }
 
-/// The entries of a log of values.
+/// Returns the entries of a log of values.
 pub(crate) fn entries(
     alloc: Global,
     values: Vec<Option<Carried>>,
@@ -40,7 +40,7 @@ pub(crate) fn entries(
     Ok(entries)
 }
 
-/// The entry of a value.
+/// Returns the entry of a value.
 fn entry(value: Option<Carried>) -> Option<Entry>
     ensures { result ≡ entry_of value }
 {
@@ -50,7 +50,7 @@ fn entry(value: Option<Carried>) -> Option<Entry>
     }
 }
 
-/// The event, of a value that is the entry.
+/// Returns the event with its entry as a value.
 pub(crate) fn carry(event: Event<Entry>) -> Event<Carried>
     ensures { result ≡ carried event }
 {
@@ -62,7 +62,7 @@ pub(crate) fn carry(event: Event<Entry>) -> Event<Carried>
     }
 }
 
-/// The node that the event restarts.
+/// Returns the node that the event restarts, if it is a restart.
 pub(crate) fn restarted(event: &Event<Carried>) -> Option<u8>
     ensures { result ≡ restarts event.now }
 {

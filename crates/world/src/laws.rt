@@ -1,6 +1,6 @@
 ghost use Rattle.world.specs.Headline.{HeadlineHolds};
 
-/// The headline: of every history that is taken, the libraries of any two replicas at any two moments are one the beginning of
+/// States the headline: for every history that is taken, of the libraries of any two replicas at any two moments one is a prefix of
 /// the other, and every provable assertion of a library has a derivation.
 pub fn headline()
     ensures { HeadlineHolds }

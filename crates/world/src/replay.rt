@@ -11,10 +11,10 @@ use net::{Event, StepFault};
 use std::alloc::Global;
 use synod::Weights;
 
-/// The world after all the events, from new nodes on. Its libraries are still empty.
+/// Returns the world after all the events, from new nodes on. Its libraries are still empty.
 ///
-/// Errors: the index from 0 of the first event that is refused, with its fault, or with `Memory` where it meets none.
-/// A world of new nodes that finds no memory is refused at 0.
+/// Errors: the index from 0 of the first event that is refused, with its fault, or with `Memory` where it meets none. The index
+/// is 0 where the world of new nodes runs out of memory. Cost: that of the steps.
 pub fn run(
     alloc: Global,
     weights: Weights,

@@ -13,7 +13,7 @@ use std::mem;
 use std::thread::Threads;
 use verify_pool::{Gate, Workers};
 
-/// A library with the count of entries applied, the entries of a log in order from its first.
+/// A library, and how many entries of a log made it, in order from the first.
 #[derive(Drop)]
 pub struct Replica {
     library: Library,
@@ -29,7 +29,7 @@ impl Model for Replica {
 }
 
 impl Replica {
-    /// The replica of a new node. It takes no memory.
+    /// Makes the replica of a new node. Does not allocate.
     pub fn new(alloc: Global) -> Self
         ensures { result ≡ new_library }
     {
@@ -39,28 +39,28 @@ impl Replica {
         }
     }
 
-    /// It is given up for that of a new node. It takes no memory.
+    /// Replaces it by the replica of a new node. Does not allocate.
     pub fn give_up(&mut self, alloc: Global)
         ensures { self.new ≡ new_library }
     {
         let _old = mem::replace(self, Replica::new(alloc));
     }
 
-    /// How many entries were applied: the slot of the next.
+    /// Returns how many entries were applied: the slot of the next.
     pub fn applied(&self) -> u32
         ensures { result ≡ self.now.applied }
     {
         self.applied
     }
 
-    /// The library of the entries applied.
+    /// Returns the library of the entries applied.
     pub fn library(&self) -> &Library
         ensures { result.now.replica ≡ self.now.library }
     {
         &self.library
     }
 
-    /// Applies the entry that is next in the log; `None` where none is.
+    /// Applies the entry that is next in the log. Returns `None` if there is none.
     ///
     /// Errors: `Memory`; the replica then stays at its slot. Cost: that of `Library::apply` on the entry.
     pub fn apply_next(
@@ -78,8 +78,8 @@ impl Replica {
         Ok(Some(verdict))
     }
 
-    /// The same, the proofs checked by some workers side by side. Each passes the gate before each proof. No answer depends on
-    /// the number of workers.
+    /// Applies the entry that is next in the log, with its proofs checked by workers in parallel. Each worker passes the gate before
+    /// each proof. No answer depends on the number of workers.
     ///
     /// Errors: those of `apply_next`. Cost: that of `Library::apply_with` on the entry.
     pub fn apply_next_with<G: Gate + Sync, R: Threads + Sync>(
@@ -101,7 +101,7 @@ impl Replica {
     }
 }
 
-/// What an entry of a log hands to a library; `None` is the no-operation.
+/// Returns the entry for a library; `None` is the no-operation.
 fn entry_in(entry: &Option<Carried>) -> Option<&Entry>
     ensures { option_map (λ e. e.now) result ≡ entry_of entry.now }
 {
@@ -111,7 +111,7 @@ fn entry_in(entry: &Option<Carried>) -> Option<&Entry>
     }
 }
 
-/// A new replica for each of so many nodes.
+/// Makes a new replica for each of so many nodes.
 pub(crate) fn new_replicas(alloc: Global, nodes: u8) -> Result<Vec<Replica>, AllocError>
     ensures { IfOk result (λ replicas. replicas.items ≡ replicate nodes new_library) }
 {
@@ -122,7 +122,7 @@ pub(crate) fn new_replicas(alloc: Global, nodes: u8) -> Result<Vec<Replica>, All
     Ok(replicas)
 }
 
-/// The library of a node that restarts is given up.
+/// Gives up the library of a node that restarts.
 pub(crate) fn give_up(alloc: Global, replicas: &mut Vec<Replica>, restarted: Option<u8>)
     ensures { replicas.new.items ≡ given_up replicas.old.items restarted }
 {

@@ -14,11 +14,11 @@ use std::alloc::Global;
 use std::marker::Model;
 use synod::{Packet, Weights};
 
-/// A world of nodes and their libraries, seen as the weights, the events taken, and each node's library with the count of
+/// A world of nodes and their libraries. Contracts see the weights, the events taken, and each node's library with the count of
 /// entries applied.
 ///
-/// Source: Lamport, Paxos Made Simple, 2 and 3; the world after a list of events is in `net/specs/World.antt`, what is
-/// seen in `specs/Replicas.antt`.
+/// Source: Lamport, Paxos Made Simple, 2 and 3; the world after a list of events is in `net/specs/World.antt`, what contracts
+/// see of it in `specs/Replicas.antt`.
 #[derive(Drop)]
 pub struct World {
     alloc: Global,
@@ -40,7 +40,7 @@ impl World {
     ghost use Rattle.world.specs.Replicas.{new_replicas, then_event, next_entry, AreReplicas, IsApplied};
     ghost use Rattle.world.specs.Headline.{Headline};
 
-    /// The world of new nodes, each with an empty library.
+    /// Makes a world of new nodes, each with an empty library.
     pub fn new(alloc: Global, weights: Weights) -> Result<Self, StepFault>
         ensures new { IfOk result (λ world. world ≡ new_replicas weights) }
         ensures only_memory { IsOkUnless result Memory }
@@ -52,7 +52,7 @@ impl World {
         })
     }
 
-    /// Takes an event, and answers how many packets were posted so far. A restart gives up the library of its node.
+    /// Takes an event. Returns how many packets were posted so far. A restart gives up the library of its node.
     ///
     /// Errors: the first fault that the event meets, or `Memory` where it meets none; the world is then as before.
     pub fn step(&mut self, event: Event<Entry>) -> Result<u64, StepFault>
@@ -71,7 +71,7 @@ impl World {
         Ok(posted)
     }
 
-    /// Applies the next entry of node `k`'s log to its library; `None` where no entry is next. It never passes a gap.
+    /// Applies the next entry of node `k`'s log to its library. Returns `None` if no entry is next. Never passes a gap.
     ///
     /// Errors: `NoNode` where there is no such node, else `Memory`; the library then stays at its slot.
     /// Cost: that of `Library::apply` on the entry.
@@ -89,7 +89,7 @@ impl World {
         apply_from(replica, &self.net, k)
     }
 
-    /// The library of node `k`: that of the first entries of its log, as many as were applied. It takes no memory.
+    /// Returns the library of node `k`: that of the first entries of its log, as many as were applied. Does not allocate.
     pub fn library(&self, k: u8) -> Result<&Library, StepFault>
         ensures library { IfOk result (λ library. IsSomeAnd (slice_get self.now.libraries k) (λ node. library.now.replica ≡ node.library)) }
         ensures no_node { length self.now.taken.weights ≤ k → result ≡ Err NoNode }
@@ -102,7 +102,7 @@ impl World {
         }
     }
 
-    /// The events that it took, first in first. None of them meets a fault, and the headline holds of them.
+    /// Returns the events taken, in order. None of them meets a fault, and the headline holds of them.
     pub fn history(&self) -> &[Event<Carried>]
         ensures events { result.now ≡ self.now.taken.events }
         ensures few { length self.now.taken.events ≤ MOST_EVENTS }
@@ -111,7 +111,7 @@ impl World {
         self.net.history()
     }
 
-    /// The log of node `k`: what it learned, up to its first gap.
+    /// Returns the log of node `k`: what it learned, up to its first gap.
     pub fn log(&self, k: u8) -> Result<Vec<Option<Entry>>, StepFault>
         ensures log { IfOk result (λ entries. entries.items ≡ log_entries self.now.taken k) }
         ensures no_node { length self.now.taken.weights ≤ k → result ≡ Err NoNode }
@@ -120,7 +120,7 @@ impl World {
         Ok(entries(self.alloc, self.net.log(k)?)?)
     }
 
-    /// The packet of that number, from 0 in the order of posting. It takes no memory.
+    /// Returns the packet of that number, from 0 in the order of posting. Does not allocate.
     pub fn packet(&self, number: u64) -> Result<&Packet<Carried>, StepFault>
         ensures found { IfOk result (λ packet. slice_get (packets_after (world_of carried_size self.now.taken)) number ≡ Some packet.now) }
         ensures no_packet { (result ≡ Err NoPacket) ↔ (slice_get (packets_after (world_of carried_size self.now.taken)) number ≡ None) }

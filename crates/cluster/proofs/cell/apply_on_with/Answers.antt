@@ -1,8 +1,4 @@
-use Rattle.std.proofs.Common.{ℕ, List, Option, slice_get, ap, ◌∙◌}
-use Rattle.std.specs.Prelude.{option_map}
-use Rattle.std.specs.Borrow.{Bor}
-use Rattle.world.specs.declared.carried.Carried.{Carried}
-use Rattle.world.specs.Carried.{entry_of}
+use Rattle.cluster.proofs.Words.{ℕ, List, Option, slice_get, ap, ◌∙◌, option_map, Bor, Carried, entry_of}
 use Rattle.cluster.proofs.CellLemmas.{entry_is, applied_cell, applied_seen}
 use Rattle.cluster.proofs.cell.apply_on_with.Goals as goal
 

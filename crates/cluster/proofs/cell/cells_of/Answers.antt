@@ -1,5 +1,4 @@
-use Rattle.std.proofs.Common.{◌++◌, ◌∷◌, [], ap, ◌∙◌, arith}
-use Rattle.cluster.specs.Cell.{Cell}
+use Rattle.cluster.proofs.Words.{◌++◌, ◌∷◌, [], ap, ◌∙◌, arith, Cell}
 use Rattle.cluster.proofs.CellsLemmas.{new_cells-push}
 use Rattle.cluster.proofs.cell.cells_of.Goals as goal
 

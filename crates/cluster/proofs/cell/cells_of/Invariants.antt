@@ -1,5 +1,4 @@
-use Rattle.std.proofs.Common.{◌≡◌, take}
-use Rattle.cluster.specs.Cells.{new_cells}
+use Rattle.cluster.proofs.Words.{◌≡◌, take, new_cells}
 use Rattle.cluster.proofs.cell.cells_of.Given as goal
 
 abbrev pub invariant-loop-k : goal.invariant-loop-k

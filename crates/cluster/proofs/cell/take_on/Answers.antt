@@ -1,21 +1,20 @@
-use Rattle.std.proofs.Common.{Option, length, refl, sym, subst, arith}
-use Rattle.std.specs.Prelude.{option_map}
-use Rattle.std.specs.Borrow.{Bor}
-use Rattle.net.specs.World.{log_after}
-use Rattle.switch.specs.Switch.{world_of}
-use Rattle.switch.specs.Belonging.{BeginsLog}
-use Rattle.world.specs.declared.carried.Carried.{Carried}
-use Rattle.world.specs.Carried.{carried_size}
-use Rattle.cluster.specs.Cell.{Cell}
+use Rattle.cluster.proofs.Words.{◌≡◌, Bool, Option, Result, Ok, Err, ap, ◌∙◌, StepFault, NoNode, length, refl, sym, subst, arith, option_map, Bor, log_after, world_of, BeginsLog, Carried, carried_size, Cell}
 use Rattle.cluster.proofs.CellLemmas.{stays_cell, below_some}
-use Rattle.cluster.proofs.CellTieLemmas.{shown_is, taken_belongs, takes_over, there_is, none_is, none_takes}
+use Rattle.cluster.proofs.CellTieLemmas.{err_ok, shown_is, taken_belongs, takes_over}
 use Rattle.cluster.proofs.cell.take_on.Goals as goal
 
 pub returns-in-Err-clause-no_node : goal.returns-in-Err-clause-no_node
-returns-in-Err-clause-no_node g c = none_is c.args.switch.now c.cell.inside.at c.cell.inside.replica c.cell.inside.entries.items c.args.cell.now c.cell.view_is c.entry.result c.in-Err.fault c.in-Err.is c.entry.ensures.no_node _ refl
+returns-in-Err-clause-no_node g c = λ past.
+    let at = ap (λ (x : Cell). x.at) c.cell.view_is in
+    let none = c.entry.ensures.no_node (omega (arith, at, past)) in
+    let both : (let r : Result (Option (Bor (Option Carried))) StepFault = Err c.in-Err.fault in r) ≡ Err NoNode = sym c.in-Err.is ∙ none in
+    let same : c.in-Err.fault ≡ NoNode = cc in
+    (ap (λ (f : StepFault). let r : Result Bool StepFault = Err f in r) same, refl)
 
 pub returns-in-Err-clause-takes : goal.returns-in-Err-clause-takes
-returns-in-Err-clause-takes g c = none_takes c.args.switch.now c.cell.inside.at c.cell.inside.replica c.cell.inside.entries.items c.args.cell.now c.cell.view_is c.entry.result c.in-Err.fault c.in-Err.is c.entry.ensures.node _
+returns-in-Err-clause-takes g c = λ low.
+    let at = ap (λ (x : Cell). x.at) c.cell.view_is in
+    absurd (err_ok c.entry.result c.in-Err.fault c.in-Err.is (c.entry.ensures.node (omega (arith, at, low))))
 
 pub invariant_of-cell : goal.invariant_of-cell
 invariant_of-cell g c =
@@ -24,10 +23,14 @@ invariant_of-cell g c =
     (below_some c.in-Ok.next c.len-slot.result (length c.cell.inside.entries.items) c.in-Ok.ensures.below (omega (arith, c.len-slot.ensures, c.cell.inside.entries.ok.0))) c.add_entry.ensures
 
 pub returns-clause-no_node : goal.returns-clause-no_node
-returns-clause-no_node g c = there_is c.args.switch.now c.cell.inside.at c.cell.inside.replica c.cell.inside.entries.items c.args.cell.now c.cell.view_is c.entry.result c.in-Ok.next c.in-Ok.is c.entry.ensures.no_node _
+returns-clause-no_node g c = λ past.
+    let at = ap (λ (x : Cell). x.at) c.cell.view_is in
+    let none = c.entry.ensures.no_node (omega (arith, at, past)) in
+    let no : Ok c.in-Ok.next ≡ Err NoNode = sym c.in-Ok.is ∙ none in cc
 
 pub returns-clause-takes : goal.returns-clause-takes
-returns-clause-takes g c = takes_over c.args.switch.now c.cell.inside.at c.cell.inside.replica c.cell.inside.entries.items c.args.cell.now c.cell.view_is c.add_entry.new.entries.items c.in-Ok.next c.len-slot.result (omega (arith, c.len-slot.ensures, c.cell.inside.entries.ok.0)) c.in-Ok.ensures.entry c.add_entry.result c.add_entry.ensures
+returns-clause-takes g c = λ low.
+    takes_over c.args.switch.now c.cell.inside.at c.cell.inside.replica c.cell.inside.entries.items c.args.cell.now c.cell.view_is c.add_entry.new.entries.items c.in-Ok.next c.len-slot.result (omega (arith, c.len-slot.ensures, c.cell.inside.entries.ok.0)) c.in-Ok.ensures.entry c.add_entry.result c.add_entry.ensures
 
 pub returns-clause-belongs : goal.returns-clause-belongs
 returns-clause-belongs g c = λ b.

@@ -1,5 +1,4 @@
-use Rattle.std.proofs.Common.{length, ap, arith}
-use Rattle.mm_read.specs.Statements.{Database}
+use Rattle.cluster.proofs.Words.{length, ap, arith, Database}
 use Rattle.cluster.proofs.CompareLemmas.{is_first, is_second, are_same}
 use Rattle.cluster.proofs.compare.ahead_of.Goals as goal
 

@@ -1,8 +1,4 @@
-use Rattle.std.proofs.Common.{ap, sym, subst}
-use Rattle.mm_read.specs.Statements.{Database}
-use Rattle.library.specs.LibraryOf.{Replica}
-use Rattle.net.specs.Agree.{Agree}
-use Rattle.cluster.specs.Belongs.{IsAhead}
+use Rattle.cluster.proofs.Words.{ap, sym, subst, Database, Replica, Agree, IsAhead}
 use Rattle.cluster.proofs.CompareLemmas.{cells_agree}
 use Rattle.cluster.proofs.compare.compare_on.Goals as goal
 

@@ -1,14 +1,21 @@
-use Rattle.std.proofs.Common.{◌≡◌, ◌∙◌, sym, true, false}
+use Rattle.cluster.proofs.Words.{◌≡◌, true, false, length, refl, sym, ◌∙◌, arith, log_after, world_of, carried_size}
+use Rattle.cluster.proofs.CellTieLemmas.{all_found, in_switch, no_err, no_ok}
 use Rattle.cluster.proofs.log.begins_log.Goals as goal
 
-pub returns-then-is_ok-clause-begins : goal.returns-then-is_ok-clause-begins
-returns-then-is_ok-clause-begins g c = (
-  λ yes. record { node = c.entry.ensures.place.0 (sym c.is_ok.ensures.value ∙ c.if-is_ok.true); begins = c.begins.ensures.0 yes },
-  λ b. c.begins.ensures.1 b.begins,
+pub returns-then-is_err-clause-begins : goal.returns-then-is_err-clause-begins
+returns-then-is_err-clause-begins g c = (
+  λ yes. (let no : false ≡ true = yes in cc),
+  λ b. absurd (no_ok c.entry.result (sym c.is_err.ensures.value ∙ c.if-is_err.true) (c.entry.ensures.node b.node)),
 )
 
-pub returns-else-is_ok-clause-begins : goal.returns-else-is_ok-clause-begins
-returns-else-is_ok-clause-begins g c = (
-  λ yes. (let no : false ≡ true = yes in cc),
-  λ b. (let ok = c.entry.ensures.place.1 b.node in let no : false ≡ true = sym c.if-is_ok.false ∙ c.is_ok.ensures.value ∙ ok in cc),
+pub returns-clause-begins : goal.returns-clause-begins
+returns-clause-begins g c = (
+  λ yes. record {
+    node = in_switch c.args.k (length c.args.switch.now.stores) c.entry.result (no_err c.entry.result (sym c.is_err.ensures.value ∙ c.if-is_err.false)) c.entry.ensures.no_node;
+    begins = all_found c.args.entries.now (log_after (world_of carried_size c.args.switch.now) c.args.k) (λ i low. c.loop-slot.invariant i (omega (arith, low, c.loop-slot-test.false)));
+  },
+  λ b. refl,
 )
+
+pub is_entry-requires : goal.is_entry-requires
+is_entry-requires g c = in_switch c.args.k (length c.args.switch.now.stores) c.entry.result (no_err c.entry.result (sym c.is_err.ensures.value ∙ c.if-is_err.false)) c.entry.ensures.no_node

@@ -1,9 +1,5 @@
-use Rattle.std.proofs.Common.{◌≡◌, ◌∙◌, ap, sym, true, false, List, Option, Some, None, slice_get}
-use Rattle.net.specs.World.{log_after}
-use Rattle.switch.specs.Switch.{world_of}
-use Rattle.world.specs.declared.carried.Carried.{Carried}
-use Rattle.world.specs.Carried.{carried_size}
-use Rattle.cluster.proofs.CellTieLemmas.{shown_is, none_shown}
+use Rattle.cluster.proofs.Words.{◌∙◌, sym, log_after, world_of, carried_size}
+use Rattle.cluster.proofs.CellTieLemmas.{err_ok, shown_is}
 use Rattle.cluster.proofs.log.is_entry.Goals as goal
 
 pub returns-in-Ok : goal.returns-in-Ok
@@ -14,9 +10,4 @@ returns-in-Ok g c =
     )
 
 pub returns-in-Err : goal.returns-in-Err
-returns-in-Err g c = (
-  λ yes. (let no : false ≡ true = yes in cc),
-  λ at.
-      (let none = none_shown c.args.switch.now c.args.k _ c.entry.result c.in-Err.is c.entry.ensures.node in
-      let no : None ≡ Some c.args.entry.now = ap (λ (es : List (Option Carried)). slice_get es c.args.slot) (sym none) ∙ at in cc),
-)
+returns-in-Err g c = absurd (err_ok c.entry.result _ c.in-Err.is (c.entry.ensures.node c.requires))

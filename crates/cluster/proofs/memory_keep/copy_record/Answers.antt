@@ -1,7 +1,4 @@
-use Rattle.std.proofs.Common.{List, Option, ap, ◌∙◌, arith}
-use Rattle.slots.specs.FiniteMap.{entry_at}
-use Rattle.synod.specs.declared.change.Held.{Held}
-use Rattle.cluster.specs.LongerRecord.{with_entry}
+use Rattle.cluster.proofs.Words.{List, Option, ap, ◌∙◌, arith, entry_at, Held, with_entry}
 use Rattle.cluster.proofs.LongerRecordLemmas.{with_next}
 use Rattle.cluster.proofs.memory_keep.copy_record.Goals as goal
 

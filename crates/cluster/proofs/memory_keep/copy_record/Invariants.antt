@@ -1,5 +1,4 @@
-use Rattle.std.proofs.Common.{◌≡◌, take}
-use Rattle.slots.specs.FiniteMap.{trimmed}
+use Rattle.cluster.proofs.Words.{◌≡◌, take, trimmed}
 use Rattle.cluster.proofs.memory_keep.copy_record.Given as goal
 
 -- the entries of the slots that were gone through

@@ -1,4 +1,4 @@
-use Rattle.std.proofs.Common.{◌≡◌, length, vec_len}
+use Rattle.nodes.proofs.Words.{◌≡◌, length, vec_len}
 use Rattle.nodes.proofs.node_threads.locks.Given as goal
 
 abbrev pub invariant-loop-cell : goal.invariant-loop-cell

@@ -1,5 +1,4 @@
-use Rattle.std.proofs.Common.{List, length, vec_len, ap, ◌∙◌}
-use Rattle.cluster.specs.Cell.{Cell}
+use Rattle.nodes.proofs.Words.{List, length, vec_len, ap, ◌∙◌, Cell}
 use Rattle.nodes.proofs.CountLemmas.{new_cells-length}
 use Rattle.nodes.proofs.node_threads.share.Goals as goal
 

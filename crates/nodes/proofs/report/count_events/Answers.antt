@@ -1,12 +1,24 @@
-use Rattle.std.proofs.Common.{arith}
-use Rattle.nodes.proofs.ReportLemmas.{one_count, one_more}
+use Rattle.nodes.proofs.Words.{◌≡◌, List, take, ap, sym, ◌∙◌, arith, take_all, Event, Carried, own_counts}
+use Rattle.nodes.proofs.ReportLemmas.{no_sum, own_counts-none, counts_more, report_of}
 use Rattle.nodes.proofs.report.count_events.Goals as goal
 
-pub loop-k-preserved : goal.loop-k-preserved
-loop-k-preserved g c = record {
-  total = one_count c.loop-k.events c.count_own-count.result c.loop-k.handled.items c.push_reserved.new.self.items c.loop-k.invariant.total c.push_reserved.ensures.items;
-  counts = λ w is. one_more w c.history-history.result.now c.loop-k.k c.count_own-count.result c.loop-k.handled.items c.push_reserved.new.self.items (c.loop-k.invariant.counts w is) (c.count_own-count.ensures.own w is) c.push_reserved.ensures.items;
-  count = omega (arith, c.loop-k.invariant.count, c.push_reserved.ensures.len);
-  few = omega (arith, c.loop-k.invariant.few, c.count_own-count.ensures.few);
-  room = omega (arith, c.loop-k.invariant.room, c.push_reserved.ensures.capacity);
+pub loop-event-init : goal.loop-event-init
+loop-event-init g c = record {
+  total = no_sum c.args.handled.items c.args.nodes c.requires;
+  counts = λ w is. c.requires ∙ sym (own_counts-none w 0 c.args.nodes);
+  few = omega arith;
 }
+
+pub loop-event-preserved : goal.loop-event-preserved
+loop-event-preserved g c = record {
+  total = omega (arith, c.loop-event.invariant.total, c.add_one-events.ensures.total);
+  counts = λ w is. counts_more w c.args.nodes c.history-history.result.now c.loop-event.event-index c.event-item.result c.node_of.result c.loop-event.handled.items c.add_one-events.new.counts.items
+      c.event-item.is c.loop-event-test.true (c.node_of.ensures.node w is) (c.loop-event.invariant.counts w is) c.add_one-events.ensures.counts;
+  few = omega (arith, c.loop-event.invariant.few, c.add_one-events.ensures.few);
+}
+
+pub returns : goal.returns
+returns g c =
+    let all : take c.loop-event.event-index c.history-history.result.now ≡ c.history-history.result.now = take_all _ _ (omega (arith, c.loop-event-test.false)) in
+    report_of c.args.switch.now c.args.nodes c.loop-event.handled.items c.history-history.ensures.taken
+    (λ w is. c.loop-event.invariant.counts w is ∙ ap (λ (es : List (Event Carried)). own_counts w 0 c.args.nodes es) (all ∙ c.history-history.ensures.history))

@@ -1,6 +1,4 @@
-use Rattle.std.proofs.Common.{List, Option, ◌∷◌, ◌++◌, [], ap, sym, ◌∙◌}
-use Rattle.library.specs.declared.entry.Entry.{Entry}
-use Rattle.world.specs.Carried.{entries_of}
+use Rattle.world.proofs.Words.{List, Option, ◌∷◌, ◌++◌, [], ap, sym, ◌∙◌, Entry, entries_of}
 use Rattle.world.proofs.EntryLogs.{entries_of-append}
 use Rattle.world.proofs.carried.entries.Goals as goal
 

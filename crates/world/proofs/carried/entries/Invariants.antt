@@ -1,5 +1,4 @@
-use Rattle.std.proofs.Common.{◌≡◌}
-use Rattle.world.specs.Carried.{entries_of}
+use Rattle.world.proofs.Words.{◌≡◌, entries_of}
 use Rattle.world.proofs.carried.entries.Given as goal
 
 abbrev pub invariant-loop-value : goal.invariant-loop-value

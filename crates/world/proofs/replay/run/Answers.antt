@@ -1,15 +1,5 @@
-use Rattle.std.proofs.Common.{◌≡◌, List, ◌∷◌, ◌++◌, [], ap, sym, ◌∙◌, subst, append_assoc}
-use Rattle.std.specs.Vec.Iter.{into_iter_items, into_iter_steps}
-use Rattle.std.proofs.lemmas.List.{append-nil, nil_from_length}
-use Rattle.std.proofs.iter.Next.{Yields-more}
-use Rattle.library.specs.declared.entry.Entry.{Entry}
-use Rattle.net.specs.declared.event.Event.{Event}
-use Rattle.world.specs.Carried.{carried, all_carried, carried_size}
-use Rattle.net.specs.Taken.{Taken}
-use Rattle.world.specs.declared.carried.Carried.{Carried}
-use Rattle.world.specs.Headline.{Headline}
-use Rattle.world.specs.Replicas.{Replicas}
-use Rattle.net.proofs.HistoryLemmas.{taken_front, stops_there}
+use Rattle.world.proofs.Words.{◌≡◌, List, ◌∷◌, ◌++◌, [], ap, sym, ◌∙◌, subst, append_assoc, into_iter_items, into_iter_steps, append-nil, nil_from_length, Yields-more}
+use Rattle.world.proofs.Words.{Entry, Event, carried, all_carried, carried_size, Taken, Carried, Headline, Replicas, taken_front, stops_there}
 use Rattle.world.proofs.EntryLogs.{all_carried-append}
 use Rattle.world.proofs.HeadlineLemmas.{headline_holds}
 use Rattle.world.proofs.ReplicasLemmas.{run_goes_on, step_taken}

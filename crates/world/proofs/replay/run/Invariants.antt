@@ -1,8 +1,4 @@
-use Rattle.std.proofs.Common.{◌≡◌}
-use Rattle.std.specs.Prelude.{IsOk}
-use Rattle.net.specs.Taken.{world_of}
-use Rattle.world.specs.Carried.{carried_size, all_carried}
-use Rattle.world.specs.Replicas.{new_libraries}
+use Rattle.world.proofs.Words.{◌≡◌, IsOk, world_of, carried_size, all_carried, new_libraries}
 use Rattle.world.proofs.replay.run.Given as goal
 
 abbrev pub invariant-loop-event : goal.invariant-loop-event

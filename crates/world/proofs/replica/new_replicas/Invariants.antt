@@ -1,5 +1,4 @@
-use Rattle.std.proofs.Common.{◌≡◌, replicate}
-use Rattle.world.specs.Replicas.{new_library}
+use Rattle.world.proofs.Words.{◌≡◌, replicate, new_library}
 use Rattle.world.proofs.replica.new_replicas.Given as goal
 
 abbrev pub invariant-loop-node : goal.invariant-loop-node

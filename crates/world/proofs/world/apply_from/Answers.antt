@@ -1,9 +1,4 @@
-use Rattle.std.proofs.Common.{Option, subst}
-use Rattle.library.specs.declared.entry.Entry.{Entry}
-use Rattle.net.specs.World.{log_after}
-use Rattle.net.specs.Taken.{world_of}
-use Rattle.world.specs.Carried.{carried_size}
-use Rattle.world.specs.Replicas.{AppliesNext}
+use Rattle.world.proofs.Words.{Option, subst, Entry, log_after, world_of, carried_size, AppliesNext}
 use Rattle.world.proofs.AppliedNext.{entry_next}
 use Rattle.world.proofs.world.apply_from.Goals as goal
 

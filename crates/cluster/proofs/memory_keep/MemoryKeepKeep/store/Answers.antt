@@ -1,6 +1,4 @@
-use Rattle.std.proofs.Common.{◌≡◌, Some, sym, subst}
-use Rattle.slots.specs.FiniteMap.{trimmed}
-use Rattle.synod.specs.Record.{Kept}
+use Rattle.cluster.proofs.Words.{◌≡◌, Some, sym, subst, trimmed, Kept}
 use Rattle.cluster.proofs.LongerRecordLemmas.{stays_whole}
 use Rattle.cluster.proofs.memory_keep.MemoryKeepKeep.store.Goals as goal
 

@@ -1,4 +1,4 @@
-use Rattle.std.proofs.Common.{◌≡◌}
+use Rattle.nodes.proofs.Words.{◌≡◌}
 use Rattle.nodes.proofs.node_threads.Cluster.add_all.Given as goal
 
 abbrev pub invariant-loop-k : goal.invariant-loop-k

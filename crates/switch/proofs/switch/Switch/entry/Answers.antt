@@ -1,11 +1,9 @@
-use Rattle.switch.proofs.DispatchLemmas.{told_no_node, told_node, told_place}
+use Rattle.switch.proofs.Words.{arith}
+use Rattle.switch.proofs.DispatchLemmas.{count_now}
 use Rattle.switch.proofs.switch.Switch.entry.Goals as goal
 
 pub returns-clause-no_node : goal.returns-clause-no_node
-returns-clause-no_node g c = told_no_node g.V.Value.bytes _ _ c.self.invariant _ c.self.view_is _ c.args.k c.entry.result c.entry.ensures.no_node c.entry.ensures.node
+returns-clause-no_node g c = λ past. c.entry.ensures.no_node (let count = count_now g.V.Value.bytes _ _ c.self.invariant _ c.self.view_is in omega (arith, count, past))
 
 pub returns-clause-node : goal.returns-clause-node
-returns-clause-node g c = told_node g.V.Value.bytes _ _ c.self.invariant _ c.self.view_is _ c.args.k c.entry.result c.entry.ensures.no_node c.entry.ensures.node
-
-pub returns-clause-place : goal.returns-clause-place
-returns-clause-place g c = told_place g.V.Value.bytes _ _ c.self.invariant _ c.self.view_is _ c.args.k c.entry.result c.entry.ensures.no_node c.entry.ensures.node
+returns-clause-node g c = λ low. c.entry.ensures.node (let count = count_now g.V.Value.bytes _ _ c.self.invariant _ c.self.view_is in omega (arith, count, low))

@@ -1,55 +1,33 @@
-use Rattle.std.proofs.Common.{Option, Some, refl, ap, sym, subst, ◌∙◌, arith}
-use Rattle.net.specs.declared.event.Event.{Event}
-use Rattle.net.specs.Due.{Due, IsTaken}
-use Rattle.switch.proofs.SwitchLemmas.{still_switch}
-use Rattle.switch.proofs.CallLemmas.{still_shared, ready_fails, node_seen}
-use Rattle.switch.proofs.DispatchLemmas.{in_seats, down_acts, call_failed, call_played}
-use Rattle.switch.proofs.TieLemmas.{answers, is_up_now, call_acts}
+use Rattle.switch.proofs.Words.{ℕ, false, Result, Err, subst, sym, ◌∙◌, ForOk, Event, StepFault, Down, ActsDown, ActsUp, world_of}
+use Rattle.switch.proofs.DispatchLemmas.{no_restart, refused_down, test_at}
+use Rattle.switch.proofs.TieLemmas.{found_at, plays_down, plays_up}
 use Rattle.switch.proofs.switch.Switch.play.Goals as goal
 
-pub returns-then-is_down-clause-acts : goal.returns-then-is_down-clause-acts
-returns-then-is_down-clause-acts g c = down_acts g.V.Value.bytes c.args.self.now c.args.event c.node_of.result (node_seen g.V.Value.bytes _ _ c.self.invariant _ c.self.view_is c.args.event c.node_of.result c.node_of.ensures) (sym c.is_down.ensures.down ∙ c.if-is_down.true)
+pub returns-in-Restart : goal.returns-in-Restart
+returns-in-Restart g c =
+    let p = plays_down g.V.Value.bytes _ _ c.self.invariant _ c.self.view_is c.args.event c.node_of.result c.node_of.ensures (sym c.is_down-is_down.ensures ∙ c.if-is_down.true) c.revive.new.self c.revive.result
+    (subst (λ (e : Event g.row.V.Denot). ForOk (world_of g.V.Value.bytes c.args.self.now) (λ x. ActsDown g.V.Value.bytes x c.args.self.now c.revive.new.self e c.revive.result)) (sym c.in-Restart.is) c.revive.ensures) in
+    record { plays = p.0; logs = p.1 }
 
-pub invariant_of-self : goal.invariant_of-self
-invariant_of-self g c = still_switch g.V.Value.bytes _ _ c.self.invariant c.ready.new.self c.ready.ensures.still
+pub returns-in-Restart-2 : goal.returns-in-Restart-2
+returns-in-Restart-2 g c =
+    let p = plays_up g.V.Value.bytes _ _ c.self.invariant _ c.self.view_is c.args.event c.node_of.result c.node_of.ensures (sym c.is_down-is_down.ensures ∙ c.if-is_down.false) c.reload.new.self c.reload.result
+    (subst (λ (e : Event g.row.V.Denot). ForOk (world_of g.V.Value.bytes c.args.self.now) (λ x. ActsUp g.V.Value.bytes x c.args.self.now c.reload.new.self e c.reload.result)) (sym c.in-Restart-2.is) c.reload.ensures) in
+    record { plays = p.0; logs = p.1 }
 
-pub returns-in_err-due-clause-acts : goal.returns-in_err-due-clause-acts
-returns-in_err-due-clause-acts g c = (call_acts g.V.Value.bytes _ _ c.self.invariant _ c.self.view_is c.args.event c.requires c.node_of.result c.node_of.ensures (sym c.is_down.ensures.down ∙ c.if-is_down.false) _ _ _ (answers c.from_residual.result c.in_err-due.field-0.0 c.from_residual.ensures.1)
-    (ready_fails g.V.Value.bytes _ _ c.self.invariant _ c.self.view_is c.args.event c.in_err-due.field-0.0 c.ready.result c.in_err-due.was _ (still_shared _ _ c.self.inside.seats.items c.ready.ensures.still) c.ready.ensures.refused c.ready.ensures.only_memory)).0
+pub returns-in_default : goal.returns-in_default
+returns-in_default g c =
+    let p = plays_down g.V.Value.bytes _ _ c.self.invariant _ c.self.view_is c.args.event c.node_of.result c.node_of.ensures (sym c.is_down-is_down.ensures ∙ c.if-is_down-2.true) c.args.self.now (let r : Result ℕ StepFault = Err Down in r)
+    (refused_down g.V.Value.bytes c.args.self.now c.args.event (no_restart c.args.event c.in_default.not-Restart)) in
+    record { plays = p.0; logs = p.1 }
 
-pub returns-in_err-due-clause-belonging : goal.returns-in_err-due-clause-belonging
-returns-in_err-due-clause-belonging g c = (call_acts g.V.Value.bytes _ _ c.self.invariant _ c.self.view_is c.args.event c.requires c.node_of.result c.node_of.ensures (sym c.is_down.ensures.down ∙ c.if-is_down.false) _ _ _ (answers c.from_residual.result c.in_err-due.field-0.0 c.from_residual.ensures.1)
-    (ready_fails g.V.Value.bytes _ _ c.self.invariant _ c.self.view_is c.args.event c.in_err-due.field-0.0 c.ready.result c.in_err-due.was _ (still_shared _ _ c.self.inside.seats.items c.ready.ensures.still) c.ready.ensures.refused c.ready.ensures.only_memory)).1
+pub step-requires : goal.step-requires
+step-requires g c = record {
+  owed = no_restart c.args.event c.in_default-2.not-Restart;
+  up = test_at g.V.Value.bytes c.args.self.now c.args.event c.node_of.result (found_at g.V.Value.bytes _ _ c.self.invariant _ c.self.view_is c.args.event c.node_of.result c.node_of.ensures) false (sym c.is_down-is_down.ensures ∙ c.if-is_down-2.false);
+}
 
-pub index_mut-requires : goal.index_mut-requires
-index_mut-requires g c =
-    let low = in_seats g.V.Value.bytes _ _ c.ready.ensures.still c.self.inside.seats.items c.self.invariant _ c.self.view_is c.in_ok-due.due c.in_ok-due.ensures.due c.at-at.result c.at-at.ensures in
-    omega (arith, low, c.self.inside.seats.ok.0)
-
-pub invariant_of-self-in_err-due-2 : goal.invariant_of-self-in_err-due-2
-invariant_of-self-in_err-due-2 g c = (call_failed g.V.Value.bytes _ _ c.ready.ensures.still c.self.inside.seats.items c.self.invariant _ c.self.view_is c.in_ok-due.due c.in_ok-due.ensures.due c.at-at.result c.at-at.ensures c.args.event c.in_ok-due.ensures.event c.in_ok-due.ensures.few c.index_mut.result.now c.index_mut.ensures.value (is_up_now g.V.Value.bytes _ _ c.self.invariant _ c.self.view_is c.args.event c.requires c.node_of.result c.node_of.ensures (sym c.is_down.ensures.down ∙ c.if-is_down.false))
-    (Some c.in_ok-due.due) _ refl refl (ap (λ (e : Event g.row.V.Denot). let o : Option (Event g.row.V.Denot) = Some e in o) c.in_ok-due.ensures.event ∙ sym c.requires) (refl, c.in_ok-due.ensures.due) c.store.new.self c.in_err-due-2.ensures.failed).0
-
-pub returns-in_err-due-2-clause-acts : goal.returns-in_err-due-2-clause-acts
-returns-in_err-due-2-clause-acts g c = (call_acts g.V.Value.bytes _ _ c.self.invariant _ c.self.view_is c.args.event c.requires c.node_of.result c.node_of.ensures (sym c.is_down.ensures.down ∙ c.if-is_down.false) _ _ _ (answers c.from_residual-in_err-due-2.result _ c.from_residual-in_err-due-2.ensures.1)
-    ((call_failed g.V.Value.bytes _ _ c.ready.ensures.still c.self.inside.seats.items c.self.invariant _ c.self.view_is c.in_ok-due.due c.in_ok-due.ensures.due c.at-at.result c.at-at.ensures c.args.event c.in_ok-due.ensures.event c.in_ok-due.ensures.few c.index_mut.result.now c.index_mut.ensures.value (is_up_now g.V.Value.bytes _ _ c.self.invariant _ c.self.view_is c.args.event c.requires c.node_of.result c.node_of.ensures (sym c.is_down.ensures.down ∙ c.if-is_down.false))
-    (Some c.in_ok-due.due) _ refl refl (ap (λ (e : Event g.row.V.Denot). let o : Option (Event g.row.V.Denot) = Some e in o) c.in_ok-due.ensures.event ∙ sym c.requires) (refl, c.in_ok-due.ensures.due) c.store.new.self c.in_err-due-2.ensures.failed).1)).0
-
-pub returns-in_err-due-2-clause-belonging : goal.returns-in_err-due-2-clause-belonging
-returns-in_err-due-2-clause-belonging g c = (call_acts g.V.Value.bytes _ _ c.self.invariant _ c.self.view_is c.args.event c.requires c.node_of.result c.node_of.ensures (sym c.is_down.ensures.down ∙ c.if-is_down.false) _ _ _ (answers c.from_residual-in_err-due-2.result _ c.from_residual-in_err-due-2.ensures.1)
-    ((call_failed g.V.Value.bytes _ _ c.ready.ensures.still c.self.inside.seats.items c.self.invariant _ c.self.view_is c.in_ok-due.due c.in_ok-due.ensures.due c.at-at.result c.at-at.ensures c.args.event c.in_ok-due.ensures.event c.in_ok-due.ensures.few c.index_mut.result.now c.index_mut.ensures.value (is_up_now g.V.Value.bytes _ _ c.self.invariant _ c.self.view_is c.args.event c.requires c.node_of.result c.node_of.ensures (sym c.is_down.ensures.down ∙ c.if-is_down.false))
-    (Some c.in_ok-due.due) _ refl refl (ap (λ (e : Event g.row.V.Denot). let o : Option (Event g.row.V.Denot) = Some e in o) c.in_ok-due.ensures.event ∙ sym c.requires) (refl, c.in_ok-due.ensures.due) c.store.new.self c.in_err-due-2.ensures.failed).1)).1
-
-pub invariant_of-self-2 : goal.invariant_of-self-2
-invariant_of-self-2 g c = (call_played g.V.Value.bytes _ _ c.ready.ensures.still c.self.inside.seats.items c.self.invariant _ c.self.view_is c.in_ok-due.due c.in_ok-due.ensures.due c.at-at.result c.at-at.ensures c.args.event c.in_ok-due.ensures.event c.in_ok-due.ensures.few c.index_mut.result.now c.index_mut.ensures.value (is_up_now g.V.Value.bytes _ _ c.self.invariant _ c.self.view_is c.args.event c.requires c.node_of.result c.node_of.ensures (sym c.is_down.ensures.down ∙ c.if-is_down.false))
-    c.store.new.self c.in_ok-due-2.ensures.stored c.commit.new.self (subst (λ (x : Due g.row.V.Denot). IsTaken c.ready.new.self c.commit.new.self x) c.in_ok-due-2.ensures.due c.commit.ensures.taken) c.commit.result c.commit.ensures.posted).0
-
-pub returns-clause-acts : goal.returns-clause-acts
-returns-clause-acts g c = (call_acts g.V.Value.bytes _ _ c.self.invariant _ c.self.view_is c.args.event c.requires c.node_of.result c.node_of.ensures (sym c.is_down.ensures.down ∙ c.if-is_down.false) _ _ _ refl
-    ((call_played g.V.Value.bytes _ _ c.ready.ensures.still c.self.inside.seats.items c.self.invariant _ c.self.view_is c.in_ok-due.due c.in_ok-due.ensures.due c.at-at.result c.at-at.ensures c.args.event c.in_ok-due.ensures.event c.in_ok-due.ensures.few c.index_mut.result.now c.index_mut.ensures.value (is_up_now g.V.Value.bytes _ _ c.self.invariant _ c.self.view_is c.args.event c.requires c.node_of.result c.node_of.ensures (sym c.is_down.ensures.down ∙ c.if-is_down.false))
-    c.store.new.self c.in_ok-due-2.ensures.stored c.commit.new.self (subst (λ (x : Due g.row.V.Denot). IsTaken c.ready.new.self c.commit.new.self x) c.in_ok-due-2.ensures.due c.commit.ensures.taken) c.commit.result c.commit.ensures.posted).1)).0
-
-pub returns-clause-belonging : goal.returns-clause-belonging
-returns-clause-belonging g c = (call_acts g.V.Value.bytes _ _ c.self.invariant _ c.self.view_is c.args.event c.requires c.node_of.result c.node_of.ensures (sym c.is_down.ensures.down ∙ c.if-is_down.false) _ _ _ refl
-    ((call_played g.V.Value.bytes _ _ c.ready.ensures.still c.self.inside.seats.items c.self.invariant _ c.self.view_is c.in_ok-due.due c.in_ok-due.ensures.due c.at-at.result c.at-at.ensures c.args.event c.in_ok-due.ensures.event c.in_ok-due.ensures.few c.index_mut.result.now c.index_mut.ensures.value (is_up_now g.V.Value.bytes _ _ c.self.invariant _ c.self.view_is c.args.event c.requires c.node_of.result c.node_of.ensures (sym c.is_down.ensures.down ∙ c.if-is_down.false))
-    c.store.new.self c.in_ok-due-2.ensures.stored c.commit.new.self (subst (λ (x : Due g.row.V.Denot). IsTaken c.ready.new.self c.commit.new.self x) c.in_ok-due-2.ensures.due c.commit.ensures.taken) c.commit.result c.commit.ensures.posted).1)).1
+pub returns : goal.returns
+returns g c =
+    let p = plays_up g.V.Value.bytes _ _ c.self.invariant _ c.self.view_is c.args.event c.node_of.result c.node_of.ensures (sym c.is_down-is_down.ensures ∙ c.if-is_down-2.false) c.step.new.self c.step.result c.step.ensures in
+    record { plays = p.0; logs = p.1 }

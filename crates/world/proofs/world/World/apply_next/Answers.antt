@@ -1,8 +1,4 @@
-use Rattle.std.proofs.Common.{Option, set, ap, ◌∙◌, subst, length, refl}
-use Rattle.std.specs.Prelude.{IfOk, IfSome, IsSomeAnd}
-use Rattle.std.proofs.lemmas.Option.{slice_get_read}
-use Rattle.library.specs.declared.verdict.Verdict.{Verdict}
-use Rattle.world.specs.Replicas.{Replicas, next_entry, IsApplied}
+use Rattle.world.proofs.Words.{Option, set, ap, ◌∙◌, subst, length, refl, IfOk, IfSome, IsSomeAnd, slice_get_read, Verdict, Replicas, next_entry, IsApplied}
 use Rattle.world.proofs.AppliedNext.{call_applies, call_none, call_keeps}
 use Rattle.world.proofs.world.World.apply_next.Goals as goal
 

@@ -1,6 +1,4 @@
-use Rattle.std.proofs.Common.{subst}
-use Rattle.world.specs.Replicas.{Replicas}
-use Rattle.world.specs.Headline.{Headline}
+use Rattle.world.proofs.Words.{subst, Replicas, Headline}
 use Rattle.world.proofs.HeadlineLemmas.{headline_of}
 use Rattle.world.proofs.world.World.history.Goals as goal
 

@@ -1,6 +1,4 @@
-use Rattle.std.proofs.Common.{length, ap, sym, ◌∙◌}
-use Rattle.net.specs.Taken.{Taken}
-use Rattle.world.specs.declared.carried.Carried.{Carried}
+use Rattle.world.proofs.Words.{length, ap, sym, ◌∙◌, Taken, Carried}
 use Rattle.world.proofs.ReplicasLemmas.{new_are_replicas}
 use Rattle.world.proofs.world.World.new.Goals as goal
 

@@ -1,0 +1,33 @@
+-- The words in which this crate is proved, and the lemmas of std and of the layers below, passed on from one place.
+pub use Rattle.cluster.specs.Belongs.{Belongs, EachBelongs, IsAhead}
+pub use Rattle.cluster.specs.Cell.{AddsEntry, Cell, IsCell, TakesOver, new_cell, next_entry}
+pub use Rattle.cluster.specs.Cells.{new_cells}
+pub use Rattle.cluster.specs.LongerRecord.{with_entry}
+pub use Rattle.library.specs.LibraryOf.{Replica}
+pub use Rattle.library.specs.declared.verdict.Verdict.{Verdict}
+pub use Rattle.mm_read.specs.Statements.{Database}
+pub use Rattle.net.specs.Agree.{Agree, IsBeginningOf}
+pub use Rattle.net.specs.History.{IsMoment}
+pub use Rattle.net.specs.Taken.{Taken}
+pub use Rattle.net.specs.World.{World, log, log_after}
+pub use Rattle.net.specs.declared.fault.StepFault.{StepFault}
+pub use Rattle.net.specs.declared.fault.StepFault.TheVariants.{NoNode}
+pub use Rattle.slots.specs.FiniteMap.{entry_at, put_at, trim_head, trimmed}
+pub use Rattle.slots.specs.declared.slots.TheConstants.{SLOTS}
+pub use Rattle.std.proofs.lemmas.Bool.Decides.{nat_tests}
+pub use Rattle.std.proofs.Common.{Bool, Err, List, None, Ok, Option, Result, Some, [], add-one, ap, append-nil, append_assoc, arith, false, inl, inr, le_of_suc-le-suc, length, length-append, nat_lt, refl, slice_get, subst, suc, sym, take, true, zero, ℕ, ◌++◌, ◌+◌, ◌<◌, ◌∙◌, ◌∷◌, ◌≡◌, ◌≤◌}
+pub use Rattle.std.specs.Borrow.{Bor}
+pub use Rattle.std.specs.Prelude.{IsOk, IsSome, MatchOption, is_err, option_map}
+pub use Rattle.switch.specs.Belonging.{BeginsLog}
+pub use Rattle.switch.specs.Switch.{SwitchView, new_views, world_of}
+pub use Rattle.synod.specs.Record.{Kept, changed_by}
+pub use Rattle.synod.specs.declared.change.Change.{Change}
+pub use Rattle.synod.specs.declared.change.Change.TheVariants.{Promise, Round}
+pub use Rattle.synod.specs.declared.change.Held.{Held}
+pub use Rattle.world.proofs.EntryLogs.{entries_begin, entries_of-get, entries_of-none}
+pub use Rattle.world.proofs.HeadlineLemmas.{headline_holds}
+pub use Rattle.world.proofs.ReplicasLemmas.{of_log_applied, of_longer}
+pub use Rattle.world.specs.Carried.{carried_size, entries_of, entry_of}
+pub use Rattle.world.specs.Headline.{Headline}
+pub use Rattle.world.specs.Replicas.{AppliesNext, IsOfLog, NodeLibrary}
+pub use Rattle.world.specs.declared.carried.Carried.{Carried}

@@ -1,0 +1,13 @@
+-- The words of the layers below in which this crate's definitions are written, passed on from one place.
+pub use Rattle.library.specs.declared.entry.Entry.{Entry}
+pub use Rattle.mm_read.specs.Statements.{Database}
+pub use Rattle.net.specs.Agree.{IsBeginningOf}
+pub use Rattle.net.specs.declared.fault.StepFault.{StepFault}
+pub use Rattle.net.specs.declared.fault.StepFault.TheVariants.{Memory}
+pub use Rattle.slots.specs.FiniteMap.{put_at}
+pub use Rattle.slots.specs.declared.slots.TheConstants.{SLOTS}
+pub use Rattle.switch.specs.Belonging.{BeginsLog}
+pub use Rattle.switch.specs.Switch.{SwitchView}
+pub use Rattle.world.specs.Carried.{carried_size, entries_of}
+pub use Rattle.world.specs.Replicas.{IsOfLog, NodeLibrary, new_library}
+pub use Rattle.world.specs.declared.carried.Carried.{Carried}

@@ -1,0 +1,71 @@
+//! The events of the nodes, each one call on the locked switch.
+ghost use Rattle.std.specs.Prelude.{◌≡◌, OnOk, OnErr};
+ghost use Rattle.net.specs.declared.event.Event.TheVariants.{Offer, Begin, Deliver, Restart};
+ghost use Rattle.switch.specs.Switch.{Plays};
+ghost use Rattle.switch.specs.Belonging.{KeepsLogs};
+ghost use Rattle.world.specs.Carried.{carried_size};
+ghost use Rattle.cluster.specs.Cell.{new_cell};
+ghost use Rattle.cluster.specs.Belongs.{Belongs};
+
+use crate::cell::NodeCell;
+use library::Entry;
+use net::{Event, StepFault};
+use switch::Switch;
+use synod::{Keep, Value};
+use world::Carried;
+
+/// Offers an entry to node `k`. Returns the count of all packets posted.
+///
+/// Errors and cost: those of `Switch::play`.
+pub fn offer_on<K: Keep<Carried>>(
+    switch: &mut Switch<Carried, K>,
+    k: u8,
+    entry: Entry,
+) -> Result<u64, StepFault>
+    ensures plays { Plays carried_size switch.old switch.new (Offer k (record { 0 = entry })) result }
+    ensures logs { KeepsLogs carried_size (Offer k (record { 0 = entry })) switch.old switch.new result }
+{
+    switch.play(Event::Offer(k, Carried(entry)))
+}
+
+/// Has node `k` begin a ballot. Returns the count of all packets posted.
+///
+/// Errors and cost: those of `Switch::play`.
+pub fn begin_on<V: Value, K: Keep<V>>(switch: &mut Switch<V, K>, k: u8) -> Result<u64, StepFault>
+    ensures plays { Plays V.bytes switch.old switch.new (Begin k) result }
+    ensures logs { KeepsLogs V.bytes (Begin k) switch.old switch.new result }
+{
+    switch.play(Event::Begin(k))
+}
+
+/// Delivers the packet of that number to the node that it is addressed to. Returns the count of all packets posted.
+///
+/// Errors and cost: those of `Switch::play`; a number that is no packet is of no node.
+pub fn deliver_on<V: Value, K: Keep<V>>(
+    switch: &mut Switch<V, K>,
+    number: u64,
+) -> Result<u64, StepFault>
+    ensures plays { Plays V.bytes switch.old switch.new (Deliver number) result }
+    ensures logs { KeepsLogs V.bytes (Deliver number) switch.old switch.new result }
+{
+    switch.play(Event::Deliver(number))
+}
+
+/// Restarts the cell's node. The cell is then as new: nothing is taken over, and the library is empty. Returns the count of all
+/// packets posted.
+///
+/// Errors: those of `Switch::play`; the cell is then as before. Cost: that of `Switch::play`, and of dropping the library.
+pub fn restart_on<K: Keep<Carried>>(
+    cell: &mut NodeCell,
+    switch: &mut Switch<Carried, K>,
+) -> Result<u64, StepFault>
+    ensures plays { Plays carried_size switch.old switch.new (Restart cell.old.at) result }
+    ensures logs { KeepsLogs carried_size (Restart cell.old.at) switch.old switch.new result }
+    ensures fresh { OnOk result (cell.new ≡ new_cell cell.old.at) }
+    ensures stays { OnErr result (cell.new ≡ cell.old) }
+    ensures belongs { Belongs cell.old switch.old → Belongs cell.new switch.new }
+{
+    let count = switch.play(Event::Restart(cell.at()))?;
+    cell.give_up();
+    Ok(count)
+}

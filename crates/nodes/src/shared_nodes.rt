@@ -1,0 +1,127 @@
+//! The locks that node threads and desks share.
+ghost use Rattle.std.specs.Prelude.{◌≡◌, ◌≤◌, ◌<◌, ℕ, Err, IsOk, IfOk, IsOkUnless, IsTrue, vec_len};
+ghost use Rattle.cluster.specs.Belongs.{Belongs};
+ghost use Rattle.net.specs.declared.fault.StepFault.TheVariants.{NoNode, Apart};
+ghost use Rattle.nodes.specs.Desk.{IsCompared};
+
+use crate::shared_switch::{Hint, SharedSwitch};
+use cluster::{Ahead, NodeCell, Switch, apply_on_with, belongs, compare_on, take_on};
+use crossbeam_channel::Sender;
+use net::StepFault;
+use slots::SLOTS;
+use std::alloc::Global;
+use std::sync::{Arc, Mutex, Wait};
+use std::thread::Threads;
+use synod::Keep;
+use verify_pool::{Gate, Place, Workers};
+use world::Carried;
+
+/// The locks of a cluster. A node's lock is taken before the switch's, and of two nodes' locks the lower one first; the senders'
+/// lock is never taken while the switch's is held.
+#[derive(Drop)]
+pub(crate) struct SharedNodes<G: Gate, K: Keep<Carried>> {
+    pub alloc: Global,
+    pub workers: Workers,
+    pub gate: Arc<G>,
+    pub switch: Mutex<SharedSwitch<K>>,
+    pub cells: Vec<Mutex<NodeCell>>,
+    /// The sending ends of the nodes' channels; none once the cluster is stopped.
+    pub senders: Mutex<Vec<Sender<u64>>>,
+}
+
+impl<G: Gate, K: Keep<Carried>> SharedNodes<G, K> {
+    /// Tells whether the cluster was stopped.
+    pub fn is_stopped<R: Wait>(&self, rt: &R) -> bool {
+        self.senders.lock(rt).is_empty()
+    }
+
+    /// Returns the lock of node `k`.
+    pub fn cell(&self, k: u8) -> Result<&Mutex<NodeCell>, StepFault>
+        ensures found { k < vec_len self.now.cells → IsOk result }
+        ensures no_node { vec_len self.now.cells ≤ k → result ≡ Err NoNode }
+    {
+        match self.cells.get(usize::from(k)) {
+            Some(cell) => Ok(cell),
+            None => Err(StepFault::NoNode),
+        }
+    }
+
+    /// Sends each hint into the channel of its node. One that the channel refuses is a lost packet.
+    pub fn send<R: Wait>(&self, rt: &R, hints: &[Hint]) {
+        let senders = self.senders.lock(rt);
+        for hint in hints {
+            if let Some(sender) = senders.get(usize::from(hint.node)) {
+                let _ = sender.send(rt, hint.number);
+            }
+        }
+    }
+
+    /// Delivers packets at node `k` one after another, takes over what its log has then, sends the hints of their posts, and applies.
+    /// Where an allocation fails, an entry is taken over or applied at a later hint.
+    pub fn handle<R: Threads + Wait + Sync>(&self, rt: &R, k: u8, packets: &[u64])
+    where
+        G: Sync,
+    {
+        let Ok(lock) = self.cell(k) else {
+            return;
+        };
+        let mut cell = lock.lock(rt);
+        let hints = {
+            let mut switch = self.switch.lock(rt);
+            let hints = switch.deliver_all(self.alloc, packets);
+            take_all(&mut cell, &switch.switch);
+            hints
+        };
+        self.send(rt, &hints);
+        self.apply_all(rt, &mut cell, k);
+    }
+
+    /// Applies the entries taken over one by one, and passes the gate before each.
+    fn apply_all<R: Threads + Sync>(&self, rt: &R, cell: &mut NodeCell, k: u8)
+    where
+        G: Sync,
+    {
+        let gate: &G = &self.gate;
+        for _entry in 0..SLOTS {
+            if !cell.is_behind() {
+                break;
+            }
+            gate.pass(Place::Apply(k));
+            if apply_on_with(rt, cell, self.workers, gate).is_err() {
+                break;
+            }
+        }
+    }
+
+    /// Tells which of two nodes is ahead, `low` being the lower number.
+    pub fn compare<R: Wait>(&self, rt: &R, low: u8, high: u8) -> Result<Ahead, StepFault>
+        ensures compared { IfOk result (IsCompared low high) }
+        ensures only_apart { low < vec_len self.now.cells → high < vec_len self.now.cells → IsOkUnless result Apart }
+    {
+        let one = self.cell(low)?.lock(rt);
+        let other = self.cell(high)?.lock(rt);
+        let shared = self.switch.lock(rt);
+        if is_at(&one, low, &shared.switch) && is_at(&other, high, &shared.switch) {
+            Ok(compare_on(&one, &other, &shared.switch))
+        } else {
+            Err(StepFault::Apart)
+        }
+    }
+}
+
+/// Tells whether the cell is node `k`'s and belongs to that switch: two locks share no fact, so this is tested where both are held.
+fn is_at<K: Keep<Carried>>(cell: &NodeCell, k: u8, switch: &Switch<Carried, K>) -> bool
+    ensures { IsTrue result → (cell.now.at ≡ k) × Belongs cell.now switch.now }
+{
+    cell.at() == k && belongs(cell, switch)
+}
+
+/// Takes over the entries that the node's log has beyond those taken over.
+fn take_all<K: Keep<Carried>>(cell: &mut NodeCell, switch: &Switch<Carried, K>) {
+    for _entry in 0..SLOTS {
+        match take_on(cell, switch) {
+            Ok(true) => {}
+            _ => break,
+        }
+    }
+}

@@ -1,0 +1,99 @@
+//! The switch under its lock, and the hints of its posts.
+ghost use Rattle.std.specs.Prelude.{◌≡◌, ◌⊎◌};
+ghost use Rattle.net.specs.declared.event.Event.TheVariants.{Restart};
+ghost use Rattle.net.specs.declared.fault.StepFault.TheVariants.{EventsSpent, NoNode};
+ghost use Rattle.nodes.specs.Desk.{AnswersAs, DeliversAll};
+
+use cluster::{NodeCell, Switch, deliver_on, restart_on};
+use net::{Event, MOST_EVENTS, StepFault};
+use std::alloc::Global;
+use std::mem;
+use synod::Keep;
+use world::Carried;
+
+/// A packet that was posted, and the node that it is for.
+#[derive(Clone, Copy)]
+pub(crate) struct Hint {
+    pub node: u8,
+    pub number: u64,
+}
+
+/// The switch, and how many packets were posted when its last event was taken.
+#[derive(Drop)]
+pub(crate) struct SharedSwitch<K: Keep<Carried>> {
+    pub switch: Switch<Carried, K>,
+    posted: u64,
+}
+
+impl<K: Keep<Carried>> SharedSwitch<K> {
+    /// Takes a switch that has posted nothing yet.
+    pub fn new(switch: Switch<Carried, K>) -> Self {
+        SharedSwitch { switch, posted: 0 }
+    }
+
+    /// Plays an event. Returns the hints of the packets that it posts.
+    ///
+    /// Errors: those of `Switch::play`. Cost: that of the event, and of its hints.
+    pub fn play(&mut self, alloc: Global, event: Event<Carried>) -> Result<Vec<Hint>, StepFault>
+        ensures { AnswersAs self.old.switch self.new.switch event result }
+    {
+        let count = self.switch.play(event)?;
+        let before = mem::replace(&mut self.posted, count);
+        Ok(self.hints(alloc, before, count))
+    }
+
+    /// Restarts the cell's node. Returns the hints of the packets by which it asks each of the `others` once. The
+    /// packets of the event that the node owed, if it was down, have no hint: they are lost.
+    ///
+    /// Errors and cost: those of `cluster::restart_on`.
+    pub fn restart(
+        &mut self,
+        alloc: Global,
+        cell: &mut NodeCell,
+        others: u64,
+    ) -> Result<Vec<Hint>, StepFault>
+        ensures { AnswersAs self.old.switch self.new.switch (Restart cell.old.at) result }
+    {
+        let count = restart_on(cell, &mut self.switch)?;
+        self.posted = count;
+        Ok(self.hints(alloc, count.saturating_sub(others), count))
+    }
+
+    /// Delivers packets one after another. Returns the hints of the packets that these deliveries post. A delivery that is refused
+    /// posts nothing.
+    pub fn deliver_all(&mut self, alloc: Global, packets: &[u64]) -> Vec<Hint>
+        ensures { DeliversAll self.old.switch self.new.switch packets.now }
+    {
+        let before = self.posted;
+        for number in packets {
+            self.posted = deliver_on(&mut self.switch, *number).unwrap_or(self.posted);
+        }
+        self.hints(alloc, before, self.posted)
+    }
+
+    /// Returns the hints of the packets of these numbers. Where an allocation fails, that hint and all after it are lost.
+    fn hints(&self, alloc: Global, from: u64, to: u64) -> Vec<Hint> {
+        let mut hints = Vec::new(alloc);
+        for number in from..to {
+            let Ok(packet) = self.switch.packet(number) else {
+                break;
+            };
+            let node = packet.to;
+            if hints.push(Hint { node, number }).is_err() {
+                break;
+            }
+        }
+        hints
+    }
+
+    /// Returns the fault that an event meets whose node is not there.
+    pub fn without_node(&self) -> StepFault
+        ensures { (result ≡ EventsSpent) ⊎ (result ≡ NoNode) }
+    {
+        if self.switch.history().len() as u64 >= MOST_EVENTS {
+            StepFault::EventsSpent
+        } else {
+            StepFault::NoNode
+        }
+    }
+}

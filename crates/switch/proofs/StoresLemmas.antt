@@ -1,0 +1,105 @@
+-- Stores and their views, one after another and one by one.
+use Rattle.switch.proofs.Words.{◌≡◌, ◌≢◌, ℕ, zero, suc, ◌+◌, ◌<◌, ◌≤◌, ◌==◌, Bool, true, false, List, [], ◌∷◌, ◌++◌, length, get_or, set, slice_get, Option, Some, None, refl, ap, sym, ◌∙◌, subst, arith, le_of_suc-le-suc, AllByRecursion, nat_tests}
+use Rattle.switch.proofs.Words.{Kept, new_kept, Node, Event, Due, at_set, at_set_other, Standing, up, down, StoreState, StoreView, standing_seen, view_of, views_of, new_views, new_stores, is_down, is_down_view, is_down_at, events_due}
+
+pub views_of-set : {V : Type 0} (stores : List (StoreState V)) (k : ℕ) (store : StoreState V) → views_of (set stores k store) ≡ set (views_of stores) k (view_of store)
+views_of-set [] k store = refl
+views_of-set (s ∷ stores) zero store = refl
+views_of-set (s ∷ stores) (suc k) store = ap (λ ps. view_of s ∷ ps) (views_of-set stores k store)
+
+-- the view of a store has its index
+pub view_at : {V : Type 0} (stores : List (StoreState V)) (k : ℕ) (store : StoreState V) → slice_get stores k ≡ Some store → slice_get (views_of stores) k ≡ Some (view_of store)
+view_at [] k store e = cc
+view_at {V} (s ∷ stores) zero store e = let same : s ≡ store = cc in ap (λ (x : StoreState V). let o : Option (StoreView V) = Some (view_of x) in o) same
+view_at (s ∷ stores) (suc k) store e = view_at stores k store e
+
+-- where there is no store, there is no view
+pub view_past : {V : Type 0} (stores : List (StoreState V)) (k : ℕ) → slice_get stores k ≡ None → slice_get (views_of stores) k ≡ None
+view_past [] k e = refl
+view_past (s ∷ stores) zero e = cc
+view_past (s ∷ stores) (suc k) e = view_past stores k e
+
+-- there are as many views as stores
+pub count_views : {V : Type 0} (stores : List (StoreState V)) → length (views_of stores) ≡ length stores
+count_views [] = refl
+count_views (s ∷ stores) = ap suc (count_views stores)
+
+-- the store of a node that is there
+pub item_at : {A : Type 0} (xs : List A) (k : ℕ) → k < length xs → (x : A) × (slice_get xs k ≡ Some x)
+item_at [] k low = absurd (omega arith)
+item_at (x ∷ xs) zero low = (x, refl)
+item_at (x ∷ xs) (suc k) low = item_at xs k (le_of_suc-le-suc low)
+
+-- two reads at one index of a list give one element
+pub same_at : {A : Type 0} (xs : List A) (k : ℕ) (x y : A) → k < length xs → x ≡ get_or xs k x → y ≡ get_or xs k y → x ≡ y
+same_at [] k x y low is other = absurd (omega arith)
+same_at (z ∷ xs) zero x y low is other = is ∙ sym other
+same_at (z ∷ xs) (suc k) x y low is other = same_at xs k x y (le_of_suc-le-suc low) is other
+
+-- A fact of each node and its store, once one of the stores has changed.
+pub each_after : {V : Type 0} (nodes : List (Node V)) (stores : List (StoreState V)) (P : ℕ → Node V → StoreState V → Type 0) (k : ℕ) (store new : StoreState V) → slice_get stores k ≡ Some store
+    → ((m : Node V) → slice_get nodes k ≡ Some m → P k m new) → ((j : ℕ) (m : Node V) (s : StoreState V) → k ≢ j → slice_get nodes j ≡ Some m → slice_get stores j ≡ Some s → P j m s)
+    → (j : ℕ) (m : Node V) (s : StoreState V) → slice_get nodes j ≡ Some m → slice_get (set stores k new) j ≡ Some s → P j m s
+each_after {V} nodes stores P k store new is own others j m s at is_s = by_test (k == j) refl where
+  by_test : (t : Bool) → (k == j) ≡ t → P j m s
+  by_test true e =
+      let same : k ≡ j = grind (arith, nat_tests) in
+      let here : slice_get (set stores k new) k ≡ Some s = ap (λ (i : ℕ). slice_get (set stores k new) i) same ∙ is_s in
+      let both : Some new ≡ Some s = sym (at_set stores k new store is) ∙ here in
+      let is_new : new ≡ s = cc in
+      subst (λ (i : ℕ). P i m s) same (subst (λ (x : StoreState V). P k m x) is_new (own m (ap (λ (i : ℕ). slice_get nodes i) same ∙ at)))
+  by_test false e =
+      let other : k ≢ j = grind (arith, nat_tests) in
+      others j m s other at (sym (at_set_other stores k j new other) ∙ is_s)
+
+-- A node that is not down is up.
+
+-- what is not seen as down is up
+up_of : {V : Type 0} (s : Standing (Due V)) → is_down (standing_seen s) ≡ false → s ≡ up
+up_of up e = refl
+up_of (down o) e = cc
+
+-- a store whose view is not down is up
+pub up_at : {V : Type 0} (stores : List (StoreState V)) (k : ℕ) (store : StoreState V) → slice_get stores k ≡ Some store → is_down_at (views_of stores) (Some k) ≡ false → store.standing ≡ up
+up_at stores k store is e = up_of store.standing (sym (ap (λ o. is_down_view o) (view_at stores k store is)) ∙ e)
+
+-- a store whose view is down is down, with an event that is owed or none
+pub down_at : {V : Type 0} (stores : List (StoreState V)) (k : ℕ) (store : StoreState V) → slice_get stores k ≡ Some store → is_down_at (views_of stores) (Some k) ≡ true → (o : Option (Due V)) × (store.standing ≡ down o)
+down_at stores k store is e = down_owing store.standing (sym (ap (λ o. is_down_view o) (view_at stores k store is)) ∙ e) where
+  down_owing : {V : Type 0} (s : Standing (Due V)) → is_down (standing_seen s) ≡ true → (o : Option (Due V)) × (s ≡ down o)
+  down_owing up d = cc
+  down_owing (down o) d = (o, refl)
+
+-- New stores.
+
+-- one keep more
+pub new_stores-push : {V K : Type 0} (kept : K → Kept V) (failures : K → ℕ) (keeps : List K) (keep : K) → new_stores kept failures (keeps ++ keep ∷ []) ≡ new_stores kept failures keeps ++ new_stores kept failures (keep ∷ [])
+new_stores-push kept failures [] keep = refl
+new_stores-push {V} kept failures (k ∷ keeps) keep = ap (λ (ss : List (StoreState V)). (let s : StoreState V = record { kept = kept k; failures = failures k; standing = up } in s) ∷ ss) (new_stores-push kept failures keeps keep)
+
+-- keeps that all have the record of a new node give the views of new nodes
+pub views_new : {V K : Type 0} (kept : K → Kept V) (failures : K → ℕ) (keeps : List K) → AllByRecursion (λ keep. kept keep ≡ new_kept) keeps → views_of (new_stores kept failures keeps) ≡ new_views failures keeps
+views_new kept failures [] h = refl
+views_new {V} kept failures (keep ∷ keeps) h =
+    ap (λ (x : Kept V). let p : StoreView V = record { kept = x; failures = failures keep; standing = up } in p ∷ views_of (new_stores kept failures keeps)) h.0
+    ∙ ap (λ (ps : List (StoreView V)). let p : StoreView V = record { kept = new_kept; failures = failures keep; standing = up } in p ∷ ps) (views_new kept failures keeps h.1)
+
+-- there are as many new stores as keeps
+pub count_stores : {V K : Type 0} (kept : K → Kept V) (failures : K → ℕ) (keeps : List K) → length (new_stores kept failures keeps) ≡ length keeps
+count_stores kept failures [] = refl
+count_stores kept failures (keep ∷ keeps) = ap suc (count_stores kept failures keeps)
+
+-- each new store is up, and its keep has the record of a new node
+pub new_at : {V K : Type 0} (kept : K → Kept V) (failures : K → ℕ) (keeps : List K) → AllByRecursion (λ keep. kept keep ≡ new_kept) keeps → (k : ℕ) (store : StoreState V) → slice_get (new_stores kept failures keeps) k ≡ Some store
+    → (store.kept ≡ new_kept) × (store.standing ≡ up)
+new_at kept failures [] h k store at = cc
+new_at {V} kept failures (keep ∷ keeps) h zero store at =
+    let first : StoreState V = record { kept = kept keep; failures = failures keep; standing = up } in
+    let same : first ≡ store = cc in
+    (ap (λ (s : StoreState V). s.kept) (sym same) ∙ h.0, ap (λ (s : StoreState V). s.standing) (sym same))
+new_at kept failures (keep ∷ keeps) h (suc k) store at = new_at kept failures keeps h.1 k store at
+
+-- at most one event is owed
+pub few_due : {V : Type 0} (x : Option (Event V)) → length (events_due x) ≤ 1
+few_due None = omega arith
+few_due (Some x) = omega arith

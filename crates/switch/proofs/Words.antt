@@ -1,0 +1,48 @@
+-- The words in which this crate is proved, and the lemmas of std and of the layers below, passed on from one place.
+pub use Rattle.net.proofs.Beginnings.{then_begins}
+pub use Rattle.net.proofs.DueTaken.{posts_same}
+pub use Rattle.net.proofs.EventsDue.{comes_restart, due_still, nodes_found, nodes_still}
+pub use Rattle.net.proofs.EveryEvent.{IfTaken, holds_after, if_taken, node_at, spent_or}
+pub use Rattle.net.proofs.GrowingLists.{at_set, at_set_other, set_twice}
+pub use Rattle.net.proofs.HistoryLemmas.{taken_front}
+pub use Rattle.net.proofs.KeptPartLemmas.{Happens, event_moves}
+pub use Rattle.net.proofs.LogsGrow.{log_grows}
+pub use Rattle.net.proofs.StepsDue.{still_more}
+pub use Rattle.net.proofs.TakenLemmas.{after-push, count_shown, happens-not_spent, length-nodes_of, makes, next_is, nodes_of-set, rooms_stay, set_same, taken_count}
+pub use Rattle.net.proofs.TwoMoments.{all_happen-append, world_lasts}
+pub use Rattle.net.specs.Agree.{IsAfter, IsBeginningOf}
+pub use Rattle.net.specs.Due.{AreStill, ComesTo, Due, HasRoom, IsDue, IsEventAt, IsOfEvent, IsReadyAt, IsStill, IsTaken, NetView, Work, change_in, loads, loads_due, posts_of, restarts, step_of, steps}
+pub use Rattle.net.specs.KeptPart.{addressed, change_of, kept_part, node_of}
+pub use Rattle.net.specs.Taken.{AreOfWorld, Taken, nodes_of, world_of as world_of_taken}
+pub use Rattle.net.specs.World.{World, after, all_happen, at_node, delivered, happens, happens_at, log, log_after, nodes_from, offers_of, packets_after, start, stepped}
+pub use Rattle.net.specs.declared.event.Event.{Event}
+pub use Rattle.net.specs.declared.event.Event.TheVariants.{Begin, Deliver, Offer, Restart}
+pub use Rattle.net.specs.declared.event.TheConstants.{MOST_EVENTS}
+pub use Rattle.net.specs.declared.fault.StepFault.{StepFault}
+pub use Rattle.net.specs.declared.fault.StepFault.TheVariants.{Device, Down, EventsSpent, Memory}
+pub use Rattle.slots.specs.FiniteMap.{put_at}
+pub use Rattle.std.proofs.Common.{Bool, Err, List, None, Ok, Option, Result, Some, [], ap, append_assoc, arith, false, get_or, inl, inr, le_of_suc-le-suc, length, length-append, nat_lt, refl, set, slice_get, subst, suc, sym, true, zero, ℕ, ◌++◌, ◌+◌, ◌<◌, ◌==◌, ◌∙◌, ◌∷◌, ◌≡◌, ◌≢◌, ◌≤◌}
+pub use Rattle.std.proofs.lemmas.Bool.Decides.{nat_tests}
+pub use Rattle.std.proofs.lemmas.List.{length-set, nil_from_length}
+pub use Rattle.std.proofs.lemmas.Option.{slice_get_past, slice_get_read, slice_get_within}
+pub use Rattle.std.specs.List.{AllByRecursion}
+pub use Rattle.std.specs.Option.{option_map}
+pub use Rattle.std.specs.Prelude.{IfErr, IsErrAnd, IsOkUnless, IsSome, OnErr, OnOk}
+pub use Rattle.std.specs.Result.{ForOk}
+pub use Rattle.std.specs.Vec.Iter.{into_iter_items}
+pub use Rattle.switch.specs.Belonging.{BeginsLog, KeepsLogs, StaysBelonging}
+pub use Rattle.switch.specs.NodeStore.{Fails, IsRecordOf, IsWithOrWithout, Standing, StoreState, change_owed, down, owed_in, posts_owed, up}
+pub use Rattle.switch.specs.Switch.{Acts, ActsDown, ActsUp, AreStores, CanTakeOwed, FailsAt, IsOwing, IsRecordIn, IsStore, IsSwitch, IsViewOf, Plays, Revives, RevivesAt, StoreView, SwitchView, TakesAt, TakesOwed, change_due, due, event_owed, events_due, is_down, is_down_at, is_down_view, new_stores, new_views, standing_seen, view_of, views_of, with_store, world_of}
+pub use Rattle.synod.proofs.NodeKeeps.{all_append}
+pub use Rattle.synod.specs.Core.{Core}
+pub use Rattle.synod.specs.Node.{Node, Stepped, kept_of, new_node}
+pub use Rattle.synod.specs.Packets.{IsPost, to_others}
+pub use Rattle.synod.specs.Proposer.{begun, offered}
+pub use Rattle.synod.specs.Record.{Kept, changed_by, new_kept}
+pub use Rattle.synod.specs.Step.{on_packet, reloaded, restarted}
+pub use Rattle.synod.specs.declared.change.Change.{Change}
+pub use Rattle.synod.specs.declared.change.Change.TheVariants.{Entry, Promise, Round}
+pub use Rattle.synod.specs.declared.change.Held.{Held}
+pub use Rattle.synod.specs.declared.packet.Body.TheVariants.{Ask}
+pub use Rattle.synod.specs.declared.packet.Packet.{Packet}
+pub use Rattle.synod.specs.declared.refusal.Refusal.{Refusal}

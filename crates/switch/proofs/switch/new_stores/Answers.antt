@@ -1,0 +1,18 @@
+use Rattle.switch.proofs.Words.{◌≡◌, List, ◌++◌, ◌∷◌, [], ap, sym, ◌∙◌, into_iter_items, nil_from_length, taken_front, StoreState, new_stores}
+use Rattle.std.proofs.lemmas.List.{append-nil}
+use Rattle.switch.proofs.StoresLemmas.{new_stores-push}
+use Rattle.switch.proofs.switch.new_stores.Goals as goal
+
+pub loop-keep-preserved : goal.loop-keep-preserved
+loop-keep-preserved g c =
+    c.in_ok-push.ensures.items ∙ ap (λ (s : StoreState g.row.V.Denot). c.loop-keep.stores.items ++ s ∷ []) c.new.ensures
+    ∙ ap (λ (ss : List (StoreState g.row.V.Denot)). ss ++ new_stores g.K.Keep.kept g.K.Keep.failures (c.in-Some.keep ∷ [])) c.loop-keep.invariant
+    ∙ sym (new_stores-push g.K.Keep.kept g.K.Keep.failures c.loop-keep.yielded c.in-Some.keep)
+
+pub returns : goal.returns
+returns g c =
+    let it = c.loop-keep.keep-iterator in
+    let done = c.loop-keep.yielded in
+    let none : into_iter_items it ≡ [] = nil_from_length (into_iter_items it) (sym it.rest.ok.0 ∙ c.in-None.ensures.steps.0) in
+    c.loop-keep.invariant ∙ ap (λ (ks : List g.row.K.Denot). new_stores g.K.Keep.kept g.K.Keep.failures ks)
+    (sym (sym c.into_iter-keep-iterator.ensures.into_iter_gives.0 ∙ (taken_front c.into_iter-keep-iterator.result done it c.loop-keep.yielded_by ∙ (ap (λ (ks : List g.row.K.Denot). done ++ ks) none ∙ append-nil done))))

@@ -1,0 +1,15 @@
+-- The words of the layers below in which this crate's definitions are written, passed on from one place.
+pub use Rattle.net.specs.Agree.{IsAfter, IsBeginningOf}
+pub use Rattle.net.specs.Due.{Due, HasRoom, IsDue, IsTaken, NetView, change_in, posts_of}
+pub use Rattle.net.specs.KeptPart.{change_of, kept_part, node_of}
+pub use Rattle.net.specs.Taken.{AreOfWorld}
+pub use Rattle.net.specs.World.{World, after, happens, log_after}
+pub use Rattle.net.specs.declared.event.Event.{Event}
+pub use Rattle.net.specs.declared.event.Event.TheVariants.{Begin, Deliver, Offer, Restart}
+pub use Rattle.net.specs.declared.event.TheConstants.{MOST_EVENTS}
+pub use Rattle.net.specs.declared.fault.StepFault.{StepFault}
+pub use Rattle.net.specs.declared.fault.StepFault.TheVariants.{Device, Down, EventsSpent, Memory}
+pub use Rattle.synod.specs.Node.{Node, kept_of}
+pub use Rattle.synod.specs.Record.{Kept, changed_by, new_kept}
+pub use Rattle.synod.specs.declared.change.Change.{Change}
+pub use Rattle.synod.specs.declared.packet.Packet.{Packet}

@@ -1,0 +1,145 @@
+//! A node's store: its keep, and whether the node is up, or down since a call of its keep failed.
+ghost use Rattle.std.specs.Prelude.{◌≡◌, ◌+◌, Ok, Some, None, length, IfOk, OnOk, OnErr, is_ok, if◌then◌else◌};
+ghost use Rattle.synod.specs.Record.{changed_by};
+ghost use Rattle.net.specs.Due.{change_in, posts_of};
+ghost use Rattle.switch.specs.NodeStore.{Fails, IsWithOrWithout, change_owed, owed_in, posts_owed, standing_of, up, down};
+ghost use Rattle.switch.specs.Switch.{is_down, standing_seen};
+
+use net::Due;
+use std::marker::Model;
+use std::mem;
+use synod::{Failed, Keep, Record, Value};
+
+/// Whether a node takes events.
+#[derive(Drop)]
+pub(crate) enum Standing<V> {
+    Up,
+    /// A call of the keep failed: a load, or the store of this event.
+    Down(Option<Due<V>>),
+}
+
+/// A node's keep, and whether the node is up.
+#[derive(Drop)]
+pub(crate) struct NodeStore<V: Value, K: Keep<V>> {
+    keep: K,
+    standing: Standing<V>,
+}
+
+impl<V: Value, K: Keep<V>> Model for NodeStore<V, K> {
+    ghost use Rattle.switch.specs.NodeStore.{StoreState, standing_of};
+
+    ghost Value = { StoreState V };
+
+    ghost view = { λ s. record { kept = K.kept s.keep; failures = K.failures s.keep; standing = standing_of s.standing } };
+}
+
+impl<V: Value, K: Keep<V>> NodeStore<V, K> {
+    /// Makes the store of a node that is up.
+    pub fn new(keep: K) -> Self
+        ensures { result ≡ record { kept = K.kept keep; failures = K.failures keep; standing = up } }
+    {
+        NodeStore {
+            keep,
+            standing: Standing::Up,
+        }
+    }
+
+    /// Tells whether the node is down.
+    pub fn is_down(&self) -> bool
+        ensures { result ≡ is_down (standing_seen self.now.standing) }
+    {
+        match &self.standing {
+            Standing::Up => false,
+            Standing::Down(_) => true,
+        }
+    }
+
+    /// Stores the change of an event that is due, and returns the event. Where that fails, the node is down and owes the event.
+    pub fn store(&mut self, due: Due<V>) -> Result<Due<V>, Failed>
+        ensures stored { OnOk result (self.new ≡ record { kept = changed_by self.old.kept (change_in due.work); failures = self.old.failures; standing = self.old.standing }) }
+        ensures due { IfOk result (λ same. same ≡ due) }
+        ensures failed { OnErr result (Fails self.old (change_in due.work) (down (Some due)) self.new) }
+    {
+        match store_change(&mut self.keep, &due) {
+            Ok(()) => Ok(due),
+            Err(failed) => {
+                self.standing = Standing::Down(Some(due));
+                Err(failed)
+            }
+        }
+    }
+
+    /// Loads the record. Where that fails, the node is down and owes nothing.
+    pub fn load(&mut self) -> Result<Record<V>, Failed>
+        ensures loaded { IfOk result (λ loaded. loaded.kept ≡ self.old.kept) }
+        ensures same { OnOk result (self.new ≡ self.old) }
+        ensures failed { OnErr result (Fails self.old None (down None) self.new) }
+    {
+        match self.keep.load() {
+            Ok(record) => Ok(record),
+            Err(failed) => {
+                self.standing = Standing::Down(None);
+                Err(failed)
+            }
+        }
+    }
+
+    /// Returns how many packets the event that is owed posts.
+    pub fn count_owed(&self) -> usize
+        ensures { result ≡ length (posts_owed (owed_in self.now.standing)) }
+    {
+        match &self.standing {
+            Standing::Down(Some(due)) => due.posts().len(),
+            Standing::Down(None) => 0,
+            Standing::Up => 0,
+        }
+    }
+
+    /// Stores the change that is owed, if there is one, and loads the record: the node is up. Returns the event that it owed. Where a
+    /// call of the keep fails, the node stays down.
+    pub fn repair(&mut self) -> Result<(Option<Due<V>>, Record<V>), Failed>
+        ensures owed { IfOk result (λ made. made.0 ≡ owed_in self.old.standing) }
+        ensures loaded { IfOk result (λ made. made.1.kept ≡ changed_by self.old.kept (change_owed (owed_in self.old.standing))) }
+        ensures up { OnOk result (self.new ≡ record { kept = changed_by self.old.kept (change_owed (owed_in self.old.standing)); failures = self.old.failures; standing = up }) }
+        ensures failed { OnErr result (Fails self.old (change_owed (owed_in self.old.standing)) self.old.standing self.new) }
+    {
+        self.store_owed()?;
+        let record = self.keep.load()?;
+        Ok((self.take_owed(), record))
+    }
+
+    /// Stores the change that is owed, if there is one.
+    fn store_owed(&mut self) -> Result<(), Failed>
+        ensures stored { OnOk result (self.new ≡ record { kept = changed_by self.old.kept (change_owed (owed_in self.old.standing)); failures = self.old.failures; standing = self.old.standing }) }
+        ensures failed { OnErr result (Fails self.old (change_owed (owed_in self.old.standing)) self.old.standing self.new) }
+    {
+        match &self.standing {
+            Standing::Down(Some(due)) => store_change(&mut self.keep, due),
+            Standing::Down(None) => Ok(()),
+            Standing::Up => Ok(()),
+        }
+    }
+
+    /// Makes the node up. Returns the event that it owed.
+    fn take_owed(&mut self) -> Option<Due<V>>
+        ensures owed { result ≡ owed_in self.old.standing }
+        ensures up { self.new ≡ record { kept = self.old.kept; failures = self.old.failures; standing = up } }
+    {
+        match mem::replace(&mut self.standing, Standing::Up) {
+            Standing::Down(owed) => owed,
+            Standing::Up => None,
+        }
+    }
+}
+
+/// Stores the change of an event that is due, if it makes one.
+fn store_change<V: Value, K: Keep<V>>(keep: &mut K, due: &Due<V>) -> Result<(), Failed>
+    ensures stored { OnOk result (K.kept keep.new ≡ changed_by (K.kept keep.old) (change_in due.now.work)) }
+    ensures failed { OnErr result (IsWithOrWithout (K.kept keep.old) (change_in due.now.work) (K.kept keep.new)) }
+    ensures counted { K.failures keep.new ≡ (if is_ok result then K.failures keep.old else K.failures keep.old + 1) }
+{
+    match due.change() {
+        Some(change) => keep.store(change),
+        None => Ok(()),
+    }
+}

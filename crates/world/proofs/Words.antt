@@ -1,0 +1,32 @@
+-- The words in which this crate is proved, and the lemmas of std and of the layers below, passed on from one place.
+pub use Rattle.library.proofs.LibraryLemmas.{library-begins, library-good, library-more}
+pub use Rattle.library.specs.LibraryOf.{Applies, IsLibraryOf, Replica}
+pub use Rattle.library.specs.declared.entry.Entry.{Entry}
+pub use Rattle.library.specs.declared.verdict.Verdict.{Verdict}
+pub use Rattle.net.proofs.Beginnings.{beginnings_agree, then_begins}
+pub use Rattle.net.proofs.EveryEvent.{if_taken}
+pub use Rattle.net.proofs.GrowingLists.{at_set_other}
+pub use Rattle.net.proofs.HistoryLemmas.{agreement_of, stops_there, taken_front}
+pub use Rattle.net.proofs.LogsGrow.{log_grows}
+pub use Rattle.net.proofs.TakenLemmas.{after-push, set_same}
+pub use Rattle.net.proofs.TwoMoments.{all_happen-append}
+pub use Rattle.net.specs.Agree.{Agree, IsBeginningOf}
+pub use Rattle.net.specs.History.{Agreement}
+pub use Rattle.net.specs.Taken.{Taken, with_event, world_of}
+pub use Rattle.net.specs.World.{World, all_happen, happens, log, log_after, start}
+pub use Rattle.net.specs.declared.event.Event.{Event}
+pub use Rattle.net.specs.declared.event.Event.TheVariants.{Begin, Deliver, Offer, Restart}
+pub use Rattle.net.specs.declared.fault.StepFault.{StepFault}
+pub use Rattle.std.proofs.Common.{Bool, Err, List, None, Ok, Option, Result, Some, [], add-one, ap, append_assoc, arith, false, inl, inr, length, length-append, refl, replicate, set, slice_get, subst, suc, sym, take, true, zero, ℕ, ◌++◌, ◌+◌, ◌==◌, ◌∙◌, ◌∷◌, ◌≡◌, ◌≢◌}
+pub use Rattle.std.proofs.iter.Next.{Yields-more}
+pub use Rattle.std.proofs.lemmas.Bool.Decides.{nat_tests}
+pub use Rattle.std.proofs.lemmas.List.{append-nil, length-replicate, length-set, nil_from_length, take-append-le}
+pub use Rattle.std.proofs.lemmas.Option.{slice_get_read, slice_get_within}
+pub use Rattle.std.specs.Borrow.{Bor}
+pub use Rattle.std.specs.Prelude.{IfErr, IfOk, IfSome, IsOk, IsSomeAnd, MatchOption, option_map}
+pub use Rattle.std.specs.Vec.Iter.{into_iter_items, into_iter_steps}
+pub use Rattle.synod.proofs.LogLemmas.{take_next}
+pub use Rattle.world.specs.Carried.{all_carried, carried, carried_size, entries_of, entry_of}
+pub use Rattle.world.specs.Headline.{Headline, HeadlineHolds}
+pub use Rattle.world.specs.Replicas.{AppliesNext, AreReplicas, IsApplied, IsOfLog, NodeLibrary, Replicas, given_up, log_entries, new_libraries, new_library, next_entry, next_of, restarts, then_event}
+pub use Rattle.world.specs.declared.carried.Carried.{Carried}

@@ -1,0 +1,19 @@
+-- The words of the layers below in which this crate's definitions are written, passed on from one place.
+pub use Rattle.library.specs.Good.{Good}
+pub use Rattle.library.specs.LibraryOf.{Applies, IsLibraryOf, Replica, empty, size_of}
+pub use Rattle.library.specs.declared.entry.Entry.{Entry}
+pub use Rattle.library.specs.declared.verdict.Verdict.{Verdict}
+pub use Rattle.mm_read.specs.Statements.{Database}
+pub use Rattle.mm_read.specs.declared.stmt.Stmt.{Stmt}
+pub use Rattle.net.specs.Agree.{Agree}
+pub use Rattle.net.specs.History.{Agreement, IsMoment}
+pub use Rattle.net.specs.Taken.{Taken, with_event, world_of}
+pub use Rattle.net.specs.World.{World, log, log_after}
+pub use Rattle.net.specs.declared.event.Event.{Event}
+pub use Rattle.net.specs.declared.event.Event.TheVariants.{Begin, Deliver, Offer, Restart}
+pub use Rattle.net.specs.declared.fault.StepFault.{StepFault}
+pub use Rattle.net.specs.declared.fault.StepFault.TheVariants.{Memory}
+pub use Rattle.scope.specs.Active.{bares, expr_of, stmt_at}
+pub use Rattle.verify.specs.Concludes.{Concludes}
+pub use Rattle.verify.specs.Derivations.{Derivation}
+pub use Rattle.verify.specs.Right.{IsProvable}
