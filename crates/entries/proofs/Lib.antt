@@ -5,3 +5,4 @@ pub mod BufferPlaceLemmas
 pub mod AddedStatement
 pub mod VersionLemmas
 pub mod LogLemmas
+pub mod HistoryLemmas

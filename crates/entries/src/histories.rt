@@ -99,7 +99,7 @@ impl Histories {
     /// Returns the stack of a number as it was at `at`.
     ///
     /// Cost: a binary search.
-    pub fn stack(&self, number: u32, at: u32) -> PositionStack<'_>
+    pub fn stack(&self, number: u32, at: usize) -> PositionStack<'_>
         ensures { result ≡ stack_at (history self.now number) at }
     {
         match self.histories.get(number as usize) {

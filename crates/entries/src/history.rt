@@ -117,7 +117,7 @@ impl History {
     /// Returns the stack that was valid at `at`.
     ///
     /// Cost: a binary search.
-    pub fn stack(&self, at: u32) -> PositionStack<'_>
+    pub fn stack(&self, at: usize) -> PositionStack<'_>
         ensures { result ≡ stack_at self.now at }
     {
         let versions = self.versions.as_slice();
@@ -162,7 +162,7 @@ fn again(versions: &[Version], at: u32, before: u32) -> Version
     ensures stack { stack_of (versions_of versions.now) result ≡ stack_at (versions_of versions.now) before }
     ensures height { result.height ≡ length (stack_of (versions_of versions.now) result) }
 {
-    match version_before(versions, before) {
+    match version_before(versions, before as usize) {
         Some(index) => Version {
             since: at,
             ..versions[index]
@@ -172,10 +172,10 @@ fn again(versions: &[Version], at: u32, before: u32) -> Version
 }
 
 /// Returns the index of the last version that is so since before `at`.
-fn version_before(versions: &[Version], at: u32) -> Option<usize>
+fn version_before(versions: &[Version], at: usize) -> Option<usize>
     requires { IsNonDecreasingBy (λ v. v.since) versions.now }
     ensures { IsFound versions.now at result }
 {
-    let count = versions.partition_point(|version| version.since < at);
+    let count = versions.partition_point(|version| (version.since as usize) < at);
     count.checked_sub(1)
 }
