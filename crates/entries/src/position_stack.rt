@@ -72,7 +72,7 @@ impl<'a> PositionStack<'a> {
     /// Cost: one look-up.
     pub fn pop(&mut self) -> Option<u32>
         ensures some { IfSome result (λ p. self.old ≡ p ∷ self.new) }
-        ensures none { IfNone result (self.old ≡ []) }
+        ensures none { IfNone result ((self.old ≡ []) × (self.new ≡ [])) }
     {
         let Version {
             top,

@@ -17,3 +17,17 @@ is_group_apart S σ names =
 
 abbrev pub are_groups_apart : Database → Images → List (List Name) → Bool
 are_groups_apart S σ groups = list_all (is_group_apart S σ) groups
+
+-- ---- by variables; no public clause cites these words
+
+-- the variable u is kept apart from v, where this is a variable
+abbrev pub is_pair_apart : Database → Name → Name → Bool
+is_pair_apart S u v = not (is_variable S v) || is_pair S u v
+
+-- the variable u is kept apart from each variable of f
+abbrev pub is_variable_apart : Database → Name → Expr → Bool
+is_variable_apart S u f = list_all (is_pair_apart S u) f
+
+-- the symbol u, where it is a variable, is kept apart from each variable of f
+abbrev pub is_symbol_apart : Database → Expr → Name → Bool
+is_symbol_apart S f u = list_all (λ v. not (is_variable S u) || not (is_variable S v) || is_pair S u v) f

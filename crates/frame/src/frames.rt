@@ -11,7 +11,7 @@ use crate::pairs::Pairs;
 use crate::shape::has_label;
 use crate::storage::Stock;
 use crate::symbol_numbers::label_number;
-use entries::{Cited, Entries, Groups, Hypotheses, Kind, Links};
+use entries::{Cited, Entries, Groups, Histories, Hypotheses, Kind, Links};
 use mm_lex::Words;
 use scope::{Noted, Numbering};
 use std::alloc::{AllocError, Global};
@@ -54,6 +54,8 @@ impl Frames {
                 replaced: Vec::new(alloc),
                 ends: Vec::new(alloc),
                 entries: Entries::new(alloc),
+                disjoints: Histories::new(alloc),
+                variables: Histories::new(alloc),
                 links: Links {
                     block: 0,
                     essential: 0,

@@ -1,23 +1,23 @@
 use Rattle.frame.proofs.Words.{◌≡◌, ◌∙◌, ap, sym, arith, length, get_or, take_all, true, false, Bool, not, ◌||◌, name_at, decode, is_pair, is_pair_apart, is_symbol_apart, is_variable_apart}
 use Rattle.frame.proofs.ApartLemmas.{stops, goes_on, below-at, repeat-passes, symbol_constant, symbol_variable}
-use Rattle.frame.proofs.active_apart.each_apart.Goals as goal
-use Rattle.frame.proofs.active_apart.each_apart.Goals.{then-variable+then-not-contains+else-loop-k-test, else-variable, else-variable-via-then-variable+else-not-contains, else-variable-via-else-variable}
-use Rattle.frame.proofs.active_apart.each_apart.Goals.{else-variable-2-via-then-variable-2+then-not-contains-2+else-not-has, else-variable-2-via-then-variable-2+else-not-contains-2, else-variable-2-via-else-variable-2}
+use Rattle.frame.proofs.pairs.Pairs.apart.Goals as goal
+use Rattle.frame.proofs.pairs.Pairs.apart.Goals.{then-variable+then-not-contains+else-loop-k-test, else-variable, else-variable-via-then-variable+else-not-contains, else-variable-via-else-variable}
+use Rattle.frame.proofs.pairs.Pairs.apart.Goals.{else-variable-2-via-then-variable-2+then-not-contains-2+else-not-has, else-variable-2-via-then-variable-2+else-not-contains-2, else-variable-2-via-else-variable-2}
 
 pub variable-requires : goal.variable-requires
-variable-requires c = below-at (length c.args.pairs.now.names) c.args.left.now c.loop-i.i 0 c.requires.left c.loop-i-test.true
+variable-requires c = below-at (length c.args.self.now.names) c.args.left.now c.loop-i.i 0 c.requires.left c.loop-i-test.true
 
 pub variable-requires-in-loop-k : goal.variable-requires-in-loop-k
-variable-requires-in-loop-k c = below-at (length c.args.pairs.now.names) c.args.right.now c.loop-k.k 0 c.requires.right c.loop-k-test.true
+variable-requires-in-loop-k c = below-at (length c.args.self.now.names) c.args.right.now c.loop-k.k 0 c.requires.right c.loop-k-test.true
 
 pub has-requires : goal.has-requires
 has-requires c =
-    let n = length c.args.pairs.now.names in
+    let n = length c.args.self.now.names in
     (below-at n c.args.left.now c.loop-i.i 0 c.requires.left c.loop-i-test.true, below-at n c.args.right.now c.loop-k.k 0 c.requires.right c.loop-k-test.true)
 
 pub returns-then-not-has : goal.returns-then-not-has
 returns-then-not-has c =
-    let v = c.args.pairs.now in
+    let v = c.args.self.now in
     let x = name_at v.names (get_or c.args.left.now c.loop-i.i 0) in
     let y = name_at v.names (get_or c.args.right.now c.loop-k.k 0) in
     let pair : is_pair_apart v.statements x y ≡ false =
@@ -28,7 +28,7 @@ returns-then-not-has c =
 
 pub loop-k-preserved : goal.loop-k-preserved
 loop-k-preserved c =
-    let v = c.args.pairs.now in
+    let v = c.args.self.now in
     let x = name_at v.names (get_or c.args.left.now c.loop-i.i 0) in
     let y = get_or c.args.right.now c.loop-k.k 0 in
     let apart = λ (b : Bool). not b || is_pair v.statements x (name_at v.names y) in
@@ -44,7 +44,7 @@ loop-k-preserved c =
 
 pub loop-i-preserved : goal.loop-i-preserved
 loop-i-preserved c =
-    let v = c.args.pairs.now in
+    let v = c.args.self.now in
     let e = decode v.names c.args.right.now in
     let p = is_symbol_apart v.statements e in
     let x = get_or c.args.left.now c.loop-i.i 0 in
