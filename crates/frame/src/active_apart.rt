@@ -1,4 +1,4 @@
-//! Images that are kept apart by the `$d` active at a position.
+//! Images that are disjoint by the `$d` active at a position.
 ghost use Rattle.std.specs.Prelude.{◌≡◌, length};
 ghost use Rattle.{names.specs.Codes.decode, frame.specs.Below.AreBelow, frame.specs.Disjoint.are_apart};
 

@@ -18,7 +18,7 @@ use mm_read::Stmt;
 use scope::{Noted, Rule, Rules, Scope, Steps};
 use std::alloc::{AllocError, Global};
 
-/// Adds the statement behind the others, with the numbers of its symbols where they were noted. Where a growth is refused,
+/// Appends the statement, with the numbers of its symbols where they were noted. If an allocation fails,
 /// more may be left behind what was there.
 fn extend(
     alloc: Global,
@@ -74,9 +74,9 @@ fn extend(
     Ok(())
 }
 
-/// Adds the statement behind the others, with the numbers of its symbols where they were noted.
+/// Appends the statement, with the numbers of its symbols where they were noted.
 ///
-/// Where a growth is refused, everything is as before.
+/// If an allocation fails, everything is as before.
 fn extend_whole(
     alloc: Global,
     stock: &mut Stock,
@@ -126,7 +126,7 @@ fn roll_back(stock: &mut Stock, names: usize, replaced: usize)
 impl Frames {
     /// Adds the statement that the scope accepts next.
     ///
-    /// Where a growth is refused, everything is as before. One step is counted, whatever is answered.
+    /// If an allocation fails, everything is as before. One step is counted, whatever is answered.
     /// Cost: the statement's own size.
     pub fn push(&mut self, scope: &Scope, stmt: &Stmt, steps: &mut Steps) -> Result<(), AllocError>
         requires same { scope.now.statements ≡ self.old.statements }
@@ -160,7 +160,7 @@ impl Frames {
         ensures accepted { OnOk result (rules.new.statements ≡ rules.old.statements ++ bare stmt.now ∷ []) }
         ensures legal { OnOk result (IsLegal self.old.statements stmt.now) }
 
-        // A broken rule is answered also where every growth is refused.
+        // A broken rule is answered even if every allocation fails.
         ensures broken { IfSome (broken_rule self.old.statements stmt.now) (λ rule. result ≡ Err rule) }
         ensures only_memory { IsLegal self.old.statements stmt.now → IfErr result (λ rule. rule ≡ Rule.Memory) }
         ensures same { OnErr result (self.new ≡ self.old) }
@@ -193,7 +193,7 @@ impl Frames {
 
     /// Only the first `len` statements stay.
     ///
-    /// Takes no memory. Cost: the size of the statements that go.
+    /// Does not allocate. Cost: the size of the statements that go.
     pub fn shorten(&mut self, len: usize)
         ensures statements { self.new.statements ≡ take len self.old.statements }
         ensures names { Extends self.new.names self.old.names }

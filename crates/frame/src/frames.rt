@@ -75,7 +75,7 @@ impl Frames {
         self.stock.entries.len()
     }
 
-    /// Makes room for so many more labels, where there is memory for it: statements that carry them are then added
+    /// Makes room for so many more labels if allocation succeeds: statements that carry them are then added
     /// faster.
     pub fn reserve(&mut self, labels: usize)
         ensures { self.new ≡ self.old }
@@ -94,7 +94,7 @@ impl Frames {
 
     /// The position of the statement with each label.
     ///
-    /// Errors: a growth was refused. Cost: that of looking each label up.
+    /// Errors: an allocation fails. Cost: that of looking each label up.
     pub fn positions(&self, labels: &Words) -> Result<Vec<Option<usize>>, AllocError>
         ensures found { IfOk result (λ positions. ArePositions self.now.statements labels.now positions.items) }
         ensures legal { AreLegal self.now.statements self.now.names }
@@ -141,7 +141,7 @@ impl Frames {
         }
     }
 
-    /// The variables that are kept apart at a position.
+    /// Returns the pairs of disjoint variables at a position.
     pub fn active_pairs(&self, at: usize) -> Pairs<'_>
         requires { (1 ≤ at) × (at ≤ length self.now.statements) }
         ensures statements { result.statements ≡ before self.now.statements at }

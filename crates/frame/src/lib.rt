@@ -1,7 +1,7 @@
 //! What an assertion asks of who cites it.
 //!
 //! `Frames` keeps the statements of a database by position, and reads off them what a verifier asks: what a citation means at a
-//! statement, the parts of an assertion, and the variables that are kept apart. `frame` gathers the `Frame` of one assertion from
+//! statement, the parts of an assertion, and the disjoint variables. `frame` gathers the `Frame` of one assertion from
 //! what is active. Reading order: `storage`, `shape`, `gathered`; `symbol_numbers`, `at_position`, `stacks`, `declare`, `mandatory`,
 //! `make`, `extend` (one statement more or less); `meaning`, `frames`, `row`, `pairs`, `active_apart` (what is asked); `assertion`,
 //! `one_frame`; `laws`.

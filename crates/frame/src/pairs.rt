@@ -1,4 +1,4 @@
-//! The variables that are kept apart at a position.
+//! The disjoint variables at a position.
 ghost use Rattle.std.specs.Prelude.{◌≡◌, ◌==◌, ◌&&◌, ◌||◌, ◌<◌, ℕ, not, false, length, IfNone, IfSome};
 ghost use Rattle.{std.specs.List.list_any, mm_lex.specs.Alphabet.Name, names.specs.Codes.name_at, names.specs.Codes.code_of, scope.specs.Active.is_variable, frame.specs.Below.AllBelow, frame.specs.Below.AreBelow, frame.specs.FrameOf.is_pair, frame.specs.Links.is_disj, frame.specs.Stored.EntryMeanings.statements_of, frame.specs.Stored.Stacks.AreOfKind, frame.specs.Stored.Stacks.IsOfKind, frame.specs.Stored.Stacks.has_code, frame.specs.Stored.Whole.AreStored};
 
