@@ -3,3 +3,6 @@ pub mod SpanLemmas
 pub mod StatementRecordLemmas
 pub mod BufferPlaceLemmas
 pub mod AddedStatement
+pub mod SetNodeLemmas
+pub mod PositionSetLemmas
+pub mod JoinedSetLemmas

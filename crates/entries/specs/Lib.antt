@@ -1,3 +1,4 @@
 pub mod Hypotheses
 pub mod Entries
+pub mod PositionSets
 pub mod Stored

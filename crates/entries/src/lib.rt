@@ -14,6 +14,7 @@ mod kind;
 mod layout;
 mod links;
 mod parts;
+mod position_sets;
 mod statement_record;
 
 pub use buffer_part::BufferPart;
@@ -24,3 +25,4 @@ pub use head::{Background, EntryRef, Head};
 pub use kind::Kind;
 pub use links::Links;
 pub use parts::AssertionParts;
+pub use position_sets::PositionSets;
