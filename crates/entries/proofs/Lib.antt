@@ -6,3 +6,4 @@ pub mod AddedStatement
 pub mod SetNodeLemmas
 pub mod PositionSetLemmas
 pub mod JoinedSetLemmas
+mod PositionSetRows

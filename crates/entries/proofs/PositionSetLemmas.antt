@@ -1,8 +1,10 @@
 -- Sets of positions as lists in ascending order: a position between two lists that it parts.
 -- In a set l ++ x ∷ r the positions of l are below x, and those of r above it.
-use Rattle.std.proofs.Common.{◌≡◌, ℕ, ◌+◌, ◌<◌, ◌≤◌, ◌==◌, ◌||◌, nat_lt, true, false, List, [], ◌∷◌, ◌++◌, length, ap, refl, arith}
+use Rattle.std.proofs.Common.{◌≡◌, ℕ, ◌+◌, ◌<◌, ◌≤◌, ◌==◌, ◌||◌, nat_lt, true, false, List, [], ◌∷◌, ◌++◌, length, slice_get, Some, ap, sym, ◌∙◌, refl, inl, inr, suc, zero, arith}
 use Rattle.std.proofs.lemmas.Bool.Decides.{nat_tests}
-use Rattle.std.proofs.lemmas.Bool.{cond_both, ltb-true}
+use Rattle.std.proofs.lemmas.Bool.{cases_lt, cond_both, lt-ltb, ltb-true}
+use Rattle.std.proofs.Math.Nat.{eq-or-lt_of_le}
+use Rattle.std.proofs.lemmas.Option.{same_Some}
 use Rattle.entries.specs.PositionSets.{AreAbove, Ascends, with_position, has_position, count_below}
 
 -- ---- parts of a set
@@ -106,3 +108,46 @@ with-known p (x ∷ xs) h known =
     (λ _. cond_both (nat_lt x p) _ _ (λ v. v ≡ x ∷ xs)
     (λ above. let first = ltb-true x p above in let rest : has_position p xs ≡ true = grind (arith, nat_tests) in ap (λ v. x ∷ v) (with-known p xs h.1 rest))
     (λ _. refl))
+
+-- ---- laws for the crates above
+
+-- the set has the position, and what it had
+pub has-with : (q p : ℕ) (xs : List ℕ) → has_position q (with_position p xs) ≡ ((p == q) || has_position q xs)
+has-with q p [] = refl
+has-with q p (x ∷ xs) =
+    let rest = has-with q p xs in
+    cond_both (nat_lt p x) _ _ (λ v. has_position q v ≡ ((p == q) || has_position q (x ∷ xs))) (λ _. refl)
+    (λ not-below. cond_both (nat_lt x p) _ _ (λ v. has_position q v ≡ ((p == q) || has_position q (x ∷ xs)))
+    (λ above. grind (arith, nat_tests))
+    (λ not-above. grind (arith, nat_tests)))
+
+-- a position above all of them goes behind them
+pub with-last : (p : ℕ) (xs : List ℕ) → ((q : ℕ) → has_position q xs ≡ true → q < p) → with_position p xs ≡ xs ++ p ∷ []
+with-last p [] all = refl
+with-last p (x ∷ xs) all =
+    let first = all x (has-here x [] xs) in
+    let rest = with-last p xs (λ q known. all q (grind (arith, nat_tests))) in grind (arith, nat_tests)
+
+-- where the set has the position, so many below it is its index
+pub get-count : (p : ℕ) (xs : List ℕ) → Ascends xs → has_position p xs ≡ true → slice_get xs (count_below p xs) ≡ Some p
+get-count p [] ascends known = absurd (cc)
+get-count p (x ∷ xs) ascends known =
+    elim (cases_lt x p) [
+      | inl below ↦
+          let rest = get-count p xs ascends.1 (grind (arith, nat_tests)) in
+          rw (lt-ltb x p below) rest
+      | inr above ↦
+          let rest = above-all p x xs above ascends.0 in
+          let none = count-above p xs rest in
+          let count : count_below p (x ∷ xs) ≡ 0 = grind (arith, nat_tests) in
+          elim (eq-or-lt_of_le above) [
+            | inl same ↦ ap (slice_get (x ∷ xs)) count ∙ ap Some (sym same)
+            | inr beyond ↦ absurd (let missing = has-above p xs rest in grind (arith, nat_tests))
+          ]
+    ]
+
+-- what stands at an index is a position of the set
+pub has-get : (p : ℕ) (xs : List ℕ) (k : ℕ) → slice_get xs k ≡ Some p → has_position p xs ≡ true
+has-get p [] k at = absurd (cc)
+has-get p (x ∷ xs) zero at = let first = same_Some x p at in grind (arith, nat_tests)
+has-get p (x ∷ xs) (suc k) at = let rest = has-get p xs k at in grind (arith, nat_tests)
