@@ -1,27 +1,29 @@
 //! Sets of positions, each made from an earlier one.
 ghost use Rattle.std.specs.Prelude.{◌≡◌, ℕ, ◌<◌, ◌≤◌, ◌+◌, ◌-◌, ◌^◌, ◌++◌, ◌∷◌, [], length, take, max, slice_get, OnOk, OnErr, IfOk, IfSome, IfNone, Ok, true};
-ghost use Rattle.{entries.specs.PositionSets.Ascends, entries.specs.PositionSets.IsSet, entries.specs.PositionSets.count_below, entries.specs.PositionSets.has_position, entries.specs.PositionSets.set_at, entries.specs.PositionSets.with_position, entries.specs.Stored.PositionSets.IsTop, entries.specs.Stored.PositionSets.joined, entries.specs.Stored.PositionSets.set_of, entries.specs.Stored.Spans.Extends};
+ghost use Rattle.entries.specs.PositionSets.{Ascends, IsSet, count_below, has_position, set_at, with_position};
+ghost use Rattle.entries.specs.Stored.PositionSets.{IsTop, joined, set_of};
+ghost use Rattle.entries.specs.Stored.Spans.{Extends};
 
 use crate::buffer_part::{item, place};
 use std::alloc::{AllocError, Global};
 use std::cmp::Ordering;
 use std::marker::Model;
 
-/// How many nodes there are at most: each set has a number of 32 bits, and their count too.
+/// How many nodes there are at most: sets have numbers of 32 bits.
 const MOST_NODES: usize = 0xffff_fffe;
 
-/// How many times as heavy as the other one side may be, and within the heavier side the inner part as the outer one.
-/// A side weighs one more than it has positions.
+/// How many times as heavy as the other one side may be. A side weighs one more than it has positions.
 const HEAVIER: usize = 3;
 
+/// How many times as heavy as its outer part the inner part of a side is where one rotation does not do.
 const INNER: usize = 2;
 
-/// A set that is not empty: a position between those of two earlier sets.
+/// A set that is not empty: a position, and two earlier sets on either side of it.
 #[derive(Clone, Copy, Drop)]
 struct Node {
-    /// The set of those below the position.
+    /// The set of the positions below.
     left: u32,
-    /// The set of those above it.
+    /// The set of the positions above.
     right: u32,
     position: u32,
     /// How many positions there are in all.
@@ -30,11 +32,11 @@ struct Node {
 
 /// Sets of positions, each made from an earlier one; they share what they have in common.
 ///
-/// A set is known by its number; 0 is the empty set, and so is a number that no set has. Contracts see the list of the
-/// sets by number, each as the list of its positions in ascending order.
+/// A set is known by its number; 0 is the empty set, and so is a number that no set has. Contracts see the list
+/// of the sets by number, each as the list of its positions in ascending order.
 ///
-/// Inside, a set is a tree balanced by weight, so that its height is at most 2.5 times the logarithm of its size,
-/// whatever positions are put in, and in whatever order.
+/// Inside, a set is a tree balanced by weight: its height is at most two and a half times the binary logarithm of
+/// its size, whatever positions are put in, and in whatever order.
 /// Source: Y. Hirai and K. Yamamoto, "Balancing weight-balanced trees", Journal of Functional Programming 21, 2011.
 #[derive(Drop)]
 pub struct PositionSets {
@@ -43,7 +45,7 @@ pub struct PositionSets {
 
 impl Model for PositionSets {
     ghost use Rattle.std.specs.Prelude.{ℕ, List};
-    ghost use Rattle.{entries.specs.Stored.PositionSets.AreSets, entries.specs.Stored.PositionSets.sets_of};
+    ghost use Rattle.entries.specs.Stored.PositionSets.{AreSets, sets_of};
 
     ghost Value = { List (List ℕ) };
 
@@ -142,14 +144,15 @@ impl PositionSets {
         below
     }
 
-    /// Makes the set with a position in its place, and returns its number: the same one where the set has the position.
+    /// Makes the set with a position in its place, and returns its number; it is the set itself if it has the position.
     ///
-    /// Errors: where an allocation fails, or there are 2^32 - 1 sets already, all sets are as before.
+    /// Errors: an allocation fails, or there would be 2^32 sets; all sets are then as before.
     /// Cost: the logarithm of the set's size, in time and in memory.
     pub fn insert(&mut self, set: u32, position: u32) -> Result<u32, AllocError>
         ensures inserted { IfOk result (IsSet self.new (with_position position (set_at self.old set))) }
         ensures more { Extends self.old self.new }
         ensures has { has_position position (set_at self.old set) ≡ true → result ≡ Ok set }
+        ensures stay { has_position position (set_at self.old set) ≡ true → self.new ≡ self.old }
         ensures same { OnErr result (self.new ≡ self.old) }
     {
         let size = self.size();
@@ -165,7 +168,7 @@ impl PositionSets {
 
     /// Makes the set of these positions, and returns its number.
     ///
-    /// Errors: where an allocation fails, or there would be 2^32 sets, all sets are as before.
+    /// Errors: an allocation fails, or there would be 2^32 sets; all sets are then as before.
     /// Cost: the number of positions, in time and in memory.
     pub fn of_ascending(&mut self, positions: &[u32]) -> Result<u32, AllocError>
         requires { Ascends positions.now }
@@ -182,7 +185,7 @@ impl PositionSets {
         made
     }
 
-    /// Keeps the first sets, so many, and always the empty one. Does not allocate.
+    /// Keeps the first `size` sets; the empty set always stays. Does not allocate.
     pub fn truncate(&mut self, size: usize)
         ensures { self.new ≡ take (max 1 size) self.old }
     {
@@ -202,7 +205,7 @@ impl PositionSets {
         Some(item(nodes, set as usize - 1))
     }
 
-    /// Makes the set with a position in its place, by copies of the nodes on the way to it.
+    /// Makes the set with a position in its place, with copies of the nodes on the way to it.
     fn put_in(&mut self, set: u32, position: u32) -> Result<u32, AllocError>
         ensures made { IfOk result (IsSet self.new (with_position position (set_at self.old set))) }
         ensures more { Extends self.old self.new }
@@ -253,18 +256,18 @@ impl PositionSets {
         if above > HEAVIER * below
             && let Some(right) = self.top(right)
         {
-            return self.lean_left(left, position, right);
+            return self.rotate_left(left, position, right);
         }
         if below > HEAVIER * above
             && let Some(left) = self.top(left)
         {
-            return self.lean_right(left, position, right);
+            return self.rotate_right(left, position, right);
         }
         self.join(left, position, right)
     }
 
-    /// Makes the set of both and a position between, with less on the right.
-    fn lean_left(&mut self, left: u32, position: u32, right: Node) -> Result<u32, AllocError>
+    /// Makes the set of both and a position between by a rotation to the left, or two.
+    fn rotate_left(&mut self, left: u32, position: u32, right: Node) -> Result<u32, AllocError>
         requires left { left < length self.old }
         requires inner { right.left < length self.old }
         requires outer { right.right < length self.old }
@@ -284,8 +287,8 @@ impl PositionSets {
         self.join(below, right.position, right.right)
     }
 
-    /// Makes the set of both and a position between, with less on the left.
-    fn lean_right(&mut self, left: Node, position: u32, right: u32) -> Result<u32, AllocError>
+    /// Makes the set of both and a position between by a rotation to the right, or two.
+    fn rotate_right(&mut self, left: Node, position: u32, right: u32) -> Result<u32, AllocError>
         requires outer { left.left < length self.old }
         requires inner { left.right < length self.old }
         requires right { right < length self.old }

@@ -2,7 +2,7 @@ use Rattle.std.proofs.Common.{sym, subst, ◌∙◌, append_assoc, arith}
 use Rattle.entries.specs.PositionSets.{Ascends}
 use Rattle.entries.proofs.PositionSetLemmas.{parts}
 use Rattle.entries.proofs.JoinedSetLemmas.{joined-extends, right-whole, turned}
-use Rattle.entries.proofs.position_sets.PositionSets.lean_right.Goals as goal
+use Rattle.entries.proofs.position_sets.PositionSets.rotate_right.Goals as goal
 
 pub join-requires-clause-ascends : goal.join-requires-clause-ascends
 join-requires-clause-ascends c =
