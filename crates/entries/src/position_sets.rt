@@ -1,5 +1,5 @@
 //! Sets of positions, each made from an earlier one.
-ghost use Rattle.std.specs.Prelude.{◌≡◌, ℕ, ◌<◌, ◌≤◌, ◌+◌, ◌-◌, ◌^◌, ◌++◌, ◌∷◌, [], length, take, max, slice_get, OnOk, OnErr, IfOk, IfSome, IfNone, Ok, true};
+ghost use Rattle.std.specs.Prelude.{◌≡◌, ℕ, ◌<◌, ◌+◌, ◌^◌, ◌++◌, ◌∷◌, [], length, take, max, slice_get, OnOk, OnErr, IfOk, IfSome, IfNone, Ok, true};
 ghost use Rattle.entries.specs.PositionSets.{Ascends, IsSet, count_below, has_position, set_at, with_position};
 ghost use Rattle.entries.specs.Stored.PositionSets.{IsTop, joined, set_of};
 ghost use Rattle.entries.specs.Stored.Spans.{Extends};
