@@ -6,3 +6,7 @@ pub mod AddedStatement
 pub mod VersionLemmas
 pub mod LogLemmas
 pub mod HistoryLemmas
+pub mod SetNodeLemmas
+pub mod PositionSetLemmas
+pub mod JoinedSetLemmas
+mod PositionSetRows

@@ -2,3 +2,4 @@
 pub mod Spans
 pub mod Records
 pub mod Versions
+pub mod PositionSets

@@ -17,6 +17,7 @@ mod layout;
 mod links;
 mod parts;
 mod position_stack;
+mod position_sets;
 mod statement_record;
 
 pub use buffer_part::BufferPart;
@@ -29,3 +30,4 @@ pub use kind::Kind;
 pub use links::Links;
 pub use parts::AssertionParts;
 pub use position_stack::PositionStack;
+pub use position_sets::PositionSets;
