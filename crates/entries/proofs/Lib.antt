@@ -3,3 +3,5 @@ pub mod SpanLemmas
 pub mod StatementRecordLemmas
 pub mod BufferPlaceLemmas
 pub mod AddedStatement
+pub mod SymbolPlacesLemmas
+pub mod LongExpressionsLemmas

@@ -1,3 +1,4 @@
 pub mod Hypotheses
 pub mod Entries
+pub mod SymbolPlaces
 pub mod Stored

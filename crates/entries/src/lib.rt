@@ -13,8 +13,10 @@ mod head;
 mod kind;
 mod layout;
 mod links;
+mod long_expressions;
 mod parts;
 mod statement_record;
+mod symbol_places;
 
 pub use buffer_part::BufferPart;
 pub use cited_parts::{Cited, Hypotheses, Hypothesis, NO_HEAD, number_of};
@@ -23,4 +25,6 @@ pub use groups::Groups;
 pub use head::{Background, EntryRef, Head};
 pub use kind::Kind;
 pub use links::Links;
+pub use long_expressions::LongExpressions;
 pub use parts::AssertionParts;
+pub use symbol_places::SymbolPlaces;
