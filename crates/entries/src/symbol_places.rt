@@ -7,13 +7,13 @@ use crate::groups::Groups;
 use std::alloc::{AllocError, Global};
 use std::marker::Model;
 
-/// More symbols than any expression has whose indexes can be grouped. A key is a symbol times this, and its index.
+/// How many indexes there can be: a key is a symbol times this, plus its index.
 const INDEXES: u64 = 4_294_967_296;
 
 /// The indexes of an expression's symbols, grouped by symbol, the least symbol first. Contracts see the list of the groups,
 /// each the ascending list of the indexes at which one symbol stands.
 ///
-/// Cost: four bytes for each symbol of the expression, and eight for each that differs from the others.
+/// Cost: four bytes for each symbol of the expression, and eight for each distinct one.
 #[derive(Drop)]
 pub struct SymbolPlaces {
     indexes: Vec<u32>,
@@ -89,7 +89,7 @@ fn is_last(keys: &[u64], at: usize) -> bool
     }
 }
 
-/// Returns the runs of the keys of one symbol, one behind the other.
+/// Lists the runs of keys of one symbol, in order.
 fn runs_of(alloc: Global, keys: &[u64]) -> Result<Vec<BufferPart>, AllocError>
     ensures { IfOk result (λ runs. AreRuns keys.now 0 (length keys.now) runs.items) }
 {

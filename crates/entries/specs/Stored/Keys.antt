@@ -1,5 +1,5 @@
 -- The symbols of an expression with their indexes, each two as one number. The code's own form: no public clause cites it.
--- So a list of them in order has the indexes of one symbol side by side, in order too.
+-- In ascending order, the keys of one symbol are next to each other, and their indexes are in order too.
 use Rattle.std.specs.Prelude.{◌≡◌, ◌≢◌, ℕ, ◌+◌, ◌*◌, ◌/◌, ◌%◌, ◌<◌, ◌≤◌, List, [], ◌∷◌, length, slice_get, slice_index, Some}
 use Rattle.std.specs.List.{Contains}
 use Rattle.std.specs.List.Sorted.{IsStrictlyIncreasing}
