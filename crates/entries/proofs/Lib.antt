@@ -10,3 +10,5 @@ pub mod SetNodeLemmas
 pub mod PositionSetLemmas
 pub mod JoinedSetLemmas
 mod PositionSetRows
+pub mod SymbolPlacesLemmas
+pub mod LongExpressionsLemmas

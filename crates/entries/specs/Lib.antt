@@ -2,4 +2,5 @@ pub mod Hypotheses
 pub mod Entries
 pub mod Histories
 pub mod PositionSets
+pub mod SymbolPlaces
 pub mod Stored
