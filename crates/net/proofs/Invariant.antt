@@ -13,7 +13,7 @@ use Rattle.synod.specs.declared.change.Held.{Held}
 use Rattle.synod.specs.declared.proposer.Heard.{Heard}
 use Rattle.synod.specs.declared.proposer.Role.{Role}
 use Rattle.synod.specs.declared.proposer.Role.TheVariants.{Idle, Preparing, Leading}
-use Rattle.synod.specs.declared.learner.Tally.{Tally}
+use Rattle.synod.specs.declared.tally.Tally.{Tally}
 use Rattle.synod.specs.PromisePages.{pages_of, joined_pages}
 use Rattle.synod.specs.Node.{Node, pages_from, page_of}
 use Rattle.synod.specs.Learner.{has_voter}

@@ -4,7 +4,7 @@ use Rattle.slots.specs.FiniteMap.{entry_at, put_at}
 use Rattle.slots.proofs.MapReads.{put_either}
 use Rattle.synod.specs.declared.ballot.Ballot.{Ballot}
 use Rattle.synod.specs.declared.packet.SlotReport.{SlotReport}
-use Rattle.synod.specs.declared.learner.Tally.{Tally}
+use Rattle.synod.specs.declared.tally.Tally.{Tally}
 use Rattle.synod.specs.Ballots.{is_same}
 use Rattle.synod.specs.Node.{pages_from, page_of, with_page}
 use Rattle.synod.specs.Learner.{is_voter, no_voters, voted_in, tallies_at, has_voter, counted_in, counted}

@@ -5,6 +5,7 @@ pub mod PromisePages
 pub mod ReportsLemmas
 pub mod KnownVoteLemmas
 pub mod PostsLemmas
+pub mod LaterTalliesLemmas
 pub mod PagesHadLemmas
 pub mod KeptPartLemmas
 pub mod NodeKeeps

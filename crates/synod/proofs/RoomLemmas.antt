@@ -13,7 +13,7 @@ use Rattle.synod.specs.Node.{Node, Stepped}
 use Rattle.synod.specs.declared.refusal.Refusal.{Refusal}
 use Rattle.synod.specs.Core.{Core, ProposerView, LearnerView, core_of}
 use Rattle.synod.specs.Stored.PagesHad.{rooms_of}
-use Rattle.synod.specs.Plans.{HasRoomToPropose, HasRoomToLearn}
+use Rattle.synod.specs.Plans.{HasRoomToPropose, CanCount, HasRoomToLearn}
 use Rattle.synod.specs.Rooms.{RoomsGrow, HasAtLeast}
 use Rattle.synod.specs.Step.{IsNode}
 use Rattle.synod.specs.Ready.{Made, Readies, planned, proposer_of, learner_of, CanFollow}
@@ -44,6 +44,7 @@ same_room c = record {
   heard = omega arith;
   waiting = omega arith;
   tallies = omega arith;
+  later = omega arith;
   learned = omega arith;
 }
 
@@ -67,6 +68,7 @@ module _ {V : Type 0} (me : ℕ) (weights : List ℕ) (r : RecordView V) (p : Pr
     heard = omega arith;
     waiting = omega arith;
     tallies = omega arith;
+    later = omega arith;
     learned = omega arith;
   }
 
@@ -78,17 +80,19 @@ module _ {V : Type 0} (me : ℕ) (weights : List ℕ) (r : RecordView V) (p : Pr
     heard = heard;
     waiting = waiting;
     tallies = omega arith;
+    later = omega arith;
     learned = omega arith;
   }
 
   -- the learner has more room
-  pub learner_room : (more : LearnerView V) → l.tallies_room ≤ more.tallies_room → l.learned_room ≤ more.learned_room → Grows (core_of me weights r p more)
-  learner_room more tallies learned = back (core_of me weights r p more) record {
+  pub learner_room : (more : LearnerView V) → l.tallies_room ≤ more.tallies_room → l.later_room ≤ more.later_room → l.learned_room ≤ more.learned_room → Grows (core_of me weights r p more)
+  learner_room more tallies later learned = back (core_of me weights r p more) record {
     accepted = omega arith;
     pages = rooms_same p.page_rooms;
     heard = omega arith;
     waiting = omega arith;
     tallies = tallies;
+    later = later;
     learned = learned;
   }
 
@@ -123,11 +127,15 @@ module _ {V : Type 0} (c d : Core V) (same : d.node ≡ c.node) (h : HasAtLeast 
   more_to_propose (Some (Lead b next taken)) room = let count = ap (λ (n : Node V). length n.waiting) same in omega (arith, count, room)
   more_to_propose (Some Idle) room = tt
 
+  -- as to a vote
+  more_to_count : (s k : ℕ) → CanCount (learner_of c) s k → CanCount (learner_of d) s k
+  more_to_count s k can = let first = h.tallies in let later = h.later in record { slot = omega (arith, first, can.slot); later = omega (arith, later, can.later); node = can.node }
+
   -- as to what is learned
   more_to_learn : (lesson : Option (Lesson V)) → HasRoomToLearn (learner_of c) lesson → HasRoomToLearn (learner_of d) lesson
   more_to_learn None room = tt
-  more_to_learn (Some (Count s tallies)) room = let more = h.tallies in omega (arith, more, room)
-  more_to_learn (Some (Choose s tallies v)) room = let t = h.tallies in let l = h.learned in (omega (arith, t, room.0), omega (arith, l, room.1))
+  more_to_learn (Some (Count s b k)) room = more_to_count s k room
+  more_to_learn (Some (Choose s b k v)) room = let more = h.learned in (more_to_count s k room.0, omega (arith, more, room.1))
   more_to_learn (Some (Learn s v)) room = let more = h.learned in omega (arith, more, room)
 
   -- as to all its parts

@@ -1,11 +1,12 @@
 -- What contracts see of a node: its state, and how far it has room.
 -- Source: this project's way of making a step ready, and then making it.
 -- The code keeps the three parts of a node apart, and each has its own room.
-use Rattle.std.specs.Prelude.{ℕ, List, Option}
+use Rattle.std.specs.Prelude.{ℕ, Bool, List, Option}
+use Rattle.synod.specs.declared.ballot.Ballot.{Ballot}
 use Rattle.synod.specs.declared.packet.SlotReport.{SlotReport}
 use Rattle.synod.specs.declared.proposer.Role.{Role}
 use Rattle.synod.specs.declared.proposer.Heard.{Heard}
-use Rattle.synod.specs.declared.learner.Tally.{Tally}
+use Rattle.synod.specs.declared.tally.Tally.{Tally}
 use Rattle.synod.specs.Record.{Kept, RecordView}
 use Rattle.synod.specs.Node.{Node}
 
@@ -27,9 +28,15 @@ pub record Learning (V : Type 0) : Type 0 where
   pub tallies : List (Option (List Tally))
   pub learned : List (Option (Option V))
 
+-- the votes under later ballots, by slot and ballot, and how many more there is room for
+pub record LaterView : Type 0 where
+  pub votes : List ((ℕ × Ballot) × List Bool)
+  pub room : ℕ
+
 pub record LearnerView (V : Type 0) : Type 0 where
   pub state : Learning V
   pub tallies_room : ℕ
+  pub later_room : ℕ
   pub learned_room : ℕ
 
 abbrev pub proposing_of : {V : Type 0} → Node V → Proposing V
@@ -61,6 +68,7 @@ pub record Core (V : Type 0) : Type 0 where
   pub heard_room : ℕ
   pub waiting_room : ℕ
   pub tallies_room : ℕ
+  pub later_room : ℕ
   pub learned_room : ℕ
 
 abbrev pub core_of : {V : Type 0} → ℕ → List ℕ → RecordView V → ProposerView V → LearnerView V → Core V
@@ -71,5 +79,6 @@ core_of me weights r p l = record {
   heard_room = p.heard_room;
   waiting_room = p.waiting_room;
   tallies_room = l.tallies_room;
+  later_room = l.later_room;
   learned_room = l.learned_room;
 }

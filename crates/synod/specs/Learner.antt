@@ -8,7 +8,7 @@ use Rattle.synod.specs.declared.weights.TheConstants.{MOST_NODES}
 use Rattle.synod.specs.declared.ballot.Ballot.{Ballot}
 use Rattle.synod.specs.declared.packet.Packet.{Packet}
 use Rattle.synod.specs.declared.packet.Body.TheVariants.{Ask, Told}
-use Rattle.synod.specs.declared.learner.Tally.{Tally}
+use Rattle.synod.specs.declared.tally.Tally.{Tally}
 use Rattle.synod.specs.Weights.{is_quorum}
 use Rattle.synod.specs.Ballots.{is_same}
 use Rattle.synod.specs.Packets.{packet, to_others}

@@ -11,7 +11,7 @@ use Rattle.synod.specs.declared.change.Change.{Change}
 use Rattle.synod.specs.declared.proposer.Role.{Role}
 use Rattle.synod.specs.declared.proposer.Role.TheVariants.{Idle}
 use Rattle.synod.specs.declared.proposer.Heard.{Heard}
-use Rattle.synod.specs.declared.learner.Tally.{Tally}
+use Rattle.synod.specs.declared.tally.Tally.{Tally}
 use Rattle.synod.specs.Record.{Kept, new_kept}
 
 pub record Node (V : Type 0) : Type 0 where

@@ -1,13 +1,15 @@
 -- What a step does to the proposer and to the learner, once it is ready.
 -- Source: this project's way of making a step ready, and then making it.
 -- The code moves these into the node, by no arithmetic and no growth.
-use Rattle.std.specs.Prelude.{◌<◌, ◌≤◌, ◌++◌, [], ◌∷◌, Option, Some, None, length, drop, slice_index_or}
+use Rattle.std.specs.Prelude.{◌<◌, ◌≤◌, ◌++◌, ℕ, [], ◌∷◌, Option, Some, None, length, drop, slice_index_or}
 use Rattle.slots.specs.FiniteMap.{put_at}
 use Rattle.synod.specs.declared.proposer.Role.TheVariants.{Idle as RoleIdle, Preparing, Leading}
 use Rattle.synod.specs.declared.proposer.Proposal.{Proposal}
 use Rattle.synod.specs.declared.proposer.Proposal.TheVariants.{Wait, Propose, Begin, Page, Hear, HearPage, Lead, Idle}
 use Rattle.synod.specs.declared.learner.Lesson.{Lesson}
 use Rattle.synod.specs.declared.learner.Lesson.TheVariants.{Count, Choose, Learn}
+use Rattle.synod.specs.declared.weights.TheConstants.{MOST_NODES}
+use Rattle.synod.specs.Learner.{counted}
 use Rattle.synod.specs.Core.{Proposing, ProposerView, Learning, LearnerView}
 use Rattle.synod.specs.Stored.PagesHad.{entries_of, put_page}
 
@@ -35,12 +37,18 @@ HasRoomToPropose p (Some Idle) = Unit {0}
 
 abbrev pub taught : {V : Type 0} → Learning V → Option (Lesson V) → Learning V
 taught l None = l
-taught l (Some (Count s tallies)) = record l { tallies = put_at l.tallies s tallies }
-taught l (Some (Choose s tallies v)) = record l { tallies = put_at l.tallies s tallies; learned = put_at l.learned s v }
+taught l (Some (Count s b k)) = record l { tallies = counted l.tallies s b k }
+taught l (Some (Choose s b k v)) = record l { tallies = counted l.tallies s b k; learned = put_at l.learned s v }
 taught l (Some (Learn s v)) = record l { learned = put_at l.learned s v }
+
+-- there is room for a vote of node k at a slot, under any ballot
+pub record CanCount {V : Type 0} (l : LearnerView V) (s k : ℕ) : Type 0 where
+  pub slot : s < l.tallies_room
+  pub later : 0 < l.later_room
+  pub node : k < MOST_NODES
 
 abbrev pub HasRoomToLearn : {V : Type 0} → LearnerView V → Option (Lesson V) → Type 0
 HasRoomToLearn l None = Unit {0}
-HasRoomToLearn l (Some (Count s tallies)) = s < l.tallies_room
-HasRoomToLearn l (Some (Choose s tallies v)) = (s < l.tallies_room) × (s < l.learned_room)
+HasRoomToLearn l (Some (Count s b k)) = CanCount l s k
+HasRoomToLearn l (Some (Choose s b k v)) = CanCount l s k × (s < l.learned_room)
 HasRoomToLearn l (Some (Learn s v)) = s < l.learned_room

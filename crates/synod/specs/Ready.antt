@@ -27,7 +27,7 @@ abbrev pub proposer_of : {V : Type 0} → Core V → ProposerView V
 proposer_of c = record { state = proposing_of c.node; page_rooms = c.page_rooms; heard_room = c.heard_room; waiting_room = c.waiting_room }
 
 abbrev pub learner_of : {V : Type 0} → Core V → LearnerView V
-learner_of c = record { state = learning_of c.node; tallies_room = c.tallies_room; learned_room = c.learned_room }
+learner_of c = record { state = learning_of c.node; tallies_room = c.tallies_room; later_room = c.later_room; learned_room = c.learned_room }
 
 -- all growths of the plan are made, and it leaves a node
 pub record CanFollow {V : Type 0} (c : Core V) (plan : Plan V) : Type 0 where

@@ -15,4 +15,5 @@ pub record HasAtLeast {V : Type 0} (one other : Core V) : Type 0 where
   pub heard : one.heard_room ≤ other.heard_room
   pub waiting : one.waiting_room ≤ other.waiting_room
   pub tallies : one.tallies_room ≤ other.tallies_room
+  pub later : one.later_room ≤ other.later_room
   pub learned : one.learned_room ≤ other.learned_room

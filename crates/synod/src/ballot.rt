@@ -4,7 +4,7 @@ ghost use Rattle.std.specs.Prelude.{◌≡◌};
 /// A ballot, written R.N: ordered by its round and then by its node.
 ///
 /// Source: Lamport, Paxos Made Simple, 2.2, where each proposal has a number.
-#[derive(Clone, Copy, PartialEq, Eq)]
+#[derive(Clone, Copy, PartialEq, Eq, Hash)]
 pub struct Ballot {
     pub round: u64,
     pub node: u8,

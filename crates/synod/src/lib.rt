@@ -11,6 +11,7 @@
 mod ballot;
 mod change;
 mod keep;
+mod later_tallies;
 mod leading;
 mod learner;
 mod node;
@@ -22,18 +23,19 @@ mod proposer;
 mod ready;
 mod record;
 mod refusal;
+mod tally;
 mod value;
 mod weights;
 
 pub use ballot::Ballot;
 pub use change::{Change, Held};
 pub use keep::{Failed, Keep};
-pub use learner::{Tallies, Tally};
 pub use node::NodeCore;
 pub use packet::{Body, MOST_PAGES, PAGE_REPORTS, Packet, Reports, SlotReport};
 pub use proposer::{Heard, MOST_WAITING, Role};
 pub use ready::Ready;
 pub use record::Record;
 pub use refusal::Refusal;
+pub use tally::Tally;
 pub use value::{MOST_BYTES, Value, copy_value};
 pub use weights::{MOST_NODES, MOST_WEIGHT, Weights};

@@ -3,7 +3,7 @@ ghost use Rattle.std.specs.Prelude.{◌≡◌, ◌<◌, IfOk, length};
 ghost use Rattle.slots.specs.declared.slots.TheConstants.{SLOTS};
 
 use crate::ballot::Ballot;
-use crate::learner::{Lesson, Tallies};
+use crate::learner::Lesson;
 use crate::node::NodeCore;
 use crate::packet::{Body, Packet};
 use crate::posts::{Said, post_to_others};
@@ -13,9 +13,8 @@ use slots::SLOTS;
 use std::alloc::AllocError;
 
 impl<V: Value> NodeCore<V> {
-    ghost use Rattle.synod.specs.Learner.{counted_in, tallies_at, voted_in, on_accepted, on_ask, on_told, asks_below, asks_for};
+    ghost use Rattle.synod.specs.Learner.{has_voter, counted, on_accepted, on_ask, on_told, asks_below, asks_for};
     ghost use Rattle.std.specs.Prelude.{Some};
-    ghost use Rattle.slots.specs.FiniteMap.{entry_at};
     ghost use Rattle.synod.specs.declared.weights.TheConstants.{MOST_NODES};
     ghost use Rattle.synod.specs.Weights.{is_quorum};
     ghost use Rattle.synod.specs.Node.{answers};
@@ -94,39 +93,32 @@ impl<V: Value> NodeCore<V> {
         if self.learner.learned(slot).is_some() {
             return Ok(self.ready_nothing());
         }
-        let tallies = self.tallied(slot, ballot, from)?;
         self.learner.room(slot)?;
-        if self.is_chosen(&tallies, ballot) {
+        if self.is_chosen(slot, ballot, from) {
             let posts = self.ask_below(slot, self.learner.front_with(slot))?;
-            let value = copy_value(value)?;
             let lesson = Lesson::Choose {
                 slot,
-                tallies,
-                value,
+                ballot,
+                node: from,
+                value: copy_value(value)?,
             };
             Ok(self.ready_lesson(lesson, posts))
         } else {
-            let lesson = Lesson::Count { slot, tallies };
+            let lesson = Lesson::Count {
+                slot,
+                ballot,
+                node: from,
+            };
             Ok(self.ready_lesson(lesson, Vec::new(self.alloc)))
         }
     }
 
-    /// A slot's tallies once a node is counted there under a ballot.
-    fn tallied(&self, slot: u32, ballot: Ballot, node: u8) -> Result<Tallies, AllocError>
+    /// Whether a quorum is counted at a slot under a ballot once a node is counted there.
+    fn is_chosen(&self, slot: u32, ballot: Ballot, node: u8) -> bool
         requires { node < MOST_NODES }
-        ensures { IfOk result (λ tallies. tallies ≡ counted_in (tallies_at (entry_at self.now.node.tallies slot)) ballot node) }
+        ensures { result ≡ is_quorum self.now.node.weights (has_voter (counted self.now.node.tallies slot ballot node) slot ballot) }
     {
-        match self.learner.tallies(slot) {
-            Some(tallies) => tallies.counted(self.alloc, ballot, node),
-            None => Ok(Tallies::one(self.alloc, ballot, node)),
-        }
-    }
-
-    /// Whether a quorum is counted under a ballot.
-    fn is_chosen(&self, tallies: &Tallies, ballot: Ballot) -> bool
-        ensures { result ≡ is_quorum self.now.node.weights (voted_in tallies.now ballot) }
-    {
-        let voters = tallies.voters(ballot);
+        let voters = self.learner.voters_with(slot, ballot, node);
         self.weights.is_quorum(&voters)
     }
 
