@@ -1,3 +1,4 @@
+pub mod Words
 pub mod FiniteMapLemmas
 pub mod PagesLemmas
 pub mod Lists

@@ -1,11 +1,11 @@
-//! One page: 256 slots, each empty or with an entry.
+//! A page: 256 slots, each empty or with an entry.
 ghost use Rattle.std.specs.Prelude.{◌≡◌, ◌<◌, Some, None, IfOk, length, slice_set, replicate, MatchOption};
 ghost use Rattle.slots.specs.FiniteMap.{entry_at};
 
 use std::alloc::{AllocError, Global};
 use std::marker::Model;
 
-/// The slots of one page.
+/// The number of slots of a page.
 pub const PAGE_SLOTS: usize = 256;
 
 /// A page of slots.
@@ -26,7 +26,7 @@ impl<T> Model for Page<T> {
 }
 
 impl<T: Drop> Page<T> {
-    /// A page with no entry.
+    /// Creates an empty page.
     pub fn new(alloc: Global) -> Result<Self, AllocError>
         ensures { IfOk result (λ page. page ≡ replicate PAGE_SLOTS None) }
     {
@@ -37,7 +37,7 @@ impl<T: Drop> Page<T> {
         Ok(Page { slots })
     }
 
-    /// The entry at a slot of the page.
+    /// Returns the entry at a slot of the page.
     pub fn get(&self, slot: usize) -> Option<&T>
         requires { slot < PAGE_SLOTS }
         ensures { MatchOption result (entry_at self.now slot ≡ None) (λ entry. entry_at self.now slot ≡ Some entry.now) }
@@ -45,7 +45,7 @@ impl<T: Drop> Page<T> {
         self.slots[slot].as_ref()
     }
 
-    /// Puts an entry at a slot of the page, and gives the one before.
+    /// Puts an entry at a slot of the page, and returns the old one.
     pub fn put(&mut self, slot: usize, entry: T) -> Option<T>
         requires { slot < PAGE_SLOTS }
         ensures put { self.new ≡ slice_set self.old slot (Some entry) }

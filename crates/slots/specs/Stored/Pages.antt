@@ -1,12 +1,12 @@
 -- Slots in pages of 256.
--- Source: this project's own way of keeping them.
--- The code keeps a list of pages. Contracts see one list of slots.
+-- Source: this project's representation.
+-- The code has a list of pages. Contracts see one list of slots.
 use Rattle.std.specs.Prelude.{◌≡◌, ◌≤◌, ℕ, List, [], ◌∷◌, ◌++◌, Option, length}
 use Rattle.slots.specs.declared.page.TheConstants.{PAGE_SLOTS}
 use Rattle.slots.specs.declared.slots.TheConstants.{SLOTS}
 use Rattle.slots.specs.FiniteMap.{front_of, top_of, trimmed}
 
--- the pages, one behind the other
+-- the slots of all pages
 abbrev pub joined : {T : Type 0} → List (List T) → List T
 joined [] = []
 joined (page ∷ pages) = page ++ joined pages
@@ -16,7 +16,7 @@ abbrev pub AreWhole : {T : Type 0} → List (List T) → Type 0
 AreWhole [] = Unit {0}
 AreWhole (page ∷ pages) = (length page ≡ PAGE_SLOTS) × AreWhole pages
 
--- what is known of slots: they are below the limit, and their front and top are at hand
+-- the invariant of slots: they are below the limit, and front and top are stored
 pub record AreSlots {T : Type 0} (slots : List (Option T)) (front top : ℕ) : Type 0 where
   pub within : length slots ≤ SLOTS
   pub front_is : front ≡ front_of slots

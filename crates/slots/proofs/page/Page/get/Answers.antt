@@ -1,6 +1,4 @@
-use Rattle.std.proofs.Common.{◌≡◌, ◌∙◌, sym, ap, List, Option, Some, None, MatchOption, Bor, arith}
-use Rattle.std.specs.Option.{option_copied}
-use Rattle.slots.specs.FiniteMap.{entry_at}
+use Rattle.slots.proofs.Words.{◌≡◌, ◌∙◌, sym, ap, List, Option, Some, None, MatchOption, Bor, arith, option_copied, entry_at}
 use Rattle.slots.proofs.FiniteMapLemmas.{entry_at-get_or}
 use Rattle.slots.proofs.page.Page.get.Goals as goal
 

@@ -1,5 +1,4 @@
-use Rattle.std.proofs.Common.{◌∙◌, ap, length, List, Option, None, arith}
-use Rattle.std.proofs.lemmas.List.{length-replicate}
+use Rattle.slots.proofs.Words.{◌∙◌, ap, length, List, Option, None, arith, length-replicate}
 use Rattle.slots.proofs.page.Page.new.Goals as goal
 
 pub invariant_of-result : goal.invariant_of-result

@@ -1,5 +1,4 @@
-use Rattle.std.proofs.Common.{◌∙◌, sym, ap, List, Option, arith}
-use Rattle.slots.specs.FiniteMap.{entry_at}
+use Rattle.slots.proofs.Words.{◌∙◌, sym, ap, List, Option, arith, entry_at}
 use Rattle.slots.proofs.FiniteMapLemmas.{entry_at-get_or}
 use Rattle.slots.proofs.page.Page.put.Goals as goal
 
