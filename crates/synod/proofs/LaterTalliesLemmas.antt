@@ -1,18 +1,5 @@
 -- A vote is counted among those of a slot, whether its ballot came first there or later.
-use Rattle.std.proofs.Common.{◌≡◌, ◌≢◌, ◌∙◌, ℕ, zero, suc, ◌+◌, ◌<◌, ◌==◌, ◌&&◌, Bool, true, false, List, [], ◌∷◌, Option, Some, None, Result, Ok, Err, inl, inr, refl, sym, ap, arith, if◌then◌else◌}
-use Rattle.std.specs.Option.{option_map}
-use Rattle.std.specs.Result.{IsOk, OnOk}
-use Rattle.std.proofs.lemmas.Bool.{cases_Bool}
-use Rattle.std.proofs.lemmas.Bool.Decides.{nat_tests}
-use Rattle.slots.specs.FiniteMap.{entry_at, put_at}
-use Rattle.slots.proofs.MapReads.{put_same, put_either}
-use Rattle.std.specs.Map.{lookup}
-use Rattle.indexmap.specs.IndexMap.{insert_entry}
-use Rattle.synod.specs.declared.ballot.Ballot.{Ballot}
-use Rattle.synod.specs.declared.tally.Tally.{Tally}
-use Rattle.synod.specs.Ballots.{is_same}
-use Rattle.synod.specs.Learner.{is_voter, with_voter, no_voters, voted_in, counted_in, tallies_at, has_voter, counted}
-use Rattle.synod.specs.Stored.LaterTallies.{tally, later_at, voters_among, tallies_from, IsLearner}
+use Rattle.synod.proofs.Words.{◌≡◌, ◌≢◌, ◌∙◌, ℕ, zero, suc, ◌+◌, ◌<◌, ◌==◌, ◌&&◌, Bool, true, false, List, [], ◌∷◌, Option, Some, None, Result, Ok, Err, inl, inr, refl, sym, ap, arith, if◌then◌else◌, option_map, IsOk, OnOk, cases_Bool, nat_tests, entry_at, put_at, put_same, put_either, lookup, insert_entry, Ballot, Tally, is_same, is_voter, with_voter, no_voters, voted_in, counted_in, tallies_at, has_voter, counted, tally, later_at, voters_among, tallies_from, IsLearner}
 
 pub on_ok : {T E : Type 0} (r : Result T E) (P : Type 0) → IsOk r → OnOk r P → P
 on_ok (Ok x) P ok h = h

@@ -1,3 +1,4 @@
+pub mod Words
 pub mod WeighLemmas
 pub mod BallotsLemmas
 pub mod QuorumLemmas

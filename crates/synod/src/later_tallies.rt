@@ -28,7 +28,7 @@ impl Model for LaterTallies {
 }
 
 impl LaterTallies {
-    /// Makes a table without votes. It does not allocate.
+    /// Creates a table without votes. It does not allocate.
     pub(crate) fn new(alloc: Global) -> Self
         ensures { result.votes ≡ [] }
     {
@@ -37,7 +37,7 @@ impl LaterTallies {
         }
     }
 
-    /// Makes room for one more ballot. The votes stay.
+    /// Reserves room for one more tally. The votes are unchanged.
     pub(crate) fn room(&mut self) -> Result<(), AllocError>
         ensures ok { OnOk result (0 < self.new.room) }
         ensures votes { self.new.votes ≡ self.old.votes }
@@ -46,7 +46,7 @@ impl LaterTallies {
         self.voters.reserve(1)
     }
 
-    /// The nodes counted at a slot under a ballot, with one more.
+    /// Returns the voters at a slot under a ballot once `node` is counted.
     pub(crate) fn voters_with(&self, slot: u32, ballot: Ballot, node: u8) -> [bool; MOST_NODES]
         requires { node < MOST_NODES }
         ensures { result ≡ with_voter (voters_among self.now.votes slot ballot) node }
@@ -58,7 +58,7 @@ impl LaterTallies {
         with_mark(voters, node)
     }
 
-    /// Counts a node at a slot under a ballot. It does not allocate.
+    /// Counts a vote. It does not allocate.
     pub(crate) fn count(&mut self, slot: u32, ballot: Ballot, node: u8)
         requires node { node < MOST_NODES }
         requires room { 0 < self.old.room }

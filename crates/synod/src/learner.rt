@@ -1,4 +1,4 @@
-//! The learner: whom it has counted, and what it has learned.
+//! The learner: the votes that it has counted, and the values that it has learned.
 ghost use Rattle.std.specs.Prelude.{◌≡◌, ◌<◌, ◌≤◌, ℕ, OnOk, Option, Some, None, MatchOption, false, length, slice_index_or};
 ghost use Rattle.slots.specs.declared.slots.TheConstants.{SLOTS};
 ghost use Rattle.slots.specs.FiniteMap.{entry_at, put_at, front_of};
@@ -11,30 +11,30 @@ use slots::Slots;
 use std::alloc::{AllocError, Global};
 use std::marker::Model;
 
-/// What a step teaches a learner.
+/// The change that a step makes of a learner.
 #[derive(Drop)]
-pub enum Lesson<V> {
-    /// A node is counted at a slot under a ballot.
+pub enum LearnerUpdate<V> {
+    /// A vote is counted.
     Count {
         slot: u32,
         ballot: Ballot,
         node: u8,
     },
-    /// A node is counted, and with it there is a quorum.
+    /// A vote is counted that completes a quorum.
     Choose {
         slot: u32,
         ballot: Ballot,
         node: u8,
         value: Option<V>,
     },
-    /// What was chosen at a slot is told.
+    /// A chosen value is told.
     Learn {
         slot: u32,
         value: Option<V>,
     },
 }
 
-/// The learner's part of a node.
+/// The learner's part of a node: the first tally of each slot, the later ones, and the learned values.
 #[derive(Drop)]
 pub struct Learner<V> {
     first: Slots<Tally>,
@@ -61,9 +61,9 @@ impl<V> Model for Learner<V> {
 impl<V: Drop> Learner<V> {
     ghost use Rattle.std.specs.Prelude.{[]};
     ghost use Rattle.synod.specs.Learner.{has_voter, counted};
-    ghost use Rattle.synod.specs.Plans.{taught, CanCount, HasRoomToLearn};
+    ghost use Rattle.synod.specs.Updates.{learner_after, CanCount, CanUpdateLearner};
 
-    /// Nothing is counted and learned. It takes no memory.
+    /// Creates a learner without votes and values. It does not allocate.
     pub(crate) fn new(alloc: Global) -> Self
         ensures tallies { result.state.tallies ≡ [] }
         ensures learned { result.state.learned ≡ [] }
@@ -75,14 +75,14 @@ impl<V: Drop> Learner<V> {
         }
     }
 
-    /// What is learned at a slot.
+    /// Returns the value learned at a slot.
     pub(crate) fn learned(&self, slot: u32) -> Option<&Option<V>>
         ensures { MatchOption result (entry_at self.now.state.learned slot ≡ None) (λ value. entry_at self.now.state.learned slot ≡ Some value.now) }
     {
         self.learned.get(slot)
     }
 
-    /// The length of the log.
+    /// Returns the length of the log.
     pub(crate) fn front(&self) -> u32
         ensures front { result ≡ front_of self.now.state.learned }
         ensures within { result ≤ SLOTS }
@@ -90,7 +90,7 @@ impl<V: Drop> Learner<V> {
         self.learned.front()
     }
 
-    /// The length of the log once a slot is learned.
+    /// Returns the length of the log once a value is learned at `slot`.
     pub(crate) fn front_with(&self, slot: u32) -> u32
         requires { slot < SLOTS }
         ensures front { (value : Option V) → front_of (put_at self.now.state.learned slot value) ≡ result }
@@ -99,7 +99,7 @@ impl<V: Drop> Learner<V> {
         self.learned.front_with(slot)
     }
 
-    /// The nodes counted at a slot under a ballot, with one more.
+    /// Returns the voters at a slot under a ballot once `node` is counted.
     pub(crate) fn voters_with(&self, slot: u32, ballot: Ballot, node: u8) -> [bool; MOST_NODES]
         requires { node < MOST_NODES }
         ensures { (k : ℕ) → slice_index_or result k false ≡ has_voter (counted self.now.state.tallies slot ballot node) slot ballot k }
@@ -116,7 +116,7 @@ impl<V: Drop> Learner<V> {
         }
     }
 
-    /// Makes room for a vote at a slot, and for a value there. The votes and the values stay.
+    /// Reserves room for a vote and for a value at a slot. Votes and values are unchanged.
     pub(crate) fn room(&mut self, slot: u32) -> Result<(), AllocError>
         requires { slot < SLOTS }
         ensures tallies { OnOk result (slot < self.new.tallies_room) }
@@ -132,7 +132,9 @@ impl<V: Drop> Learner<V> {
         self.learned.room(slot)
     }
 
-    /// Counts a node at a slot under a ballot. It does not allocate.
+    /// Counts a vote. It does not allocate.
+    ///
+    /// Cost: a look-up, however many ballots the slot has seen.
     fn count(&mut self, slot: u32, ballot: Ballot, node: u8)
         requires { CanCount self.old slot node }
         ensures tallies { self.new.state.tallies ≡ counted self.old.state.tallies slot ballot node }
@@ -151,15 +153,15 @@ impl<V: Drop> Learner<V> {
         }
     }
 
-    /// Learns a lesson, if there is one. It takes no memory.
-    pub(crate) fn learn(&mut self, lesson: Option<Lesson<V>>)
-        requires { HasRoomToLearn self.old lesson }
-        ensures { self.new.state ≡ taught self.old.state lesson }
+    /// Applies an update, if there is one. It does not allocate.
+    pub(crate) fn learn(&mut self, update: Option<LearnerUpdate<V>>)
+        requires { CanUpdateLearner self.old update }
+        ensures { self.new.state ≡ learner_after self.old.state update }
     {
-        match lesson {
-            Some(Lesson::Count { slot, ballot, node }) => self.count(slot, ballot, node),
+        match update {
+            Some(LearnerUpdate::Count { slot, ballot, node }) => self.count(slot, ballot, node),
             Some(
-                Lesson::Choose {
+                LearnerUpdate::Choose {
                     slot,
                     ballot,
                     node,
@@ -169,7 +171,7 @@ impl<V: Drop> Learner<V> {
                 self.count(slot, ballot, node);
                 self.learned.put(slot, value);
             }
-            Some(Lesson::Learn { slot, value }) => {
+            Some(LearnerUpdate::Learn { slot, value }) => {
                 self.learned.put(slot, value);
             }
             None => {}

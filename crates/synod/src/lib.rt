@@ -1,11 +1,11 @@
 //! One node of the agreement: proposer, acceptor and learner at once.
 //!
-//! `NodeCore` makes exactly the steps of Multi-Paxos: each call's contract cites the definition of its
-//! step in `specs/Step.antt`, with the packets that it posts and the refusal that it meets. A step is made
-//! ready first, which may find no memory and changes nothing, and then committed, which takes none.
+//! `NodeCore` takes the steps of Multi-Paxos: the contract of each call cites the definition of its step in
+//! `specs/Step.antt`, with the packets that it posts and the refusal that it meets. A step is staged first:
+//! that allocates, may fail and changes nothing. Then it is committed, which does not allocate.
 //!
 //! Reading order: `value`, `weights`, `ballot`, `packet`, `change`, `record`, `keep`; `proposer` with `promise_pages` and
-//! `leading`, `learner`, `promise` and `posts`; `refusal`, `ready`, `node`.
+//! `leading`, `tally`, `later_tallies`, `learner`, `promise` and `posts`; `refusal`, `ready`, `node`.
 #![tactic(auto)]
 
 mod ballot;

@@ -1,11 +1,11 @@
-//! The nodes that accepted a value at one slot under one ballot.
+//! The votes at one slot under one ballot.
 ghost use Rattle.std.specs.Prelude.{◌≡◌, ◌<◌};
 ghost use Rattle.synod.specs.Learner.{with_voter, no_voters};
 
 use crate::ballot::Ballot;
 use crate::weights::MOST_NODES;
 
-/// The votes under one ballot: a mark for each node.
+/// The nodes that accepted at a slot under a ballot: a mark for each node.
 #[derive(Clone, Copy)]
 pub struct Tally {
     pub ballot: Ballot,
@@ -13,7 +13,7 @@ pub struct Tally {
 }
 
 impl Tally {
-    /// Counts one node.
+    /// Creates the tally of one vote.
     pub(crate) fn one(ballot: Ballot, node: u8) -> Self
         requires { node < MOST_NODES }
         ensures ballot { result.ballot ≡ ballot }
@@ -25,7 +25,7 @@ impl Tally {
         }
     }
 
-    /// Counts one node more.
+    /// Returns the tally with one more vote.
     pub(crate) fn with(self, node: u8) -> Self
         requires { node < MOST_NODES }
         ensures ballot { result.ballot ≡ self.ballot }
@@ -38,7 +38,7 @@ impl Tally {
     }
 }
 
-/// Marks one node more.
+/// Returns the marks with one more node.
 pub(crate) fn with_mark(mut voters: [bool; MOST_NODES], node: u8) -> [bool; MOST_NODES]
     requires { node < MOST_NODES }
     ensures { result ≡ with_voter voters node }

@@ -1,5 +1,4 @@
-use Rattle.std.proofs.Common.{◌≡◌, ◌∙◌, refl, ap, arith}
-use Rattle.synod.specs.Core.{LaterView}
+use Rattle.synod.proofs.Words.{◌≡◌, ◌∙◌, refl, ap, arith, LaterView}
 use Rattle.synod.proofs.LaterTalliesLemmas.{on_ok, vote_put, later-here, later-others}
 use Rattle.synod.proofs.later_tallies.LaterTallies.count.Goals as goal
 

@@ -1,5 +1,4 @@
-use Rattle.std.proofs.Common.{◌∙◌, ap, List, Bool}
-use Rattle.synod.specs.Learner.{with_voter}
+use Rattle.synod.proofs.Words.{◌∙◌, ap, List, Bool, with_voter}
 use Rattle.synod.proofs.LaterTalliesLemmas.{marks, among-lookup}
 use Rattle.synod.proofs.later_tallies.LaterTallies.voters_with.Goals as goal
 use Rattle.synod.proofs.later_tallies.LaterTallies.voters_with.Goals.{in-Some, in-None}

@@ -1,5 +1,4 @@
-use Rattle.std.proofs.Common.{◌∙◌, ap, sym}
-use Rattle.synod.specs.Stored.LaterTallies.{later_at}
+use Rattle.synod.proofs.Words.{◌∙◌, ap, sym, later_at}
 use Rattle.synod.proofs.LaterTalliesLemmas.{counted_new, counted_first, counted_later, learner_put, learner_later}
 use Rattle.synod.proofs.learner.Learner.count.Goals as goal
 

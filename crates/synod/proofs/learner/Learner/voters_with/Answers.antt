@@ -1,6 +1,4 @@
-use Rattle.std.proofs.Common.{◌∙◌, ap, sym, List, Bool}
-use Rattle.synod.specs.Learner.{is_voter}
-use Rattle.synod.specs.Stored.LaterTallies.{later_at}
+use Rattle.synod.proofs.Words.{◌∙◌, ap, sym, List, Bool, is_voter, later_at}
 use Rattle.synod.proofs.LaterTalliesLemmas.{later-voters, voters_new, voters_first, voters_later}
 use Rattle.synod.proofs.learner.Learner.voters_with.Goals as goal
 

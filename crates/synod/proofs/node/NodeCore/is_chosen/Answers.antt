@@ -1,7 +1,4 @@
-use Rattle.std.proofs.Common.{◌∙◌, ap, false, get_or}
-use Rattle.synod.specs.Core.{Core}
-use Rattle.synod.specs.Weights.{is_quorum}
-use Rattle.synod.specs.Learner.{has_voter, counted}
+use Rattle.synod.proofs.Words.{◌∙◌, ap, false, get_or, Core, is_quorum, has_voter, counted}
 use Rattle.synod.proofs.WeighLemmas.{is_quorum-same}
 use Rattle.synod.proofs.node.NodeCore.is_chosen.Goals as goal
 
