@@ -13,7 +13,7 @@ use Rattle.net.specs.declared.fault.StepFault.TheVariants.{Memory, Device}
 use Rattle.net.specs.World.{World, stepped, happens, packets_after}
 use Rattle.net.specs.Taken.{Taken, with_event, world_of as world_of_taken}
 use Rattle.net.specs.KeptPart.{addressed, node_of, change_of}
-use Rattle.net.specs.Due.{Due, NetView, IsDue, IsEventAt, IsStill, IsTaken, change_in, step_of}
+use Rattle.net.specs.Staged.{StagedEvent, NetView, IsStaged, IsEventAt, IsStill, IsTaken, change_in, step_of}
 use Rattle.std.proofs.lemmas.Option.{slice_get_within}
 use Rattle.net.proofs.TakenLemmas.{after-push, length-nodes_of}
 use Rattle.switch.specs.Seat.{Standing, up, down, Seated, IsRecordOf, IsWithOrWithout, Fails, change_owed}
@@ -77,7 +77,7 @@ module _ {V : Type 0} (size : V → ℕ) (net : NetView V) (seats : List (Seated
       omega (arith, low, count, nodes, cores))
 
   -- a keep that fits its node fits it with the change that the world tells of the event owed
-  record_in : (n : Node V) (k : ℕ) (s : Standing (Due V)) (kept : Kept V) → IsRecordOf n s kept → IsOwing size net k s → IsRecordIn size w n (standing_seen s) kept
+  record_in : (n : Node V) (k : ℕ) (s : Standing (StagedEvent V)) (kept : Kept V) → IsRecordOf n s kept → IsOwing size net k s → IsRecordIn size w n (standing_seen s) kept
   record_in n k up kept fits owing = fits
   record_in n k (down None) kept fits owing = fits
   record_in n k (down (Some o)) kept fits owing = subst (λ (c : Option (Change V)). IsWithOrWithout (kept_of n) c kept) (change_told size net seats h o owing.1) fits
@@ -100,7 +100,7 @@ module _ {V : Type 0} (size : V → ℕ) (net : NetView V) (seats : List (Seated
 
   -- An event that was not made ready.
 
-  module _ (e : Event V) (fault : StepFault) (r : Result (Due V) StepFault) (is_err : r ≡ Err fault) (new : Shared V) (same : new ≡ old) where
+  module _ (e : Event V) (fault : StepFault) (r : Result (StagedEvent V) StepFault) (is_err : r ≡ Err fault) (new : Shared V) (same : new ≡ old) where
     -- what is answered is the fault that the event meets, or Memory where it meets none
     not_ready : (x : Result (World V) StepFault) → happens size w e ≡ x → IfErr x (λ met. r ≡ Err met) → OnOk x (IsOkUnless r Memory) → ActsUp size w old new e (Err fault)
     not_ready (Err met) happened refused memory =
@@ -111,7 +111,7 @@ module _ {V : Type 0} (size : V → ℕ) (net : NetView V) (seats : List (Seated
           taken = λ x d. let no : Err met ≡ Ok x = sym happened ∙ d in cc;
         }
     not_ready (Ok y) happened refused memory =
-        let is_memory : fault ≡ Memory = subst (λ (a : Result (Due V) StepFault). IsOkUnless a Memory) is_err memory in
+        let is_memory : fault ≡ Memory = subst (λ (a : Result (StagedEvent V) StepFault). IsOkUnless a Memory) is_err memory in
         record {
           refused = λ other d. let no : Ok y ≡ Err other = sym happened ∙ d in cc;
           taken = λ x d k node place found. inl (is_memory, same);
@@ -124,7 +124,7 @@ module _ {V : Type 0} (size : V → ℕ) (net : NetView V) (seats : List (Seated
 
   -- An event that is due, at a node that is up.
 
-  module _ (d1 : Due V) (d : IsDue size net d1) (low : length net.taken.events < MOST_EVENTS) (e : Event V) (is_e : d1.event ≡ e) (seat : Seated V) (is : slice_get seats d1.at ≡ Some seat) where
+  module _ (d1 : StagedEvent V) (d : IsStaged size net d1) (low : length net.taken.events < MOST_EVENTS) (e : Event V) (is_e : d1.event ≡ e) (seat : Seated V) (is : slice_get seats d1.at ≡ Some seat) where
     abbrev step : Stepped V
     step = step_of d1.work d.core.node
 
@@ -143,7 +143,7 @@ module _ {V : Type 0} (size : V → ℕ) (net : NetView V) (seats : List (Seated
     module _ (is_up : seat.standing ≡ up) where
       -- the record of its keep is the kept part of the node
       pub kept_up : seat.kept ≡ kept_of d.core.node
-      kept_up = subst (λ (s : Standing (Due V)). IsRecordOf d.core.node s seat.kept) is_up (h.each d1.at d.core.node seat (node_is size net seats h d1 d) is).fits
+      kept_up = subst (λ (s : Standing (StagedEvent V)). IsRecordOf d.core.node s seat.kept) is_up (h.each d1.at d.core.node seat (node_is size net seats h d1 d) is).fits
 
       -- what is told of the step by its own number, place and world is told by those that are found
       told : (new : Shared V) (result : Result ℕ StepFault) → TakesAt old new e d1.at (place_of seat) (change_in d1.work) (stepped w d1.at step) result → ActsUp size w old new e result
@@ -163,13 +163,13 @@ module _ {V : Type 0} (size : V → ℕ) (net : NetView V) (seats : List (Seated
       }
 
       -- a call of the keep failed, and o is owed
-      module _ (o : Option (Due V)) (change : Option (Change V)) (is_change : change ≡ change_in d1.work) (owes : change_owed o ≡ change) (is_due : event_owed o ≡ due e) (owing : IsOwing size net d1.at (down o)) (new : Seated V) (fails : Fails seat change (down o) new) where
+      module _ (o : Option (StagedEvent V)) (change : Option (Change V)) (is_change : change ≡ change_in d1.work) (owes : change_owed o ≡ change) (is_due : event_owed o ≡ due e) (owing : IsOwing size net d1.at (down o)) (new : Seated V) (fails : Fails seat change (down o) new) where
         -- the seats still make a switch
         pub failed : IsSwitch size net (set seats d1.at new)
         failed = other_seat size net seats h d1.at d.core.node seat new (node_is size net seats h d1 d) is record {
-          fits = subst (λ (s : Standing (Due V)). IsRecordOf d.core.node s new.kept) (sym (ap (λ (s : Seated V). s.standing) fails.rest))
+          fits = subst (λ (s : Standing (StagedEvent V)). IsRecordOf d.core.node s new.kept) (sym (ap (λ (s : Seated V). s.standing) fails.rest))
               (subst (λ (c : Option (Change V)). IsWithOrWithout (kept_of d.core.node) c new.kept) (sym owes) (subst (λ (k : Kept V). IsWithOrWithout k change new.kept) kept_up fails.kept));
-          owing = subst (λ (s : Standing (Due V)). IsOwing size net d1.at s) (sym (ap (λ (s : Seated V). s.standing) fails.rest)) owing;
+          owing = subst (λ (s : Standing (StagedEvent V)). IsOwing size net d1.at s) (sym (ap (λ (s : Seated V). s.standing) fails.rest)) owing;
         }
 
         -- Device is what an event answers there, and its node is down with what it owes

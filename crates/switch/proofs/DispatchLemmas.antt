@@ -14,7 +14,7 @@ use Rattle.net.specs.declared.fault.StepFault.TheVariants.{Device, Down, NoNode}
 use Rattle.net.specs.World.{World, packets_after}
 use Rattle.net.specs.Taken.{Taken, world_of as world_of_taken}
 use Rattle.net.specs.KeptPart.{node_of}
-use Rattle.net.specs.Due.{Due, NetView, IsDue, IsStill, IsTaken, change_in}
+use Rattle.net.specs.Staged.{StagedEvent, NetView, IsStaged, IsStill, IsTaken, change_in}
 use Rattle.std.proofs.lemmas.Option.{slice_get_within, slice_get_read}
 use Rattle.net.proofs.TakenLemmas.{length-nodes_of, count_shown}
 use Rattle.switch.specs.Seat.{up, down, Seated, Fails, change_owed}
@@ -101,7 +101,7 @@ module _ {V : Type 0} (size : V → ℕ) (now new : Shared V) (k : ℕ) (result 
 
 -- A call as its function has it: the net was made ready, and the seat is found by its number.
 
-module _ {V : Type 0} (size : V → ℕ) (a b : NetView V) (still : IsStill a b) (seats : List (Seated V)) (h : IsSwitch size a seats) (now : Shared V) (seen : shared a seats ≡ now) (d1 : Due V) (d : IsDue size b d1) (k : ℕ) (is_at : k ≡ d1.at) where
+module _ {V : Type 0} (size : V → ℕ) (a b : NetView V) (still : IsStill a b) (seats : List (Seated V)) (h : IsSwitch size a seats) (now : Shared V) (seen : shared a seats ≡ now) (d1 : StagedEvent V) (d : IsStaged size b d1) (k : ℕ) (is_at : k ≡ d1.at) where
   -- the seats make a switch with the net as it is then
   hb : IsSwitch size b seats
   hb = still_switch size a seats h b still
@@ -132,7 +132,7 @@ module _ {V : Type 0} (size : V → ℕ) (a b : NetView V) (still : IsStill a b)
     kept_is = kept_up size b seats hb now seen_b d1 d low e is_e seat found is_up
 
     -- a call of the keep failed: the seats still make a switch, and Device is what an event answers there
-    pub call_failed : (o : Option (Due V)) (change : Option (Change V)) → change ≡ change_in d1.work → change_owed o ≡ change → event_owed o ≡ due e → IsOwing size b d1.at (down o) → (new : Seated V) → Fails seat change (down o) new
+    pub call_failed : (o : Option (StagedEvent V)) (change : Option (Change V)) → change ≡ change_in d1.work → change_owed o ≡ change → event_owed o ≡ due e → IsOwing size b d1.at (down o) → (new : Seated V) → Fails seat change (down o) new
         → IsSwitch size b (set seats k new) × ForOk (world_of size now) (λ x. ActsUp size x now (shared b (set seats k new)) e (Err Device))
     call_failed o change is_change owes is_due owing new fails =
         subst (λ (i : ℕ). IsSwitch size b (set seats i new) × ForOk (world_of size now) (λ x. ActsUp size x now (shared b (set seats i new)) e (Err Device))) (sym is_at) (

@@ -22,9 +22,9 @@ use Rattle.net.specs.World.{World, packets_after}
 use Rattle.net.specs.Agree.{IsAfter}
 use Rattle.net.specs.Taken.{Taken, world_of as world_of_taken}
 use Rattle.net.specs.KeptPart.{kept_part}
-use Rattle.net.specs.Due.{Work, steps, restarts, Due, NetView, HasRoom, IsDue, IsReadyAt, IsOfEvent, IsEventAt, ComesTo, IsTaken, posts_of, step_of, loads, loads_due}
+use Rattle.net.specs.Staged.{StagedWork, steps, restarts, StagedEvent, NetView, HasRoom, IsStaged, IsReadyAt, IsOfEvent, IsEventAt, ComesTo, IsTaken, posts_of, step_of, loads, with_record}
 use Rattle.net.proofs.GrowingLists.{at_set, set_twice}
-use Rattle.net.proofs.EventsDue.{comes_restart}
+use Rattle.net.proofs.EventsStaged.{comes_restart}
 use Rattle.net.proofs.TakenLemmas.{set_same}
 use Rattle.switch.specs.Seat.{Standing, up, down, Seated, owed_in, change_owed, posts_owed, IsRecordOf, IsWithOrWithout, Fails}
 use Rattle.switch.specs.Switch.{Place, Shared, event_owed, standing_seen, place_of, places_of, IsOwing, IsSeat, IsSwitch, CanTakeOwed, TakesOwed, world_of, is_down_at, events_due, with_place, RevivesAt, ActsDown}
@@ -37,7 +37,7 @@ use Rattle.switch.proofs.OwedLemmas.{owed_change, can_take, owed_taken}
 
 -- The switch before, seats and net being as they are when the keep is called.
 module _ {V : Type 0} (size : V → ℕ) (net : NetView V) (seats : List (Seated V)) (h : IsSwitch size net seats) (now : Shared V) (seen : shared net seats ≡ now)
-    (d1 : Due V) (d : IsDue size net d1) (j : ℕ) (is_e : d1.event ≡ Restart j) (kind : IsOfEvent (Restart j) d1.work) (k : ℕ) (is_at : k ≡ d1.at) (seat : Seated V) (is : seat ≡ get_or seats k seat) (low_k : k < length seats)
+    (d1 : StagedEvent V) (d : IsStaged size net d1) (j : ℕ) (is_e : d1.event ≡ Restart j) (kind : IsOfEvent (Restart j) d1.work) (k : ℕ) (is_at : k ≡ d1.at) (seat : Seated V) (is : seat ≡ get_or seats k seat) (low_k : k < length seats)
     (test : is_down_at now.places (Some j) ≡ true) (room : length net.taken.events + 2 ≤ MOST_EVENTS) where
   abbrev w : World V
   w = h.world.world
@@ -66,23 +66,23 @@ module _ {V : Type 0} (size : V → ℕ) (net : NetView V) (seats : List (Seated
   own = h.each k d.core.node seat node_k found
 
   -- the seat is down, with an event that is owed or none
-  is_down : (o : Option (Due V)) × (seat.standing ≡ down o)
+  is_down : (o : Option (StagedEvent V)) × (seat.standing ≡ down o)
   is_down = down_at seats k seat found (ap (λ (i : ℕ). is_down_at (places_of seats) (Some i)) (sym is_j) ∙ ap (λ (s : Shared V). is_down_at s.places (Some j)) seen ∙ test)
 
-  abbrev o : Option (Due V)
+  abbrev o : Option (StagedEvent V)
   o = is_down.0
 
   -- that is what the seat owes
   owed_is : owed_in seat.standing ≡ o
-  owed_is = ap (λ (s : Standing (Due V)). owed_in s) is_down.1
+  owed_is = ap (λ (s : Standing (StagedEvent V)). owed_in s) is_down.1
 
   -- the record of the keep is that of the node, with or without the change that is owed
   fits : IsRecordOf d.core.node (down o) seat.kept
-  fits = subst (λ (s : Standing (Due V)). IsRecordOf d.core.node s seat.kept) is_down.1 own.fits
+  fits = subst (λ (s : Standing (StagedEvent V)). IsRecordOf d.core.node s seat.kept) is_down.1 own.fits
 
   -- what is owed is due at the node
   owing : IsOwing size net k (down o)
-  owing = subst (λ (s : Standing (Due V)). IsOwing size net k s) is_down.1 own.owing
+  owing = subst (λ (s : Standing (StagedEvent V)). IsOwing size net k s) is_down.1 own.owing
 
   -- the place that is seen
   of_place : (new : Shared V) (result : Result ℕ StepFault) → RevivesAt size w old new j (place_of seat) (event_owed o) result
@@ -91,7 +91,7 @@ module _ {V : Type 0} (size : V → ℕ) (net : NetView V) (seats : List (Seated
       (λ place at_j e stands.
       let places : Some (place_of seat) ≡ Some place = sym (place_at seats k seat found) ∙ ap (λ (i : ℕ). slice_get (places_of seats) i) (sym is_j) ∙ at_j in
       let is_place : place_of seat ≡ place = cc in
-      let stand : down (event_owed o) ≡ down e = sym (ap (λ (s : Standing (Due V)). standing_seen s) is_down.1) ∙ ap (λ (p : Place V). p.standing) is_place ∙ stands in
+      let stand : down (event_owed o) ≡ down e = sym (ap (λ (s : Standing (StagedEvent V)). standing_seen s) is_down.1) ∙ ap (λ (p : Place V). p.standing) is_place ∙ stands in
       let is_f : event_owed o ≡ e = cc in
       record {
         spent = λ spent. absurd (omega (arith, spent, room));
@@ -114,7 +114,7 @@ module _ {V : Type 0} (size : V → ℕ) (net : NetView V) (seats : List (Seated
   module _ (new : Seated V) (fails : Fails seat (change_owed (owed_in seat.standing)) seat.standing new) where
     -- its record is the one before, with or without the change that is owed
     either : IsWithOrWithout seat.kept (change_owed o) new.kept
-    either = subst (λ (p : Option (Due V)). IsWithOrWithout seat.kept (change_owed p) new.kept) owed_is fails.kept
+    either = subst (λ (p : Option (StagedEvent V)). IsWithOrWithout seat.kept (change_owed p) new.kept) owed_is fails.kept
 
     -- the seat is down as before
     stands : new.standing ≡ down o
@@ -123,8 +123,8 @@ module _ {V : Type 0} (size : V → ℕ) (net : NetView V) (seats : List (Seated
     -- the seats still make a switch
     pub stays_down : IsSwitch size net (set seats k new)
     stays_down = other_seat size net seats h k d.core.node seat new node_k found record {
-      fits = subst (λ (s : Standing (Due V)). IsRecordOf d.core.node s new.kept) (sym stands) (either_twice (kept_of d.core.node) seat.kept new.kept (change_owed o) fits either);
-      owing = subst (λ (s : Standing (Due V)). IsOwing size net k s) (sym stands) owing;
+      fits = subst (λ (s : Standing (StagedEvent V)). IsRecordOf d.core.node s new.kept) (sym stands) (either_twice (kept_of d.core.node) seat.kept new.kept (change_owed o) fits either);
+      owing = subst (λ (s : Standing (StagedEvent V)). IsOwing size net k s) (sym stands) owing;
     }
 
     -- Device is what the restart answers there, and the node stays down
@@ -141,17 +141,17 @@ module _ {V : Type 0} (size : V → ℕ) (net : NetView V) (seats : List (Seated
     ))
 
   -- what the call found to be owed can be taken, where there is room for its posts and two events
-  pub can_take_owed : (owed : Option (Due V)) → owed ≡ owed_in seat.standing → (posts more : ℕ) → posts ≡ length (posts_owed (owed_in seat.standing)) → HasRoom net (posts + more) 2 → CanTakeOwed size net owed
+  pub can_take_owed : (owed : Option (StagedEvent V)) → owed ≡ owed_in seat.standing → (posts more : ℕ) → posts ≡ length (posts_owed (owed_in seat.standing)) → HasRoom net (posts + more) 2 → CanTakeOwed size net owed
   can_take_owed owed is_owed posts more count r =
-      subst (λ (p : Option (Due V)). CanTakeOwed size net p) (sym (is_owed ∙ owed_is))
-      (can_take size net seats h k room o owing more (subst (λ (i : ℕ). HasRoom net (i + more) 2) (count ∙ ap (λ (p : Option (Due V)). length (posts_owed p)) owed_is) r))
+      subst (λ (p : Option (StagedEvent V)). CanTakeOwed size net p) (sym (is_owed ∙ owed_is))
+      (can_take size net seats h k room o owing more (subst (λ (i : ℕ). HasRoom net (i + more) 2) (count ∙ ap (λ (p : Option (StagedEvent V)). length (posts_owed p)) owed_is) r))
 
   -- The keep has made what is owed, and it is taken.
-  module _ (new : Seated V) (repaired : new ≡ record { kept = changed_by seat.kept (change_owed (owed_in seat.standing)); failures = seat.failures; standing = up }) (m : NetView V) (owed : Option (Due V)) (is_owed : owed ≡ owed_in seat.standing)
+  module _ (new : Seated V) (repaired : new ≡ record { kept = changed_by seat.kept (change_owed (owed_in seat.standing)); failures = seat.failures; standing = up }) (m : NetView V) (owed : Option (StagedEvent V)) (is_owed : owed ≡ owed_in seat.standing)
       (takes : TakesOwed net m owed) where
     -- the record of the keep is the one before with the change that was owed
     new_kept_is : new.kept ≡ changed_by seat.kept (change_owed o)
-    new_kept_is = ap (λ (s : Seated V). s.kept) repaired ∙ ap (λ (p : Option (Due V)). changed_by seat.kept (change_owed p)) owed_is
+    new_kept_is = ap (λ (s : Seated V). s.kept) repaired ∙ ap (λ (p : Option (StagedEvent V)). changed_by seat.kept (change_owed p)) owed_is
 
     -- the seat is up
     new_up : new.standing ≡ up
@@ -159,7 +159,7 @@ module _ {V : Type 0} (size : V → ℕ) (net : NetView V) (seats : List (Seated
 
     -- what was taken is what the seat owed
     takes_o : TakesOwed net m o
-    takes_o = subst (λ (p : Option (Due V)). TakesOwed net m p) (is_owed ∙ owed_is) takes
+    takes_o = subst (λ (p : Option (StagedEvent V)). TakesOwed net m p) (is_owed ∙ owed_is) takes
 
     abbrev mid : (switch : IsSwitch size m (set seats k new)) × (m.taken.weights ≡ net.taken.weights) × (m.taken.events ≡ net.taken.events ++ events_due (event_owed o)) × (m.packets ≡ net.packets ++ posts_owed o)
         × (net.packet_room ≤ m.packet_room) × (net.event_room ≤ m.event_room)
@@ -182,7 +182,7 @@ module _ {V : Type 0} (size : V → ℕ) (net : NetView V) (seats : List (Seated
 
     -- the record of the keep is the kept part of this node
     kept_m : new.kept ≡ kept_of core_m.0.node
-    kept_m = subst (λ (s : Standing (Due V)). IsRecordOf core_m.0.node s new.kept) new_up (hm.each k core_m.0.node new node_m new_at).fits
+    kept_m = subst (λ (s : Standing (StagedEvent V)). IsRecordOf core_m.0.node s new.kept) new_up (hm.each k core_m.0.node new node_m new_at).fits
 
     -- the history has room for the restart behind what was owed
     pub low_m : length m.taken.events < MOST_EVENTS
@@ -193,7 +193,7 @@ module _ {V : Type 0} (size : V → ℕ) (net : NetView V) (seats : List (Seated
         omega (arith, count, more, one, room)
 
     -- the restart is due there
-    asks : (work : Work V) → IsOfEvent (Restart j) work → IsReadyAt d.core work → posts_of work ≡ to_others k m.taken.weights (Ask 0)
+    asks : (work : StagedWork V) → IsOfEvent (Restart j) work → IsReadyAt d.core work → posts_of work ≡ to_others k m.taken.weights (Ask 0)
     asks (steps made) q r = elim q [ ]
     asks (restarts posts None) q r =
         r ∙ ap (λ (i : ℕ). to_others i d.core.node.weights (Ask 0)) (own_number size net seats h k d.core.node node_k)
@@ -201,7 +201,7 @@ module _ {V : Type 0} (size : V → ℕ) (net : NetView V) (seats : List (Seated
     asks (restarts posts (Some x)) q r = cc
 
     -- the restart is ready at this node with the record of its keep loaded
-    ready_then : (work : Work V) (kept : Kept V) → IsOfEvent (Restart j) work → posts_of work ≡ to_others k m.taken.weights (Ask 0) → kept ≡ new.kept → IsReadyAt core_m.0 (loads work kept)
+    ready_then : (work : StagedWork V) (kept : Kept V) → IsOfEvent (Restart j) work → posts_of work ≡ to_others k m.taken.weights (Ask 0) → kept ≡ new.kept → IsReadyAt core_m.0 (loads work kept)
     ready_then (steps made) kept q r same = elim q [ ]
     ready_then (restarts posts loaded) kept q r same = (
       r ∙ ap (λ (i : ℕ). to_others i m.taken.weights (Ask 0)) (sym (own_number size m (set seats k new) hm k core_m.0.node node_m))
@@ -210,7 +210,7 @@ module _ {V : Type 0} (size : V → ℕ) (net : NetView V) (seats : List (Seated
     )
 
     -- the step is that of a restart of this node
-    step_then : (work : Work V) (kept : Kept V) → IsOfEvent (Restart j) work → kept ≡ new.kept → restarted core_m.0.node ≡ step_of (loads work kept) core_m.0.node
+    step_then : (work : StagedWork V) (kept : Kept V) → IsOfEvent (Restart j) work → kept ≡ new.kept → restarted core_m.0.node ≡ step_of (loads work kept) core_m.0.node
     step_then (steps made) kept q same = elim q [ ]
     step_then (restarts posts loaded) kept q same = ap (λ (x : Kept V). reloaded core_m.0.node x) (sym (same ∙ kept_m))
 
@@ -219,11 +219,11 @@ module _ {V : Type 0} (size : V → ℕ) (net : NetView V) (seats : List (Seated
       is_new_kept : kept ≡ new.kept
       is_new_kept = same_kept ∙ sym (ap (λ (s : Seated V). s.kept) repaired)
 
-      abbrev d2 : Due V
-      d2 = loads_due d1 kept
+      abbrev d2 : StagedEvent V
+      d2 = with_record d1 kept
 
       -- the restart with that record is due at this node
-      pub due_m : IsDue size m d2
+      pub due_m : IsStaged size m d2
       due_m = record {
         core = core_m.0;
         at = ap (λ (i : ℕ). slice_get m.cores i) (sym is_at) ∙ core_m.1;
@@ -237,7 +237,7 @@ module _ {V : Type 0} (size : V → ℕ) (net : NetView V) (seats : List (Seated
       -- there is room for the posts of the restart and one event
       pub room_m : (posts more : ℕ) → posts ≡ length (posts_owed (owed_in seat.standing)) → more ≡ length (posts_of d1.work) → HasRoom net (posts + more) 2 → HasRoom m (length (posts_of d2.work)) 1
       room_m posts more count all r =
-          let p = ap (λ (x : Option (Due V)). length (posts_owed x)) owed_is in
+          let p = ap (λ (x : Option (StagedEvent V)). length (posts_owed x)) owed_is in
           let l = ap (λ (ps : List (Packet V)). length ps) mid.3 in
           let q = length-append net.packets (posts_owed o) in
           let e = ap (λ (es : List (Event V)). length es) mid.2 in
@@ -252,7 +252,7 @@ module _ {V : Type 0} (size : V → ℕ) (net : NetView V) (seats : List (Seated
 
       module _ (z : NetView V) (t : IsTaken m z d2) where
         -- the restart leaves the node the record of its keep as kept part
-        kept_then : (work : Work V) (n : Node V) → IsOfEvent (Restart j) work → new.kept ≡ kept_of (step_of (loads work kept) n).node
+        kept_then : (work : StagedWork V) (n : Node V) → IsOfEvent (Restart j) work → new.kept ≡ kept_of (step_of (loads work kept) n).node
         kept_then (steps made) n q = elim q [ ]
         kept_then (restarts posts loaded) n q = sym is_new_kept
 
@@ -276,7 +276,7 @@ module _ {V : Type 0} (size : V → ℕ) (net : NetView V) (seats : List (Seated
             let low_z : k < length z.cores = (let c = revived.count in let l = length-set seats k new in let low = low_k in omega (arith, c, l, low)) in
             let c = seat_in z.cores k low_z in
             let node_z = core_node size z (set seats k new) revived k c.0 c.1 in
-            let fits_z : new.kept ≡ kept_of c.0.node = subst (λ (s : Standing (Due V)). IsRecordOf c.0.node s new.kept) new_up (revived.each k c.0.node new node_z new_at).fits in
+            let fits_z : new.kept ≡ kept_of c.0.node = subst (λ (s : Standing (StagedEvent V)). IsRecordOf c.0.node s new.kept) new_up (revived.each k c.0.node new node_z new_at).fits in
             of_place (shared z (set seats k new)) (Ok count) record {
               world = x;
               is_after = subst (λ (us : List ℕ). IsAfter size us (net.taken.events ++ events_due (event_owed o) ++ Restart j ∷ []) x) weights (subst (λ (es : List (Event V)). IsAfter size z.taken.weights es x) history revived.world.is_after);
@@ -286,5 +286,5 @@ module _ {V : Type 0} (size : V → ℕ) (net : NetView V) (seats : List (Seated
               rest = shared_is _ _ _ _ _ _ weights history
                   (places_of-set seats k new ∙ ap (λ (i : ℕ). set (places_of seats) i (place_of new)) (sym is_j)
                   ∙ ap (λ (i : ℕ). set (places_of seats) j (let p : Place V = record { kept = new.kept; failures = i; standing = standing_seen new.standing } in p)) (ap (λ (s : Seated V). s.failures) repaired)
-                  ∙ ap (λ (s : Standing (Due V)). set (places_of seats) j (let p : Place V = record { kept = new.kept; failures = seat.failures; standing = standing_seen s } in p)) new_up);
+                  ∙ ap (λ (s : Standing (StagedEvent V)). set (places_of seats) j (let p : Place V = record { kept = new.kept; failures = seat.failures; standing = standing_seen s } in p)) new_up);
             }

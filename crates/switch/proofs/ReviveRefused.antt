@@ -11,7 +11,7 @@ use Rattle.net.specs.declared.fault.StepFault.TheVariants.{Memory, EventsSpent}
 use Rattle.std.specs.Prelude.{OnOk, IsOkUnless}
 use Rattle.net.specs.World.{World, stepped, at_node}
 use Rattle.net.specs.Taken.{with_event, world_of as world_of_taken}
-use Rattle.net.specs.Due.{Due, NetView}
+use Rattle.net.specs.Staged.{StagedEvent, NetView}
 use Rattle.net.proofs.TakenLemmas.{set_same, next_is}
 use Rattle.switch.specs.Seat.{down, Seated}
 use Rattle.switch.specs.Switch.{Place, Shared, places_of, IsSwitch, world_of, is_down_at, is_down_place, with_place, ActsDown}
@@ -27,7 +27,7 @@ revive_spent {V} size net seats h now seen j spent = of_world size net seats h n
 
 -- the restart was not made ready: there is no memory
 pub revive_unready : {V : Type 0} (size : V → ℕ) (net : NetView V) (seats : List (Seated V)) (h : IsSwitch size net seats) (now : Shared V) (seen : shared net seats ≡ now) (j : ℕ) → is_down_at now.places (Some j) ≡ true
-    → length net.taken.events + 2 ≤ MOST_EVENTS → (fault : StepFault) (r : Result (Due V) StepFault) → r ≡ Err fault → (new : Shared V) → new ≡ shared net seats → OnOk (world_of_taken size (with_event net.taken (Restart j))) (IsOkUnless r Memory)
+    → length net.taken.events + 2 ≤ MOST_EVENTS → (fault : StepFault) (r : Result (StagedEvent V) StepFault) → r ≡ Err fault → (new : Shared V) → new ≡ shared net seats → OnOk (world_of_taken size (with_event net.taken (Restart j))) (IsOkUnless r Memory)
     → ForOk (world_of size now) (λ x. (place : Place V) → slice_get now.places j ≡ Some place → (e : Option (Event V)) → place.standing ≡ down e → ActsDown size x now new j place e (Err fault))
 revive_unready {V} size net seats h now seen j test room fault r is_err new same memory =
     of_world size net seats h now seen (λ s x. (place : Place V) → slice_get s.places j ≡ Some place → (e : Option (Event V)) → place.standing ≡ down e → ActsDown size x s new j place e (Err fault))
@@ -51,4 +51,4 @@ revive_unready {V} size net seats h now seen j test room fault r is_err new same
           let seat = down_seat (slice_get seats j) refl in
           let n = node_there size net seats h now seen j seat.0 seat.1 in
           let told : IsOkUnless r Memory = subst (λ (x : Result (World V) StepFault). OnOk x (IsOkUnless r Memory)) (happens_ok n.0 n.1) memory in
-          subst (λ (a : Result (Due V) StepFault). IsOkUnless a Memory) is_err told
+          subst (λ (a : Result (StagedEvent V) StepFault). IsOkUnless a Memory) is_err told

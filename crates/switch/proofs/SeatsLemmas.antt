@@ -5,7 +5,7 @@ use Rattle.std.proofs.lemmas.Bool.Decides.{nat_tests}
 use Rattle.synod.specs.Record.{Kept, new_kept}
 use Rattle.synod.specs.Node.{Node}
 use Rattle.net.specs.declared.event.Event.{Event}
-use Rattle.net.specs.Due.{Due}
+use Rattle.net.specs.Staged.{StagedEvent}
 use Rattle.net.proofs.GrowingLists.{at_set, at_set_other}
 use Rattle.switch.specs.Seat.{Standing, up, down, Seated}
 use Rattle.switch.specs.Switch.{Place, standing_seen, place_of, places_of, new_places, new_seats, is_down, is_down_place, is_down_at, events_due}
@@ -63,7 +63,7 @@ each_after {V} nodes seats P k seat new is own others j m s at is_s = by_test (k
 -- A node that is not down is up.
 
 -- what is not seen as down is up
-up_of : {V : Type 0} (s : Standing (Due V)) → is_down (standing_seen s) ≡ false → s ≡ up
+up_of : {V : Type 0} (s : Standing (StagedEvent V)) → is_down (standing_seen s) ≡ false → s ≡ up
 up_of up e = refl
 up_of (down o) e = cc
 
@@ -72,9 +72,9 @@ pub up_at : {V : Type 0} (seats : List (Seated V)) (k : ℕ) (seat : Seated V) �
 up_at seats k seat is e = up_of seat.standing (sym (ap (λ o. is_down_place o) (place_at seats k seat is)) ∙ e)
 
 -- a seat whose place is down is down, with an event that is owed or none
-pub down_at : {V : Type 0} (seats : List (Seated V)) (k : ℕ) (seat : Seated V) → slice_get seats k ≡ Some seat → is_down_at (places_of seats) (Some k) ≡ true → (o : Option (Due V)) × (seat.standing ≡ down o)
+pub down_at : {V : Type 0} (seats : List (Seated V)) (k : ℕ) (seat : Seated V) → slice_get seats k ≡ Some seat → is_down_at (places_of seats) (Some k) ≡ true → (o : Option (StagedEvent V)) × (seat.standing ≡ down o)
 down_at seats k seat is e = down_owing seat.standing (sym (ap (λ o. is_down_place o) (place_at seats k seat is)) ∙ e) where
-  down_owing : {V : Type 0} (s : Standing (Due V)) → is_down (standing_seen s) ≡ true → (o : Option (Due V)) × (s ≡ down o)
+  down_owing : {V : Type 0} (s : Standing (StagedEvent V)) → is_down (standing_seen s) ≡ true → (o : Option (StagedEvent V)) × (s ≡ down o)
   down_owing up d = cc
   down_owing (down o) d = (o, refl)
 

@@ -15,14 +15,14 @@ use Rattle.net.specs.World.{World, start, nodes_from, stepped, happens, happens_
 use Rattle.net.specs.Agree.{IsAfter}
 use Rattle.net.specs.Taken.{Taken, nodes_of, AreOfWorld, with_event}
 use Rattle.net.specs.KeptPart.{change_of, kept_part}
-use Rattle.net.specs.Due.{Work, steps, restarts, Due, change_in, posts_of, step_of, IsEventAt, NetView, AreStill, IsStill, IsDue, IsTaken}
+use Rattle.net.specs.Staged.{StagedWork, steps, restarts, StagedEvent, change_in, posts_of, step_of, IsEventAt, NetView, AreStill, IsStill, IsStaged, IsTaken}
 use Rattle.net.proofs.GrowingLists.{at_set, at_set_other}
 use Rattle.net.proofs.EveryEvent.{if_taken, node_at, holds_after}
 use Rattle.net.proofs.TwoMoments.{world_lasts}
 use Rattle.net.proofs.KeptPartLemmas.{Happens, event_moves}
 use Rattle.net.proofs.TakenLemmas.{taken_count, happens-not_spent, events_within, rooms_stay, makes, nodes_of-set}
-use Rattle.net.proofs.EventsDue.{nodes_found, nodes_still, due_still}
-use Rattle.net.proofs.DueTaken.{posts_same}
+use Rattle.net.proofs.EventsStaged.{nodes_found, nodes_still, due_still}
+use Rattle.net.proofs.StagedTaken.{posts_same}
 use Rattle.switch.specs.Seat.{Standing, up, down, Seated, IsRecordOf}
 use Rattle.switch.specs.Switch.{Shared, places_of, new_seats, IsOwing, IsSeat, IsSwitch}
 use Rattle.switch.proofs.SeatsLemmas.{each_after, new_at, count_seats}
@@ -65,8 +65,8 @@ starts {V} size kept failures net weights keeps seats h is cores count new are =
 } where
   seat_is : {V : Type 0} {size : V → ℕ} {net : NetView V} {k : ℕ} {n : Node V} {seat : Seated V} → seat.kept ≡ new_kept → seat.standing ≡ up → kept_of n ≡ new_kept → IsSeat size net k n seat
   seat_is {V} {size} {net} {k} {n} {seat} is_new is_up fits = record {
-    fits = subst (λ (s : Standing (Due V)). IsRecordOf n s seat.kept) (sym is_up) (is_new ∙ sym fits);
-    owing = subst (λ (s : Standing (Due V)). IsOwing size net k s) (sym is_up) tt;
+    fits = subst (λ (s : Standing (StagedEvent V)). IsRecordOf n s seat.kept) (sym is_up) (is_new ∙ sym fits);
+    owing = subst (λ (s : Standing (StagedEvent V)). IsOwing size net k s) (sym is_up) tt;
   }
 
 module _ {V : Type 0} (size : V → ℕ) (net : NetView V) (seats : List (Seated V)) (h : IsSwitch size net seats) where
@@ -109,7 +109,7 @@ module _ {V : Type 0} (size : V → ℕ) (net : NetView V) (seats : List (Seated
   -- Rooms alone are others.
 
   -- what is owed is still due
-  still_owing : (b : NetView V) → IsStill net b → (k : ℕ) (s : Standing (Due V)) → IsOwing size net k s → IsOwing size b k s
+  still_owing : (b : NetView V) → IsStill net b → (k : ℕ) (s : Standing (StagedEvent V)) → IsOwing size net k s → IsOwing size b k s
   still_owing b still k up o = tt
   still_owing b still k (down None) o = tt
   still_owing b still k (down (Some due)) o = (o.0, due_still size net b due still o.1)
@@ -140,7 +140,7 @@ module _ {V : Type 0} (size : V → ℕ) (net : NetView V) (seats : List (Seated
 
   -- A due event is taken.
 
-  module _ (due : Due V) (d : IsDue size net due) where
+  module _ (due : StagedEvent V) (d : IsStaged size net due) where
     abbrev step : Stepped V
     step = step_of due.work d.core.node
 
@@ -153,7 +153,7 @@ module _ {V : Type 0} (size : V → ℕ) (net : NetView V) (seats : List (Seated
     at = d.comes w [] (h.world.posted ∙ sym (append-nil net.packets)) node_is
 
     -- the change of what was made ready is that of its step at any node
-    change_work : (work : Work V) (n : Node V) → change_in work ≡ (step_of work n).change
+    change_work : (work : StagedWork V) (n : Node V) → change_in work ≡ (step_of work n).change
     change_work (steps made) n = refl
     change_work (restarts posts None) n = refl
     change_work (restarts posts (Some kept)) n = refl
@@ -210,7 +210,7 @@ module _ {V : Type 0} (size : V → ℕ) (net : NetView V) (seats : List (Seated
             ∙ ap (λ (n : Node V). set (nodes_of net.cores) due.at n) node_then ∙ ap (λ (ns : List (Node V)). set ns due.at step.node) (sym h.world.nodes)
 
         -- another node's due event is still due
-        other_due : (other : Due V) → due.at ≢ other.at → IsDue size net other → IsDue size b other
+        other_due : (other : StagedEvent V) → due.at ≢ other.at → IsStaged size net other → IsStaged size b other
         other_due other apart o = record {
           core = o.core;
           at = ap (λ (cs : List (Core V)). slice_get cs other.at) t.cores ∙ at_set_other net.cores due.at other.at t.core apart ∙ o.at;
@@ -220,7 +220,7 @@ module _ {V : Type 0} (size : V → ℕ) (net : NetView V) (seats : List (Seated
         }
 
         -- what another node owes is still due
-        other_owing : (j : ℕ) → due.at ≢ j → (s : Standing (Due V)) → IsOwing size net j s → IsOwing size b j s
+        other_owing : (j : ℕ) → due.at ≢ j → (s : Standing (StagedEvent V)) → IsOwing size net j s → IsOwing size b j s
         other_owing j apart up o = tt
         other_owing j apart (down None) o = tt
         other_owing j apart (down (Some other)) o = (o.0, other_due other (λ e. apart (e ∙ o.0)) o.1)
@@ -235,8 +235,8 @@ module _ {V : Type 0} (size : V → ℕ) (net : NetView V) (seats : List (Seated
               (let both : Some step.node ≡ Some m = sym (ap (λ (ns : List (Node V)). slice_get ns due.at) nodes_then ∙ at_set w.nodes due.at step.node d.core.node node_is) ∙ there in
               let same : step.node ≡ m = cc in
               record {
-                fits = subst (λ (s : Standing (Due V)). IsRecordOf m s new.kept) (sym is_up) (kept ∙ ap (λ (n : Node V). kept_of n) same);
-                owing = subst (λ (s : Standing (Due V)). IsOwing size b due.at s) (sym is_up) tt;
+                fits = subst (λ (s : Standing (StagedEvent V)). IsRecordOf m s new.kept) (sym is_up) (kept ∙ ap (λ (n : Node V). kept_of n) same);
+                owing = subst (λ (s : Standing (StagedEvent V)). IsOwing size b due.at s) (sym is_up) tt;
               }))
               (λ j m s other there is_s.
               (let own = h.each j m s (sym (ap (λ (ns : List (Node V)). slice_get ns j) nodes_then ∙ at_set_other w.nodes due.at j step.node other) ∙ there) is_s in

@@ -8,7 +8,7 @@ use Rattle.net.specs.declared.fault.StepFault.{StepFault}
 use Rattle.net.specs.declared.fault.StepFault.TheVariants.{Memory}
 use Rattle.net.specs.World.{World}
 use Rattle.net.specs.KeptPart.{addressed, node_of}
-use Rattle.net.specs.Due.{Due, NetView}
+use Rattle.net.specs.Staged.{StagedEvent, NetView}
 use Rattle.switch.specs.Seat.{Standing, up, down, Seated}
 use Rattle.switch.specs.Switch.{Place, Shared, standing_seen, place_of, places_of, due, IsOwing, IsSwitch, is_down_at, world_of, ActsUp, Acts, ActsDown, Restarts}
 use Rattle.switch.specs.Belonging.{StaysBelonging, StaysAtRestart}
@@ -71,7 +71,7 @@ module _ {V : Type 0} (size : V → ℕ) (net : NetView V) (seats : List (Seated
     )
 
   -- what is owed is an event of its node
-  owed_own : (k : ℕ) (s : Standing (Due V)) → IsOwing size net k s → (e : Event V) → standing_seen s ≡ down (Some e) → node_of h.world.world e ≡ Some k
+  owed_own : (k : ℕ) (s : Standing (StagedEvent V)) → IsOwing size net k s → (e : Event V) → standing_seen s ≡ down (Some e) → node_of h.world.world e ≡ Some k
   owed_own k up owing e is = cc
   owed_own k (down None) owing e is = cc
   owed_own k (down (Some o)) owing e is =

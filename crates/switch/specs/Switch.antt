@@ -14,7 +14,7 @@ use Rattle.net.specs.World.{World, happens, after}
 use Rattle.net.specs.Agree.{IsAfter}
 use Rattle.net.specs.Taken.{AreOfWorld}
 use Rattle.net.specs.KeptPart.{node_of, change_of, kept_part}
-use Rattle.net.specs.Due.{Due, NetView, IsDue, HasRoom, IsTaken, posts_of}
+use Rattle.net.specs.Staged.{StagedEvent, NetView, IsStaged, HasRoom, IsTaken, posts_of}
 use Rattle.switch.specs.Seat.{Standing, up, down, Seated, IsRecordOf, IsWithOrWithout}
 
 -- What contracts see.
@@ -30,11 +30,11 @@ pub record Shared (V : Type 0) : Type 0 where
   pub history : List (Event V)
   pub places : List (Place V)
 
-abbrev pub event_owed : {V : Type 0} → Option (Due V) → Option (Event V)
+abbrev pub event_owed : {V : Type 0} → Option (StagedEvent V) → Option (Event V)
 event_owed None = None
 event_owed (Some due) = Some due.event
 
-abbrev pub standing_seen : {V : Type 0} → Standing (Due V) → Standing (Event V)
+abbrev pub standing_seen : {V : Type 0} → Standing (StagedEvent V) → Standing (Event V)
 standing_seen up = up
 standing_seen (down o) = down (event_owed o)
 
@@ -58,10 +58,10 @@ new_seats kept failures (keep ∷ keeps) = record { kept = kept keep; failures =
 -- What the type keeps.
 
 -- what is owed is due at the node
-abbrev pub IsOwing : {V : Type 0} → (V → ℕ) → NetView V → ℕ → Standing (Due V) → Type 0
+abbrev pub IsOwing : {V : Type 0} → (V → ℕ) → NetView V → ℕ → Standing (StagedEvent V) → Type 0
 IsOwing size net k up = Unit {0}
 IsOwing size net k (down None) = Unit {0}
-IsOwing size net k (down (Some due)) = (due.at ≡ k) × IsDue size net due
+IsOwing size net k (down (Some due)) = (due.at ≡ k) × IsStaged size net due
 
 -- the keep fits its node, and so does what is owed
 pub record IsSeat {V : Type 0} (size : V → ℕ) (net : NetView V) (k : ℕ) (n : Node V) (seat : Seated V) : Type 0 where
@@ -192,10 +192,10 @@ pub record Restarts {V : Type 0} (size : V → ℕ) (w : World V) (old new : Sha
 
 -- What is owed at the node comes first.
 
-abbrev pub CanTakeOwed : {V : Type 0} → (V → ℕ) → NetView V → Option (Due V) → Type 0
+abbrev pub CanTakeOwed : {V : Type 0} → (V → ℕ) → NetView V → Option (StagedEvent V) → Type 0
 CanTakeOwed size net None = Unit {0}
-CanTakeOwed size net (Some due) = IsDue size net due × HasRoom net (length (posts_of due.work)) 1 × (length net.taken.events < MOST_EVENTS)
+CanTakeOwed size net (Some due) = IsStaged size net due × HasRoom net (length (posts_of due.work)) 1 × (length net.taken.events < MOST_EVENTS)
 
-abbrev pub TakesOwed : {V : Type 0} → NetView V → NetView V → Option (Due V) → Type 0
+abbrev pub TakesOwed : {V : Type 0} → NetView V → NetView V → Option (StagedEvent V) → Type 0
 TakesOwed old new None = new ≡ old
 TakesOwed old new (Some due) = IsTaken old new due

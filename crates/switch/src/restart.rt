@@ -8,7 +8,7 @@ ghost use Rattle.switch.specs.Switch.{Place, ArePlaces, is_down_at, world_of, Ac
 ghost use Rattle.switch.specs.Belonging.{StaysAtRestart};
 
 use crate::switch::Switch;
-use net::{Due, Event, MOST_EVENTS, Net, StepFault};
+use net::{StagedEvent, Event, MOST_EVENTS, Net, StepFault};
 use synod::{Keep, Value};
 
 impl<V: Value, K: Keep<V>> Switch<V, K> {
@@ -65,7 +65,7 @@ impl<V: Value, K: Keep<V>> Switch<V, K> {
 }
 
 /// Takes the event that was owed, if there is one. It takes no memory.
-fn take_owed<V: Value>(net: &mut Net<V>, owed: Option<Due<V>>)
+fn take_owed<V: Value>(net: &mut Net<V>, owed: Option<StagedEvent<V>>)
     requires { CanTakeOwed V.bytes net.old owed }
     ensures { TakesOwed net.old net.new owed }
 {

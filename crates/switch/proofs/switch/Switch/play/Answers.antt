@@ -1,6 +1,6 @@
 use Rattle.std.proofs.Common.{Option, Some, refl, ap, sym, subst, ◌∙◌, arith}
 use Rattle.net.specs.declared.event.Event.{Event}
-use Rattle.net.specs.Due.{Due, IsTaken}
+use Rattle.net.specs.Staged.{StagedEvent, IsTaken}
 use Rattle.switch.proofs.SwitchLemmas.{still_switch}
 use Rattle.switch.proofs.CallLemmas.{still_shared, ready_fails, node_seen}
 use Rattle.switch.proofs.DispatchLemmas.{in_seats, down_acts, call_failed, call_played}
@@ -42,14 +42,14 @@ returns-in_err-due-2-clause-belonging g c = (call_acts g.V.Value.bytes _ _ c.sel
 
 pub invariant_of-self-2 : goal.invariant_of-self-2
 invariant_of-self-2 g c = (call_played g.V.Value.bytes _ _ c.ready.ensures.still c.self.inside.seats.items c.self.invariant _ c.self.view_is c.in_ok-due.due c.in_ok-due.ensures.due c.at-at.result c.at-at.ensures c.args.event c.in_ok-due.ensures.event c.in_ok-due.ensures.few c.index_mut.result.now c.index_mut.ensures.value (is_up_now g.V.Value.bytes _ _ c.self.invariant _ c.self.view_is c.args.event c.requires c.node_of.result c.node_of.ensures (sym c.is_down.ensures.down ∙ c.if-is_down.false))
-    c.store.new.self c.in_ok-due-2.ensures.stored c.commit.new.self (subst (λ (x : Due g.row.V.Denot). IsTaken c.ready.new.self c.commit.new.self x) c.in_ok-due-2.ensures.due c.commit.ensures.taken) c.commit.result c.commit.ensures.posted).0
+    c.store.new.self c.in_ok-due-2.ensures.stored c.commit.new.self (subst (λ (x : StagedEvent g.row.V.Denot). IsTaken c.ready.new.self c.commit.new.self x) c.in_ok-due-2.ensures.due c.commit.ensures.taken) c.commit.result c.commit.ensures.posted).0
 
 pub returns-clause-acts : goal.returns-clause-acts
 returns-clause-acts g c = (call_acts g.V.Value.bytes _ _ c.self.invariant _ c.self.view_is c.args.event c.requires c.node_of.result c.node_of.ensures (sym c.is_down.ensures.down ∙ c.if-is_down.false) _ _ _ refl
     ((call_played g.V.Value.bytes _ _ c.ready.ensures.still c.self.inside.seats.items c.self.invariant _ c.self.view_is c.in_ok-due.due c.in_ok-due.ensures.due c.at-at.result c.at-at.ensures c.args.event c.in_ok-due.ensures.event c.in_ok-due.ensures.few c.index_mut.result.now c.index_mut.ensures.value (is_up_now g.V.Value.bytes _ _ c.self.invariant _ c.self.view_is c.args.event c.requires c.node_of.result c.node_of.ensures (sym c.is_down.ensures.down ∙ c.if-is_down.false))
-    c.store.new.self c.in_ok-due-2.ensures.stored c.commit.new.self (subst (λ (x : Due g.row.V.Denot). IsTaken c.ready.new.self c.commit.new.self x) c.in_ok-due-2.ensures.due c.commit.ensures.taken) c.commit.result c.commit.ensures.posted).1)).0
+    c.store.new.self c.in_ok-due-2.ensures.stored c.commit.new.self (subst (λ (x : StagedEvent g.row.V.Denot). IsTaken c.ready.new.self c.commit.new.self x) c.in_ok-due-2.ensures.due c.commit.ensures.taken) c.commit.result c.commit.ensures.posted).1)).0
 
 pub returns-clause-belonging : goal.returns-clause-belonging
 returns-clause-belonging g c = (call_acts g.V.Value.bytes _ _ c.self.invariant _ c.self.view_is c.args.event c.requires c.node_of.result c.node_of.ensures (sym c.is_down.ensures.down ∙ c.if-is_down.false) _ _ _ refl
     ((call_played g.V.Value.bytes _ _ c.ready.ensures.still c.self.inside.seats.items c.self.invariant _ c.self.view_is c.in_ok-due.due c.in_ok-due.ensures.due c.at-at.result c.at-at.ensures c.args.event c.in_ok-due.ensures.event c.in_ok-due.ensures.few c.index_mut.result.now c.index_mut.ensures.value (is_up_now g.V.Value.bytes _ _ c.self.invariant _ c.self.view_is c.args.event c.requires c.node_of.result c.node_of.ensures (sym c.is_down.ensures.down ∙ c.if-is_down.false))
-    c.store.new.self c.in_ok-due-2.ensures.stored c.commit.new.self (subst (λ (x : Due g.row.V.Denot). IsTaken c.ready.new.self c.commit.new.self x) c.in_ok-due-2.ensures.due c.commit.ensures.taken) c.commit.result c.commit.ensures.posted).1)).1
+    c.store.new.self c.in_ok-due-2.ensures.stored c.commit.new.self (subst (λ (x : StagedEvent g.row.V.Denot). IsTaken c.ready.new.self c.commit.new.self x) c.in_ok-due-2.ensures.due c.commit.ensures.taken) c.commit.result c.commit.ensures.posted).1)).1
