@@ -3,3 +3,4 @@ pub mod FiniteMapLemmas
 pub mod PagesLemmas
 pub mod Lists
 pub mod MapReads
+pub mod PageLemmas

@@ -1,10 +1,18 @@
 -- Slots in pages of 256.
 -- Source: this project's representation.
 -- The code has a list of pages. Contracts see one list of slots.
-use Rattle.std.specs.Prelude.{◌≡◌, ◌≤◌, ℕ, List, [], ◌∷◌, ◌++◌, Option, length}
+use Rattle.std.specs.Prelude.{◌≡◌, ◌≤◌, ◌-◌, ℕ, List, [], ◌∷◌, ◌++◌, Option, None, length, replicate}
 use Rattle.slots.specs.declared.page.TheConstants.{PAGE_SLOTS}
 use Rattle.slots.specs.declared.slots.TheConstants.{SLOTS}
 use Rattle.slots.specs.FiniteMap.{front_of, top_of, trimmed}
+
+-- the slots of a page, of which only the first are stored
+abbrev pub padded : {T : Type 0} → List (Option T) → List (Option T)
+padded stored = stored ++ replicate (PAGE_SLOTS - length stored) None
+
+pub record IsPage {T : Type 0} (stored : List (Option T)) (capacity : ℕ) : Type 0 where
+  pub within : length stored ≤ PAGE_SLOTS
+  pub room : PAGE_SLOTS ≤ capacity
 
 -- the slots of all pages
 abbrev pub joined : {T : Type 0} → List (List T) → List T
