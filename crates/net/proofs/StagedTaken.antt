@@ -1,28 +1,12 @@
 -- A due event is taken, and the clauses of an answer.
-use Rattle.std.proofs.Common.{◌≡◌, ℕ, ◌<◌, ◌≤◌, List, [], ◌∷◌, ◌++◌, length, get_or, set, slice_get, Some, None, Result, Ok, Err, true, false, if◌then◌else◌, refl, ap, sym, ◌∙◌, subst, arith, append-nil}
-use Rattle.std.specs.Prelude.{IfOk, IfErr, IsOk, OnOk, is_ok}
-use Rattle.std.specs.declared.alloc.AllocError.{AllocError}
-use Rattle.std.proofs.lemmas.Option.{slice_get_within, slice_get_read}
-use Rattle.std.specs.List.{AllByRecursion}
-use Rattle.synod.specs.declared.packet.Packet.{Packet}
-use Rattle.synod.specs.Packets.{IsPost}
-use Rattle.synod.specs.Node.{Node, Stepped}
-use Rattle.synod.specs.Core.{Core}
-use Rattle.net.specs.declared.event.TheConstants.{MOST_EVENTS}
-use Rattle.net.specs.declared.event.Event.{Event}
-use Rattle.net.specs.declared.fault.StepFault.{StepFault}
-use Rattle.net.specs.declared.fault.StepFault.TheVariants.{Memory}
-use Rattle.net.specs.World.{World, stepped, happens_at}
-use Rattle.net.specs.Taken.{Taken, AreOfWorld}
-use Rattle.net.specs.Due.{Work, steps, restarts, Due, posts_of, step_of, IsReadyAt, NetView, IsDue, IsTaken, Gives}
+use Rattle.net.proofs.Words.{◌≡◌, ℕ, ◌<◌, ◌≤◌, List, [], ◌∷◌, ◌++◌, length, get_or, set, slice_get, Some, None, Result, Ok, Err, true, false, if◌then◌else◌, refl, ap, sym, ◌∙◌, subst, arith, append-nil, IfOk, IfErr, IsOk, OnOk, is_ok, AllocError, slice_get_within, slice_get_read, AllByRecursion, Packet, IsPost, Node, Stepped, Core, MOST_EVENTS, Event, StepFault, Memory, World, stepped, happens_at, Taken, AreOfWorld, StagedWork, steps, restarts, StagedEvent, posts_of, step_of, IsReadyAt, NetView, IsStaged, IsTaken, Gives, all_append}
 use Rattle.net.proofs.TakenLemmas.{makes}
-use Rattle.net.proofs.EventsDue.{nodes_found}
-use Rattle.synod.proofs.NodeKeeps.{all_append}
+use Rattle.net.proofs.EventsStaged.{nodes_found}
 
 -- A due event is taken.
 
 -- its posts are those of the step
-pub posts_same : {V : Type 0} (c : Core V) (w : Work V) → IsReadyAt c w → posts_of w ≡ (step_of w c.node).posts
+pub posts_same : {V : Type 0} (c : Core V) (w : StagedWork V) → IsReadyAt c w → posts_of w ≡ (step_of w c.node).posts
 posts_same c (steps made) h = refl
 posts_same c (restarts posts None) h = h
 posts_same c (restarts posts (Some kept)) h = h.0
@@ -32,11 +16,11 @@ pub taken_in : {A : Type 0} (r : Result (Unit {0}) AllocError) (old more new : L
 taken_in (Ok done) old more new ok e = e
 taken_in (Err fault) old more new ok e = let no : false ≡ true = ok in cc
 
-module _ {V : Type 0} (size : V → ℕ) (view now : NetView V) (seen : view ≡ now) (h : AreOfWorld size view.taken view.cores view.packets) (low : length now.taken.events < MOST_EVENTS) (due : Due V) (ready : IsDue size now due)
-    (k : ℕ) (is_at : k ≡ due.at) (core new : Core V) (is : core ≡ get_or view.cores k core) (work : Work V) (is_work : work ≡ due.work) (node : new.node ≡ (step_of work core.node).node) where
+module _ {V : Type 0} (size : V → ℕ) (view now : NetView V) (seen : view ≡ now) (h : AreOfWorld size view.taken view.cores view.packets) (low : length now.taken.events < MOST_EVENTS) (due : StagedEvent V) (ready : IsStaged size now due)
+    (k : ℕ) (is_at : k ≡ due.at) (core new : Core V) (is : core ≡ get_or view.cores k core) (work : StagedWork V) (is_work : work ≡ due.work) (node : new.node ≡ (step_of work core.node).node) where
   -- the event is due by the fields
-  due_view : IsDue size view due
-  due_view = subst (λ (n : NetView V). IsDue size n due) (sym seen) ready
+  due_view : IsStaged size view due
+  due_view = subst (λ (n : NetView V). IsStaged size n due) (sym seen) ready
 
   -- the core that is read stands at the number of the due event's node
   core_is : slice_get view.cores due.at ≡ Some core
@@ -51,7 +35,7 @@ module _ {V : Type 0} (size : V → ℕ) (view now : NetView V) (seen : view ≡
 
   -- the node left is the one that the due step leaves
   new_node : new.node ≡ step.node
-  new_node = node ∙ ap (λ (w : Work V). (step_of w core.node).node) is_work ∙ ap (λ (c : Core V). (step_of due.work c.node).node) (sym same_core)
+  new_node = node ∙ ap (λ (w : StagedWork V). (step_of w core.node).node) is_work ∙ ap (λ (c : Core V). (step_of due.work c.node).node) (sym same_core)
 
   -- in the world before, the event comes to the step that it is due as
   happens_is : happens_at size h.world due.event ≡ Ok (stepped h.world due.at step)
@@ -65,12 +49,12 @@ module _ {V : Type 0} (size : V → ℕ) (view now : NetView V) (seen : view ≡
 
   -- the core that is read can do the work
   pub ready_here : IsReadyAt core work
-  ready_here = subst (λ (w : Work V). IsReadyAt core w) (sym is_work) (subst (λ (c : Core V). IsReadyAt c due.work) same_core due_view.ready)
+  ready_here = subst (λ (w : StagedWork V). IsReadyAt core w) (sym is_work) (subst (λ (c : Core V). IsReadyAt c due.work) same_core due_view.ready)
 
   module _ (packets : List (Packet V)) (events : List (Event V)) (added : packets ≡ view.packets ++ posts_of work) (pushed : events ≡ view.taken.events ++ due.event ∷ []) where
     -- the packets left are the old and the posts of the due event
     packets_are : packets ≡ view.packets ++ posts_of due.work
-    packets_are = added ∙ ap (λ (w : Work V). view.packets ++ posts_of w) is_work
+    packets_are = added ∙ ap (λ (w : StagedWork V). view.packets ++ posts_of w) is_work
 
     -- what is left is of the world after the history with the due event
     pub commit_world : AreOfWorld size (record { weights = view.taken.weights; events = events }) (set view.cores k new) packets
@@ -102,18 +86,18 @@ module _ {V : Type 0} (size : V → ℕ) (view now : NetView V) (seen : view ≡
 
 module _ {V : Type 0} (size : V → ℕ) (net : NetView V) (e : Event V) where
   -- what is given out is due
-  pub gives_due : (r : Result (World V) StepFault) (result : Result (Due V) StepFault) → Gives size net e r result → IfOk result (IsDue size net)
+  pub gives_due : (r : Result (World V) StepFault) (result : Result (StagedEvent V) StepFault) → Gives size net e r result → IfOk result (IsStaged size net)
   gives_due (Ok w) (Ok due) h = h.0
   gives_due (Err met) (Ok due) h = elim h [ ]
   gives_due r (Err fault) h = tt
 
   -- what is given out is of the event asked for
-  pub gives_event : (r : Result (World V) StepFault) (due : Due V) → Gives size net e r (Ok due) → due.event ≡ e
+  pub gives_event : (r : Result (World V) StepFault) (due : StagedEvent V) → Gives size net e r (Ok due) → due.event ≡ e
   gives_event (Ok w) due h = h.1
   gives_event (Err met) due h = elim h [ ]
 
   -- where something is given out, the event meets no fault
-  pub gives_none : (r : Result (World V) StepFault) (due : Due V) (P : StepFault → Type 0) → Gives size net e r (Ok due) → IfErr r P
+  pub gives_none : (r : Result (World V) StepFault) (due : StagedEvent V) (P : StepFault → Type 0) → Gives size net e r (Ok due) → IfErr r P
   gives_none (Ok w) due P h = tt
   gives_none (Err met) due P h = elim h [ ]
 

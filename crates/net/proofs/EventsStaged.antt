@@ -1,21 +1,5 @@
 -- What an event comes to at its node, and what is ready while nodes stand.
-use Rattle.std.proofs.Common.{◌≡◌, ℕ, zero, suc, List, [], ◌∷◌, length, get_or, set, slice_get, Option, Some, None, Ok, refl, ap, sym, ◌∙◌, subst, arith}
-use Rattle.std.specs.List.{AllByRecursion}
-use Rattle.std.specs.Option.{option_map}
-use Rattle.synod.specs.declared.packet.Packet.{Packet}
-use Rattle.synod.specs.declared.packet.Body.TheVariants.{Ask}
-use Rattle.synod.specs.Packets.{IsPost, to_others}
-use Rattle.synod.specs.Node.{Node, kept_of}
-use Rattle.synod.specs.Core.{Core}
-use Rattle.synod.specs.Rooms.{HasAtLeast}
-use Rattle.synod.specs.Proposer.{offered, begun}
-use Rattle.synod.specs.Step.{on_packet, restarted}
-use Rattle.synod.proofs.RoomLemmas.{same_room}
-use Rattle.net.specs.declared.event.Event.TheVariants.{Offer, Begin, Deliver, Restart}
-use Rattle.net.specs.World.{answered, at_node, delivered}
-use Rattle.net.specs.KeptPart.{change_at, change_delivered}
-use Rattle.net.specs.Taken.{Taken, nodes_of}
-use Rattle.net.specs.Due.{Work, steps, restarts, Due, posts_of, step_of, IsReadyAt, ComesTo, NetView, AreStill, IsStill, IsDue}
+use Rattle.net.proofs.Words.{◌≡◌, ℕ, zero, suc, List, [], ◌∷◌, length, get_or, set, slice_get, Option, Some, None, Ok, refl, ap, sym, ◌∙◌, subst, arith, AllByRecursion, option_map, Packet, Ask, IsPost, to_others, Node, kept_of, Core, HasAtLeast, offered, begun, on_packet, restarted, same_room, Offer, Begin, Deliver, Restart, answered, at_node, delivered, change_at, change_delivered, Taken, nodes_of, StagedWork, steps, restarts, StagedEvent, posts_of, step_of, IsReadyAt, ComesTo, NetView, AreStill, IsStill, IsStaged}
 use Rattle.net.proofs.GrowingLists.{at_front}
 
 -- What an event comes to at its node.
@@ -77,6 +61,7 @@ more_room a b c one two = record {
   heard = let x = one.heard in let y = two.heard in omega (arith, x, y);
   waiting = let x = one.waiting in let y = two.waiting in omega (arith, x, y);
   tallies = let x = one.tallies in let y = two.tallies in omega (arith, x, y);
+  later = let x = one.later in let y = two.later in omega (arith, x, y);
   learned = let x = one.learned in let y = two.learned in omega (arith, x, y);
 }
 
@@ -115,13 +100,13 @@ still_at (x ∷ cs) [] h k c at = elim h [ ]
 -- What is ready stays so.
 
 -- what a node can do it can do with more room
-pub ready_still : {V : Type 0} (c d : Core V) (w : Work V) → d.node ≡ c.node → HasAtLeast c d → IsReadyAt c w → IsReadyAt d w
+pub ready_still : {V : Type 0} (c d : Core V) (w : StagedWork V) → d.node ≡ c.node → HasAtLeast c d → IsReadyAt c w → IsReadyAt d w
 ready_still c d (steps made) same room h = (same ∙ h.0, more_room made.before c d h.1 room)
 ready_still {V} c d (restarts posts None) same room h = h ∙ ap (λ (n : Node V). to_others n.me n.weights (Ask 0)) (sym same)
 ready_still {V} c d (restarts posts (Some kept)) same room h = (h.0 ∙ ap (λ (n : Node V). to_others n.me n.weights (Ask 0)) (sym same), h.1 ∙ ap (λ (n : Node V). kept_of n) (sym same))
 
 -- what is due stays so where nothing has changed but the room
-pub due_still : {V : Type 0} (size : V → ℕ) (a b : NetView V) (due : Due V) → IsStill a b → IsDue size a due → IsDue size b due
+pub due_still : {V : Type 0} (size : V → ℕ) (a b : NetView V) (due : StagedEvent V) → IsStill a b → IsStaged size a due → IsStaged size b due
 due_still {V} size a b due still h =
     let d = still_at a.cores b.cores still.cores due.at h.core h.at in
     record {

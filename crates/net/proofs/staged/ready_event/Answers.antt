@@ -1,13 +1,7 @@
-use Rattle.std.proofs.Common.{Ok, refl, subst}
-use Rattle.synod.specs.declared.packet.Packet.{Packet}
-use Rattle.synod.specs.Step.{on_packet}
-use Rattle.synod.specs.Proposer.{offered, begun}
-use Rattle.synod.proofs.RoomLemmas.{same_room}
-use Rattle.net.specs.declared.event.Event.TheVariants.{Offer, Begin, Deliver}
-use Rattle.net.specs.Due.{Readies, steps}
-use Rattle.net.proofs.StepsDue.{made_due, packet_is}
-use Rattle.net.proofs.due.ready_event.Goals.{in-Offer+in_ok-ready-in-Offer+in_ok-copy-in-Offer, in-Begin+in_ok-ready_begin-in-Begin, in-Deliver+in_ok-ready-in-Deliver, in-Restart+in_ok-ready_restart-in-Restart}
-use Rattle.net.proofs.due.ready_event.Goals as goal
+use Rattle.net.proofs.Words.{Ok, refl, subst, Packet, on_packet, offered, begun, same_room, Offer, Begin, Deliver, Readies, steps}
+use Rattle.net.proofs.StepsStaged.{made_due, packet_is}
+use Rattle.net.proofs.staged.ready_event.Goals.{in-Offer+in_ok-ready-in-Offer+in_ok-copy-in-Offer, in-Begin+in_ok-ready_begin-in-Begin, in-Deliver+in_ok-ready-in-Deliver, in-Restart+in_ok-ready_restart-in-Restart}
+use Rattle.net.proofs.staged.ready_event.Goals as goal
 
 pub returns-clause-ready : goal.returns-clause-ready
 returns-clause-ready g c =

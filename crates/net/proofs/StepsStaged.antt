@@ -1,29 +1,9 @@
 -- A step that a node made ready, seen of the whole net.
-use Rattle.std.proofs.Common.{◌≡◌, ℕ, ◌<◌, ◌≤◌, List, [], ◌∷◌, length, get_or, set, slice_get, Option, Some, None, Result, Ok, Err, refl, ap, sym, ◌∙◌, subst, arith, append-nil}
-use Rattle.std.proofs.lemmas.Option.{slice_get_within, slice_get_read}
-use Rattle.std.specs.List.{AllByRecursion}
-use Rattle.synod.specs.declared.packet.Packet.{Packet}
-use Rattle.synod.specs.declared.refusal.Refusal.{Refusal}
-use Rattle.synod.specs.Packets.{IsPost}
-use Rattle.synod.specs.Node.{Node, Stepped}
-use Rattle.synod.specs.Core.{Core}
-use Rattle.synod.specs.Rooms.{HasAtLeast}
-use Rattle.synod.specs.Ready.{Made, Readies as ReadiesStep}
-use Rattle.synod.specs.Proposer.{offered, begun}
-use Rattle.synod.specs.Step.{on_packet, restarted}
-use Rattle.synod.proofs.RoomLemmas.{same_room}
-use Rattle.net.specs.declared.event.TheConstants.{MOST_EVENTS}
-use Rattle.net.specs.declared.event.Event.{Event}
-use Rattle.net.specs.declared.event.Event.TheVariants.{Offer, Begin, Deliver, Restart}
-use Rattle.net.specs.declared.fault.StepFault.{StepFault}
-use Rattle.net.specs.declared.fault.StepFault.TheVariants.{NoNode, NoPacket}
-use Rattle.net.specs.World.{World, answered, at_node, delivered, happens_at}
-use Rattle.net.specs.KeptPart.{addressed}
-use Rattle.net.specs.Taken.{Taken, AreOfWorld, world_of, with_event}
-use Rattle.net.specs.Due.{steps, Due, posts_of, step_of, IsOfEvent, ComesTo, IsDueAt, Readies, ReadiesEvent, NetView, AreStill, IsStill, IsDue, Gives}
+use Rattle.net.proofs.Words.{◌≡◌, ℕ, ◌<◌, ◌≤◌, List, [], ◌∷◌, length, get_or, set, slice_get, Option, Some, None, Result, Ok, Err, refl, ap, sym, ◌∙◌, subst, arith, append-nil, slice_get_within, slice_get_read, AllByRecursion, Packet, Refusal, IsPost, Node, Stepped, Core, HasAtLeast, Made, offered, begun, on_packet, restarted, same_room, MOST_EVENTS, Event, Offer, Begin, Deliver, Restart, StepFault, NoNode, NoPacket, World, answered, at_node, delivered, happens_at, addressed, Taken, AreOfWorld, world_of, with_event, steps, StagedEvent, posts_of, step_of, IsOfEvent, ComesTo, IsStagedAt, Readies, ReadiesEvent, NetView, AreStill, IsStill, IsStaged, Gives}
+use Rattle.synod.specs.Ready.{Readies as ReadiesStep}
 use Rattle.net.proofs.GrowingLists.{at_set}
 use Rattle.net.proofs.TakenLemmas.{next_is, node_shown, no_node_shown, own_weights, rooms_stay}
-use Rattle.net.proofs.EventsDue.{comes_offer, comes_begin, comes_restart, comes_packet, not_mapped, mapped, more_room, still_same, still_set, nodes_still}
+use Rattle.net.proofs.EventsStaged.{comes_offer, comes_begin, comes_restart, comes_packet, not_mapped, mapped, more_room, still_same, still_set, nodes_still}
 
 -- A step that a node made ready.
 
@@ -95,7 +75,7 @@ module _ {V : Type 0} (size : V → ℕ) (view now : NetView V) (seen : view ≡
     left = record view { cores = set view.cores k new }
 
     -- what is due at node k is due in the net
-    due_here : (e : Event V) (step : Stepped V) → ComesTo size view.packets k core.node e (Ok step) → (due : Due V) → IsDueAt core new k e step due → IsDue size left due
+    due_here : (e : Event V) (step : Stepped V) → ComesTo size view.packets k core.node e (Ok step) → (due : StagedEvent V) → IsStagedAt core new k e step due → IsStaged size left due
     due_here e step comes due d = record {
       core = new;
       at = ap (λ (i : ℕ). slice_get (set view.cores k new) i) d.at ∙ at_set view.cores k new core (slice_get_read view.cores (length view.cores) k core refl in_cores is);
@@ -108,7 +88,7 @@ module _ {V : Type 0} (size : V → ℕ) (view now : NetView V) (seen : view ≡
     }
 
     -- an answer that is right by the node's step or refusal is right by the world's
-    by_answer : (e : Event V) (r : Result (Stepped V) Refusal) → ComesTo size view.packets k core.node e r → (result : Result (Due V) StepFault) → Readies core new k e r result
+    by_answer : (e : Event V) (r : Result (Stepped V) Refusal) → ComesTo size view.packets k core.node e r → (result : Result (StagedEvent V) StepFault) → Readies core new k e r result
         → (met : Result (World V) StepFault) → met ≡ answered h.world k r → Gives size left e met result
     by_answer e (Ok step) comes (Ok due) d met is = subst (λ (x : Result (World V) StepFault). Gives size left e x (Ok due)) (sym is) (due_here e step comes due d, d.event, d.kind)
     by_answer e (Ok step) comes (Err fault) d met is = subst (λ (x : Result (World V) StepFault). Gives size left e x (Err fault)) (sym is) d
@@ -116,14 +96,14 @@ module _ {V : Type 0} (size : V → ℕ) (view now : NetView V) (seen : view ≡
     by_answer e (Err refusal) comes (Err fault) d met is = subst (λ (x : Result (World V) StepFault). Gives size left e x (Err fault)) (sym is) d
 
     -- an answer that is right by what an event comes to at the node is right by the history
-    gives_node : (e : Event V) (r : Result (Stepped V) Refusal) → ComesTo size view.packets k core.node e r → (result : Result (Due V) StepFault) → Readies core new k e r result
+    gives_node : (e : Event V) (r : Result (Stepped V) Refusal) → ComesTo size view.packets k core.node e r → (result : Result (StagedEvent V) StepFault) → Readies core new k e r result
         → Gives size left e (world_of size (with_event now.taken e)) result
     gives_node e r comes result readies =
         by_answer e r comes result readies (world_of size (with_event now.taken e))
         (met_is e (answered h.world k r) (comes h.world [] (h.posted ∙ sym (append-nil view.packets)) (node_shown size view.taken view.cores view.packets h k core in_cores is)).happens)
 
     -- for each event of node k, an answer that is right by its state is right by the history
-    pub gives_event_here : (e : Event V) → addressed view.packets e ≡ Some k → (result : Result (Due V) StepFault) → ReadiesEvent size view.packets core new k e result → Gives size left e (world_of size (with_event now.taken e)) result
+    pub gives_event_here : (e : Event V) → addressed view.packets e ≡ Some k → (result : Result (StagedEvent V) StepFault) → ReadiesEvent size view.packets core new k e result → Gives size left e (world_of size (with_event now.taken e)) result
     gives_event_here (Offer j v) at result readies =
         let same : j ≡ k = cc in
         gives_node (Offer j v) (offered size core.node v) (subst (λ (i : ℕ). ComesTo size view.packets k core.node (Offer i v) (offered size core.node v)) (sym same) (comes_offer size view.packets k core.node v)) result readies
