@@ -5,8 +5,7 @@ use Rattle.std.specs.Prelude.{◌≡◌, ℕ, ◌+◌, ◌<◌, ◌≤◌, List,
 use Rattle.std.specs.declared.alloc.Global.{Global}
 use Rattle.library.specs.Words.{Stmt, Database, AreShaped, Reads, IsReadFault, bares, first_broken, IsProvable}
 use Rattle.mm_read.specs.declared.fault.ReadFault.{ReadFault}
-use Rattle.scope.specs.Accepted.{Accepted}
-use Rattle.frame.specs.Parts.{Numbered}
+use Rattle.library.specs.declared.adding.Tables.{Tables}
 use Rattle.library.specs.declared.verdict.Cause.{Cause}
 use Rattle.library.specs.declared.submission.Submission.{Submission}
 use Rattle.library.specs.Good.{Good, IsProved}
@@ -38,13 +37,13 @@ IsJudged L T None =
     (first_broken 1 L T ≡ None) × ((n : ℕ) (s : Stmt) → IsProvable T n s → IsProved (L ++ T) (length L + n))
 IsJudged L T (Some cause) = IsFault L T cause
 
--- rules and frames stand behind the statements, which are good and marked
-pub record IsBase (S : Database) (rules : Accepted) (frames : Numbered) : Type 0 where
+-- the tables are those of the statements, which are good and marked
+pub record IsChecked (S : Database) (tables : Tables) : Type 0 where
   pub shaped : AreShaped S
   pub good : Good S
-  pub rules_are : rules.statements ≡ bares S
-  pub marked_is : rules.marked ≡ bares S
-  pub frames_are : frames.statements ≡ bares S
+  pub rules_are : tables.rules.statements ≡ bares S
+  pub marked_is : tables.rules.marked ≡ bares S
+  pub frames_are : tables.frames.statements ≡ bares S
 
 -- the statements T were added whole behind L, or nothing of them, for this cause
 abbrev pub Extends : Database → Database → Option Cause → Database → Type 0
