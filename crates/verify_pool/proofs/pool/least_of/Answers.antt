@@ -1,4 +1,4 @@
-use Rattle.verify_pool.proofs.Words.{ℕ, arith, length, subst, sym, IfOk, List, Option, IsFoundInStripe, IsLeastInStripe, slice_index_or}
+use Rattle.verify_pool.proofs.Words.{ℕ, arith, length, subst, sym, IfOk, List, IsFoundInStripe, IsLeastInStripe}
 use Rattle.verify_pool.proofs.StripeLemmas.{one_stripe_more, one_of_two, stripes_are_all}
 use Rattle.verify_pool.specs.declared.checkers.Worker.{Worker}
 use Rattle.verify_pool.proofs.pool.least_of.Goals as goal

@@ -1,4 +1,4 @@
-use Rattle.verify.proofs.Words.{◌≡◌, ℕ, ◌+◌, ◌-◌, ◌≤◌, ◌++◌, Bool, true, false, List, length, refl, arith, ap, ◌∙◌, length-append, weight_limit}
+use Rattle.verify.proofs.Words.{◌≡◌, ℕ, ◌+◌, ◌-◌, ◌≤◌, ◌++◌, Bool, true, false, List, length, arith, ap, ◌∙◌, length-append, weight_limit}
 use Rattle.subst.specs.Stored.Written.{Appends}
 use Rattle.verify.proofs.ResultPlaceLemmas.{apply-kept, apply-seen, apply-cut}
 use Rattle.verify.proofs.results.Results.apply.Goals as goal
