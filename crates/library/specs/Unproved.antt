@@ -1,4 +1,4 @@
--- The `$p` behind the first statements, as work for a pool.
+-- The `$p` after the first statements, as work for a pool.
 -- Source: none; for the private functions of `unproved`.
 -- The code keeps their positions, in order.
 use Rattle.std.specs.Prelude.{◌≡◌, ℕ, ◌<◌, ◌≤◌, List, [], ◌∷◌, length, slice_get, get_or, Option, Some, Result, IfOk}
@@ -17,7 +17,7 @@ pub record ProofsAt : Type 0 where
 abbrev pub IsRightProof : ProofsAt → ℕ → Type 0
 IsRightProof proofs k = StandsProved proofs.statements (get_or proofs.positions k 0)
 
--- positions of these statements, behind which the frames stand
+-- positions of these statements, whose frames these are
 pub record AreProofs (S frames : Database) (positions : List ℕ) : Type 0 where
   pub same : frames ≡ bares S
   pub placed : (k at : ℕ) → slice_get positions k ≡ Some at → (1 ≤ at) × (at ≤ length S)

@@ -1,5 +1,5 @@
 //! One replica: the statements that the entries of a log validly add, and the verdicts on them.
-ghost use Rattle.std.specs.Prelude.{◌≡◌, ◌≤◌, length, None, Some, IfOk, IfSome, OnErr, option_map};
+ghost use Rattle.std.specs.Prelude.{◌≡◌, ◌≤◌, None, Some, IfOk, IfSome, OnErr, option_map};
 ghost use Rattle.library.specs.Added.{Adds};
 ghost use Rattle.library.specs.Good.{Good};
 ghost use Rattle.library.specs.Judging.{ReadsTexts};

@@ -1,4 +1,4 @@
-use Rattle.library.proofs.Words.{◌≡◌, ◌∷◌, ◌++◌, [], true, take, drop, length, Some, None, Ok, sym, ◌∙◌, ◌+◌, ap, subst, arith, bares, drop_all, take_all, IsLegal, IsTrue, OnOk, broken_rule, first_broken, numbered, or_later}
+use Rattle.library.proofs.Words.{◌≡◌, ◌∷◌, ◌++◌, [], true, take, drop, length, Some, sym, ◌∙◌, ◌+◌, ap, subst, arith, bares, drop_all, take_all, IsLegal, IsTrue, OnOk, broken_rule, first_broken, numbered, or_later}
 use denote.Enum.Bare.{sameb}
 use Rattle.scope.specs.contracts.rule.Rule.{the_type}
 use Rattle.scope.specs.declared.rule.Rule.TheVariants.{Memory}
