@@ -10,7 +10,7 @@ pub struct BufferPart {
     pub to: u32,
 }
 
-/// A place within one statement, or the number of a row or a label, in 32 bits: more are answered as want of memory.
+/// A place within one statement, or the number of a row or a label, in 32 bits: more are answered as a failed allocation.
 pub fn place(at: usize) -> Result<u32, AllocError>
     ensures { IfOk result (λ n. n ≡ at) }
 {

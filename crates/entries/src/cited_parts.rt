@@ -22,7 +22,7 @@ pub enum Hypothesis {
     Essential(u32),
 }
 
-/// The hypothesis as one number. A variable or a position that does not fit beside the other kind is want of memory.
+/// The hypothesis as one number. A variable or a position that does not fit beside the other kind is answered as a failed allocation.
 pub fn number_of(hypothesis: Hypothesis) -> Result<u32, AllocError>
     ensures { IfOk result (λ n. told n ≡ hypothesis) }
 {
@@ -94,6 +94,6 @@ pub struct Cited<'a> {
     pub hypotheses: Hypotheses<'a>,
     /// Its expression.
     pub conclusion: &'a [u32],
-    /// The variables whose images are kept apart, each two of a group.
+    /// The variables whose images are to be disjoint, each two of a group.
     pub groups: Groups<'a>,
 }

@@ -15,7 +15,7 @@ use std::marker::Model;
 /// Statements as numbers. Contracts see the list of them, with plain lists for their parts.
 ///
 /// Inside, a statement is one small record, and the numbers of all stand in one buffer: so what a citation reads of an
-/// assertion lies side by side. Groups are kept beside, since few assertions have them, and what no citation reads too.
+/// assertion is contiguous. Groups are kept beside, since few assertions have them, and what no citation reads too.
 #[derive(Drop)]
 pub struct Entries {
     records: Vec<StatementRecord>,
@@ -148,7 +148,7 @@ impl Entries {
         }
     }
 
-    /// Adds a statement. Where a growth is refused, everything is as before.
+    /// Appends a statement. If an allocation fails, everything is as before.
     pub fn push(&mut self, head: Head, parts: &AssertionParts<'_>) -> Result<(), AllocError>
         requires { AreShapedParts parts.now }
         ensures added { OnOk result (self.new ≡ self.old ++ made head parts.now.symbols.now (assertion_of parts.now) ∷ []) }
@@ -176,7 +176,7 @@ impl Entries {
         added
     }
 
-    /// Keeps the first `len` statements. It takes no memory.
+    /// Truncates to the first `len` statements. Does not allocate.
     pub fn truncate(&mut self, len: usize)
         ensures { self.new ≡ take len self.old }
     {
@@ -216,7 +216,7 @@ fn run_at<'a>(
     (part(numbers, from, end), lay(0, 0, end - from, 0, 0))
 }
 
-/// Adds a statement's parts behind the others, and its record.
+/// Appends a statement's parts, and its record.
 fn add(
     records: &mut Vec<StatementRecord>,
     backgrounds: &mut Vec<Background>,

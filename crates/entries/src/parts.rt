@@ -14,7 +14,7 @@ pub struct AssertionParts<'a> {
     pub asked: &'a [u32],
     /// The first symbol of each.
     pub heads: &'a [u32],
-    /// The variables whose images are kept apart, one group behind the other.
+    /// The variables whose images are to be disjoint, one group after another.
     pub places: &'a [u32],
     /// The groups.
     pub groups: &'a [BufferPart],

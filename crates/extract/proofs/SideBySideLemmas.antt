@@ -13,7 +13,7 @@ use Rattle.frame.specs.FrameOf.{hypotheses, mandatory_groups, together}
 use Rattle.frame.proofs.GroupsLemmas.{groups-pairs}
 use Rattle.extract.specs.Selected.{IsPart, nothing, takes, leaves, IsKept}
 use Rattle.extract.specs.Walk.{wanted, AreKept, IsSameFrame, IsWalked}
-use Rattle.library.proofs.EnteringLemmas.{taken-more}
+use Rattle.library.proofs.AddingLemmas.{taken-more}
 
 -- ---- what holds of an answer
 

@@ -10,7 +10,7 @@ use Rattle.scope.specs.Active.{bare, bares, stmt_at, is_assertion}
 use Rattle.scope.proofs.StatementPlaces.{stmt_at-bares}
 use Rattle.frame.specs.FrameOf.{HasAssertion}
 use Rattle.frame.specs.AtPosition.{HasLabelsOnce}
-use Rattle.library.proofs.AskedLemmas.{one-place}
+use Rattle.library.proofs.QueriesLemmas.{one-place}
 use Rattle.extract.specs.declared.fault.ExtractFault.{ExtractFault}
 use Rattle.extract.specs.declared.fault.ExtractFault.TheVariants.{NoLabel, NotAssertion, SameLabel, Memory}
 use Rattle.extract.specs.Wanted.{NamesAssertion, NamesHypothesis, IsWrong, IsRight, AreRight, IsFirstWrong}

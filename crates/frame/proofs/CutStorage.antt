@@ -1,6 +1,8 @@
 -- The storage with its first statements alone, and as before when all that was added is taken back.
 use Rattle.frame.proofs.Words.{sym, ◌∙◌, ap, subst, arith, take-take, ◌≡◌, ℕ, ◌+◌, ◌<◌, ◌≤◌, true, List, length, map, take, drop, slice_get, Some, refl, suc, [], ◌∷◌, Option, None, length-take-le, take-map, take-append-drop, take_at, length-map}
-use Rattle.frame.proofs.Words.{Name, Database, IsNumberingOf, Declared, declared_symbols, declared_labels, stays_open, label_of, symbols_of, labels_of, option_list, Links, Entry, Symbol, links_of, stmt_of, statements_of, positions_from, AreAllLegal, ReadsAs, replaced_of, symbol_of, names_in, labels_in, option_position, AreNumbered, KeepsCounts, IsBehind, Stock, naming_of, AreKept, AreStored, Extends, has_parts, IsKeptAs, extends-length, extends-take, take-get, labels_of-append}
+use Rattle.frame.proofs.Words.{Name, Database, IsNumberingOf, Declared, declared_symbols, declared_labels, stays_open, label_of, symbols_of, labels_of, option_list, Links, Entry, Symbol, is_disj, is_var, links_of, stmt_of, statements_of, positions_from, AreAllLegal, ReadsAs, replaced_of, symbol_of, names_in, labels_in, option_position, AreNumbered, KeepsCounts, IsBehind, Stock, naming_of, AreKept, AreStored, Extends, has_parts, IsKeptAs, extends-length, extends-take, take-get, labels_of-append}
+use Rattle.entries.specs.Histories.{AreKeptUntil}
+use Rattle.frame.proofs.StackLemmas.{stacks-back}
 use Rattle.frame.proofs.BlockWalkLemmas.{get-take}
 use Rattle.frame.proofs.DeclaredSymbolLemmas.{symbols_of-front}
 use Rattle.frame.proofs.AssertionLemmas.{kept-moved}
@@ -167,6 +169,8 @@ pub record IsTakenBack (old mid new : Stock) : Type 0 where
   pub replaced_cut : new.replaced.items ≡ take (length old.replaced.items) mid.replaced.items
   pub ends_cut : new.ends.items ≡ take (length mid.entries) mid.ends.items
   pub entries_cut : new.entries ≡ mid.entries
+  pub disjoints_cut : AreKeptUntil (length mid.entries) mid.disjoints new.disjoints
+  pub variables_cut : AreKeptUntil (length mid.entries) mid.variables new.variables
   pub links_cut : new.links ≡ mid.links
 
 module _ (old mid new : Stock) (stored : AreStored old) (t : IsTakenBack old mid new) where
@@ -201,9 +205,12 @@ module _ (old mid new : Stock) (stored : AreStored old) (t : IsTakenBack old mid
       let positions : new.positions.items ≡ old.positions.items =
       t.positions_cut ∙ (ap (λ m. take m mid.positions.items) labels ∙ take-extends old.positions.items mid.positions.items t.behind.positions) in
       let symbols : new.symbols.items ≡ old.symbols.items = t.symbols_cut ∙ (ap (λ m. take m mid.symbols.items) many ∙ take-extends old.symbols.items mid.symbols.items (z.0, z.1)) in
+      let long : length mid.entries ≡ length old.entries = ap length t.behind.entries in
       let replaced : new.replaced.items ≡ old.replaced.items = t.replaced_cut ∙ take-extends old.replaced.items mid.replaced.items t.behind.replaced in
       record {
         kept = rw (back-names, back-labels, positions, symbols, replaced, back-entries, t.links_cut, t.behind.links) k;
         numbered = back-numbering ∙ (stored.numbered ∙ ap naming_of (sym back-statements));
         ended = rw (back-statements, ends) stored.ended;
+        disjoints = rw (back-statements, back-entries) (stacks-back is_disj old.disjoints mid.disjoints new.disjoints old.entries (statements_of old) stored.disjoints t.behind.disjoints (subst (λ m. AreKeptUntil m mid.disjoints new.disjoints) long t.disjoints_cut));
+        variables = rw (back-statements, back-entries) (stacks-back is_var old.variables mid.variables new.variables old.entries (statements_of old) stored.variables t.behind.variables (subst (λ m. AreKeptUntil m mid.variables new.variables) long t.variables_cut));
       }

@@ -67,7 +67,7 @@ pub record IsFrom (kind : Stmt → Bool) (k : Stock) (m p : ℕ) : Type 0 where
   pub low : p ≤ m
   pub same : walked kind k p ≡ walked kind k m
 
-as-many : (k : Stock) → length (statements_of k) ≡ length k.entries
+pub as-many : (k : Stock) → length (statements_of k) ≡ length k.entries
 as-many k = length-map k.entries (stmt_of (names_in k) (labels_in k))
 
 from : (kind : Stmt → Bool) → IsNoClose kind → (k : Stock) (m p : ℕ) → m ≤ length k.entries → p ≡ last_active kind (take m (statements_of k)) → IsFrom kind k m p

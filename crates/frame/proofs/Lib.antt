@@ -1,5 +1,4 @@
 pub mod Words
-pub mod MarkLemmas
 pub mod SymbolNumberLemmas
 pub mod OpenLemmas
 pub mod LinksLemmas
@@ -12,6 +11,9 @@ pub mod NamingLemmas
 pub mod CutStorage
 pub mod CollectLemmas
 pub mod KindWalk
+pub mod StackLemmas
+pub mod BackLemmas
+pub mod PairStackLemmas
 pub mod PairsLemmas
 pub mod ApartLemmas
 pub mod MakeLemmas

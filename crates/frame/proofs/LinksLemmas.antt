@@ -29,15 +29,18 @@ last-push kind S s c = ap last_position (actives-push kind S s c) ∙ by (kind s
     by true = last_position-push (actives kind S) (1 + length S, s)
     by false = ap last_position (append-nil (actives kind S))
 
--- behind a `$}` the last ones are those in front of the `${`
-pub last-close : (kind : Stmt → Bool) (S : Database) → IsNoClose kind → last_active kind (S ++ stmt.Close ∷ []) ≡ last_active kind (take (last_active is_open S - 1) S)
-last-close kind S n = by (split_last is_open S)
+-- behind a `$}` those are active that were in front of the `${`
+pub actives-close : (kind : Stmt → Bool) (S : Database) → IsNoClose kind → actives kind (S ++ stmt.Close ∷ []) ≡ actives kind (take (last_active is_open S - 1) S)
+actives-close kind S n = by (split_last is_open S)
   where
-    by : HasLast is_open S → last_active kind (S ++ stmt.Close ∷ []) ≡ last_active kind (take (last_active is_open S - 1) S)
-    by (inl e) = rw (e 1) (ap last_position (close-outside kind S n (e 1)))
+    by : HasLast is_open S → actives kind (S ++ stmt.Close ∷ []) ≡ actives kind (take (last_active is_open S - 1) S)
+    by (inl e) = rw (e 1) (close-outside kind S n (e 1))
     by (inr p) =
         let back : last_active is_open S - 1 ≡ length p.0 = omega (arith, last-position is_open S p.0 p.1 p.2 refl p.3) in
-        ap last_position (close-actives kind S p.0 p.1 p.2 n p.3) ∙ rw back (ap (last_active kind) (sym (ap (take (length p.0)) p.3.cut ∙ take-append_seam p.0 (p.1 ∷ p.2))))
+        close-actives kind S p.0 p.1 p.2 n p.3 ∙ rw back (ap (actives kind) (sym (ap (take (length p.0)) p.3.cut ∙ take-append_seam p.0 (p.1 ∷ p.2))))
+
+last-close : (kind : Stmt → Bool) (S : Database) → IsNoClose kind → last_active kind (S ++ stmt.Close ∷ []) ≡ last_active kind (take (last_active is_open S - 1) S)
+last-close kind S n = ap last_position (actives-close kind S n)
 
 -- ---- by the links
 

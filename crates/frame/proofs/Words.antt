@@ -15,8 +15,7 @@ pub use Rattle.frame.specs.Below.{AllBelow, AreBelow}
 pub use Rattle.frame.specs.Bound.{HasFloat, IsBound, IsFirstFixed}
 pub use Rattle.frame.specs.Citations.{Carries, OfVariables, expr_at, is_hypothesis_kind, premises}
 pub use Rattle.frame.specs.Cited.{AreAsked, AreListsOf, IsAsked, IsCited, IsHead, IsOf, head_of}
-pub use Rattle.frame.specs.Covers.{are_covered, are_listed, are_marked, do_share, does_cover, is_listed, is_pair_apart, is_symbol_apart, is_variable_apart}
-pub use Rattle.frame.specs.Disjoint.{are_apart}
+pub use Rattle.frame.specs.Disjoint.{are_apart, is_pair_apart, is_symbol_apart, is_variable_apart}
 pub use Rattle.frame.specs.FrameOf.{HasAssertion, frame_of, groups, hypotheses, is_hypothesis, is_mandatory, is_pair, is_used, mandatory_groups, separates}
 pub use Rattle.frame.specs.Links.{actives, actives_from, is_disj, is_var, last_active, last_position, links_of}
 pub use Rattle.frame.specs.Parts.{FrameParts, Numbered}
@@ -29,7 +28,6 @@ pub use Rattle.frame.specs.Stored.Labels.{is_label_kind}
 pub use Rattle.frame.specs.Stored.Naming.{is_declared, naming_from, naming_of}
 pub use Rattle.frame.specs.Stored.OneFrame.{AreMandatory, among, asked, asks, groups_among, is_in_essential}
 pub use Rattle.frame.specs.Stored.Whole.{AreKept, AreStored, IsDraftOf, IsKeptOf}
-pub use Rattle.frame.specs.declared.active_apart.TheConstants.{PLACES}
 pub use Rattle.frame.specs.declared.storage.Stock.{Stock}
 pub use Rattle.frame.specs.declared.storage.Symbol.{Symbol}
 pub use Rattle.mm_lex.specs.Alphabet.{Name, has_name, name_eq}

@@ -1,11 +1,11 @@
--- Images that are kept apart by the `$d` active behind the statements S.
+-- Images that are disjoint by the `$d` active behind the statements S.
 use Rattle.std.specs.Prelude.{Bool, not, ◌||◌, List}
 use Rattle.std.specs.List.{list_all}
 use Rattle.frame.specs.Words.{Name, name_eq, Expr, Database, is_variable}
 use Rattle.frame.specs.FrameOf.{is_pair}
 use Rattle.frame.specs.Substitution.{Images, image}
 
--- each pair of one variable from e and one from f is kept apart; so none stands in both
+-- each variable of e and each of f are a pair of an active `$d`; so none stands in both
 abbrev pub are_apart : Database → Expr → Expr → Bool
 are_apart S e f =
     list_all (λ u. list_all (λ v. not (is_variable S u) || not (is_variable S v) || is_pair S u v) f) e
@@ -17,3 +17,17 @@ is_group_apart S σ names =
 
 abbrev pub are_groups_apart : Database → Images → List (List Name) → Bool
 are_groups_apart S σ groups = list_all (is_group_apart S σ) groups
+
+-- ---- by variables; no public clause cites these words
+
+-- the variable u and v, where this is a variable, are a pair
+abbrev pub is_pair_apart : Database → Name → Name → Bool
+is_pair_apart S u v = not (is_variable S v) || is_pair S u v
+
+-- the variable u and each variable of f are a pair
+abbrev pub is_variable_apart : Database → Name → Expr → Bool
+is_variable_apart S u f = list_all (is_pair_apart S u) f
+
+-- the symbol u, where it is a variable, and each variable of f are a pair
+abbrev pub is_symbol_apart : Database → Expr → Name → Bool
+is_symbol_apart S f u = list_all (λ v. not (is_variable S u) || not (is_variable S v) || is_pair S u v) f

@@ -3,7 +3,6 @@ pub mod Parts
 pub mod FrameOf
 pub mod Substitution
 pub mod Disjoint
-pub mod Covers
 pub mod Citations
 pub mod Below
 pub mod Cited

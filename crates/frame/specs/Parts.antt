@@ -2,7 +2,7 @@
 use Rattle.std.specs.Prelude.{ℕ, List}
 use Rattle.frame.specs.Words.{Name, Expr, Database}
 
--- hypotheses by position, the lists of variables that are to be kept apart, and the conclusion
+-- hypotheses by position, the lists of disjoint variables, and the conclusion
 pub record FrameParts : Type 0 where
   pub hypotheses : List ℕ
   pub groups : List (List Name)

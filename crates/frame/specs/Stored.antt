@@ -8,4 +8,5 @@ pub mod Labels
 pub mod OneFrame
 pub mod Naming
 pub mod Ends
+pub mod Stacks
 pub mod Whole

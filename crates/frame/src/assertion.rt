@@ -7,7 +7,7 @@ use std::marker::Model;
 
 /// The frame of an assertion (Metamath, 4.2.7).
 ///
-/// Contracts see its mandatory hypotheses by position, the lists of variables that are to be kept apart, and its
+/// Contracts see its mandatory hypotheses by position, the lists of disjoint variables, and its
 /// conclusion.
 #[derive(Drop)]
 pub struct Frame {
@@ -32,7 +32,7 @@ impl Frame {
         self.hypotheses.as_slice()
     }
 
-    /// The lists of variables that are to be kept apart: of each active `$d` the mandatory ones, where they are two or more.
+    /// The lists of disjoint variables: of each active `$d` the mandatory ones, where they are two or more.
     pub fn groups(&self) -> &[Words]
         ensures { result.now ≡ self.now.groups }
     {

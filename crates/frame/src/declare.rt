@@ -167,6 +167,7 @@ pub fn take_away(stock: &mut Stock, len: usize)
     ensures count { length stock.new.symbols.items ≡ length stock.old.symbols.items }
     ensures count_ends { length stock.new.ends.items ≡ length stock.old.ends.items }
     ensures names { (stock.new.numbering ≡ stock.old.numbering) × (stock.new.positions ≡ stock.old.positions) }
+    ensures stacks { (stock.new.disjoints ≡ stock.old.disjoints) × (stock.new.variables ≡ stock.old.variables) }
     ensures links { stock.new.links ≡ stock.old.links }
 {
     while stock.entries.len() > len {

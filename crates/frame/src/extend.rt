@@ -1,6 +1,6 @@
 //! One statement more in the storage, or none, or only the first ones.
 ghost use Rattle.std.specs.Prelude.{true, ◌≡◌, ◌++◌, ◌∷◌, [], Some, OnOk, OnErr, take, length, slice_get, ◌+◌, IfSome, IfErr};
-ghost use Rattle.{names.specs.Codes.with_names, scope.specs.Active.bare, scope.specs.Legal.IsLegal, scope.specs.Legal.broken_rule, scope.specs.Stored.Noted.AreNoted, scope.specs.Symbols.AreVariableNumbers, scope.specs.Symbols.symbols_after, scope.specs.Symbols.symbols_by, scope.specs.Symbols.symbols_in, scope.specs.Symbols.symbols_of, entries.specs.Entries.Entry, entries.specs.Stored.Spans.Extends, frame.specs.Stored.Whole.AreStored, frame.specs.Stored.Counts.IsBehind, frame.specs.Stored.EntryMeanings.labels_in, frame.specs.Stored.EntryMeanings.names_in, frame.specs.Stored.EntryMeanings.statements_of};
+ghost use Rattle.{names.specs.Codes.with_names, scope.specs.Active.bare, scope.specs.Legal.IsLegal, scope.specs.Legal.broken_rule, scope.specs.Stored.Noted.AreNoted, scope.specs.Symbols.AreVariableNumbers, scope.specs.Symbols.symbols_after, scope.specs.Symbols.symbols_by, scope.specs.Symbols.symbols_in, scope.specs.Symbols.symbols_of, entries.specs.Entries.Entry, entries.specs.Histories.AreKeptUntil, entries.specs.Stored.Spans.Extends, frame.specs.Stored.Whole.AreStored, frame.specs.Stored.Counts.IsBehind, frame.specs.Stored.EntryMeanings.labels_in, frame.specs.Stored.EntryMeanings.names_in, frame.specs.Stored.EntryMeanings.statements_of};
 
 use crate::declare::{
     declare, declare_next, declared, links_after, note_end, note_replaced, take_away,
@@ -9,6 +9,7 @@ use crate::frames::Frames;
 use crate::gathered::Gathered;
 use crate::make::enter_parts;
 use crate::shape::kind;
+use crate::stacks::{NextStatement, note_active};
 use crate::storage::Stock;
 use crate::symbol_numbers::find_numbers;
 use entries::buffer_part::place;
@@ -17,7 +18,7 @@ use mm_read::Stmt;
 use scope::{Noted, Rule, Rules, Scope, Steps};
 use std::alloc::{AllocError, Global};
 
-/// Adds the statement behind the others, with the numbers of its symbols where they were noted. Where a growth is refused,
+/// Appends the statement, with the numbers of its symbols where they were noted. If an allocation fails,
 /// more may be left behind what was there.
 fn extend(
     alloc: Global,
@@ -54,6 +55,18 @@ fn extend(
     let declared = declared(kind, codes);
     note_replaced(&stock.symbols, kind, declared, &mut stock.replaced)?;
     stock.ends.push(0)?;
+    let next = NextStatement {
+        kind,
+        codes,
+        at: place(at)?,
+        links: stock.links,
+    };
+    note_active(
+        &mut stock.disjoints,
+        &mut stock.variables,
+        &stock.entries,
+        &next,
+    )?;
     stock.entries.push(head, &draft.parts(codes))?;
     declare(&mut stock.symbols, kind, declared, at);
     note_end(&mut stock.ends, kind, stock.links.block, at as u32);
@@ -61,9 +74,9 @@ fn extend(
     Ok(())
 }
 
-/// Adds the statement behind the others, with the numbers of its symbols where they were noted.
+/// Appends the statement, with the numbers of its symbols where they were noted.
 ///
-/// Where a growth is refused, everything is as before.
+/// If an allocation fails, everything is as before.
 fn extend_whole(
     alloc: Global,
     stock: &mut Stock,
@@ -96,6 +109,8 @@ fn roll_back(stock: &mut Stock, names: usize, replaced: usize)
     ensures replaced { stock.new.replaced.items ≡ take replaced stock.old.replaced.items }
     ensures ends { stock.new.ends.items ≡ take (length stock.old.entries) stock.old.ends.items }
     ensures entries { stock.new.entries ≡ stock.old.entries }
+    ensures disjoints { AreKeptUntil (length stock.old.entries) stock.old.disjoints stock.new.disjoints }
+    ensures variables { AreKeptUntil (length stock.old.entries) stock.old.variables stock.new.variables }
     ensures links { stock.new.links ≡ stock.old.links }
 {
     stock.numbering.truncate(names);
@@ -103,12 +118,15 @@ fn roll_back(stock: &mut Stock, names: usize, replaced: usize)
     stock.positions.truncate(stock.numbering.label_count());
     stock.replaced.truncate(replaced);
     stock.ends.truncate(stock.entries.len());
+    let last = stock.entries.len() as u32;
+    stock.disjoints.truncate(last);
+    stock.variables.truncate(last);
 }
 
 impl Frames {
     /// Adds the statement that the scope accepts next.
     ///
-    /// Where a growth is refused, everything is as before. One step is counted, whatever is answered.
+    /// If an allocation fails, everything is as before. One step is counted, whatever is answered.
     /// Cost: the statement's own size.
     pub fn push(&mut self, scope: &Scope, stmt: &Stmt, steps: &mut Steps) -> Result<(), AllocError>
         requires same { scope.now.statements ≡ self.old.statements }
@@ -142,7 +160,7 @@ impl Frames {
         ensures accepted { OnOk result (rules.new.statements ≡ rules.old.statements ++ bare stmt.now ∷ []) }
         ensures legal { OnOk result (IsLegal self.old.statements stmt.now) }
 
-        // A broken rule is answered also where every growth is refused.
+        // A broken rule is answered even if every allocation fails.
         ensures broken { IfSome (broken_rule self.old.statements stmt.now) (λ rule. result ≡ Err rule) }
         ensures only_memory { IsLegal self.old.statements stmt.now → IfErr result (λ rule. rule ≡ Rule.Memory) }
         ensures same { OnErr result (self.new ≡ self.old) }
@@ -175,7 +193,7 @@ impl Frames {
 
     /// Only the first `len` statements stay.
     ///
-    /// Takes no memory. Cost: the size of the statements that go.
+    /// Does not allocate. Cost: the size of the statements that go.
     pub fn shorten(&mut self, len: usize)
         ensures statements { self.new.statements ≡ take len self.old.statements }
         ensures names { Extends self.new.names self.old.names }

@@ -11,7 +11,7 @@ use crate::pairs::Pairs;
 use crate::shape::has_label;
 use crate::storage::Stock;
 use crate::symbol_numbers::label_number;
-use entries::{Cited, Entries, Groups, Hypotheses, Kind, Links};
+use entries::{Cited, Entries, Groups, Histories, Hypotheses, Kind, Links};
 use mm_lex::Words;
 use scope::{Noted, Numbering};
 use std::alloc::{AllocError, Global};
@@ -54,6 +54,8 @@ impl Frames {
                 replaced: Vec::new(alloc),
                 ends: Vec::new(alloc),
                 entries: Entries::new(alloc),
+                disjoints: Histories::new(alloc),
+                variables: Histories::new(alloc),
                 links: Links {
                     block: 0,
                     essential: 0,
@@ -73,7 +75,7 @@ impl Frames {
         self.stock.entries.len()
     }
 
-    /// Makes room for so many more labels, where there is memory for it: statements that carry them are then added
+    /// Makes room for so many more labels if allocation succeeds: statements that carry them are then added
     /// faster.
     pub fn reserve(&mut self, labels: usize)
         ensures { self.new ≡ self.old }
@@ -92,7 +94,7 @@ impl Frames {
 
     /// The position of the statement with each label.
     ///
-    /// Errors: a growth was refused. Cost: that of looking each label up.
+    /// Errors: an allocation fails. Cost: that of looking each label up.
     pub fn positions(&self, labels: &Words) -> Result<Vec<Option<usize>>, AllocError>
         ensures found { IfOk result (λ positions. ArePositions self.now.statements labels.now positions.items) }
         ensures legal { AreLegal self.now.statements self.now.names }
@@ -139,7 +141,7 @@ impl Frames {
         }
     }
 
-    /// The variables that are kept apart at a position.
+    /// Returns the pairs of disjoint variables at a position.
     pub fn active_pairs(&self, at: usize) -> Pairs<'_>
         requires { (1 ≤ at) × (at ≤ length self.now.statements) }
         ensures statements { result.statements ≡ before self.now.statements at }

@@ -22,7 +22,7 @@ pub struct Gathered {
     pub(crate) asked: Vec<u32>,
     /// The first symbol of each.
     pub(crate) heads: Vec<u32>,
-    /// The variables whose images are kept apart, one group behind the other.
+    /// The variables whose images are to be disjoint, one group after another.
     pub(crate) places: Vec<u32>,
     /// The groups.
     pub(crate) groups: Vec<BufferPart>,

@@ -1,9 +1,9 @@
 //! What an assertion asks of who cites it.
 //!
 //! `Frames` keeps the statements of a database by position, and reads off them what a verifier asks: what a citation means at a
-//! statement, the parts of an assertion, and the variables that are kept apart. `frame` gathers the `Frame` of one assertion from
-//! what is active. Reading order: `storage`, `shape`, `gathered`; `symbol_numbers`, `at_position`, `declare`, `mandatory`,
-//! `make`, `extend` (one statement more or less); `meaning`, `frames`, `pairs`, `active_apart` (what is asked); `assertion`,
+//! statement, the parts of an assertion, and the disjoint variables. `frame` gathers the `Frame` of one assertion from
+//! what is active. Reading order: `storage`, `shape`, `gathered`; `symbol_numbers`, `at_position`, `stacks`, `declare`, `mandatory`,
+//! `make`, `extend` (one statement more or less); `meaning`, `frames`, `row`, `pairs`, `active_apart` (what is asked); `assertion`,
 //! `one_frame`; `laws`.
 #![tactic(auto)]
 
@@ -20,7 +20,9 @@ mod mandatory;
 mod meaning;
 mod one_frame;
 mod pairs;
+mod row;
 mod shape;
+mod stacks;
 mod storage;
 mod symbol_numbers;
 
@@ -31,4 +33,5 @@ pub use laws::groups_are_pairs;
 pub use meaning::Meaning;
 pub use one_frame::frame;
 pub use pairs::Pairs;
+pub use row::Row;
 pub use shape::is_assertion;

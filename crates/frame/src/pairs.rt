@@ -1,10 +1,12 @@
-//! The variables that are kept apart at a position.
+//! The disjoint variables at a position.
 ghost use Rattle.std.specs.Prelude.{◌≡◌, ◌==◌, ◌&&◌, ◌||◌, ◌<◌, ℕ, not, false, length, IfNone, IfSome};
-ghost use Rattle.{std.specs.List.list_any, mm_lex.specs.Alphabet.Name, names.specs.Codes.name_at, names.specs.Codes.code_of, scope.specs.Active.is_variable, frame.specs.Below.AreBelow, frame.specs.FrameOf.is_pair};
+ghost use Rattle.{std.specs.List.list_any, mm_lex.specs.Alphabet.Name, names.specs.Codes.name_at, names.specs.Codes.code_of, scope.specs.Active.is_variable, frame.specs.Below.AllBelow, frame.specs.Below.AreBelow, frame.specs.FrameOf.is_pair, frame.specs.Links.is_disj, frame.specs.Stored.EntryMeanings.statements_of, frame.specs.Stored.Stacks.AreOfKind, frame.specs.Stored.Stacks.IsOfKind, frame.specs.Stored.Stacks.has_code, frame.specs.Stored.Whole.AreStored};
 
-use crate::at_position::{is_active_at, links_at};
+use crate::at_position::links_at;
+use crate::row::Row;
 use crate::storage::Stock;
 use crate::symbol_numbers::symbol_number;
+use entries::PositionStack;
 use std::marker::Model;
 
 /// The `$d` that are active at a position.
@@ -28,9 +30,9 @@ impl<'a> Model for Pairs<'a> {
 }
 
 impl<'a> Pairs<'a> {
-    /// Whether x and y are different and stand together in an active `$d`.
+    /// Returns whether x and y are different and stand together in an active `$d`.
     ///
-    /// Cost: the symbols of the active `$d`.
+    /// Cost: the smaller count of active `$d` that have x or that have y, times a binary search.
     pub fn has(&self, x: u32, y: u32) -> bool
         requires { (x < length self.now.names) × (y < length self.now.names) }
         ensures { result ≡ is_pair self.now.statements (name_at self.now.names x) (name_at self.now.names y) }
@@ -38,13 +40,24 @@ impl<'a> Pairs<'a> {
         if x == y {
             return false;
         }
-        let mut before = self.copy();
-        while let Some(list) = before.take_last() {
-            if contains_both(list, x, y) {
-                return true;
-            }
+        let with_x = self.stock.disjoints.stack(x, self.at);
+        let with_y = self.stock.disjoints.stack(y, self.at);
+        if with_x.len() <= with_y.len() {
+            any_has(self.stock, with_x, y)
+        } else {
+            any_has(self.stock, with_y, x)
         }
-        false
+    }
+
+    /// Returns the active `$d` that have x, from the last one back.
+    ///
+    /// Cost: a binary search.
+    pub fn row(&self, x: u32) -> Row<'a>
+        requires { x < length self.now.names }
+        ensures pairs { (y : ℕ) → y < length self.now.names → is_pair self.now.statements (name_at self.now.names x) (name_at self.now.names y) ≡ (not (x == y) && list_any (λ list. list_any (λ c. y == c) list) result) }
+        ensures below { AllBelow (length self.now.names) result }
+    {
+        Row::new(self.stock, self.stock.disjoints.stack(x, self.at))
     }
 
     /// The same `$d` once more.
@@ -82,47 +95,55 @@ impl<'a> Pairs<'a> {
         symbol_number(&self.stock.numbering, name)
     }
 
-    /// Whether x is a variable there.
+    /// Returns whether x is a variable there.
     ///
-    /// Cost: a few look-ups; where its last `$v` is not active there, also the symbols of the active `$v`.
+    /// Cost: a binary search.
     pub fn variable(&self, x: u32) -> bool
         requires { x < length self.now.names }
         ensures { result ≡ is_variable self.now.statements (name_at self.now.names x) }
     {
-        let declared = self.stock.symbols[x as usize].variable;
-        if declared == 0 {
-            return false;
-        }
-        if declared < self.at && is_active_at(self.stock, declared, self.at) {
-            return true;
-        }
-        let mut last = links_at(self.stock, self.at).variable;
-        while last != 0 {
-            let entry = self.stock.entries.entry(last as usize - 1);
-            if contains(entry.symbols, x) {
-                return true;
-            }
-            last = entry.before.links.variable;
-        }
-        false
+        !self.stock.variables.stack(x, self.at).is_empty()
     }
 }
 
-/// Whether x stands in the list. Cost: the list.
+/// A `$d` with at most so many symbols is looked through; of a longer one the stacks tell whether it has a symbol.
+const FEW: usize = 8;
+
+/// Returns whether one of the `$d` at these positions has the symbol.
+///
+/// Cost: how many they are, times a binary search.
+fn any_has(stock: &Stock, mut stack: PositionStack<'_>, code: u32) -> bool
+    requires stored { AreStored stock.now }
+    requires disjoints { AreOfKind is_disj (statements_of stock.now) stack }
+    ensures { result ≡ list_any (has_code stock.now.entries code) stack.entry }
+{
+    while let Some(at) = stack.pop() {
+        if has_symbol(stock, at, code) {
+            return true;
+        }
+    }
+    false
+}
+
+/// Returns whether the `$d` at a position has the symbol.
+fn has_symbol(stock: &Stock, at: u32, code: u32) -> bool
+    requires stored { AreStored stock.now }
+    requires disjoint { IsOfKind is_disj (statements_of stock.now) at }
+    ensures { result ≡ has_code stock.now.entries code at }
+{
+    let symbols = stock.entries.entry(at as usize - 1).symbols;
+    if symbols.len() <= FEW {
+        return contains(symbols, code);
+    }
+    match stock.disjoints.stack(code, at as usize + 1).last() {
+        Some(last) => last == at,
+        None => false,
+    }
+}
+
+/// Returns whether x stands in the list.
 pub(crate) fn contains(codes: &[u32], x: u32) -> bool
     ensures { result ≡ list_any (λ y. x == y) codes.now }
 {
     codes.iter().any(|y| x == *y)
-}
-
-/// Whether both stand in the list. Most `$d` have two variables.
-fn contains_both(codes: &[u32], x: u32, y: u32) -> bool
-    ensures { result ≡ (list_any (λ c. x == c) codes.now && list_any (λ c. y == c) codes.now) }
-{
-    if let [first, second] = codes {
-        let (first, second) = (*first, *second);
-        (x == first || x == second) && (y == first || y == second)
-    } else {
-        contains(codes, x) && contains(codes, y)
-    }
 }

@@ -1,5 +1,5 @@
 //! The statements of a database as numbers.
-use entries::{Entries, Links};
+use entries::{Entries, Histories, Links};
 use scope::Numbering;
 
 /// The last statements that declare a symbol, by position, or 0.
@@ -23,5 +23,9 @@ pub struct Stock {
     /// Of each `${` the position of its `$}`, or 0 while its block is open; of another statement 0.
     pub ends: Vec<u32>,
     pub entries: Entries,
+    /// The active `$d` that have a symbol, by its number.
+    pub disjoints: Histories,
+    /// The active `$v` that have a symbol, by its number.
+    pub variables: Histories,
     pub links: Links,
 }

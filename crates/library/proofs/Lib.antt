@@ -1,8 +1,8 @@
 pub mod Words
 pub mod UnprovedLemmas
-pub mod AskedLemmas
+pub mod QueriesLemmas
 pub mod CitationWalkLemmas
-pub mod UsersLemmas
+pub mod CitedByLemmas
 pub mod MayCiteLemmas
 pub mod UseMarkLemmas
 pub mod MeetingLemmas
@@ -11,8 +11,9 @@ pub mod GoodLemmas
 pub mod JoinedRulesLemmas
 pub mod CausesLemmas
 pub mod LibraryLemmas
-pub mod EnteringLemmas
+pub mod AddingLemmas
+pub mod AheadLemmas
 pub mod ProvingLemmas
-pub mod BaseLemmas
+pub mod CheckedDatabaseLemmas
 mod PlainLibraryLemmas
 mod Rows

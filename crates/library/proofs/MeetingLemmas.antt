@@ -13,7 +13,7 @@ use Rattle.proof_code.proofs.ReadProofLemmas.{apart-written, shared-none}
 use Rattle.proof_code.proofs.RowOfNumbers.{item-cite, item-recall}
 use Rattle.library.proofs.MayCiteLemmas.{kind-labelled, cited-label}
 use Rattle.library.proofs.ProvingLemmas.{has-items, written-of, labels-bare}
-use Rattle.library.proofs.UsersLemmas.{proof-meets}
+use Rattle.library.proofs.CitedByLemmas.{proof-meets}
 
 -- ---- the tests of labels
 

@@ -4,11 +4,11 @@ pub use Rattle.frame.proofs.MarkLemmas.{lent-whole, no-mark}
 pub use Rattle.frame.specs.AtPosition.{ArePositions, HasLabelsOnce, IsPosition}
 pub use Rattle.frame.specs.Citations.{Carries, IsHypothesis, IsInstance, expr_at, is_hypothesis_kind, option_expr, premises}
 pub use Rattle.frame.specs.FrameOf.{hypotheses, mandatory_groups}
-pub use Rattle.library.specs.Asked.{HasNoLabel, IsNoProof, IsTreeOf, IsUsage, NamesNoProof, NamesProof, SpellsTree}
+pub use Rattle.library.specs.Queries.{HasNoLabel, IsNoProof, IsTreeOf, IsUsage, NamesNoProof, NamesProof, SpellsTree}
 pub use Rattle.library.specs.Causes.{IsAllowed, IsCause, IsFault, IsFirstUnproved, IsReadable}
 pub use Rattle.library.specs.Charters.{first_declaration, forbidden, is_rising, may_declare}
 pub use Rattle.library.specs.Good.{Good, IsProved}
-pub use Rattle.library.specs.Judging.{Extends, IsBase, IsJudged, IsKnown, IsLeastUnproved, IsReading, StandsProved}
+pub use Rattle.library.specs.Judging.{Extends, IsChecked, IsJudged, IsKnown, IsLeastUnproved, IsReading, StandsProved}
 pub use Rattle.library.specs.LibraryOf.{Applies, AppliesAt, Decided, Decides, IsLibraryOf, Replica, Runs, decided_with, empty, status, status_of}
 pub use Rattle.library.specs.Listed.{listed, listed_of}
 pub use Rattle.library.specs.Unproved.{AreBehind, AreProofs, IsRightProof}

@@ -21,13 +21,13 @@ pub record IsAllowed (charter : Option (List ℕ)) (submission : Submission) (T 
   pub readable : IsReadable submission.text T
   pub allowed : forbidden charter submission.author T ≡ None
 
--- statement n of T, behind L, is the least `$p` that is not proved
+-- statement n of T, after L, is the least `$p` that is not proved
 pub record IsFirstUnproved (L T : Database) (n : ℕ) (s : Stmt) : Type 0 where
   pub here : IsProvable T n s
   pub unproved : ¬ IsProved (L ++ T) (length L + n)
   pub earlier : (m : ℕ) (r : Stmt) → m < n → IsProvable T m r → IsProved (L ++ T) (length L + m)
 
--- why the statements T may not stand behind L: the least rule broken, or the least `$p` that is not proved
+-- why the statements T may not follow L: the least rule broken, or the least `$p` that is not proved
 abbrev pub IsFault : Database → Database → Cause → Type 0
 IsFault L T (Rule n rule) = first_broken 1 L T ≡ Some (n, rule)
 IsFault L T (Proof n) =
@@ -36,7 +36,7 @@ IsFault L T (Unfinished n) =
     (s : Stmt) × (first_broken 1 L T ≡ None) × IsFirstUnproved L T n s × IsTrue (is_unfinished (proof_of s))
 IsFault L T cause = ⊥
 
--- why the submission is not added behind L, under the charter that is there
+-- why the submission is not added after L, under the charter that is there
 abbrev pub IsCause : Database → Option (List ℕ) → Submission → Cause → Type 0
 IsCause L charter submission TooLong = MOST_BYTES < length submission.text
 IsCause L charter submission Text =

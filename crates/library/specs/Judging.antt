@@ -1,12 +1,11 @@
--- What judging statements behind others finds: the least rule broken, or else the least `$p` that is not proved.
+-- Judging statements that follow others: the least rule broken, or else the least `$p` that is not proved.
 -- Source: this project's profile; Metamath, 4.2 and appendix B.
 -- The code adds the statements to the state of the rules and to frames, and goes back where it finds a fault.
 use Rattle.std.specs.Prelude.{◌≡◌, ℕ, ◌+◌, ◌<◌, ◌≤◌, List, ◌++◌, length, Option, Some, None, Result, Ok, Err, IfOk, IfErr, Vec}
 use Rattle.std.specs.declared.alloc.Global.{Global}
 use Rattle.library.specs.Words.{Stmt, Database, AreShaped, Reads, IsReadFault, bares, first_broken, IsProvable}
 use Rattle.mm_read.specs.declared.fault.ReadFault.{ReadFault}
-use Rattle.scope.specs.Accepted.{Accepted}
-use Rattle.frame.specs.Parts.{Numbered}
+use Rattle.library.specs.declared.adding.Tables.{Tables}
 use Rattle.library.specs.declared.verdict.Cause.{Cause}
 use Rattle.library.specs.declared.submission.Submission.{Submission}
 use Rattle.library.specs.Good.{Good, IsProved}
@@ -20,33 +19,33 @@ Begins front whole = (rest : Database) × (whole ≡ front ++ rest)
 abbrev pub StandsProved : Database → ℕ → Type 0
 StandsProved S at = (s : Stmt) → IsProvable S at s → IsProved S at
 
--- behind the first statements each `$p` is proved, or this is the least that is not
+-- after the first statements each `$p` is proved, or this is the least that is not
 abbrev pub IsLeastUnproved : Database → ℕ → Option ℕ → Type 0
 IsLeastUnproved S front None = (at : ℕ) → front < at → at ≤ length S → StandsProved S at
 IsLeastUnproved S front (Some at) =
     (front < at) × (at ≤ length S) × (¬ StandsProved S at) × ((m : ℕ) → front < m → m < at → StandsProved S m)
 
--- behind the first statements, up to this position, each `$p` is proved
+-- after the first statements, up to this position, each `$p` is proved
 pub record IsKnown (S : Database) (front known : ℕ) : Type 0 where
   pub low : front ≤ known
   pub within : known ≤ length S
   pub proved : (at : ℕ) → front < at → at ≤ known → StandsProved S at
 
--- the statements T may stand behind L, or this is why they may not
+-- the statements T may follow L, or this is why they may not
 abbrev pub IsJudged : Database → Database → Option Cause → Type 0
 IsJudged L T None =
     (first_broken 1 L T ≡ None) × ((n : ℕ) (s : Stmt) → IsProvable T n s → IsProved (L ++ T) (length L + n))
 IsJudged L T (Some cause) = IsFault L T cause
 
--- rules and frames stand behind the statements, which are good and marked
-pub record IsBase (S : Database) (rules : Accepted) (frames : Numbered) : Type 0 where
+-- the tables are those of the statements, which are good and marked
+pub record IsChecked (S : Database) (tables : Tables) : Type 0 where
   pub shaped : AreShaped S
   pub good : Good S
-  pub rules_are : rules.statements ≡ bares S
-  pub marked_is : rules.marked ≡ bares S
-  pub frames_are : frames.statements ≡ bares S
+  pub rules_are : tables.rules.statements ≡ bares S
+  pub marked_is : tables.rules.marked ≡ bares S
+  pub frames_are : tables.frames.statements ≡ bares S
 
--- the statements T were added whole behind L, or nothing of them, for this cause
+-- the statements T were added whole after L, or nothing of them, for this cause
 abbrev pub Extends : Database → Database → Option Cause → Database → Type 0
 Extends L T None new = Good (L ++ T) × (new ≡ L ++ T)
 Extends L T (Some cause) new = IsFault L T cause × (new ≡ L)

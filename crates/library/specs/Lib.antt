@@ -9,7 +9,7 @@ pub mod Judging
 pub mod LibraryState
 pub mod Listed
 pub mod Uses
-pub mod Asked
+pub mod Queries
 pub mod UseMarks
 pub mod Unproved
-pub mod Entered
+pub mod Added

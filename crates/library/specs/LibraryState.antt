@@ -1,4 +1,4 @@
--- What contracts see of a library: its replica, and the count of its steps.
+-- A library as contracts see it: its replica, and the count of its steps.
 -- Source: this project's profile.
 -- The code has the statements three times: as they were read, as the state of the rules, and as frames.
 use Rattle.std.specs.Prelude.{◌≡◌, ℕ, ◌+◌, ◌*◌, ◌≤◌, List, length, map, Option, Some, None, ⊤}

@@ -27,7 +27,7 @@ abbrev pub plain_decided_with : PlainReplica → Submission → Verdict → List
 plain_decided_with old submission verdict =
     old.decided ++ record { author = submission.author; serial = submission.serial; verdict = verdict } ∷ []
 
--- why the submission is not added behind L
+-- why the submission is not added after L
 abbrev pub IsPlainCause : Database → Submission → Cause → Type 0
 IsPlainCause L submission TooLong = MOST_BYTES < length submission.text
 IsPlainCause L submission Text =

@@ -1,9 +1,11 @@
--- The `$p` behind the first statements, as work for a pool.
+-- The `$p` after the first statements, as work for a pool.
 -- Source: none; for the private functions of `unproved`.
 -- The code keeps their positions, in order.
 use Rattle.std.specs.Prelude.{◌≡◌, ℕ, ◌<◌, ◌≤◌, List, [], ◌∷◌, length, slice_get, get_or, Option, Some, Result, IfOk}
 use Rattle.library.specs.Words.{Stmt, Database, bares, IsProvable}
+use Rattle.std.specs.Borrow.{Bor, MutBor}
 use Rattle.verify_pool.specs.Least.{IsLeast}
+use Rattle.verify_pool.specs.declared.checkers.Checkers.{Checkers}
 use Rattle.library.specs.Judging.{StandsProved}
 
 -- statements, and positions of `$p` among them
@@ -15,7 +17,7 @@ pub record ProofsAt : Type 0 where
 abbrev pub IsRightProof : ProofsAt → ℕ → Type 0
 IsRightProof proofs k = StandsProved proofs.statements (get_or proofs.positions k 0)
 
--- positions of these statements, behind which the frames stand
+-- positions of these statements, whose frames these are
 pub record AreProofs (S frames : Database) (positions : List ℕ) : Type 0 where
   pub same : frames ≡ bares S
   pub placed : (k at : ℕ) → slice_get positions k ≡ Some at → (1 ≤ at) × (at ≤ length S)
@@ -26,7 +28,9 @@ AreBehind S front end [] = (at : ℕ) (s : Stmt) → front < at → at ≤ end �
 AreBehind S front end (at ∷ positions) =
     (front < at) × (at ≤ end) × ((m : ℕ) (s : Stmt) → front < m → m < at → ¬ IsProvable S m s) × AreBehind S at end positions
 
--- what is returned of proofs is the index of the least that is not right
-abbrev pub FindsLeast : {E : Type 0} → (ProofsAt → Result (Option ℕ) E → Type 0) → Type 0
-FindsLeast {E} returns =
-    (proofs : ProofsAt) (r : Result (Option ℕ) E) → returns proofs r → IfOk r (IsLeast (IsRightProof proofs) (length proofs.positions))
+-- what may be called so returns of proofs the index of the least that is not right
+abbrev pub FindsLeast : {E : Type 0} → (Bor ProofsAt → MutBor Checkers → Type 0) → (Bor ProofsAt → MutBor Checkers → Result (Option ℕ) E → MutBor Checkers → Type 0) → Type 0
+FindsLeast {E} pre post =
+    ((proofs : Bor ProofsAt) (checkers : MutBor Checkers) → pre proofs checkers)
+    × ((proofs : Bor ProofsAt) (checkers : MutBor Checkers) (r : Result (Option ℕ) E) (checkers' : MutBor Checkers)
+    → post proofs checkers r checkers' → IfOk r (IsLeast (IsRightProof proofs.now) (length proofs.now.positions)))

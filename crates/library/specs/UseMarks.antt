@@ -51,11 +51,11 @@ IsMarkedAxiom S marks a = IsMarked marks a × IsAxiomAt S a
 abbrev pub ItemsMeet : Database → List Item → List Bool → Type 0
 ItemsMeet S items marks = (a : ℕ) × IsMarked marks a × ItemsCite S items a
 
--- the same of the proof of the statement at a position
+-- the proof of the statement at a position cites a statement that is marked
 abbrev pub ProofMeets : Database → ℕ → List Bool → Type 0
 ProofMeets S at marks = (a : ℕ) × IsMarked marks a × Cites S at a
 
--- the tokens before `)`: those that a compressed proof lists, behind `(`, or all of a normal one
+-- the tokens before `)`: those that a compressed proof lists after `(`, or all of a normal one
 abbrev pub listed_in : List Name → List Name
 listed_in [] = []
 listed_in (token ∷ tokens) = if name_eq token finish then [] else token ∷ listed_in tokens

@@ -5,7 +5,7 @@ ghost use Rattle.library.specs.Charters.{AreNames, is_rising, names_author};
 use std::alloc::AllocError;
 use std::marker::Model;
 
-/// How many authors a charter may name.
+/// The largest number of authors that a charter may name.
 pub const MOST_NAMES: usize = 64;
 
 /// The authors that a charter names: 1 to 64 numbers, each above the one before. Contracts see the list.
@@ -26,8 +26,8 @@ impl Model for Names {
 }
 
 impl Names {
-    /// The names with these numbers; none where there are no numbers, more than 64, or they do not rise strictly.
-    /// Takes no memory.
+    /// Returns the names with these numbers; `None` where there are no numbers, more than 64, or they do not rise strictly.
+    /// Does not allocate.
     pub fn new(numbers: Vec<u64>) -> Option<Names>
         ensures { MatchOption result (AreNames numbers.items → ⊥) (λ names. names ≡ numbers.items) }
     {
@@ -38,7 +38,7 @@ impl Names {
         Some(Names { numbers })
     }
 
-    /// The numbers, in rising order.
+    /// Returns the numbers, in rising order.
     pub fn as_slice(&self) -> &[u64]
         ensures numbers { result.now ≡ self.now }
         ensures names { AreNames self.now }
@@ -46,21 +46,23 @@ impl Names {
         self.numbers.as_slice()
     }
 
-    /// The numbers, given back. Takes no memory.
+    /// Gives the numbers back. Does not allocate.
     pub fn into_vec(self) -> Vec<u64>
         ensures { result.items ≡ self }
     {
         self.numbers
     }
 
-    /// Whether the author is named.
+    /// Tells whether the author is named.
     pub fn has(&self, author: u64) -> bool
         ensures { result ≡ names_author self.now author }
     {
         self.numbers.contains(&author)
     }
 
-    /// The same names.
+    /// Copies the names.
+    ///
+    /// Errors: an allocation fails.
     pub fn copy(&self) -> Result<Names, AllocError>
         ensures { IfOk result (λ names. names ≡ self.now) }
     {
@@ -69,7 +71,7 @@ impl Names {
     }
 }
 
-/// Whether each number is below the next.
+/// Tells whether each number is below the next.
 fn is_rising(numbers: &[u64]) -> bool
     ensures { result ≡ is_rising numbers.now }
 {

@@ -1,4 +1,4 @@
-//! What the log of a library holds.
+//! Entries of the log of a library.
 ghost use Rattle.std.specs.Prelude.{◌≡◌, IfOk};
 ghost use Rattle.library.specs.LibraryOf.{author_of, serial_of, size_of};
 
@@ -20,7 +20,7 @@ pub enum Entry {
 }
 
 impl Entry {
-    /// Who made the entry.
+    /// Returns the author of the entry.
     pub fn author(&self) -> u64
         ensures { result ≡ author_of self.now }
     {
@@ -30,7 +30,7 @@ impl Entry {
         }
     }
 
-    /// The author's number of the entry.
+    /// Returns the author's number of the entry.
     pub fn serial(&self) -> u64
         ensures { result ≡ serial_of self.now }
     {
@@ -40,7 +40,7 @@ impl Entry {
         }
     }
 
-    /// The count of the text's bytes, or 8 a name.
+    /// Returns the number of bytes of the text, or 8 for each name of a charter.
     pub fn size(&self) -> usize
         ensures { result ≡ size_of self.now }
     {
@@ -50,7 +50,9 @@ impl Entry {
         }
     }
 
-    /// The same entry. A text is shared; the names are copied.
+    /// Copies the entry. A text is shared; the names are copied.
+    ///
+    /// Errors: an allocation fails.
     pub fn copy(&self) -> Result<Entry, AllocError>
         ensures { IfOk result (λ entry. entry ≡ self.now) }
     {

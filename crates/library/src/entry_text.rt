@@ -1,6 +1,8 @@
-//! What a text reads as, and what the charter that is there forbids its author.
+//! The statements of a text, and those of them that the charter forbids its author.
 ghost use Rattle.std.specs.Prelude.{◌≡◌, IfOk};
-ghost use Rattle.{std.specs.Fn.FnReturnsAt, library.specs.Charters.forbidden, library.specs.Charters.is_declaration, library.specs.Charters.may_declare, library.specs.Judging.IsReading, library.specs.Judging.ReadsTexts};
+ghost use Rattle.library.specs.Charters.{forbidden, is_declaration, may_declare};
+ghost use Rattle.library.specs.Judging.{IsReading, ReadsTexts};
+ghost use Rattle.std.specs.Fn.{FnReturnsAt};
 
 use crate::charter::Names;
 use crate::submission::{MOST_BYTES, Submission};
@@ -8,10 +10,10 @@ use crate::verdict::Cause;
 use mm_read::{ReadFault, Stmt};
 use std::alloc::AllocError;
 
-/// The statements of the text, where it is within the limit, reads, and the charter forbids its author none of them;
-/// else the cause why it is refused, whatever stands before it. `read` answers of a text the statements that it writes.
+/// Returns the statements of the text, where it is within the limit, reads, and the charter forbids its author none of
+/// them; else the cause why it is refused, whatever statements are there. `read` returns of a text the statements that it writes.
 ///
-/// Errors: a growth was refused. Cost: that of `read`, and the number of statements.
+/// Errors: an allocation fails. Cost: that of reading, and the number of statements.
 pub(crate) fn read_text<T: Fn(&[u8]) -> Result<Vec<Stmt>, ReadFault>>(
     charter: &Option<Names>,
     submission: &Submission,
@@ -35,7 +37,7 @@ pub(crate) fn read_text<T: Fn(&[u8]) -> Result<Vec<Stmt>, ReadFault>>(
     }
 }
 
-/// Whether the author may declare constants and axioms: where a charter is there, it names him.
+/// Tells whether the author may declare constants and axioms: where there is a charter, it names him.
 pub(crate) fn may_declare(charter: &Option<Names>, author: u64) -> bool
     ensures { result ≡ may_declare charter.now author }
 {
@@ -45,7 +47,7 @@ pub(crate) fn may_declare(charter: &Option<Names>, author: u64) -> bool
     }
 }
 
-/// The number of the least statement that its author may not declare, counted from 1.
+/// Returns the number of the least statement that its author may not declare, counted from 1.
 fn forbidden(charter: &Option<Names>, author: u64, statements: &[Stmt]) -> Option<usize>
     ensures { result ≡ forbidden charter.now author statements.now }
 {
@@ -60,7 +62,7 @@ fn forbidden(charter: &Option<Names>, author: u64, statements: &[Stmt]) -> Optio
     None
 }
 
-/// `$c` and `$a`.
+/// Tells whether the statement is a `$c` or a `$a`.
 fn is_declaration(statement: &Stmt) -> bool
     ensures { result ≡ is_declaration statement.now }
 {

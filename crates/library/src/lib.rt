@@ -1,29 +1,27 @@
 //! One replica of the library: entries of the log to verdicts, and the statements that they validly add.
 //!
-//! The crate above uses one contract: an application makes the step of `specs/LibraryOf` with its verdict, and want of
-//! memory decides nothing.
+//! The crate above uses one contract: an application makes the step of `specs/LibraryOf` with its verdict, and running out
+//! of memory decides nothing.
 //!
 //! Reading order: `submission`, `charter`, `entry` (what a log holds), `verdict`; `library`; `entry_text` (a text and its
-//! charter), `base` (all or nothing), `entering` (the rules), `unproved` (the proofs); `asked` (traces, uses, items and trees),
-//! `uses`, `users`; `listed`; `laws`.
+//! charter), `checked_database` (all or nothing), `adding` (the rules), `unproved` (the proofs); `queries` (questions on a label), `axioms_used`, `cited_by`; `listed`; `laws`.
 #![tactic(auto)]
 
-mod asked;
-mod base;
+mod adding;
+mod axioms_used;
 mod charter;
-mod entering;
+mod checked_database;
+mod cited_by;
 mod entry;
 mod entry_text;
 mod laws;
 mod library;
 mod listed;
+mod queries;
 mod submission;
 mod unproved;
-mod users;
-mod uses;
 mod verdict;
 
-pub use asked::AskFault;
 pub use charter::{MOST_NAMES, Names};
 pub use entry::Entry;
 pub use laws::{
@@ -31,5 +29,6 @@ pub use laws::{
 };
 pub use library::Library;
 pub use listed::Listed;
+pub use queries::AskFault;
 pub use submission::{MOST_BYTES, Submission};
 pub use verdict::{Cause, Verdict};

@@ -1,75 +1,90 @@
 //! One replica: the statements that the entries of a log validly add, and the verdicts on them.
-ghost use Rattle.std.specs.Prelude.{◌≡◌, ◌+◌, ◌*◌, length, None, Some, IfOk, IfSome, OnErr, option_map};
-ghost use Rattle.{std.specs.Fn.FnReturnsAt, mm_read.specs.Statements.AreShaped, library.specs.Good.Good, library.specs.LibraryOf.Applies, library.specs.LibraryOf.empty, library.specs.LibraryOf.status, library.specs.LibraryState.IsDecision, library.specs.LibraryState.IsWithinSteps, library.specs.LibraryState.verdict_of, library.specs.Judging.ReadsTexts, library.specs.Unproved.FindsLeast, library.specs.Entered.Enters, library.specs.Entered.IsEntered};
+ghost use Rattle.std.specs.Prelude.{◌≡◌, ◌≤◌, None, Some, IfOk, IfSome, OnErr, option_map};
+ghost use Rattle.library.specs.Added.{Adds};
+ghost use Rattle.library.specs.Good.{Good};
+ghost use Rattle.library.specs.Judging.{ReadsTexts};
+ghost use Rattle.library.specs.LibraryOf.{Applies, empty, status};
+ghost use Rattle.library.specs.LibraryState.{IsDecision, IsWithinSteps, verdict_of};
+ghost use Rattle.library.specs.Unproved.{FindsLeast};
+ghost use Rattle.mm_read.specs.Statements.{AreShaped};
+ghost use Rattle.std.specs.Fn.{FnReturnsAt};
 
-use crate::base::Base;
+use crate::adding::{Added, Parallel, StepCounts, Tables, add_all, add_all_verifying};
 use crate::charter::Names;
-use crate::entering::{Entered, enter, enter_ahead};
+use crate::checked_database::CheckedDatabase;
 use crate::entry::Entry;
 use crate::entry_text::{may_declare, read_text};
 use crate::unproved::Proofs;
 use crate::verdict::{Cause, Verdict};
-use frame::Frames;
 use indexmap::IndexMap;
 use mm_read::{ReadFault, Stmt, read};
 use read_pool::read_by;
-use scope::{Rules, Steps};
+use scope::Steps;
 use std::alloc::{AllocError, Global};
 use std::marker::Model;
 use std::thread::Threads;
-use verify_pool::{Gate, Workers, judge_all, judge_here};
+use verify_pool::{Checkers, Gate, Workers, judge_all, judge_here};
 
 /// The statements added, the entries decided, by author and number in the order of the log, with the cause where one was
 /// refused, and the charter that is there. Contracts see them as a replica, and the count of the steps that the library took.
 #[derive(Drop)]
 pub struct Library {
-    base: Base,
+    database: CheckedDatabase,
     decided: IndexMap<(u64, u64), Option<Cause>>,
     charter: Option<Names>,
-    steps: Steps,
+    steps: StepCounts,
 }
 
 impl Model for Library {
+    ghost use Rattle.library.specs.Added.{count_of};
     ghost use Rattle.library.specs.LibraryState.{Kept, decided_of};
 
     ghost Value = { Kept };
 
-    ghost view = { λ a. record { replica = record { statements = a.base; decided = decided_of a.decided.entries; charter = a.charter }; steps = a.steps.count } };
+    ghost view = { λ a. record { replica = record { statements = a.database; decided = decided_of a.decided.entries; charter = a.charter }; steps = count_of a.steps } };
 }
 
 impl Library {
-    /// No statements, no verdicts, no charter. Takes no memory.
+    /// Returns a library without statements, verdicts and charter. Does not allocate.
     pub fn new(alloc: Global) -> Library
         ensures replica { result.replica ≡ empty }
         ensures steps { result.steps ≡ 0 }
     {
         Library {
-            base: Base::new(alloc),
+            database: CheckedDatabase::new(alloc),
             decided: IndexMap::new(alloc),
             charter: None,
-            steps: Steps::new(),
+            steps: StepCounts {
+                calling: Steps::new(),
+                ahead: Steps::new(),
+            },
         }
     }
 
     /// Applies the next entry of the log, or a no-operation.
     ///
-    /// Errors: a growth was refused; the entry stays undecided, and statements, verdicts and charter are as before.
-    /// Cost: that of the entry's own text; at most three steps for each of its statements.
+    /// Errors: an allocation fails; the entry stays undecided, and statements, verdicts and charter are as before.
+    /// Cost: that of the entry's own text, whatever was added before and whoever submitted it; at most three steps for each
+    /// of its statements.
     pub fn apply(&mut self, next: Option<&Entry>) -> Result<Verdict, AllocError>
         ensures step { IfOk result (λ verdict. Applies self.old.replica (option_map (λ e. e.now) next.entry) verdict self.new.replica) }
         ensures same { OnErr result (self.new.replica ≡ self.old.replica) }
+        ensures rises { self.old.steps ≤ self.new.steps }
         ensures counted { IsWithinSteps self.old.replica (option_map (λ e. e.now) next.entry) self.old.steps self.new.steps }
     {
-        let alloc = self.base.alloc();
+        let alloc = self.database.alloc();
+        let add = |statements: &[Stmt], tables: &mut Tables, steps: &mut StepCounts, _checkers: &mut Checkers| -> Added
+            requires { AreShaped statements.now × (tables.now.frames.statements ≡ tables.now.rules.statements) }
+        { add_all(statements, tables, &mut steps.calling) };
         self.apply_by(
             next,
             &|text: &[u8]| read(alloc, text),
-            &enter,
-            &|proofs: &Proofs<'_>| judge_here(alloc, proofs),
+            &add,
+            &|proofs: &Proofs<'_>, checkers: &mut Checkers| judge_here(checkers, proofs),
         )
     }
 
-    /// Applies the next entry as `apply` does, its text read and its proofs checked by some workers side by side. Each passes
+    /// Applies the next entry as `apply` does, its text read and its proofs checked by some workers in parallel. Each passes
     /// the gate before each proof; the jobs are the `$p` of the text, in order, and of a long text that is judged ahead first
     /// those of its first part, then the others, each counted from 0. No answer depends on the number of workers.
     ///
@@ -83,40 +98,44 @@ impl Library {
     ) -> Result<Verdict, AllocError>
         ensures step { IfOk result (λ verdict. Applies self.old.replica (option_map (λ e. e.now) next.entry) verdict self.new.replica) }
         ensures same { OnErr result (self.new.replica ≡ self.old.replica) }
+        ensures rises { self.old.steps ≤ self.new.steps }
         ensures counted { IsWithinSteps self.old.replica (option_map (λ e. e.now) next.entry) self.old.steps self.new.steps }
     {
-        let alloc = self.base.alloc();
+        let alloc = self.database.alloc();
+        let parallel = Parallel {
+            rt,
+            alloc,
+            workers,
+            gate,
+        };
         let count = workers.count();
-        let enter = |rules: Rules, frames: Frames, steps: Steps, statements: &[Stmt]| -> Entered
-            requires { (frames.statements ≡ rules.statements) × AreShaped statements.now }
-        { enter_ahead(rt, alloc, workers, gate, rules, frames, steps, statements) };
+        let add = |statements: &[Stmt], tables: &mut Tables, steps: &mut StepCounts, checkers: &mut Checkers| -> Added
+            requires { AreShaped statements.now × (tables.now.frames.statements ≡ tables.now.rules.statements) }
+        { add_all_verifying(&parallel, statements, tables, steps, checkers) };
         self.apply_by(
             next,
             &|text: &[u8]| read_by(rt, alloc, text, count),
-            &enter,
-            &|proofs: &Proofs<'_>| judge_all(rt, alloc, proofs, workers, gate),
+            &add,
+            &|proofs: &Proofs<'_>, checkers: &mut Checkers| {
+                judge_all(rt, checkers, proofs, workers, gate)
+            },
         )
     }
 
-    /// Applies the next entry, where `read` answers of a text the statements that it writes, `enter` enters statements
-    /// behind those that stand, and `least` answers of proofs the index of the least that is not right. The statements
-    /// of a text are added where they are good; a charter counts from now on where it is added.
+    /// Applies the next entry, where `read` returns of a text the statements that it writes, `add` adds statements to the
+    /// tables, and `least` returns of proofs the index of the least that is not right. The statements of a text are added
+    /// where they are good; a charter counts from now on where it is added.
     fn apply_by<
         T: Fn(&[u8]) -> Result<Vec<Stmt>, ReadFault>,
-        E: Fn(Rules, Frames, Steps, &[Stmt]) -> Entered,
-        F: Fn(&Proofs<'_>) -> Result<Option<usize>, AllocError>,
-    >(
-        &mut self,
-        next: Option<&Entry>,
-        read: &T,
-        enter: &E,
-        least: &F,
-    ) -> Result<Verdict, AllocError>
+        E: Fn(&[Stmt], &mut Tables, &mut StepCounts, &mut Checkers) -> Added,
+        F: Fn(&Proofs<'_>, &mut Checkers) -> Result<Option<usize>, AllocError>,
+    >(&mut self, next: Option<&Entry>, read: &T, add: &E, least: &F) -> Result<Verdict, AllocError>
         requires reads { T.IsAlwaysCallable read.now × ReadsTexts (FnReturnsAt T.Fn read.now) }
-        requires enters { Enters (E.pre enter.now) (E.post enter.now) }
-        requires finds { F.IsAlwaysCallable least.now × FindsLeast (FnReturnsAt F.Fn least.now) }
+        requires adds { Adds (E.pre add.now) (E.post add.now) }
+        requires finds { FindsLeast (F.pre least.now) (F.post least.now) }
         ensures step { IfOk result (λ verdict. Applies self.old.replica (option_map (λ e. e.now) next.entry) verdict self.new.replica) }
         ensures same { OnErr result (self.new.replica ≡ self.old.replica) }
+        ensures rises { self.old.steps ≤ self.new.steps }
         ensures counted { IsWithinSteps self.old.replica (option_map (λ e. e.now) next.entry) self.old.steps self.new.steps }
     {
         let Some(entry) = next else {
@@ -129,7 +148,9 @@ impl Library {
         self.decided.reserve(1)?;
         let cause = match entry {
             Entry::Text(submission) => match read_text(&self.charter, submission, read)? {
-                Ok(statements) => self.base.extend(statements, &mut self.steps, enter, least)?,
+                Ok(statements) => self
+                    .database
+                    .extend(statements, &mut self.steps, add, least)?,
                 Err(cause) => Some(cause),
             },
             Entry::Charter { author, names, .. } => {
@@ -148,7 +169,8 @@ impl Library {
         Ok(verdict_of(cause))
     }
 
-    /// The verdict first decided on the author's text or charter of that number: Added or Refused. Takes no memory.
+    /// Returns the verdict first decided on the author's text or charter of that number: Added or Refused; `None` where none
+    /// was decided. Does not allocate.
     pub fn status(&self, author: u64, serial: u64) -> Option<Verdict>
         ensures first { result ≡ status self.now.replica.decided author serial }
         ensures decided { IfSome result IsDecision }
@@ -159,23 +181,23 @@ impl Library {
         }
     }
 
-    /// All statements, in order.
+    /// Returns all statements, in order.
     pub fn statements(&self) -> &[Stmt]
         ensures statements { result.now ≡ self.now.replica.statements }
         ensures good { Good self.now.replica.statements }
         ensures shaped { AreShaped self.now.replica.statements }
     {
-        self.base.statements()
+        self.database.statements()
     }
 
-    /// The statements with what judges them.
-    pub(crate) fn base(&self) -> &Base
+    /// Returns the statements with the tables that judge the next ones.
+    pub(crate) fn database(&self) -> &CheckedDatabase
         ensures { result.now ≡ self.now.replica.statements }
     {
-        &self.base
+        &self.database
     }
 
-    /// The charter that is there.
+    /// Returns the charter that counts now.
     pub fn charter(&self) -> Option<&Names>
         ensures { option_map (λ names. names.now) result ≡ self.now.replica.charter }
     {
@@ -183,7 +205,7 @@ impl Library {
     }
 }
 
-/// What was decided: added, or refused for this cause.
+/// Returns the decision: added, or refused for this cause.
 fn verdict_of(cause: Option<Cause>) -> Verdict
     ensures is { result ≡ verdict_of cause }
     ensures decided { IsDecision result }

@@ -1,6 +1,8 @@
 //! The assertions of a library, and its statements as a text.
 ghost use Rattle.std.specs.Prelude.{◌≡◌, IfOk};
-ghost use Rattle.{mm_read.specs.Export.export_of, mm_read.specs.Reads.Reads, library.specs.Listed.listed};
+ghost use Rattle.library.specs.Listed.{listed};
+ghost use Rattle.mm_read.specs.Export.{export_of};
+ghost use Rattle.mm_read.specs.Reads.{Reads};
 
 use crate::library::Library;
 use mm_lex::Word;
@@ -16,13 +18,13 @@ pub struct Listed {
 }
 
 impl Library {
-    /// The assertions, in order.
+    /// Returns the assertions, in order.
     ///
-    /// Errors: a growth was refused. Cost: that of all statements.
+    /// Errors: an allocation fails. Cost: that of all statements.
     pub fn list(&self) -> Result<Vec<Listed>, AllocError>
         ensures { IfOk result (λ list. list.items ≡ listed self.now.replica.statements) }
     {
-        let alloc = self.base().alloc();
+        let alloc = self.database().alloc();
         let mut list = Vec::new(alloc);
         for statement in self.statements() {
             let (label, proved) = match statement {
@@ -35,13 +37,13 @@ impl Library {
         Ok(list)
     }
 
-    /// The statements as a text in the export form, which reads as exactly the statements.
+    /// Writes the statements as a text in the export form, which reads as exactly the statements.
     ///
-    /// Errors: a growth was refused. Cost: the size of the text.
+    /// Errors: an allocation fails. Cost: the size of the text.
     pub fn export(&self) -> Result<Vec<u8>, AllocError>
         ensures text { IfOk result (λ text. text.items ≡ export_of self.now.replica.statements) }
         ensures reads { IfOk result (λ text. Reads text.items self.now.replica.statements) }
     {
-        spell(self.base().alloc(), self.statements())
+        spell(self.database().alloc(), self.statements())
     }
 }

@@ -1,10 +1,10 @@
-//! What an author submits.
+//! Texts that authors submit.
 ghost use Rattle.std.specs.Prelude.{◌≡◌, IfOk};
 
 use bytes::Bytes;
 use std::alloc::AllocError;
 
-/// How many bytes a text may have.
+/// The largest number of bytes of a text.
 pub const MOST_BYTES: usize = 67_108_864;
 
 /// A text under its author's name. An author numbers his texts and charters: the first one of a number is decided.
@@ -17,7 +17,9 @@ pub struct Submission {
 }
 
 impl Submission {
-    /// The same submission, with the same bytes.
+    /// Copies the submission, which shares its bytes.
+    ///
+    /// Errors: an allocation fails.
     pub fn copy(&self) -> Result<Submission, AllocError>
         ensures { IfOk result (λ submission. submission ≡ self.now) }
     {

@@ -1,16 +1,18 @@
-//! The least `$p` that is not proved, by one thread or by several.
+//! The least `$p` that is not proved.
 ghost use Rattle.std.specs.Prelude.{◌≡◌, ◌≤◌, length, IfOk};
-ghost use Rattle.{std.specs.Fn.FnReturnsAt, scope.specs.Active.bares, library.specs.Judging.IsLeastUnproved, library.specs.Unproved.FindsLeast};
+ghost use Rattle.library.specs.Judging.{IsLeastUnproved};
+ghost use Rattle.library.specs.Unproved.{FindsLeast};
+ghost use Rattle.scope.specs.Active.{bares};
 
-use crate::asked::is_proof;
+use crate::queries::is_proof;
 use frame::Frames;
 use mm_read::Stmt;
-use std::alloc::{AllocError, Global};
+use std::alloc::AllocError;
 use std::marker::Model;
 use verify::{Answer, Checker};
-use verify_pool::Work;
+use verify_pool::{Checkers, Work};
 
-/// The `$p` behind the first statements, as work for a pool. Contracts see the statements, and the positions of these `$p`.
+/// The `$p` after some first statements, as work for a pool. Contracts see the statements, and the positions of these `$p`.
 #[derive(Drop)]
 pub(crate) struct Proofs<'a> {
     frames: &'a Frames,
@@ -49,23 +51,25 @@ impl<'a> Work for Proofs<'a> {
     }
 }
 
-/// The position of the least `$p` behind the first `front` statements that is not proved, where `least` answers of
+/// Returns the position of the least `$p` after the first `front` statements that is not proved, where `least` returns of
 /// proofs the index of the least that is not right.
 ///
-/// Errors: a growth was refused. Cost: that of `least`, and one look at each of these statements.
-pub(crate) fn least_unproved<F: Fn(&Proofs<'_>) -> Result<Option<usize>, AllocError>>(
-    alloc: Global,
+/// Errors: an allocation fails. Cost: that of the proofs, and one look at each of these statements.
+pub(crate) fn least_unproved<
+    F: Fn(&Proofs<'_>, &mut Checkers) -> Result<Option<usize>, AllocError>,
+>(
+    least: &F,
     frames: &Frames,
     statements: &[Stmt],
     front: usize,
-    least: &F,
+    checkers: &mut Checkers,
 ) -> Result<Option<usize>, AllocError>
+    requires finds { FindsLeast (F.pre least.now) (F.post least.now) }
     requires same { frames.now.statements ≡ bares statements.now }
     requires within { front ≤ length statements.now }
-    requires finds { F.IsAlwaysCallable least.now × FindsLeast (FnReturnsAt F.Fn least.now) }
     ensures { IfOk result (IsLeastUnproved statements.now front) }
 {
-    let mut positions = Vec::new(alloc);
+    let mut positions = Vec::new(checkers.alloc());
     for index in front..statements.len() {
         if is_proof(&statements[index]) {
             positions.push(index + 1)?;
@@ -76,7 +80,7 @@ pub(crate) fn least_unproved<F: Fn(&Proofs<'_>) -> Result<Option<usize>, AllocEr
         statements,
         positions,
     };
-    match least(&proofs)? {
+    match least(&proofs, checkers)? {
         Some(index) => Ok(Some(proofs.positions[index])),
         None => Ok(None),
     }

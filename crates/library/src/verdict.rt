@@ -1,4 +1,4 @@
-//! What becomes of an entry.
+//! Verdicts on entries.
 
 use scope::Rule;
 
@@ -24,7 +24,7 @@ pub enum Cause {
     Unfinished { statement: usize },
 }
 
-/// What became of an entry of the log.
+/// The outcome of an entry of the log.
 #[derive(Clone, Copy, Debug, Drop, PartialEq, Eq)]
 pub enum Verdict {
     /// A text was added whole, or a charter counts from now on.

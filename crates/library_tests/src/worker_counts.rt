@@ -1,4 +1,4 @@
-//! The same verdict by any number of workers, and two workers side by side.
+//! The same verdict by any number of workers, and two workers in parallel.
 ghost use Rattle.std.specs.Prelude.{◌≤◌};
 
 use crate::text_entries::{entry, of_new};
@@ -11,8 +11,13 @@ use std::thread::Threads;
 use verify_pool::{Gate, OpenGate, Place, Workers};
 
 /// Texts whose proofs several workers share, and the verdict on each.
-const ROWS: [(&[u8], Verdict); 4] = [
+const ROWS: [(&[u8], Verdict); 6] = [
     (TWO, Verdict::Added),
+    (HEAVY, Verdict::Added),
+    (
+        HEAVY_WRONG,
+        Verdict::Refused(Cause::Proof { statement: 11 }),
+    ),
     (
         b"$c |- o $. o1 $a |- o $. p $p |- o $= o1 o1 $. q $p |- o $= q $.",
         Verdict::Refused(Cause::Proof { statement: 3 }),
@@ -29,6 +34,16 @@ const ROWS: [(&[u8], Verdict); 4] = [
 
 /// Two right proofs.
 const TWO: &[u8] = b"$c |- o $. a $a |- o $. p $p |- o $= a $. q $p |- o $= p $.";
+
+/// The results of the first proof have more than 2,000,000 symbols, more than a worker's share.
+const HEAVY: &[u8] = b"$c |- w e $. $v x $. fx $f w x $. e0 $a w e $. d2 $a w x x $. \
+    ${ h $e w x $. k $a |- e $. $} c0 $a |- e $. \
+    p $p |- e $= ( e0 d2 k ) ABBBBBBBBBBBBBBBBBBBBZDC $. q $p |- e $= c0 $.";
+
+/// The first proof leaves one result too many, and the second one is wrong too.
+const HEAVY_WRONG: &[u8] = b"$c |- w e $. $v x $. fx $f w x $. e0 $a w e $. d2 $a w x x $. \
+    ${ h $e w x $. k $a |- e $. $} c0 $a |- e $. \
+    p $p |- e $= ( e0 d2 k ) ABBBBBBBBBBBBBBBBBBBBZDCA $. q $p |- e $= e0 $.";
 
 #[test]
 fn judged_alike_by_workers(rt: HostRuntime) {

@@ -1,20 +1,5 @@
 -- A Prepare and an Accept continue the story: a promise tells the truth of the acceptor's votes, and a vote keeps its promises.
-use Rattle.std.proofs.Common.{◌≡◌, ℕ, suc, ◌+◌, ◌≤◌, Bool, true, false, List, [], ◌∷◌, length, Option, Some, inl, inr, refl, ap, sym, ◌∙◌, subst, arith, if◌then◌else◌, slice_get}
-use Rattle.std.specs.List.{AllByRecursion}
-use Rattle.slots.specs.FiniteMap.{entry_at, put_at}
-use Rattle.slots.proofs.Lists.{In}
-use Rattle.slots.proofs.MapReads.{put_either, put_same}
-use Rattle.synod.specs.declared.ballot.Ballot.{Ballot}
-use Rattle.synod.specs.declared.packet.SlotReport.{SlotReport}
-use Rattle.synod.specs.declared.packet.Body.TheVariants.{Accepted}
-use Rattle.synod.specs.declared.change.Held.{Held}
-use Rattle.synod.specs.Ballots.{is_under}
-use Rattle.synod.specs.PromisePages.{pages_of}
-use Rattle.synod.specs.Node.{Node}
-use Rattle.synod.specs.Acceptor.{reports_from, promise_pages, promises, refuses, on_prepare, held, takes_value, on_accept}
-use Rattle.synod.proofs.BallotsLemmas.{Under, Upto, upto_self, upto_upto, upto_under, under_is_upto, not_both, under_true, under_false}
-use Rattle.synod.proofs.ReportsLemmas.{reports-held, held-reported}
-use Rattle.net.specs.Chosen.{Vote, vote}
+use Rattle.net.proofs.Words.{◌≡◌, ℕ, suc, ◌+◌, ◌≤◌, Bool, true, false, List, [], ◌∷◌, length, Option, Some, inl, inr, refl, ap, sym, ◌∙◌, subst, arith, if◌then◌else◌, slice_get, AllByRecursion, entry_at, put_at, In, put_either, put_same, Ballot, SlotReport, Accepted, Held, is_under, pages_of, Node, reports_from, promise_pages, promises, refuses, on_prepare, held, takes_value, on_accept, Under, Upto, upto_self, upto_upto, upto_under, under_is_upto, not_both, under_true, under_false, reports-held, held-reported, Vote, vote}
 use Rattle.net.proofs.Ledger.{begun_as, Promised, proposal, Ledger, HasHigher, IsBacked, OnePromise, IsSound}
 use Rattle.net.proofs.LedgerGrows.{AllPromisedUpto, Grows, with_promise, with_vote, grows-with_promise, grows-with_vote}
 use Rattle.net.proofs.LedgerSteps.{promised_sound, voted_sound}

@@ -1,6 +1,5 @@
 -- Lists that agree: one is a beginning of the other.
-use Rattle.std.proofs.Common.{◌≡◌, ℕ, suc, List, [], ◌∷◌, ◌++◌, Some, inl, inr, refl, ap, sym, ◌∙◌, slice_get, append_assoc}
-use Rattle.net.specs.Agree.{IsBeginningOf, Agree}
+use Rattle.net.proofs.Words.{◌≡◌, ℕ, suc, List, [], ◌∷◌, ◌++◌, Some, inl, inr, refl, ap, sym, ◌∙◌, slice_get, append_assoc, IsBeginningOf, Agree}
 
 -- a beginning of a beginning is one
 pub then_begins : {A : Type 0} (xs ys zs : List A) → IsBeginningOf xs ys → IsBeginningOf ys zs → IsBeginningOf xs zs

@@ -1,12 +1,6 @@
 -- Two values chosen at one slot are equal: under one ballot since it has one value there, else since the later ballot was given
 -- the value chosen under the earlier.
-use Rattle.std.proofs.Common.{◌≡◌, ℕ, List, Option, inl, inr, refl, sym, subst, ◌++◌}
-use Rattle.slots.proofs.Lists.{Contains-in}
-use Rattle.synod.specs.declared.ballot.Ballot.{Ballot}
-use Rattle.synod.proofs.BallotsLemmas.{Upto, upto_splits, total, under_is_upto}
-use Rattle.synod.proofs.QuorumLemmas.{quorums_meet}
-use Rattle.net.specs.Chosen.{Vote, IsChosenAt, IsChosen}
-use Rattle.net.specs.Laws.{ChosenValuesAgree}
+use Rattle.net.proofs.Words.{◌≡◌, ℕ, List, Option, inl, inr, refl, sym, subst, ◌++◌, Contains-in, Ballot, Upto, upto_splits, total, under_is_upto, quorums_meet, Vote, IsChosenAt, IsChosen, ChosenValuesAgree}
 use Rattle.net.proofs.Ledger.{proposal, Ledger, IsSound}
 use Rattle.net.proofs.LaterBallots.{later_value}
 use Rattle.net.proofs.EveryEvent.{holds_after}
@@ -35,5 +29,5 @@ module _ {V : Type 0} (ws : List ℕ) (offers : List V) (l : Ledger V) (sound : 
 pub chosen_values_agree : {V : Type 0} → ChosenValuesAgree V
 chosen_values_agree {V} size ws early late w x first then s u v c d =
     let h = holds_after size ws (early ++ late) x then in
-    let told = λ (y : Option V) (e : IsChosen x.weights x.ever s y). subst (λ (votes : List (Vote V)). IsChosen x.weights votes s y) (sym h.ever) e in
+    let told = λ (y : Option V) (e : IsChosen x.weights x.votes_cast s y). subst (λ (votes : List (Vote V)). IsChosen x.weights votes s y) (sym h.votes_cast) e in
     chosen_once x.weights _ h.ledger h.sound s u v (told u (stays_chosen size ws early late w x first then s u c)) (told v d)

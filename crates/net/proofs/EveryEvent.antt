@@ -1,22 +1,5 @@
 -- The invariant holds at the start and each event that is taken keeps it, so it holds of the world after any events.
-use Rattle.std.proofs.Common.{◌≡◌, ℕ, zero, suc, ◌+◌, ◌<◌, Bool, true, false, ◌==◌, List, [], ◌∷◌, Option, Some, None, Result, Ok, Err, inl, inr, refl, ap, sym, ◌∙◌, subst, arith, if◌then◌else◌, slice_get, set}
-use Rattle.std.specs.List.{AllByRecursion}
-use Rattle.slots.proofs.Lists.{In}
-use Rattle.synod.specs.declared.packet.Packet.{Packet}
-use Rattle.synod.specs.declared.packet.Body.{Body}
-use Rattle.synod.specs.declared.packet.Body.TheVariants.{Prepare, Promise, Accept, Accepted, Nack, Ask, Told}
-use Rattle.synod.specs.declared.refusal.Refusal.{Refusal}
-use Rattle.synod.specs.Node.{Node, Stepped}
-use Rattle.synod.specs.Proposer.{offered, begun}
-use Rattle.synod.specs.Step.{on_body, on_packet, restarted}
-use Rattle.net.specs.declared.event.TheConstants.{MOST_EVENTS}
-use Rattle.net.specs.declared.event.Event.{Event}
-use Rattle.net.specs.declared.event.Event.TheVariants.{Offer, Begin, Deliver, Restart}
-use Rattle.net.specs.declared.fault.StepFault.{StepFault}
-use Rattle.net.specs.declared.fault.StepFault.TheVariants.{EventsSpent}
-use Rattle.net.specs.Chosen.{Vote}
-use Rattle.net.specs.World.{World, start, nodes_from, stepped, answered, votes_after, at_node, delivered, happens_at, happens, all_happen, after, offers_of}
-use Rattle.net.specs.Agree.{IsAfter}
+use Rattle.net.proofs.Words.{◌≡◌, ℕ, zero, suc, ◌+◌, ◌<◌, Bool, true, false, ◌==◌, List, [], ◌∷◌, Option, Some, None, Result, Ok, Err, inl, inr, refl, ap, sym, ◌∙◌, subst, arith, if◌then◌else◌, slice_get, set, AllByRecursion, In, Packet, Body, Prepare, Promise, Accept, Accepted, Nack, Ask, Told, Refusal, Node, Stepped, offered, begun, on_body, on_packet, restarted, MOST_EVENTS, Event, Offer, Begin, Deliver, Restart, StepFault, EventsSpent, Vote, World, start, nodes_from, stepped, answered, votes_after, at_node, delivered, happens_at, happens, all_happen, after, offers_of, IsAfter, all_append}
 use Rattle.net.proofs.GrowingLists.{all_more, all_in, in_slice_get}
 use Rattle.net.proofs.Ledger.{Ledger, IsSound}
 use Rattle.net.proofs.LedgerGrows.{Grows}
@@ -26,7 +9,6 @@ use Rattle.net.proofs.AcceptorSteps.{prepare_continues, accept_continues}
 use Rattle.net.proofs.LearnerSteps.{accepted_continues, ask_continues, told_continues}
 use Rattle.net.proofs.ProposerSteps.{IfStep, begin_continues, offer_continues, nack_continues}
 use Rattle.net.proofs.PromiseSteps.{promise_continues}
-use Rattle.synod.proofs.NodeKeeps.{all_append}
 
 module _ {V : Type 0} {offers : List V} {l : Ledger V} (n : Node V) (sound : IsSound n.weights offers l) (holds : NodeHolds n.weights offers l n.me n) where
   -- each body that says what is true of its sender continues the story
@@ -93,7 +75,7 @@ module _ {V : Type 0} (offers : List V) (w : World V) (h : WorldHolds offers w) 
     nodes = nodes_after w.weights offers h.ledger next.ledger k next.grows step.node next.node w.nodes 0 k (omega arith) h.nodes;
     packets = all_append (IsTrue w.weights next.ledger) w.packets step.posts
         (all_more (IsTrue w.weights h.ledger) (IsTrue w.weights next.ledger) w.packets (λ p said. truth_lasts next.grows w.weights p.from p.body said) h.packets) next.posts;
-    ever = next.cast ∙ ap (λ (votes : List (Vote V)). votes_after k step.change votes) h.ever;
+    votes_cast = next.cast ∙ ap (λ (votes : List (Vote V)). votes_after k step.change votes) h.votes_cast;
   }
 
   module _ (k : ℕ) (n : Node V) (is_node : slice_get w.nodes k ≡ Some n) where
@@ -186,7 +168,7 @@ module _ {V : Type 0} (ws : List ℕ) (offers : List V) where
     };
     nodes = all_new 0 ws;
     packets = tt;
-    ever = refl;
+    votes_cast = refl;
   }
 
 -- The world after any events.

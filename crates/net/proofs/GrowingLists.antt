@@ -1,7 +1,5 @@
 -- Lists: facts of each element, like elements with one answer, and lists that grow.
-use Rattle.std.proofs.Common.{◌≡◌, ◌≢◌, ℕ, zero, suc, List, [], ◌∷◌, ◌++◌, set, Some, slice_get, ◌⊎◌, inl, inr, refl, ap, sym, ◌∙◌, subst}
-use Rattle.std.specs.List.{AllByRecursion}
-use Rattle.slots.proofs.Lists.{In}
+use Rattle.net.proofs.Words.{◌≡◌, ◌≢◌, ℕ, zero, suc, List, [], ◌∷◌, ◌++◌, set, Some, slice_get, ◌⊎◌, inl, inr, refl, ap, sym, ◌∙◌, subst, AllByRecursion, In}
 
 -- Facts of each element.
 

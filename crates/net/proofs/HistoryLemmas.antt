@@ -1,17 +1,5 @@
 -- What agreement says of a history that is taken, and where a run of events stops.
-use Rattle.std.proofs.Common.{◌≡◌, ℕ, suc, List, [], ◌∷◌, ◌++◌, ◌<◌, length, take, Result, Ok, Err, inl, inr, refl, ap, sym, ◌∙◌, subst, arith, append_assoc, length-append}
-use Rattle.std.proofs.Math.Seq.{take-append_seam}
-use Rattle.std.specs.Iterator.{Yields}
-use Rattle.std.specs.Vec.Iter.{into_iter_items, into_iter_steps}
-use Rattle.std.specs.declared.vec.IntoIter.{IntoIter}
-use Rattle.std.specs.Prelude.{IsOk, IfErr, OnOk}
-use Rattle.net.specs.declared.event.Event.{Event}
-use Rattle.net.specs.declared.fault.StepFault.{StepFault}
-use Rattle.net.specs.declared.fault.StepFault.TheVariants.{Memory}
-use Rattle.net.specs.World.{World, after}
-use Rattle.net.specs.Agree.{IsAfter, ChosenAgree, LogsAgree}
-use Rattle.net.specs.Taken.{Taken, world_of, with_event}
-use Rattle.net.specs.History.{IsMoment, Agreement, IsMetOrMemory, StopsAt}
+use Rattle.net.proofs.Words.{◌≡◌, ℕ, suc, List, [], ◌∷◌, ◌++◌, ◌<◌, length, take, Result, Ok, Err, inl, inr, refl, ap, sym, ◌∙◌, subst, arith, append_assoc, length-append, take-append_seam, Yields, into_iter_items, into_iter_steps, IntoIter, IsOk, IfErr, OnOk, Event, StepFault, Memory, World, after, IsAfter, ChosenAgree, LogsAgree, Taken, world_of, with_event, IsMoment, Agreement, IsMetOrMemory, StopsAt}
 use Rattle.net.proofs.Beginnings.{swapped, beginnings_agree}
 use Rattle.net.proofs.OneValue.{ballots_have_one_value}
 use Rattle.net.proofs.LaterBallots.{later_ballots_keep_chosen}

@@ -1,25 +1,6 @@
 -- What always holds of a world: some sound ledger tells its story. The votes of the ledger are those ever cast; what each node
 -- keeps is what it did; each packet says what was done.
-use Rattle.std.proofs.Common.{◌≡◌, ◌≢◌, ℕ, suc, ◌≤◌, true, List, [], ◌∷◌, length, Option, Some, ◌⊎◌, inl, inr, ap, sym, ◌∙◌, slice_get}
-use Rattle.std.specs.List.{AllByRecursion}
-use Rattle.slots.specs.FiniteMap.{entry_at}
-use Rattle.slots.proofs.Lists.{In}
-use Rattle.synod.specs.declared.ballot.Ballot.{Ballot}
-use Rattle.synod.specs.declared.packet.SlotReport.{SlotReport}
-use Rattle.synod.specs.declared.packet.Packet.{Packet}
-use Rattle.synod.specs.declared.packet.Body.{Body}
-use Rattle.synod.specs.declared.packet.Body.TheVariants.{Prepare, Promise, Accept, Accepted, Nack, Ask, Told}
-use Rattle.synod.specs.declared.change.Held.{Held}
-use Rattle.synod.specs.declared.proposer.Heard.{Heard}
-use Rattle.synod.specs.declared.proposer.Role.{Role}
-use Rattle.synod.specs.declared.proposer.Role.TheVariants.{Idle, Preparing, Leading}
-use Rattle.synod.specs.declared.learner.Tally.{Tally}
-use Rattle.synod.specs.PromisePages.{pages_of, joined_pages}
-use Rattle.synod.specs.Node.{Node, pages_from, page_of}
-use Rattle.synod.specs.Learner.{has_voter}
-use Rattle.synod.proofs.BallotsLemmas.{Upto}
-use Rattle.net.specs.Chosen.{Vote, vote, IsChosen}
-use Rattle.net.specs.World.{World}
+use Rattle.net.proofs.Words.{◌≡◌, ◌≢◌, ℕ, suc, ◌≤◌, true, List, [], ◌∷◌, length, Option, Some, ◌⊎◌, inl, inr, ap, sym, ◌∙◌, slice_get, AllByRecursion, entry_at, In, Ballot, SlotReport, Packet, Body, Prepare, Promise, Accept, Accepted, Nack, Ask, Told, Held, Heard, Role, Idle, Preparing, Leading, Tally, pages_of, joined_pages, Node, pages_from, page_of, has_voter, Upto, Vote, vote, IsChosen, World}
 use Rattle.net.proofs.GrowingLists.{all_more}
 use Rattle.net.proofs.Ledger.{Begun, begun_as, Promised, Proposal, proposal, Ledger, IsFree, IsBegun, IsSound}
 use Rattle.net.proofs.LedgerGrows.{Grows, begun_lasts, chosen_lasts, free_lasts}
@@ -132,7 +113,7 @@ pub record WorldHolds {V : Type 0} (offers : List V) (w : World V) : Type 0 wher
   pub sound : IsSound w.weights offers ledger
   pub nodes : NodesHold w.weights offers ledger 0 w.nodes
   pub packets : AllByRecursion (IsTrue w.weights ledger) w.packets
-  pub ever : ledger.votes ≡ w.ever
+  pub votes_cast : ledger.votes ≡ w.votes_cast
 
 -- Each of these lasts as the ledger grows.
 

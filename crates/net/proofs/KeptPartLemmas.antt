@@ -1,21 +1,5 @@
 -- The law of the kept part: each step makes its one change of the kept part of its node and of no other node's, and a restart makes none.
-use Rattle.std.proofs.Common.{◌≡◌, ◌≢◌, ℕ, ◌==◌, List, [], ◌∷◌, ◌++◌, Option, Some, None, Result, Ok, Err, refl, ap, sym, ◌∙◌, subst, slice_get}
-use Rattle.std.specs.Option.{option_map}
-use Rattle.synod.specs.declared.packet.Packet.{Packet}
-use Rattle.synod.specs.declared.change.Change.{Change}
-use Rattle.synod.specs.declared.refusal.Refusal.{Refusal}
-use Rattle.synod.specs.Record.{Kept, changed_by}
-use Rattle.synod.specs.Node.{Node, Stepped, kept_of}
-use Rattle.synod.specs.Proposer.{offered, begun}
-use Rattle.synod.specs.Step.{on_packet, restarted}
-use Rattle.synod.proofs.KeptPartLemmas.{ChangesKeptOnOk, offered_kept, begun_kept, body_kept, restarted_kept}
-use Rattle.net.specs.declared.event.TheConstants.{MOST_EVENTS}
-use Rattle.net.specs.declared.event.Event.{Event}
-use Rattle.net.specs.declared.event.Event.TheVariants.{Offer, Begin, Deliver, Restart}
-use Rattle.net.specs.declared.fault.StepFault.{StepFault}
-use Rattle.net.specs.World.{World, stepped, answered, at_node, delivered, happens_at, happens, all_happen}
-use Rattle.net.specs.KeptPart.{kept_part, node_of, change_answered, change_at, change_delivered, change_of, AreOfOthers}
-use Rattle.net.specs.Laws.{KeptPartSurvives}
+use Rattle.net.proofs.Words.{◌≡◌, ◌≢◌, ℕ, ◌==◌, List, [], ◌∷◌, ◌++◌, Option, Some, None, Result, Ok, Err, refl, ap, sym, ◌∙◌, subst, slice_get, option_map, Packet, Change, Refusal, Kept, changed_by, Node, Stepped, kept_of, offered, begun, on_packet, restarted, ChangesKeptOnOk, offered_kept, begun_kept, body_kept, restarted_kept, MOST_EVENTS, Event, Offer, Begin, Deliver, Restart, StepFault, World, stepped, answered, at_node, delivered, happens_at, happens, all_happen, kept_part, node_of, change_answered, change_at, change_delivered, change_of, AreOfOthers, KeptPartSurvives}
 use Rattle.net.proofs.EveryEvent.{IfTaken, if_taken, spent_or}
 use Rattle.net.proofs.TwoMoments.{all_happen-append, later_events}
 use Rattle.net.proofs.GrowingLists.{at_set, at_set_other}

@@ -2,13 +2,7 @@
 -- A later proposal is grounded on a quorum, which shares a node with the quorum that chose. That node promised the later ballot
 -- and voted under the earlier, so it voted before it promised; so the proposal's value is that of an older proposal, under a
 -- ballot in between, and the claim is that of the older one. No proposal refers to a newer, so this comes to an end.
-use Rattle.std.proofs.Common.{◌≡◌, ℕ, List, [], ◌∷◌, Option, inl, inr, refl, sym, subst}
-use Rattle.slots.proofs.Lists.{In, Contains-in}
-use Rattle.synod.specs.declared.ballot.Ballot.{Ballot}
-use Rattle.synod.proofs.BallotsLemmas.{Under, upto_splits, under_true}
-use Rattle.synod.proofs.QuorumLemmas.{quorums_meet}
-use Rattle.net.specs.Chosen.{Vote, vote, IsChosenAt}
-use Rattle.net.specs.Laws.{LaterBallotsKeepChosen}
+use Rattle.net.proofs.Words.{◌≡◌, ℕ, List, [], ◌∷◌, Option, inl, inr, refl, sym, subst, In, Contains-in, Ballot, Under, upto_splits, under_true, quorums_meet, Vote, vote, IsChosenAt, LaterBallotsKeepChosen}
 use Rattle.net.proofs.EveryEvent.{holds_after}
 use Rattle.net.proofs.OneValue.{proposed_in}
 use Rattle.net.proofs.Ledger.{Proposal, proposal, Ledger, AllGrounded, IsSound}
@@ -39,4 +33,4 @@ pub later_ballots_keep_chosen : {V : Type 0} → LaterBallotsKeepChosen V
 later_ballots_keep_chosen {V} size ws events w is_after b c s u v chosen p under =
     let h = holds_after size ws events w is_after in
     later_value w.weights _ h.ledger h.sound (proposal c s v) (proposed_in _ w h c s v p) b u
-    (subst (λ (votes : List (Vote V)). IsChosenAt w.weights votes b s u) (sym h.ever) chosen) (under_true b c under)
+    (subst (λ (votes : List (Vote V)). IsChosenAt w.weights votes b s u) (sym h.votes_cast) chosen) (under_true b c under)

@@ -1,19 +1,5 @@
 -- An Accepted, an Ask and a Told continue the story: a learner counts true votes, learns what is chosen and tells nothing else.
-use Rattle.std.proofs.Common.{◌≡◌, ℕ, Bool, true, false, nat_lt, List, [], ◌∷◌, Option, Some, None, inl, inr, refl, sym, ◌∙◌, subst, if◌then◌else◌}
-use Rattle.std.specs.List.{AllByRecursion}
-use Rattle.slots.specs.declared.slots.TheConstants.{SLOTS}
-use Rattle.slots.specs.FiniteMap.{entry_at, put_at}
-use Rattle.slots.proofs.Lists.{In, In-contains}
-use Rattle.slots.proofs.MapReads.{put_either}
-use Rattle.synod.specs.declared.ballot.Ballot.{Ballot}
-use Rattle.synod.specs.declared.packet.Body.TheVariants.{Ask}
-use Rattle.synod.specs.Weights.{is_quorum}
-use Rattle.synod.specs.Packets.{packet, to_others}
-use Rattle.synod.specs.Node.{Node, unchanged}
-use Rattle.synod.specs.Log.{log_length}
-use Rattle.synod.specs.Learner.{has_voter, counted, learns, chooses, on_accepted, on_accepted_at, on_ask, on_ask_at, on_told, on_told_at}
-use Rattle.synod.proofs.KnownVoteLemmas.{counted_either}
-use Rattle.net.specs.Chosen.{vote, IsChosen}
+use Rattle.net.proofs.Words.{◌≡◌, ℕ, Bool, true, false, nat_lt, List, [], ◌∷◌, Option, Some, None, inl, inr, refl, sym, ◌∙◌, subst, if◌then◌else◌, AllByRecursion, SLOTS, entry_at, put_at, In, In-contains, put_either, Ballot, Ask, is_quorum, packet, to_others, Node, unchanged, log_length, has_voter, counted, learns, chooses, on_accepted, on_accepted_at, on_ask, on_ask_at, on_told, on_told_at, counted_either, vote, IsChosen}
 use Rattle.net.proofs.Ledger.{proposal, Ledger, IsSound}
 use Rattle.net.proofs.Invariant.{HasVoted, NodeHolds, IsTrue}
 use Rattle.net.proofs.StepsContinue.{Continues, same_ledger, true_to_others}

@@ -1,12 +1,6 @@
 -- The ledger of a run: what was begun, promised, proposed and voted, four lists that only grow, the newest first.
 -- The proof alone keeps it, beside the world; the argument over it needs no node and no packet.
-use Rattle.std.proofs.Common.{◌≡◌, ℕ, Bool, true, List, [], ◌∷◌, Option, Some, None, ◌⊎◌, inl, ◌≤◌}
-use Rattle.slots.proofs.Lists.{In}
-use Rattle.synod.specs.declared.ballot.Ballot.{Ballot}
-use Rattle.synod.specs.declared.packet.SlotReport.{SlotReport}
-use Rattle.synod.specs.Weights.{is_quorum}
-use Rattle.synod.proofs.BallotsLemmas.{Under, Upto}
-use Rattle.net.specs.Chosen.{Vote, vote}
+use Rattle.net.proofs.Words.{◌≡◌, ℕ, Bool, true, List, [], ◌∷◌, Option, Some, None, ◌⊎◌, inl, ◌≤◌, In, Ballot, SlotReport, is_quorum, Under, Upto, Vote, vote}
 use Rattle.net.proofs.GrowingLists.{Settles}
 
 -- a ballot was begun from a slot on

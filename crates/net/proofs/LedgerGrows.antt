@@ -1,11 +1,6 @@
 -- The ledger grows by what one node does, and what was true of it lasts.
 -- The heart: who promised a ballot casts no new vote below it, so a quorum's promises settle once and for all what was voted below.
-use Rattle.std.proofs.Common.{◌≡◌, ℕ, Bool, true, List, [], ◌∷◌, Option, inl, inr, refl, sym, ◌∙◌, subst}
-use Rattle.slots.proofs.Lists.{In}
-use Rattle.slots.proofs.Lists.{Contains-in, In-contains}
-use Rattle.synod.specs.declared.ballot.Ballot.{Ballot}
-use Rattle.synod.proofs.BallotsLemmas.{Under, Upto, not_both}
-use Rattle.net.specs.Chosen.{Vote, IsChosen}
+use Rattle.net.proofs.Words.{◌≡◌, ℕ, Bool, true, List, [], ◌∷◌, Option, inl, inr, refl, sym, ◌∙◌, subst, In, Contains-in, In-contains, Ballot, Under, Upto, not_both, Vote, IsChosen}
 use Rattle.net.proofs.GrowingLists.{Adds, adds_none, adds_one, adds_both}
 use Rattle.net.proofs.Ledger.{Begun, Promised, Proposal, Ledger, HasPromised, NoneVoted, IsGrounded, IsFree, AllGrounded, IsTruthful, IsBegun}
 

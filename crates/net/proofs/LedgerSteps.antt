@@ -1,9 +1,5 @@
 -- The ledger stays sound by each thing that a node may add: a ballot begun, a promise, a vote, proposals one slot after another.
-use Rattle.std.proofs.Common.{◌≡◌, ℕ, suc, ◌+◌, ◌<◌, ◌≤◌, List, [], ◌∷◌, length, Option, inl, inr, refl, sym, subst, arith}
-use Rattle.std.specs.List.{AllByRecursion}
-use Rattle.slots.proofs.Lists.{In}
-use Rattle.synod.specs.declared.ballot.Ballot.{Ballot}
-use Rattle.net.specs.Chosen.{Vote}
+use Rattle.net.proofs.Words.{◌≡◌, ℕ, suc, ◌+◌, ◌<◌, ◌≤◌, List, [], ◌∷◌, length, Option, inl, inr, refl, sym, subst, arith, AllByRecursion, In, Ballot, Vote}
 use Rattle.net.proofs.GrowingLists.{settles_more}
 use Rattle.net.proofs.Ledger.{Begun, Promised, Proposal, proposal, Ledger, IsGrounded, IsFree, free_grounded, IsTruthful, IsBegun, IsBrought, OneBallot, OnePromise, OnePlace, IsSound}
 use Rattle.net.proofs.LedgerGrows.{AllPromisedUpto, Grows, grows_none, grows_both, with_begun, with_promise, with_proposal, with_vote, grows-with_begun, grows-with_promise, grows-with_proposal, grows-with_vote, grounded_lasts, all_grounded_last, truthful_lasts, begun_lasts}

@@ -1,3 +1,4 @@
+pub mod Words
 pub mod GrowingLists
 pub mod Beginnings
 mod Ledger
@@ -22,6 +23,6 @@ pub mod LogsGrow
 pub mod HistoryLemmas
 mod Rows
 pub mod TakenLemmas
-pub mod EventsDue
-pub mod StepsDue
-pub mod DueTaken
+pub mod EventsStaged
+pub mod StepsStaged
+pub mod StagedTaken

@@ -1,11 +1,6 @@
 -- Each entry of a log is chosen, since a node learns nothing else; so two logs have one entry at each slot that both have,
 -- and one of them is a beginning of the other.
-use Rattle.std.proofs.Common.{◌≡◌, ℕ, ◌+◌, List, ◌++◌, Option, Some, None, refl, subst, slice_get}
-use Rattle.slots.proofs.MapReads.{before_gap}
-use Rattle.synod.specs.Node.{Node}
-use Rattle.net.specs.Chosen.{Vote, IsChosen}
-use Rattle.net.specs.World.{World, log_at, log}
-use Rattle.net.specs.Laws.{LogEntriesAreChosen, LogsOfNodesAgree}
+use Rattle.net.proofs.Words.{◌≡◌, ℕ, ◌+◌, List, ◌++◌, Option, Some, None, refl, subst, slice_get, before_gap, Node, Vote, IsChosen, World, log_at, log, LogEntriesAreChosen, LogsOfNodesAgree}
 use Rattle.net.proofs.Beginnings.{agree_lists}
 use Rattle.net.proofs.Ledger.{Ledger}
 use Rattle.net.proofs.Invariant.{NodeHolds, WorldHolds}
@@ -26,7 +21,7 @@ log_chosen offers w h k s v e = log_at_chosen w.weights offers h.ledger (0 + k) 
 pub log_entries_are_chosen : {V : Type 0} → LogEntriesAreChosen V
 log_entries_are_chosen {V} size ws events w is_after k s v e =
     let h = holds_after size ws events w is_after in
-    subst (λ (votes : List (Vote V)). IsChosen w.weights votes s v) h.ever (log_chosen _ w h k s v e)
+    subst (λ (votes : List (Vote V)). IsChosen w.weights votes s v) h.votes_cast (log_chosen _ w h k s v e)
 
 -- the logs of two nodes at two moments agree
 pub logs_of_nodes_agree : {V : Type 0} → LogsOfNodesAgree V

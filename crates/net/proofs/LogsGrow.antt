@@ -1,36 +1,5 @@
 -- A log only grows: a step of a node learns at an empty slot alone, and forgets nothing but at a restart.
-use Rattle.std.proofs.Common.{◌≡◌, ◌≢◌, ℕ, zero, suc, ◌-◌, ◌^◌, ◌==◌, ◌&&◌, not, nat_lt, Bool, true, false, List, [], ◌∷◌, ◌++◌, length, Option, Some, None, Result, Ok, Err, refl, ap, sym, ◌∙◌, subst, slice_get, if◌then◌else◌, append-nil}
-use Rattle.std.proofs.Common.{arith}
-use Rattle.std.proofs.lemmas.Bool.Decides.{nat_tests}
-use Rattle.slots.specs.declared.slots.TheConstants.{SLOTS}
-use Rattle.slots.specs.FiniteMap.{entry_at, put_at, entries_to_gap}
-use Rattle.synod.specs.declared.ballot.Ballot.{Ballot}
-use Rattle.synod.specs.declared.packet.Packet.{Packet}
-use Rattle.synod.specs.declared.packet.SlotReport.{SlotReport}
-use Rattle.synod.specs.declared.packet.Body.{Body}
-use Rattle.synod.specs.declared.packet.Body.TheVariants.{Prepare, Promise, Accept, Accepted, Nack, Ask, Told}
-use Rattle.synod.specs.declared.proposer.TheConstants.{MOST_WAITING}
-use Rattle.synod.specs.declared.proposer.Heard.{Heard}
-use Rattle.synod.specs.declared.proposer.Role.{Role}
-use Rattle.synod.specs.declared.proposer.Role.TheVariants.{Idle, Preparing, Leading}
-use Rattle.synod.specs.declared.refusal.Refusal.{Refusal}
-use Rattle.synod.specs.declared.refusal.Refusal.TheVariants.{Busy, LogFull, RoundsSpent, TooLong}
-use Rattle.synod.specs.declared.value.TheConstants.{MOST_BYTES}
-use Rattle.synod.specs.Ballots.{is_under, is_same}
-use Rattle.synod.specs.Weights.{is_quorum}
-use Rattle.synod.specs.PromisePages.{all_had}
-use Rattle.synod.specs.Node.{Node, Stepped, unchanged, pages_from, with_page, is_heard}
-use Rattle.synod.specs.Log.{log_of, log_length}
-use Rattle.synod.specs.Acceptor.{promises, refuses, takes_value}
-use Rattle.synod.specs.Proposer.{waits, takes_slot, offer_waits, offer_as, offered, next_round, begins, begun, top_reported, all_reports, leads, keeps_page, keeps_promise, hears, gathers, on_promise_as, is_at, idles}
-use Rattle.synod.specs.Learner.{has_voter, counted, chooses, on_accepted_at, on_ask_at, on_told_at}
-use Rattle.synod.specs.Step.{on_body, on_packet, restarted}
-use Rattle.net.specs.declared.event.TheConstants.{MOST_EVENTS}
-use Rattle.net.specs.declared.event.Event.{Event}
-use Rattle.net.specs.declared.event.Event.TheVariants.{Offer, Begin, Deliver, Restart}
-use Rattle.net.specs.World.{World, stepped, answered, at_node, delivered, happens_at, happens, log_at, log}
-use Rattle.net.specs.Agree.{IsBeginningOf}
-use Rattle.net.specs.Laws.{LogsOnlyGrow, RestartEmptiesLog}
+use Rattle.net.proofs.Words.{◌≡◌, ◌≢◌, ℕ, zero, suc, ◌-◌, ◌^◌, ◌==◌, ◌&&◌, not, nat_lt, Bool, true, false, List, [], ◌∷◌, ◌++◌, length, Option, Some, None, Result, Ok, Err, refl, ap, sym, ◌∙◌, subst, slice_get, if◌then◌else◌, append-nil, arith, nat_tests, SLOTS, entry_at, put_at, entries_to_gap, Ballot, Packet, SlotReport, Body, Prepare, Promise, Accept, Accepted, Nack, Ask, Told, MOST_WAITING, Heard, Role, Idle, Preparing, Leading, Refusal, Busy, LogFull, RoundsSpent, TooLong, MOST_BYTES, is_under, is_same, is_quorum, all_had, Node, Stepped, unchanged, pages_from, with_page, is_heard, log_of, log_length, promises, refuses, takes_value, waits, takes_slot, offer_waits, offer_as, offered, next_round, begins, begun, top_reported, all_reports, leads, keeps_page, keeps_promise, hears, gathers, on_promise_as, is_at, idles, has_voter, counted, chooses, on_accepted_at, on_ask_at, on_told_at, on_body, on_packet, restarted, MOST_EVENTS, Event, Offer, Begin, Deliver, Restart, World, stepped, answered, at_node, delivered, happens_at, happens, log_at, log, IsBeginningOf, LogsOnlyGrow, RestartEmptiesLog}
 use Rattle.net.proofs.EveryEvent.{IfTaken, if_taken, spent_or}
 use Rattle.net.proofs.GrowingLists.{at_set, at_set_other}
 

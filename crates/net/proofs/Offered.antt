@@ -1,11 +1,6 @@
 -- Each entry of a log is a no-operation or was offered: it is chosen, so somebody voted for it, so it was proposed,
 -- and a proposer proposes what it was offered, what was reported to it, or nothing.
-use Rattle.std.proofs.Common.{ℕ, List, Option, Some}
-use Rattle.slots.proofs.Lists.{Contains-in, In-contains}
-use Rattle.synod.proofs.QuorumLemmas.{quorums_meet}
-use Rattle.net.specs.Chosen.{IsChosen}
-use Rattle.net.specs.World.{offers_of}
-use Rattle.net.specs.Laws.{LogEntriesWereOffered}
+use Rattle.net.proofs.Words.{ℕ, List, Option, Some, Contains-in, In-contains, quorums_meet, IsChosen, offers_of, LogEntriesWereOffered}
 use Rattle.net.proofs.Ledger.{Ledger, IsBrought, IsSound}
 use Rattle.net.proofs.EveryEvent.{holds_after}
 use Rattle.net.proofs.LogsAgree.{log_chosen}

@@ -1,11 +1,6 @@
 -- Under one ballot one value at most is proposed for a slot: a ballot is begun once, and its proposer goes from slot to slot.
 -- The ledger has each proposal that an Accept tells of, and is sound.
-use Rattle.std.proofs.Common.{ℕ, List, Option, refl, subst}
-use Rattle.slots.proofs.Lists.{In, Contains-in}
-use Rattle.synod.specs.declared.ballot.Ballot.{Ballot}
-use Rattle.net.specs.World.{World}
-use Rattle.net.specs.Agree.{IsProposed}
-use Rattle.net.specs.Laws.{BallotsHaveOneValue}
+use Rattle.net.proofs.Words.{ℕ, List, Option, refl, subst, In, Contains-in, Ballot, World, IsProposed, BallotsHaveOneValue}
 use Rattle.net.proofs.GrowingLists.{all_in}
 use Rattle.net.proofs.Ledger.{proposal}
 use Rattle.net.proofs.Invariant.{SaysTrue, IsTrue, WorldHolds}

@@ -1,28 +1,6 @@
 -- A page of a Promise continues the story: it is kept as the true page that it is, its sender is heard once all pages are there,
 -- and with a quorum heard the proposer leads, by proposals that are each grounded.
-use Rattle.std.proofs.Common.{◌≡◌, ◌≢◌, ℕ, zero, suc, ◌+◌, ◌-◌, ◌≤◌, Bool, true, false, not, ◌&&◌, List, [], ◌∷◌, ◌++◌, map, take, drop, length, Option, Some, inl, inr, refl, ap, sym, ◌∙◌, subst, arith, if◌then◌else◌, slice_get}
-use Rattle.std.proofs.lemmas.List.{length-map}
-use Rattle.std.proofs.lemmas.Bool.Decides.{nat_tests}
-use Rattle.std.specs.List.{AllByRecursion}
-use Rattle.std.proofs.lemmas.Bool.{and_parts, not-true}
-use Rattle.slots.specs.declared.slots.TheConstants.{SLOTS}
-use Rattle.slots.specs.FiniteMap.{entry_at, front_of}
-use Rattle.slots.proofs.Lists.{In}
-use Rattle.synod.specs.declared.ballot.Ballot.{Ballot}
-use Rattle.synod.specs.declared.packet.SlotReport.{SlotReport}
-use Rattle.synod.specs.declared.proposer.Heard.{Heard}
-use Rattle.synod.specs.declared.proposer.Role.{Role}
-use Rattle.synod.specs.declared.proposer.Role.TheVariants.{Idle, Preparing, Leading}
-use Rattle.synod.specs.Ballots.{is_same}
-use Rattle.synod.specs.Weights.{is_quorum}
-use Rattle.synod.specs.PromisePages.{pages_of, joined_pages, all_had}
-use Rattle.synod.specs.Packets.{accepts}
-use Rattle.synod.specs.Node.{Node, Stepped, unchanged, pages_from, page_of, with_page, is_heard}
-use Rattle.synod.specs.Proposer.{top_reported, fills, all_reports, leads, keeps_page, keeps_promise, hears, gathers, on_promise_as, on_promise}
-use Rattle.synod.proofs.BallotsLemmas.{same_true}
-use Rattle.synod.proofs.KnownVoteLemmas.{page_either, other_pages}
-use Rattle.synod.proofs.PromisePages.{pages-all, joined-all, all_had-front}
-use Rattle.synod.proofs.ReportsLemmas.{first_to_top}
+use Rattle.net.proofs.Words.{◌≡◌, ◌≢◌, ℕ, zero, suc, ◌+◌, ◌-◌, ◌≤◌, Bool, true, false, not, ◌&&◌, List, [], ◌∷◌, ◌++◌, map, take, drop, length, Option, Some, inl, inr, refl, ap, sym, ◌∙◌, subst, arith, if◌then◌else◌, slice_get, length-map, nat_tests, AllByRecursion, and_parts, not-true, SLOTS, entry_at, front_of, In, Ballot, SlotReport, Heard, Role, Idle, Preparing, Leading, is_same, is_quorum, pages_of, joined_pages, all_had, accepts, Node, Stepped, unchanged, pages_from, page_of, with_page, is_heard, top_reported, fills, all_reports, leads, keeps_page, keeps_promise, hears, gathers, on_promise_as, on_promise, same_true, page_either, other_pages, pages-all, joined-all, all_had-front, first_to_top, length-fills, all_append}
 use Rattle.net.proofs.Ledger.{Promised, Ledger, IsFree, IsBegun, IsBrought, IsSound}
 use Rattle.net.proofs.LedgerGrows.{Grows, grows_both, begun_lasts, free_lasts}
 use Rattle.net.proofs.LedgerSteps.{with_proposals, AllProposedBelow, each_free, each_proposed_more, batch}
@@ -30,8 +8,6 @@ use Rattle.net.proofs.Invariant.{IsPage, IsHeard, IsPreparing, RoleHolds, NodeHo
 use Rattle.net.proofs.StepsContinue.{Continues, same_ledger, true_accepts}
 use Rattle.net.proofs.QuorumHeard.{AllHeard, IsQuorumHeard, fills_grounded, fills_brought, free_above, reported_from}
 use Rattle.net.proofs.ProposerSteps.{after_batch}
-use Rattle.synod.proofs.PageKeeps.{length-fills}
-use Rattle.synod.proofs.NodeKeeps.{all_append}
 
 -- what is so of each element is so of each of the first
 all_take : {A : Type 0} (P : A → Type 0) (i : ℕ) (xs : List A) → AllByRecursion P xs → AllByRecursion P (take i xs)

@@ -1,28 +1,10 @@
 -- A begin, an offer, a Promise and a Nack continue the story: a proposer begins a ballot of its own once, and proposes only what is grounded.
-use Rattle.std.proofs.Common.{◌≡◌, ℕ, zero, suc, ◌+◌, ◌≤◌, ◌^◌, Bool, true, false, ◌&&◌, ◌==◌, nat_lt, List, [], ◌∷◌, length, Option, Some, Result, Ok, Err, inl, inr, refl, ap, sym, subst, arith, if◌then◌else◌}
-use Rattle.std.specs.List.{AllByRecursion}
-use Rattle.slots.specs.declared.slots.TheConstants.{SLOTS}
-use Rattle.slots.proofs.Lists.{In}
-use Rattle.synod.specs.declared.ballot.Ballot.{Ballot}
-use Rattle.synod.specs.declared.packet.SlotReport.{SlotReport}
-use Rattle.synod.specs.declared.packet.Body.TheVariants.{Prepare, Accept}
-use Rattle.synod.specs.declared.proposer.Heard.{Heard}
-use Rattle.synod.specs.declared.proposer.Role.{Role}
-use Rattle.synod.specs.declared.proposer.Role.TheVariants.{Idle, Preparing, Leading}
-use Rattle.synod.specs.declared.value.TheConstants.{MOST_BYTES}
-use Rattle.synod.specs.declared.proposer.TheConstants.{MOST_WAITING}
-use Rattle.synod.specs.declared.refusal.Refusal.{Refusal}
-use Rattle.synod.specs.declared.refusal.Refusal.TheVariants.{Busy, LogFull, RoundsSpent, TooLong}
-use Rattle.synod.specs.Ballots.{is_under}
-use Rattle.synod.specs.Node.{Node, Stepped, unchanged, page_of, no_pages}
-use Rattle.synod.specs.Log.{log_length}
-use Rattle.synod.specs.Proposer.{waits, takes_slot, offer_as, offered, next_round, next_ballot, begins, begun, is_at, idles, on_nack}
+use Rattle.net.proofs.Words.{◌≡◌, ℕ, zero, suc, ◌+◌, ◌≤◌, ◌^◌, Bool, true, false, ◌&&◌, ◌==◌, nat_lt, List, [], ◌∷◌, length, Option, Some, Result, Ok, Err, inl, inr, refl, ap, sym, subst, arith, if◌then◌else◌, AllByRecursion, SLOTS, In, Ballot, SlotReport, Prepare, Accept, Heard, Role, Idle, Preparing, Leading, MOST_BYTES, MOST_WAITING, Refusal, Busy, LogFull, RoundsSpent, TooLong, is_under, Node, Stepped, unchanged, page_of, no_pages, log_length, waits, takes_slot, offer_as, offered, next_round, next_ballot, begins, begun, is_at, idles, on_nack, all_append}
 use Rattle.net.proofs.Ledger.{Begun, begun_as, Ledger, IsSound}
 use Rattle.net.proofs.LedgerGrows.{Grows, with_begun, grows-with_begun, begun_lasts, free_lasts}
 use Rattle.net.proofs.LedgerSteps.{begun_sound, with_proposals, each_free, batch}
 use Rattle.net.proofs.Invariant.{IsLeading, RoleHolds, NodeHolds, AcceptorHolds, LearnerHolds}
 use Rattle.net.proofs.StepsContinue.{Continues, same_ledger, true_to_all}
-use Rattle.synod.proofs.NodeKeeps.{all_append}
 
 -- where a step is answered
 abbrev pub IfStep : {V : Type 0} → Result (Stepped V) Refusal → (Stepped V → Type 0) → Type 0

@@ -1,18 +1,6 @@
 -- What a proposer may propose once it has heard the promises of a quorum (phase 2 of section 2.2): at a slot reported the value of
 -- the highest ballot reported there; at any other slot from the first on, any value. Each such proposal is grounded.
-use Rattle.std.proofs.Common.{◌≡◌, ℕ, zero, suc, ◌≤◌, Bool, true, false, ◌||◌, ◌==◌, List, [], ◌∷◌, Option, Some, None, inl, inr, refl, sym, ◌∙◌, subst, arith, eqb-true}
-use Rattle.std.specs.List.{AllByRecursion}
-use Rattle.slots.proofs.Lists.{In, In-append_left, In-append_right, In-append}
-use Rattle.synod.specs.declared.ballot.Ballot.{Ballot}
-use Rattle.synod.specs.declared.packet.SlotReport.{SlotReport}
-use Rattle.synod.specs.declared.proposer.Heard.{Heard}
-use Rattle.synod.specs.Weights.{is_quorum}
-use Rattle.synod.specs.PromisePages.{joined_pages}
-use Rattle.synod.specs.Node.{pages_from, is_heard}
-use Rattle.synod.specs.Proposer.{highest_at, reported_value, top_reported, fills, all_reports}
-use Rattle.synod.proofs.BallotsLemmas.{Under, upto_upto}
-use Rattle.synod.proofs.ReportsLemmas.{IsHighest, HighestHolds, highest_holds, below_top}
-use Rattle.net.specs.Chosen.{Vote}
+use Rattle.net.proofs.Words.{◌≡◌, ℕ, zero, suc, ◌≤◌, Bool, true, false, ◌||◌, ◌==◌, List, [], ◌∷◌, Option, Some, None, inl, inr, refl, sym, ◌∙◌, subst, arith, eqb-true, AllByRecursion, In, In-append_left, In-append_right, In-append, Ballot, SlotReport, Heard, is_quorum, joined_pages, pages_from, is_heard, highest_at, reported_value, top_reported, fills, all_reports, Under, upto_upto, IsHighest, HighestHolds, highest_holds, below_top, Vote}
 use Rattle.net.proofs.Ledger.{begun_as, Promised, proposal, Ledger, HasPromised, NoneVoted, HighestVoted, IsGrounded, IsFree, HasHigher, IsBrought, IsSound}
 use Rattle.net.proofs.LedgerSteps.{EachGrounded}
 use Rattle.net.proofs.Invariant.{IsHeard}

@@ -1,16 +1,6 @@
 -- Worked runs, computed: after each event the count of packets posted so far, then what single packets say, and what is learned.
 -- An entry stands for its author and serial, as 71 for serial 1 of author 7.
-use Rattle.std.proofs.Common.{◌≡◌, ℕ, zero, suc, List, [], ◌∷◌, ◌++◌, length, Option, Some, None, Result, Ok, Err, refl, slice_get}
-use Rattle.synod.specs.declared.ballot.Ballot.{Ballot}
-use Rattle.synod.specs.declared.packet.SlotReport.{SlotReport}
-use Rattle.synod.specs.declared.packet.Packet.{Packet}
-use Rattle.synod.specs.declared.packet.Body.TheVariants.{Prepare, Promise, Accept, Nack, Ask, Told}
-use Rattle.synod.specs.Packets.{packet}
-use Rattle.net.specs.declared.event.Event.{Event}
-use Rattle.net.specs.declared.event.Event.TheVariants.{Offer, Begin, Deliver, Restart}
-use Rattle.net.specs.declared.fault.StepFault.{StepFault}
-use Rattle.net.specs.declared.fault.StepFault.TheVariants.{NoNode, NoPacket}
-use Rattle.net.specs.World.{World, start, happens, after, log}
+use Rattle.net.proofs.Words.{◌≡◌, ℕ, zero, suc, List, [], ◌∷◌, ◌++◌, length, Option, Some, None, Result, Ok, Err, refl, slice_get, Ballot, SlotReport, Packet, Prepare, Promise, Accept, Nack, Ask, Told, packet, Event, Offer, Begin, Deliver, Restart, StepFault, NoNode, NoPacket, World, start, happens, after, log}
 
 abbrev size : ℕ → ℕ
 size v = 0

@@ -1,18 +1,9 @@
 -- A step of a node continues the story: a ledger that grew by what the node did, and of which all holds again.
-use Rattle.std.proofs.Common.{◌≡◌, ℕ, suc, Bool, true, false, ◌==◌, List, [], ◌∷◌, Option, if◌then◌else◌}
-use Rattle.std.specs.List.{AllByRecursion}
-use Rattle.synod.specs.declared.packet.Packet.{Packet}
-use Rattle.synod.specs.declared.packet.Body.{Body}
-use Rattle.synod.specs.declared.packet.Body.TheVariants.{Accept}
-use Rattle.synod.specs.declared.ballot.Ballot.{Ballot}
-use Rattle.synod.specs.Packets.{packet, to_all_from, to_all, to_others_from, accepts}
-use Rattle.synod.specs.Node.{Stepped}
-use Rattle.net.specs.World.{votes_after}
+use Rattle.net.proofs.Words.{◌≡◌, ℕ, suc, Bool, true, false, ◌==◌, List, [], ◌∷◌, Option, if◌then◌else◌, AllByRecursion, Packet, Body, Accept, Ballot, packet, to_all_from, to_all, to_others_from, accepts, Stepped, votes_after, all_append}
 use Rattle.net.proofs.Ledger.{Ledger, IsSound}
 use Rattle.net.proofs.LedgerGrows.{Grows, grows_none}
 use Rattle.net.proofs.LedgerSteps.{EachProposed}
 use Rattle.net.proofs.Invariant.{NodeHolds, SaysTrue, IsTrue}
-use Rattle.synod.proofs.NodeKeeps.{all_append}
 
 -- node k made the step
 pub record Continues {V : Type 0} (ws : List ℕ) (offers : List V) (k : ℕ) (l : Ledger V) (step : Stepped V) : Type 0 where

@@ -1,24 +1,5 @@
 -- What a world keeps of its events, after one more.
-use Rattle.std.proofs.Common.{◌≡◌, ℕ, zero, suc, ◌+◌, ◌<◌, ◌≤◌, Bool, true, false, ◌==◌, if◌then◌else◌, List, [], ◌∷◌, ◌++◌, length, take, get_or, set, slice_get, Option, Some, None, Result, Ok, Err, refl, ap, sym, ◌∙◌, subst, arith, le_of_suc-le-suc, add-one}
-use Rattle.std.specs.List.{AllByRecursion}
-use Rattle.synod.specs.declared.packet.Packet.{Packet}
-use Rattle.synod.specs.Weights.{IsWeights}
-use Rattle.synod.specs.Packets.{IsPost}
-use Rattle.std.proofs.lemmas.Bool.Decides.{nat_tests}
-use Rattle.synod.specs.declared.refusal.Refusal.{Refusal}
-use Rattle.synod.specs.Node.{Node, Stepped, new_node}
-use Rattle.synod.specs.Proposer.{offered, begun}
-use Rattle.synod.specs.Step.{on_packet, restarted}
-use Rattle.synod.specs.Log.{log_of}
-use Rattle.synod.specs.Core.{Core}
-use Rattle.net.specs.declared.event.Event.{Event}
-use Rattle.net.specs.declared.event.Event.TheVariants.{Offer, Begin, Deliver, Restart}
-use Rattle.net.specs.declared.event.TheConstants.{MOST_EVENTS}
-use Rattle.net.specs.declared.fault.StepFault.{StepFault}
-use Rattle.net.specs.declared.fault.StepFault.TheVariants.{EventsSpent}
-use Rattle.net.specs.World.{World, nodes_from, start, stepped, answered, at_node, delivered, happens_at, happens, all_happen, after, log_at, log_after, packets_after, offers_of}
-use Rattle.net.specs.Agree.{IsAfter}
-use Rattle.net.specs.Taken.{Taken, nodes_of, AreOfWorld, world_of, with_event}
+use Rattle.net.proofs.Words.{◌≡◌, ℕ, zero, suc, ◌+◌, ◌<◌, ◌≤◌, Bool, true, false, ◌==◌, if◌then◌else◌, List, [], ◌∷◌, ◌++◌, length, take, get_or, set, slice_get, Option, Some, None, Result, Ok, Err, refl, ap, sym, ◌∙◌, subst, arith, le_of_suc-le-suc, add-one, AllByRecursion, Packet, IsWeights, IsPost, nat_tests, Refusal, Node, Stepped, new_node, offered, begun, on_packet, restarted, log_of, Core, Event, Offer, Begin, Deliver, Restart, MOST_EVENTS, StepFault, EventsSpent, World, nodes_from, start, stepped, answered, at_node, delivered, happens_at, happens, all_happen, after, log_at, log_after, packets_after, offers_of, IsAfter, Taken, nodes_of, AreOfWorld, world_of, with_event}
 use Rattle.net.proofs.EveryEvent.{IfTaken, if_taken, spent_or, node_at, holds_after}
 use Rattle.net.proofs.TwoMoments.{all_happen-append, world_lasts}
 

@@ -1,28 +1,13 @@
 -- From one moment of a run to a later one the weights stay, and what was voted stays voted; so what is chosen stays chosen.
-use Rattle.std.proofs.Common.{◌≡◌, ℕ, List, [], ◌∷◌, ◌++◌, Option, Some, None, Result, Ok, Err, inr, refl, ap, sym, ◌∙◌, subst, length, slice_get}
-use Rattle.std.proofs.lemmas.List.{length-set}
-use Rattle.std.specs.List.{AllByRecursion}
-use Rattle.slots.proofs.Lists.{In}
-use Rattle.synod.specs.declared.change.Change.{Change}
-use Rattle.synod.specs.declared.change.Change.TheVariants.{Round, Promise, Entry}
-use Rattle.synod.specs.declared.packet.Packet.{Packet}
-use Rattle.synod.specs.declared.refusal.Refusal.{Refusal}
-use Rattle.synod.specs.Node.{Node, Stepped}
-use Rattle.synod.specs.Proposer.{offered, begun}
-use Rattle.synod.specs.Step.{on_packet, restarted}
-use Rattle.net.specs.declared.event.Event.{Event}
-use Rattle.net.specs.declared.event.Event.TheVariants.{Offer, Begin, Deliver, Restart}
-use Rattle.net.specs.declared.fault.StepFault.{StepFault}
-use Rattle.net.specs.Chosen.{Vote, IsChosen}
-use Rattle.net.specs.World.{World, start, votes_after, answered, at_node, delivered, happens_at, happens, all_happen, after}
-use Rattle.net.specs.Agree.{IsAfter}
+use Rattle.net.proofs.Words.{◌≡◌, ℕ, List, [], ◌∷◌, ◌++◌, Option, Some, None, Result, Ok, Err, inr, refl, ap, sym, ◌∙◌, subst, length, slice_get, length-set, AllByRecursion, In, Change, Round, Entry, Packet, Refusal, Node, Stepped, offered, begun, on_packet, restarted, Event, Offer, Begin, Deliver, Restart, StepFault, Vote, IsChosen, World, start, votes_after, answered, at_node, delivered, happens_at, happens, all_happen, after, IsAfter}
+use Rattle.synod.specs.declared.change.Change.TheVariants.{Promise}
 use Rattle.net.proofs.LedgerGrows.{chosen_with_more}
 use Rattle.net.proofs.EveryEvent.{IfTaken, if_taken, all_keep}
 
 pub record Lasts {V : Type 0} (w x : World V) : Type 0 where
   pub weights : x.weights ≡ w.weights
   pub count : length x.nodes ≡ length w.nodes
-  pub votes : (v : Vote V) → In v w.ever → In v x.ever
+  pub votes : (v : Vote V) → In v w.votes_cast → In v x.votes_cast
 
 -- a change of a node takes no vote out
 votes_stay : {V : Type 0} (k : ℕ) (change : Option (Change V)) (votes : List (Vote V)) (v : Vote V) → In v votes → In v (votes_after k change votes)
@@ -34,7 +19,7 @@ votes_stay k (Some (Entry s h)) votes v i = inr i
 module _ {V : Type 0} (first w : World V) (h : Lasts first w) where
   -- weights, the count of nodes and votes last over a node's answer
   lasts_answered : (k : ℕ) (r : Result (Stepped V) Refusal) → IfTaken (answered w k r) (Lasts first)
-  lasts_answered k (Ok step) = record { weights = h.weights; count = length-set w.nodes k step.node ∙ h.count; votes = λ v i. votes_stay k step.change w.ever v (h.votes v i) }
+  lasts_answered k (Ok step) = record { weights = h.weights; count = length-set w.nodes k step.node ∙ h.count; votes = λ v i. votes_stay k step.change w.votes_cast v (h.votes v i) }
   lasts_answered k (Err refusal) = tt
 
   -- weights, the count of nodes and votes last over what a node makes of itself
@@ -76,5 +61,5 @@ module _ {V : Type 0} (size : V → ℕ) (ws : List ℕ) (early late : List (Eve
       (all_keep size (Lasts w) (λ e. Unit {0}) (λ y e u h. lasts_happens w y h size e) late (each_event late) (Ok w) record { weights = refl; count = refl; votes = λ v i. i })
 
   -- what is chosen at the earlier moment is chosen at the later
-  pub stays_chosen : (s : ℕ) (v : Option V) → IsChosen w.weights w.ever s v → IsChosen x.weights x.ever s v
-  stays_chosen s v chosen = subst (λ (ws : List ℕ). IsChosen ws x.ever s v) (sym world_lasts.weights) (chosen_with_more w.ever x.ever world_lasts.votes chosen)
+  pub stays_chosen : (s : ℕ) (v : Option V) → IsChosen w.weights w.votes_cast s v → IsChosen x.weights x.votes_cast s v
+  stays_chosen s v chosen = subst (λ (ws : List ℕ). IsChosen ws x.votes_cast s v) (sym world_lasts.weights) (chosen_with_more w.votes_cast x.votes_cast world_lasts.votes chosen)

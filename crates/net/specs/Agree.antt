@@ -1,12 +1,7 @@
--- What agreement says of a world, and of two worlds of one run.
+-- Agreement, of a world and of two worlds of one run.
 -- Source: Lamport, Paxos Made Simple, section 2.2: P2 is that each proposal above a chosen one has its value.
--- The code tells none of this; it is what the steps of the nodes come to.
-use Rattle.std.specs.Prelude.{◌≡◌, ℕ, true, List, ◌++◌, Option, Some, Contains, ◌⊎◌, Ok, slice_get}
-use Rattle.synod.specs.declared.ballot.Ballot.{Ballot}
-use Rattle.synod.specs.declared.packet.Packet.{Packet}
-use Rattle.synod.specs.declared.packet.Body.TheVariants.{Accept}
-use Rattle.synod.specs.Ballots.{is_under}
-use Rattle.net.specs.declared.event.Event.{Event}
+-- No code states this; it follows from the steps of the nodes.
+use Rattle.net.specs.Words.{◌≡◌, ℕ, true, List, ◌++◌, Option, Some, Contains, ◌⊎◌, Ok, slice_get, Ballot, Packet, Accept, is_under, Event}
 use Rattle.net.specs.Chosen.{IsChosen, IsChosenAt}
 use Rattle.net.specs.World.{World, after, log, offers_of}
 
@@ -24,20 +19,20 @@ OneValue {V} w = (b : Ballot) (s : ℕ) (u v : Option V) → IsProposed w b s u 
 
 -- the value of a later ballot is the one chosen under an earlier
 abbrev pub LaterValue : {V : Type 0} → World V → Type 0
-LaterValue {V} w = (b c : Ballot) (s : ℕ) (u v : Option V) → IsChosenAt w.weights w.ever b s u → IsProposed w c s v → is_under b c ≡ true → u ≡ v
+LaterValue {V} w = (b c : Ballot) (s : ℕ) (u v : Option V) → IsChosenAt w.weights w.votes_cast b s u → IsProposed w c s v → is_under b c ≡ true → u ≡ v
 
 -- what is chosen at a slot is chosen once
 abbrev pub ChosenAgree : {V : Type 0} → World V → World V → Type 0
-ChosenAgree {V} w x = (s : ℕ) (u v : Option V) → IsChosen w.weights w.ever s u → IsChosen x.weights x.ever s v → u ≡ v
+ChosenAgree {V} w x = (s : ℕ) (u v : Option V) → IsChosen w.weights w.votes_cast s u → IsChosen x.weights x.votes_cast s v → u ≡ v
 
 -- each entry of a log is chosen
 abbrev pub LogsChosen : {V : Type 0} → World V → Type 0
-LogsChosen {V} w = (k s : ℕ) (v : Option V) → slice_get (log w k) s ≡ Some v → IsChosen w.weights w.ever s v
+LogsChosen {V} w = (k s : ℕ) (v : Option V) → slice_get (log w k) s ≡ Some v → IsChosen w.weights w.votes_cast s v
 
 abbrev pub IsBeginningOf : {A : Type 0} → List A → List A → Type 0
 IsBeginningOf {A} xs ys = (rest : List A) × (xs ++ rest ≡ ys)
 
--- one list is a beginning of the other
+-- one list is a prefix of the other
 abbrev pub Agree : {A : Type 0} → List A → List A → Type 0
 Agree xs ys = IsBeginningOf xs ys ⊎ IsBeginningOf ys xs
 

@@ -1,15 +1,12 @@
--- What agreement says of one history that is taken, at any of its moments.
+-- Agreement at every moment of a history.
 -- Source: Lamport, Paxos Made Simple, section 2.2.
--- The code tells none of this; it is what the laws come to for the events that one world took.
-use Rattle.std.specs.Prelude.{◌≡◌, ◌⊎◌, ◌<◌, ℕ, List, length, take, suc, Result, Ok, Err, IsOk}
-use Rattle.net.specs.declared.event.Event.{Event}
-use Rattle.net.specs.declared.fault.StepFault.{StepFault}
-use Rattle.net.specs.declared.fault.StepFault.TheVariants.{Memory}
+-- No code states this; it follows from the laws, for the events that one world took.
+use Rattle.net.specs.Words.{◌≡◌, ◌⊎◌, ◌<◌, ℕ, List, length, take, suc, Result, Ok, Err, IsOk, Event, StepFault, Memory}
 use Rattle.net.specs.World.{World, after}
 use Rattle.net.specs.Agree.{IsAfter, OneValue, LaterValue, ChosenAgree, LogsChosen, IsBeginningOf, LogsAgree, LogsOffered}
 use Rattle.net.specs.Taken.{Taken, world_of}
 
--- w is the world at a moment of the history: after some beginning of its events
+-- w is the world at a moment of the history: after a prefix of its events
 pub record IsMoment {V : Type 0} (size : V → ℕ) (taken : Taken V) (w : World V) : Type 0 where
   pub early : List (Event V)
   pub begins : IsBeginningOf early taken.events
@@ -25,20 +22,20 @@ pub record Agreement {V : Type 0} (size : V → ℕ) (taken : Taken V) : Type 0 
   pub chosen : (w x : World V) → IsMoment size taken w → IsMoment size taken x → ChosenAgree w x
   -- an entry of a log is chosen
   pub logs_chosen : (w : World V) → IsMoment size taken w → LogsChosen w
-  -- the logs of any two nodes, at any two moments, are one the beginning of the other
+  -- of the logs of any two nodes, at any two moments, one is a prefix of the other
   pub logs_agree : (w x : World V) → IsMoment size taken w → IsMoment size taken x → LogsAgree w x
   -- an entry of a log is a no-operation, or was offered before that moment
   pub logs_offered : (w : World V) (moment : IsMoment size taken w) → LogsOffered moment.early w
 
 -- Where a run of events stops.
 
--- the fault that was met, or Memory where none was
+-- the fault that was met, or Memory if none was
 abbrev pub IsMetOrMemory : {V : Type 0} → Result (World V) StepFault → StepFault → Type 0
 IsMetOrMemory (Ok w) fault = fault ≡ Memory
 IsMetOrMemory (Err met) fault = fault ≡ met
 
--- the first i events are taken, event i is there, and the fault is the one that it meets, or Memory where it meets none;
--- or a world of new nodes found no memory before the first event
+-- the first i events are taken, event i is there, and the fault is the one that it meets, or Memory if it meets none;
+-- or an allocation for the new nodes failed before the first event
 pub record StopsAt {V : Type 0} (size : V → ℕ) (weights : List ℕ) (events : List (Event V)) (i : ℕ) (fault : StepFault) : Type 0 where
   pub before : IsOk (after size weights (take i events))
   pub fault_is : ((i < length events) × IsMetOrMemory (after size weights (take (suc i) events)) fault) ⊎ ((i ≡ 0) × (fault ≡ Memory))

@@ -1,18 +1,7 @@
 -- The kept part of a node, and the one change that an event makes of it.
 -- Source: Lamport, Paxos Made Simple, section 2.5: an acceptor must remember, in stable storage, what it promised and accepted.
 -- The code stores the change before it posts anything; here both are of one step.
-use Rattle.std.specs.Prelude.{◌≢◌, ℕ, List, [], ◌∷◌, Option, Some, None, Result, Ok, Err, slice_get}
-use Rattle.std.specs.Option.{option_map}
-use Rattle.synod.specs.declared.packet.Packet.{Packet}
-use Rattle.synod.specs.declared.change.Change.{Change}
-use Rattle.synod.specs.declared.refusal.Refusal.{Refusal}
-use Rattle.synod.specs.Record.{Kept}
-use Rattle.synod.specs.Node.{Node, Stepped, kept_of}
-use Rattle.synod.specs.Proposer.{offered, begun}
-use Rattle.synod.specs.Step.{on_packet, restarted}
-use Rattle.net.specs.declared.event.Event.{Event}
-use Rattle.net.specs.declared.event.Event.TheVariants.{Offer, Begin, Deliver, Restart}
-use Rattle.net.specs.declared.fault.StepFault.{StepFault}
+use Rattle.net.specs.Words.{◌≢◌, ℕ, List, [], ◌∷◌, Option, Some, None, Result, Ok, Err, slice_get, option_map, Packet, Change, Refusal, Kept, Node, Stepped, kept_of, offered, begun, on_packet, restarted, Event, Offer, Begin, Deliver, Restart, StepFault}
 use Rattle.net.specs.World.{World, happens}
 
 -- promise, round and accepted entries of node k

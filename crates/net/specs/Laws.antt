@@ -1,11 +1,7 @@
 -- The laws of the world, each over every list of events that is taken, for any weights and any values.
 -- Source: Lamport, Paxos Made Simple, section 2.2.
--- No code stands behind a law; the steps of the nodes are the definitions that their own contracts cite.
-use Rattle.std.specs.Prelude.{◌≡◌, ◌≢◌, ℕ, List, [], ◌∷◌, ◌++◌, Some, Ok}
-use Rattle.std.specs.Option.{option_map}
-use Rattle.synod.specs.Record.{changed_by}
-use Rattle.net.specs.declared.event.Event.{Event}
-use Rattle.net.specs.declared.event.Event.TheVariants.{Restart}
+-- A law has no code; the steps of the nodes are the definitions that their own contracts cite.
+use Rattle.net.specs.Words.{◌≡◌, ◌≢◌, ℕ, List, [], ◌∷◌, ◌++◌, Some, Ok, option_map, changed_by, Event, Restart}
 use Rattle.net.specs.World.{World, happens, log}
 use Rattle.net.specs.Agree.{IsAfter, OneValue, LaterValue, ChosenAgree, LogsChosen, IsBeginningOf, LogsAgree, LogsOffered}
 use Rattle.net.specs.KeptPart.{kept_part, node_of, change_of, AreOfOthers}
@@ -47,7 +43,7 @@ LogEntriesWereOffered V = Always {V = V} (λ events w. LogsOffered events w)
 -- The kept part.
 
 -- after an event of node k and a restart of it, whatever happens at other nodes in between, and so whether or not any packet of the
--- event is delivered there, the kept part is the one before the event, with the event's change
+-- event is delivered there, the kept part is the one before the event, with the change of the event
 abbrev pub KeptPartSurvives : Type 0 → Type 0
 KeptPartSurvives V = (size : V → ℕ) (weights : List ℕ) (events others : List (Event V)) (e : Event V) (k : ℕ) (w x y : World V)
     → IsAfter size weights events w → happens size w e ≡ Ok x → node_of w e ≡ Some k → AreOfOthers size k (Ok x) others
@@ -56,7 +52,7 @@ KeptPartSurvives V = (size : V → ℕ) (weights : List ℕ) (events others : Li
 
 -- Logs.
 
--- an event that is no restart of node k leaves the log of k a beginning of its new one
+-- after an event that is no restart of node k, the old log of k is a prefix of the new one
 abbrev pub LogsOnlyGrow : Type 0 → Type 0
 LogsOnlyGrow V = (size : V → ℕ) (weights : List ℕ) (events : List (Event V)) (e : Event V) (k : ℕ) (w x : World V)
     → IsAfter size weights events w → happens size w e ≡ Ok x → e ≢ Restart k → IsBeginningOf (log w k) (log x k)

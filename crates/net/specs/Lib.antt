@@ -1,3 +1,4 @@
+pub mod Words
 pub mod World
 pub mod Chosen
 pub mod Agree
@@ -5,4 +6,4 @@ pub mod KeptPart
 pub mod Laws
 pub mod Taken
 pub mod History
-pub mod Due
+pub mod Staged

@@ -1,15 +1,7 @@
--- What contracts see of a world: its weights and the events that it took. Its state is that of the world after them.
--- Source: Lamport, Paxos Made Simple, section 3: a run of a state machine is the list of what it was given.
+-- A world as contracts see it: its weights and the events that it took. Its state is that of the world after them.
+-- Source: Lamport, Paxos Made Simple, section 3: the inputs of a state machine determine its run.
 -- The code keeps the nodes and the packets beside the events; the type keeps that they are those of the world after the events.
-use Rattle.std.specs.Prelude.{◌≡◌, ℕ, List, [], ◌∷◌, ◌++◌, Result, length}
-use Rattle.std.specs.List.{AllByRecursion}
-use Rattle.synod.specs.declared.packet.Packet.{Packet}
-use Rattle.synod.specs.Weights.{IsWeights}
-use Rattle.synod.specs.Packets.{IsPost}
-use Rattle.synod.specs.Node.{Node}
-use Rattle.synod.specs.Core.{Core}
-use Rattle.net.specs.declared.event.Event.{Event}
-use Rattle.net.specs.declared.fault.StepFault.{StepFault}
+use Rattle.net.specs.Words.{◌≡◌, ℕ, List, [], ◌∷◌, ◌++◌, Result, length, AllByRecursion, Packet, IsWeights, IsPost, Node, Core, Event, StepFault}
 use Rattle.net.specs.World.{World, after}
 use Rattle.net.specs.Agree.{IsAfter}
 
@@ -30,10 +22,10 @@ pub record AreOfWorld {V : Type 0} (size : V → ℕ) (taken : Taken V) (cores :
   pub weights : IsWeights taken.weights
   pub posts : AllByRecursion (IsPost (length taken.weights)) packets
 
--- the world after what was taken
+-- the world after the events taken
 abbrev pub world_of : {V : Type 0} → (V → ℕ) → Taken V → Result (World V) StepFault
 world_of size taken = after size taken.weights taken.events
 
--- with one event more
+-- with one more event
 abbrev pub with_event : {V : Type 0} → Taken V → Event V → Taken V
 with_event taken e = record { weights = taken.weights; events = taken.events ++ e ∷ [] }

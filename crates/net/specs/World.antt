@@ -1,28 +1,15 @@
 -- The world of the nodes after a list of events: each event is the step of its node, and every packet ever posted is kept.
 -- Source: Lamport, Paxos Made Simple, sections 2.1 and 3 (messages may be lost, repeated and delayed, agents restart).
 -- The code keeps the nodes and packets of one moment and the events that led there; the world here also remembers every vote ever cast.
-use Rattle.std.specs.Prelude.{ℕ, suc, ◌+◌, ◌==◌, List, [], ◌∷◌, ◌++◌, Option, Some, None, Result, Ok, Err, slice_get, slice_set, if◌then◌else◌}
-use Rattle.synod.specs.declared.packet.Packet.{Packet}
-use Rattle.synod.specs.declared.change.Change.{Change}
-use Rattle.synod.specs.declared.change.Change.TheVariants.{Round, Promise, Entry}
-use Rattle.synod.specs.declared.refusal.Refusal.{Refusal}
+use Rattle.net.specs.Words.{ℕ, suc, ◌+◌, ◌==◌, List, [], ◌∷◌, ◌++◌, Option, Some, None, Result, Ok, Err, slice_get, slice_set, if◌then◌else◌, Packet, Change, Round, Promise, Entry, Refusal, Node, Stepped, new_node, log_of, offered, begun, on_packet, restarted, MOST_EVENTS, Event, Offer, Begin, Deliver, Restart, StepFault, Busy, LogFull, RoundsSpent, TooLong, Memory, NoNode, NoPacket, EventsSpent}
 use Rattle.synod.specs.declared.refusal.Refusal.TheVariants.{Busy as NodeBusy, LogFull as NodeLogFull, RoundsSpent as NodeRoundsSpent, TooLong as NodeTooLong, Memory as NodeMemory}
-use Rattle.synod.specs.Node.{Node, Stepped, new_node}
-use Rattle.synod.specs.Log.{log_of}
-use Rattle.synod.specs.Proposer.{offered, begun}
-use Rattle.synod.specs.Step.{on_packet, restarted}
-use Rattle.net.specs.declared.event.TheConstants.{MOST_EVENTS}
-use Rattle.net.specs.declared.event.Event.{Event}
-use Rattle.net.specs.declared.event.Event.TheVariants.{Offer, Begin, Deliver, Restart}
-use Rattle.net.specs.declared.fault.StepFault.{StepFault}
-use Rattle.net.specs.declared.fault.StepFault.TheVariants.{Busy, LogFull, RoundsSpent, TooLong, Memory, NoNode, NoPacket, EventsSpent}
 use Rattle.net.specs.Chosen.{Vote, vote}
 
 pub record World (V : Type 0) : Type 0 where
   pub weights : List ℕ
   pub nodes : List (Node V)
   pub packets : List (Packet V)  -- every packet ever posted, in the order of posting
-  pub ever : List (Vote V)  -- every vote ever cast, the newest first
+  pub votes_cast : List (Vote V)  -- every vote ever cast, the newest first
   pub taken : ℕ  -- how many events were taken
 
 abbrev pub nodes_from : {V : Type 0} → List ℕ → ℕ → List ℕ → List (Node V)
@@ -31,7 +18,7 @@ nodes_from weights k (w ∷ ws) = new_node k weights ∷ nodes_from weights (suc
 
 -- before any event
 abbrev pub start : {V : Type 0} → List ℕ → World V
-start weights = record { weights = weights; nodes = nodes_from weights 0 weights; packets = []; ever = []; taken = 0 }
+start weights = record { weights = weights; nodes = nodes_from weights 0 weights; packets = []; votes_cast = []; taken = 0 }
 
 -- a node's refusal, as a fault of the event
 abbrev pub fault_of : Refusal → StepFault
@@ -41,7 +28,7 @@ fault_of NodeRoundsSpent = RoundsSpent
 fault_of NodeTooLong = TooLong
 fault_of NodeMemory = Memory
 
--- the votes once node k made the change: an entry accepted is one more
+-- the votes once node k made the change: an accepted entry is one more
 abbrev pub votes_after : {V : Type 0} → ℕ → Option (Change V) → List (Vote V) → List (Vote V)
 votes_after k None votes = votes
 votes_after k (Some (Round r)) votes = votes
@@ -54,7 +41,7 @@ stepped w k step = record {
   weights = w.weights;
   nodes = slice_set w.nodes k step.node;
   packets = w.packets ++ step.posts;
-  ever = votes_after k step.change w.ever;
+  votes_cast = votes_after k step.change w.votes_cast;
   taken = w.taken + 1;
 }
 
@@ -62,7 +49,7 @@ abbrev pub answered : {V : Type 0} → World V → ℕ → Result (Stepped V) Re
 answered w k (Ok step) = Ok (stepped w k step)
 answered w k (Err refusal) = Err (fault_of refusal)
 
--- what node k makes of itself, if there is one
+-- the step of node k, if there is one
 abbrev pub at_node : {V : Type 0} → World V → ℕ → (Node V → Result (Stepped V) Refusal) → Option (Node V) → Result (World V) StepFault
 at_node w k make None = Err NoNode
 at_node w k make (Some n) = answered w k (make n)
@@ -94,11 +81,11 @@ abbrev pub log_at : {V : Type 0} → Option (Node V) → List (Option V)
 log_at None = []
 log_at (Some n) = log_of n
 
--- the log of node k: what it learned, up to its first gap
+-- the log of node k: the values that it learned, up to its first gap
 abbrev pub log : {V : Type 0} → World V → ℕ → List (Option V)
 log w k = log_at (slice_get w.nodes k)
 
--- the same of the world after some events, and its packets; nothing where they meet a fault
+-- the log of node k and the packets after some events; nothing if they meet a fault
 abbrev pub log_after : {V : Type 0} → Result (World V) StepFault → ℕ → List (Option V)
 log_after (Ok w) k = log w k
 log_after (Err fault) k = []
@@ -107,7 +94,7 @@ abbrev pub packets_after : {V : Type 0} → Result (World V) StepFault → List 
 packets_after (Ok w) = w.packets
 packets_after (Err fault) = []
 
--- what was offered
+-- the values offered
 abbrev pub offers_of : {V : Type 0} → List (Event V) → List V
 offers_of [] = []
 offers_of (Offer k v ∷ es) = v ∷ offers_of es

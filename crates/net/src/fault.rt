@@ -4,23 +4,23 @@ use std::alloc::AllocError;
 use synod::{Failed, Refusal};
 use thiserror::Error;
 
-/// Why an event was not taken. Of several the first in the order of `EventsSpent`, `NoNode`, `NoPacket`, `TooLong`,
-/// `LogFull`, `RoundsSpent`, `Busy`, `Memory` is answered.
+/// Why an event was refused. If several apply, the first in this order is returned: `EventsSpent`, `NoNode`, `NoPacket`,
+/// `TooLong`, `LogFull`, `RoundsSpent`, `Busy`, `Memory`.
 #[derive(Debug, Clone, Copy, PartialEq, Eq, Error)]
 pub enum StepFault {
-    /// 64 values wait at the node.
+    /// 64 values are waiting at the node.
     #[error("too many values wait at the node")]
     Busy,
-    /// Each slot of the log is taken.
+    /// Every slot of the log is taken.
     #[error("each slot of the log is taken")]
     LogFull,
-    /// No round is above those of the node.
+    /// No higher round exists.
     #[error("no round is left")]
     RoundsSpent,
-    /// The value offered is over the limit.
+    /// The offered value is longer than the limit.
     #[error("the value is too long")]
     TooLong,
-    /// A growth was refused.
+    /// An allocation failed.
     #[error("out of memory")]
     Memory,
     /// No node has this number.
@@ -29,19 +29,19 @@ pub enum StepFault {
     /// No packet has this number.
     #[error("no such packet")]
     NoPacket,
-    /// As many events were taken as a run may have.
+    /// The run has `MOST_EVENTS` events.
     #[error("no event is left")]
     EventsSpent,
-    /// A store failed. In a cluster alone.
+    /// A store failed. Only in a cluster.
     #[error("the store failed")]
     Device,
-    /// The node is down. In a cluster alone.
+    /// The node is down. Only in a cluster.
     #[error("the node is down")]
     Down,
-    /// The cluster was stopped. In a cluster alone.
+    /// The cluster was stopped. Only in a cluster.
     #[error("the cluster is stopped")]
     Stopped,
-    /// Two libraries are apart. In a cluster alone.
+    /// Two libraries differ. Only in a cluster.
     #[error("the libraries are apart")]
     Apart,
 }

@@ -1,7 +1,7 @@
 ghost use Rattle.net.specs.Laws.{BallotsHaveOneValue, LaterBallotsKeepChosen, ChosenValuesAgree, LogEntriesAreChosen, LogsOfNodesAgree, LogEntriesWereOffered, KeptPartSurvives, LogsOnlyGrow, RestartEmptiesLog};
 
-/// Agreement: what holds of the nodes after any events that are taken, whatever was lost, repeated or delayed and whoever
-/// restarted, for any weights and any values. Source: Lamport, Paxos Made Simple, section 2.2.
+/// Agreement: holds after any events that are taken, whatever was lost, repeated or delayed and whoever restarted, for
+/// any weights and any values. Source: Lamport, Paxos Made Simple, section 2.2.
 pub fn agreement<V>()
     ensures one_value { BallotsHaveOneValue V }
     ensures later_value { LaterBallotsKeepChosen V }
@@ -11,13 +11,13 @@ pub fn agreement<V>()
     ensures logs_offered { LogEntriesWereOffered V }
 {}
 
-/// The law of the kept part: after an event of a node and a restart of it, its kept part is the one before with the event's
-/// change, whether or not any packet of the event is ever delivered. Source: Lamport, Paxos Made Simple, section 2.5.
+/// The law of the kept part: after an event of a node and a restart of it, its kept part is the earlier one with the
+/// change of the event, whether or not any packet of the event is ever delivered. Source: Lamport, Paxos Made Simple, section 2.5.
 pub fn kept_part<V>()
     ensures { KeptPartSurvives V }
 {}
 
-/// The law of growing logs: a node's log only grows, but for a restart of it, which empties it.
+/// The law of growing logs: the log of a node only grows, except that a restart empties it.
 pub fn logs_grow<V>()
     ensures grows { LogsOnlyGrow V }
     ensures restart { RestartEmptiesLog V }

@@ -1,18 +1,18 @@
-//! The nodes, all packets that they posted, and the events that led there, whatever the values are.
+//! The nodes, all packets that they posted, and the events that led there, over any values.
 ghost use Rattle.synod.specs.Weights.{IsWeights};
 ghost use Rattle.net.specs.Taken.{nodes_of};
 ghost use Rattle.net.specs.World.{nodes_from};
 ghost use Rattle.std.specs.Prelude.{◌≡◌, ◌↔◌, ◌≤◌, ◌<◌, ◌++◌, [], Ok, Err, Some, None, length, vec_len, vec_capacity, IfOk, IsOk, OnOk, OnErr, IsOkUnless, MatchResult};
 
-use crate::due::{Due, commit_at, ready_event};
 use crate::event::{Event, MOST_EVENTS};
 use crate::fault::StepFault;
+use crate::staged::{StagedEvent, commit_at, ready_event};
 use std::alloc::{AllocError, Global};
 use std::marker::Model;
 use synod::{NodeCore, Packet, Value, Weights};
 
-/// The nodes of a world and their packets. It is seen as the weights and the events taken, its state being that of the world
-/// after them, and the room that it has.
+/// The nodes of a world and their packets. Contracts see the weights, the events taken, the state of the world after them,
+/// and the reserved room.
 ///
 /// Source: Lamport, Paxos Made Simple, 2 and 3; the world after a list of events is in `specs/World.antt`.
 #[derive(Drop)]
@@ -26,7 +26,7 @@ pub struct Net<V: Value> {
 impl<V: Value> Model for Net<V> {
     ghost use Rattle.std.specs.Prelude.{vec_capacity};
     ghost use Rattle.net.specs.Taken.{AreOfWorld};
-    ghost use Rattle.net.specs.Due.{NetView};
+    ghost use Rattle.net.specs.Staged.{NetView};
 
     ghost Value = { NetView V };
 
@@ -47,11 +47,11 @@ impl<V: Value> Net<V> {
     ghost use Rattle.net.specs.World.{log_after, packets_after};
     ghost use Rattle.net.specs.Taken.{AreOfWorld, world_of, with_event};
     ghost use Rattle.net.specs.KeptPart.{addressed};
-    ghost use Rattle.net.specs.Due.{Gives, HasRoom, IsDue, IsOfEvent, IsStill, IsTaken, posts_of};
+    ghost use Rattle.net.specs.Staged.{Gives, HasRoom, IsStaged, IsOfEvent, IsStill, IsTaken, posts_of};
     ghost use Rattle.net.specs.History.{Agreement};
     ghost use Rattle.net.specs.declared.fault.StepFault.TheVariants.{NoNode, NoPacket, Memory};
 
-    /// The world of new nodes.
+    /// Creates a world of new nodes.
     pub fn new(alloc: Global, weights: Weights) -> Result<Self, StepFault>
         ensures new { IfOk result (λ net. net.taken ≡ record { weights = weights; events = [] }) }
         ensures world { IfOk result (λ net. AreOfWorld V.bytes net.taken net.cores net.packets) }
@@ -65,15 +65,16 @@ impl<V: Value> Net<V> {
         })
     }
 
-    /// Makes the growths of an event, or answers the first fault that it meets, or `Memory` where it meets none. Nothing else
-    /// changes.
-    pub fn ready(&mut self, event: Event<V>) -> Result<Due<V>, StepFault>
-        ensures due { IfOk result (IsDue V.bytes self.new) }
+    /// Stages an event, or returns the first fault that it meets, or `Memory` if it meets none. Only the reserved room changes.
+    ///
+    /// Cost: that of the step at its node.
+    pub fn ready(&mut self, event: Event<V>) -> Result<StagedEvent<V>, StepFault>
+        ensures due { IfOk result (IsStaged V.bytes self.new) }
         ensures event { IfOk result (λ due. due.event ≡ event) }
         ensures kind { IfOk result (λ due. IsOfEvent event due.work) }
         ensures room { IfOk result (λ due. HasRoom self.new (length (posts_of due.work)) 1) }
 
-        // A fault is answered however little memory there is.
+        // A fault is returned even if every allocation fails.
         ensures refused { IfErr (world_of V.bytes (with_event self.old.taken event)) (λ fault. result ≡ Err fault) }
         ensures only_memory { OnOk (world_of V.bytes (with_event self.old.taken event)) (IsOkUnless result Memory) }
         ensures still { IsStill self.old self.new }
@@ -87,7 +88,7 @@ impl<V: Value> Net<V> {
         Ok(due)
     }
 
-    /// The node of an event: that of a delivery is the one that the packet is addressed to.
+    /// Returns the node of an event: that of a delivery is the receiver of the packet.
     pub fn node_of(&self, event: &Event<V>) -> Option<u8>
         ensures { result ≡ addressed self.now.packets event.now }
     {
@@ -102,8 +103,8 @@ impl<V: Value> Net<V> {
         }
     }
 
-    /// The growths of the event's node.
-    fn ready_at_node(&mut self, event: Event<V>) -> Result<Due<V>, StepFault>
+    /// Stages an event at its node.
+    fn ready_at_node(&mut self, event: Event<V>) -> Result<StagedEvent<V>, StepFault>
         requires { length self.old.taken.events < MOST_EVENTS }
         ensures gives { Gives V.bytes self.new event (world_of V.bytes (with_event self.old.taken event)) result }
         ensures still { IsStill self.old self.new }
@@ -117,7 +118,7 @@ impl<V: Value> Net<V> {
         ready_event(node, k, event, &self.packets)
     }
 
-    /// Makes room for so many packets and events more.
+    /// Reserves room for more packets and events.
     pub fn room(&mut self, packets: usize, events: usize) -> Result<(), StepFault>
         ensures room { OnOk result (HasRoom self.new packets events) }
         ensures only_memory { IsOkUnless result Memory }
@@ -128,9 +129,9 @@ impl<V: Value> Net<V> {
         Ok(())
     }
 
-    /// Takes an event that is due, and answers how many packets were posted so far. It takes no memory.
-    pub fn commit(&mut self, due: Due<V>) -> u64
-        requires due { IsDue V.bytes self.old due }
+    /// Takes a staged event, and returns the number of packets posted so far. It does not allocate.
+    pub fn commit(&mut self, due: StagedEvent<V>) -> u64
+        requires due { IsStaged V.bytes self.old due }
         requires room { HasRoom self.old (length (posts_of due.work)) 1 }
         requires few { length self.old.taken.events < MOST_EVENTS }
         ensures taken { IsTaken self.old self.new due }
@@ -138,20 +139,20 @@ impl<V: Value> Net<V> {
     {
         let (at, event, work) = due.into_parts();
         let mut posts = commit_at(&mut self.nodes[at as usize], work);
-        // There is room for them.
+        // There is room for the posts.
         let _added = self.packets.append(&mut posts);
         self.events.push_reserved(event);
         self.packets.len() as u64
     }
 
-    /// Takes an event, and answers how many packets were posted so far.
+    /// Takes an event, and returns the number of packets posted so far.
     ///
-    /// Errors: the first fault that the event meets, or `Memory` where it meets none; the world is then as before.
+    /// Errors: the first fault that the event meets, or `Memory` if it meets none; the world is then unchanged.
     pub fn step(&mut self, event: Event<V>) -> Result<u64, StepFault>
         ensures taken { OnOk result (self.new.taken ≡ with_event self.old.taken event) }
         ensures posted { IfOk result (λ count. count ≡ length (packets_after (world_of V.bytes self.new.taken))) }
 
-        // A fault is answered however little memory there is.
+        // A fault is returned even if every allocation fails.
         ensures refused { IfErr (world_of V.bytes (with_event self.old.taken event)) (λ fault. result ≡ Err fault) }
         ensures only_memory { OnOk (world_of V.bytes (with_event self.old.taken event)) (IsOkUnless result Memory) }
         ensures same { OnErr result (self.new.taken ≡ self.old.taken) }
@@ -160,7 +161,7 @@ impl<V: Value> Net<V> {
         Ok(self.commit(due))
     }
 
-    /// The events that it took, first in first. None of them meets a fault, and what agreement says holds at all their moments.
+    /// Returns the events taken, the oldest first. None of them meets a fault, and agreement holds at each of their moments.
     pub fn history(&self) -> &[Event<V>]
         ensures events { result.now ≡ self.now.taken.events }
         ensures few { length self.now.taken.events ≤ MOST_EVENTS }
@@ -170,7 +171,7 @@ impl<V: Value> Net<V> {
         &self.events
     }
 
-    /// Entry `slot` of the log of node `k`. It takes no memory.
+    /// Returns entry `slot` of the log of node `k`. It does not allocate.
     pub fn entry(&self, k: u8, slot: u32) -> Result<Option<&Option<V>>, StepFault>
         ensures entry { IfOk result (λ found. MatchOption found (slice_get (log_after (world_of V.bytes self.now.taken) k) slot ≡ None) (λ entry. slice_get (log_after (world_of V.bytes self.now.taken) k) slot ≡ Some entry.now)) }
         ensures below { IfOk result (λ found. IsSome found → slot < SLOTS) }
@@ -183,7 +184,9 @@ impl<V: Value> Net<V> {
         }
     }
 
-    /// The log of node `k`: what it learned, up to its first gap.
+    /// Returns the log of node `k`: the entries that it learned, up to its first gap.
+    ///
+    /// Cost: the log; each value is copied once.
     pub fn log(&self, k: u8) -> Result<Vec<Option<V>>, StepFault>
         ensures log { IfOk result (λ entries. entries.items ≡ log_after (world_of V.bytes self.now.taken) k) }
         ensures no_node { length self.now.taken.weights ≤ k → result ≡ Err NoNode }
@@ -195,7 +198,7 @@ impl<V: Value> Net<V> {
         }
     }
 
-    /// The packet of that number, from 0 in the order of posting. It takes no memory.
+    /// Returns the packet of a number, from 0 in the order of posting. It does not allocate.
     pub fn packet(&self, number: u64) -> Result<&Packet<V>, StepFault>
         ensures found { IfOk result (λ packet. slice_get (packets_after (world_of V.bytes self.now.taken)) number ≡ Some packet.now) }
         ensures no_packet { (result ≡ Err NoPacket) ↔ (slice_get (packets_after (world_of V.bytes self.now.taken)) number ≡ None) }
@@ -208,7 +211,7 @@ impl<V: Value> Net<V> {
     }
 }
 
-/// A new node for each of the weights.
+/// Creates a node for each weight.
 fn new_nodes<V: Value>(alloc: Global, weights: Weights) -> Result<Vec<NodeCore<V>>, AllocError>
     ensures nodes { IfOk result (λ nodes. nodes_of nodes.items ≡ nodes_from weights 0 weights) }
     ensures weights { OnOk result (IsWeights weights) }

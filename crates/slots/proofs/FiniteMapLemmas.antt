@@ -1,6 +1,5 @@
 -- The finite map of a list of options: its entries, its front and its top after each change.
-use Rattle.std.proofs.Common.{◌≡◌, ℕ, zero, suc, ◌+◌, ◌<◌, ◌≤◌, max, List, [], ◌∷◌, ◌++◌, length, get_or, set, drop, replicate, Option, Some, None, refl, ap, ◌∙◌, arith, le_of_suc-le-suc, sym}
-use Rattle.slots.specs.FiniteMap.{entry_at, put_at, trim_head, trimmed, entries_to_gap, front_of, top_of}
+use Rattle.slots.proofs.Words.{◌≡◌, ℕ, zero, suc, ◌+◌, ◌<◌, ◌≤◌, max, List, [], ◌∷◌, ◌++◌, length, get_or, set, drop, replicate, Option, Some, None, refl, ap, ◌∙◌, arith, le_of_suc-le-suc, sym, entry_at, put_at, trim_head, trimmed, entries_to_gap, front_of, top_of}
 
 -- One entry is put.
 

@@ -1,4 +1,6 @@
+pub mod Words
 pub mod FiniteMapLemmas
 pub mod PagesLemmas
 pub mod Lists
 pub mod MapReads
+pub mod PageLemmas

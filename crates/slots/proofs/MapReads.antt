@@ -1,6 +1,5 @@
 -- A finite map read after a write, and its log read at a slot.
-use Rattle.std.proofs.Common.{◌≡◌, ℕ, zero, suc, List, [], ◌∷◌, Option, Some, None, ◌⊎◌, inl, inr, refl, ap, slice_get}
-use Rattle.slots.specs.FiniteMap.{entry_at, put_at, entries_to_gap}
+use Rattle.slots.proofs.Words.{◌≡◌, ℕ, zero, suc, List, [], ◌∷◌, Option, Some, None, ◌⊎◌, inl, inr, refl, ap, slice_get, entry_at, put_at, entries_to_gap}
 
 -- the two cases at a slot, told of the slot after it
 one_on : {P Q : Type 0} {t s : ℕ} → ((t ≡ s) × P) ⊎ Q → ((suc t ≡ suc s) × P) ⊎ Q

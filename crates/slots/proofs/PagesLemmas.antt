@@ -1,8 +1,5 @@
 -- Pages of 256 slots, one behind the other, as one list.
-use Rattle.std.proofs.Common.{◌≡◌, ℕ, zero, suc, ◌+◌, ◌-◌, ◌*◌, ◌<◌, List, [], ◌∷◌, ◌++◌, length, get_or, set, Option, refl, ap, sym, ◌∙◌, arith, le_of_suc-le-suc, append_assoc, append-nil, length-append}
-use Rattle.std.proofs.lemmas.List.{set-append_left, set-append_right}
-use Rattle.slots.specs.FiniteMap.{entry_at}
-use Rattle.slots.specs.Stored.Pages.{joined, AreWhole}
+use Rattle.slots.proofs.Words.{◌≡◌, ℕ, zero, suc, ◌+◌, ◌-◌, ◌*◌, ◌<◌, List, [], ◌∷◌, ◌++◌, length, get_or, set, Option, refl, ap, sym, ◌∙◌, arith, le_of_suc-le-suc, append_assoc, append-nil, length-append, set-append_left, set-append_right, entry_at, joined, AreWhole}
 
 pub length-joined : {T : Type 0} (pages : List (List T)) → AreWhole pages → length (joined pages) ≡ 256 * length pages
 length-joined [] whole = refl

@@ -1,6 +1,6 @@
 -- A finite map from slots to entries.
 -- Source: the log of Lamport's Paxos Made Simple, section 3, where each instance has its place.
--- The code keeps pages of options. The map is a list of options that ends in an entry or is empty.
+-- The code has pages of options. The map is a list of options that is empty or ends in an entry.
 use Rattle.std.specs.Prelude.{ℕ, zero, suc, List, [], ◌∷◌, Option, Some, None, length}
 
 -- the entry at a slot
@@ -40,7 +40,7 @@ abbrev pub trimmed : {T : Type 0} → List (Option T) → List (Option T)
 trimmed [] = []
 trimmed (x ∷ xs) = trim_head x (trimmed xs)
 
--- what contracts see: the map, and how many slots from 0 on have room
+-- slots as contracts see them: the map, and the number of slots from 0 on that have room
 pub record SlotsView (T : Type 0) : Type 0 where
   pub entries : List (Option T)
   pub room : ℕ

@@ -1,2 +1,2 @@
--- How slots are kept in pages. No public clause cites it.
+-- How slots are stored in pages. No public clause cites it.
 pub mod Pages

@@ -1,7 +1,7 @@
 //! Entries by slot: a finite map from the slots of the log, kept in pages of 256 slots.
 //!
-//! The crate above makes room at a slot, which may find no memory, and then puts an entry there,
-//! which takes none. `Slots` is seen as its entries and its room.
+//! A caller reserves room at a slot, which may fail, and then puts an entry there, which does not allocate.
+//! Contracts see the entries and the room of `Slots`.
 //!
 //! Reading order: `page`, `pages`, `slots`.
 #![tactic(auto)]

@@ -1,56 +1,68 @@
-//! One page: 256 slots, each empty or with an entry.
-ghost use Rattle.std.specs.Prelude.{◌≡◌, ◌<◌, Some, None, IfOk, length, slice_set, replicate, MatchOption};
+//! A page: 256 slots, each empty or with an entry.
+ghost use Rattle.std.specs.Prelude.{◌≡◌, ◌<◌, ◌≤◌, ◌-◌, ◌++◌, vec_capacity, Some, None, IfOk, length, slice_set, replicate, MatchOption};
 ghost use Rattle.slots.specs.FiniteMap.{entry_at};
 
 use std::alloc::{AllocError, Global};
 use std::marker::Model;
 
-/// The slots of one page.
+/// The number of slots of a page.
 pub const PAGE_SLOTS: usize = 256;
 
-/// A page of slots.
+/// A page of slots. Slots after the last one that was filled are not stored, so an empty page costs one allocation.
 #[derive(Drop)]
 pub struct Page<T> {
     slots: Vec<Option<T>>,
 }
 
 impl<T> Model for Page<T> {
-    ghost use Rattle.std.specs.Prelude.{List, Option, length, ◌≡◌};
-    ghost use Rattle.slots.specs.declared.page.TheConstants.{PAGE_SLOTS};
+    ghost use Rattle.std.specs.Prelude.{List, Option, vec_capacity};
+    ghost use Rattle.slots.specs.Stored.Pages.{padded, IsPage};
 
     ghost Value = { List (Option T) };
 
-    ghost view = { λ p. p.slots.items };
+    ghost view = { λ p. padded p.slots.items };
 
-    ghost invariant = { λ p. length p.slots.items ≡ PAGE_SLOTS };
+    ghost invariant = { λ p. IsPage p.slots.items (vec_capacity p.slots) };
 }
 
 impl<T: Drop> Page<T> {
-    /// A page with no entry.
+    /// Creates an empty page.
     pub fn new(alloc: Global) -> Result<Self, AllocError>
         ensures { IfOk result (λ page. page ≡ replicate PAGE_SLOTS None) }
     {
-        let mut slots = Vec::with_capacity(alloc, PAGE_SLOTS)?;
-        for _slot in 0..PAGE_SLOTS {
-            slots.push(None)?;
-        }
+        let slots = Vec::with_capacity(alloc, PAGE_SLOTS)?;
         Ok(Page { slots })
     }
 
-    /// The entry at a slot of the page.
+    /// Returns the entry at a slot of the page.
     pub fn get(&self, slot: usize) -> Option<&T>
         requires { slot < PAGE_SLOTS }
         ensures { MatchOption result (entry_at self.now slot ≡ None) (λ entry. entry_at self.now slot ≡ Some entry.now) }
     {
-        self.slots[slot].as_ref()
+        match self.slots.get(slot) {
+            Some(entry) => entry.as_ref(),
+            None => None,
+        }
     }
 
-    /// Puts an entry at a slot of the page, and gives the one before.
+    /// Puts an entry at a slot of the page, and returns the old one.
     pub fn put(&mut self, slot: usize, entry: T) -> Option<T>
         requires { slot < PAGE_SLOTS }
         ensures put { self.new ≡ slice_set self.old slot (Some entry) }
         ensures before { result ≡ entry_at self.old slot }
     {
+        fill(&mut self.slots, slot + 1);
         self.slots[slot].replace(entry)
+    }
+}
+
+/// Appends empty slots until there are `count`. It does not allocate.
+fn fill<T: Drop>(slots: &mut Vec<Option<T>>, count: usize)
+    requires { count ≤ vec_capacity slots.old }
+    ensures items { slots.new.items ≡ slots.old.items ++ replicate (count - length slots.old.items) None }
+    ensures capacity { vec_capacity slots.new ≡ vec_capacity slots.old }
+{
+    while slots.len() < count {
+        slots.push_reserved(None);
     }
 }

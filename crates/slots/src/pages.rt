@@ -1,4 +1,4 @@
-//! Pages, one behind the other, seen as one list of slots.
+//! A list of pages, seen as one list of slots.
 ghost use Rattle.std.specs.Prelude.{◌≡◌, ◌<◌, ◌*◌, ◌++◌, [], Some, None, IfOk, OnOk, OnErr, length, slice_set, replicate, MatchOption};
 ghost use Rattle.slots.specs.FiniteMap.{entry_at};
 ghost use Rattle.slots.specs.Stored.Pages.{joined, AreWhole};
@@ -26,7 +26,7 @@ impl<T> Model for Pages<T> {
 }
 
 impl<T: Drop> Pages<T> {
-    /// No pages.
+    /// Creates an empty list. It does not allocate.
     pub fn new(alloc: Global) -> Self
         ensures { result ≡ [] }
     {
@@ -36,14 +36,14 @@ impl<T: Drop> Pages<T> {
         }
     }
 
-    /// How many pages there are.
+    /// Returns the number of pages.
     pub fn count(&self) -> usize
         ensures { length self.now ≡ PAGE_SLOTS * result }
     {
         self.pages.len()
     }
 
-    /// Adds so many pages with no entry.
+    /// Appends `count` empty pages.
     pub fn add(&mut self, count: usize) -> Result<(), AllocError>
         ensures added { OnOk result (self.new ≡ self.old ++ replicate (PAGE_SLOTS * count) None) }
         ensures same { OnErr result (self.new ≡ self.old) }
@@ -53,7 +53,7 @@ impl<T: Drop> Pages<T> {
         Ok(())
     }
 
-    /// The entry at a slot.
+    /// Returns the entry at a slot.
     pub fn get(&self, slot: usize) -> Option<&T>
         requires { slot < length self.now }
         ensures { MatchOption result (entry_at self.now slot ≡ None) (λ entry. entry_at self.now slot ≡ Some entry.now) }
@@ -62,7 +62,7 @@ impl<T: Drop> Pages<T> {
         page.get(slot % PAGE_SLOTS)
     }
 
-    /// Puts an entry at a slot, and gives the one before.
+    /// Puts an entry at a slot, and returns the old one.
     pub fn put(&mut self, slot: usize, entry: T) -> Option<T>
         requires { slot < length self.old }
         ensures put { self.new ≡ slice_set self.old slot (Some entry) }
@@ -72,7 +72,7 @@ impl<T: Drop> Pages<T> {
         page.put(slot % PAGE_SLOTS, entry)
     }
 
-    /// Gives all pages up.
+    /// Removes all pages.
     pub fn clear(&mut self)
         ensures { self.new ≡ [] }
     {
@@ -80,7 +80,7 @@ impl<T: Drop> Pages<T> {
     }
 }
 
-/// So many pages with no entry.
+/// Creates `count` empty pages.
 fn empty_pages<T: Drop>(alloc: Global, count: usize) -> Result<Vec<Page<T>>, AllocError>
     ensures whole { IfOk result (λ pages. AreWhole pages.items) }
     ensures empty { IfOk result (λ pages. joined pages.items ≡ replicate (PAGE_SLOTS * count) None) }

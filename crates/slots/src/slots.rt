@@ -7,7 +7,7 @@ use crate::pages::Pages;
 use std::alloc::{AllocError, Global};
 use std::marker::Model;
 
-/// The slots of a log: they are numbered from 0, below this.
+/// The number of slots of a log.
 pub const SLOTS: u32 = 1_048_576;
 
 /// Entries by slot, below `SLOTS`, kept in pages of 256 slots.
@@ -31,7 +31,7 @@ impl<T> Model for Slots<T> {
 }
 
 impl<T: Drop> Slots<T> {
-    /// No entries. It takes no memory.
+    /// Creates an empty map. It does not allocate.
     pub fn new(alloc: Global) -> Self
         ensures entries { result.entries ≡ [] }
         ensures room { result.room ≡ 0 }
@@ -43,9 +43,9 @@ impl<T: Drop> Slots<T> {
         }
     }
 
-    /// Makes room at a slot. The entries stay, and where it finds no memory the room too.
+    /// Reserves room at a slot. The entries are unchanged, and after an error the room too.
     ///
-    /// Cost: the pages that it adds.
+    /// Cost: the pages that it adds, up to the one of the slot.
     pub fn room(&mut self, slot: u32) -> Result<(), AllocError>
         requires { slot < SLOTS }
         ensures ok { OnOk result (slot < self.new.room) }
@@ -63,16 +63,16 @@ impl<T: Drop> Slots<T> {
         Ok(())
     }
 
-    /// Whether there is room at a slot.
+    /// Returns whether there is room at a slot.
     pub fn has_room(&self, slot: u32) -> bool
         ensures { IsTrue result ↔ (slot < self.now.room) }
     {
         (slot as usize) < self.pages.count() * PAGE_SLOTS
     }
 
-    /// Puts an entry in place of the one before, which it gives back. It takes no memory.
+    /// Puts an entry at a slot, and returns the old one. It does not allocate.
     ///
-    /// Cost: constant over many puts; one that fills a gap passes the entries above it once.
+    /// Cost: amortized constant; filling the first gap passes the entries after it, each once until `clear`.
     pub fn put(&mut self, slot: u32, entry: T) -> Option<T>
         requires { slot < self.old.room }
         ensures entries { self.new.entries ≡ put_at self.old.entries slot entry }
@@ -86,7 +86,7 @@ impl<T: Drop> Slots<T> {
         before
     }
 
-    /// The entry at a slot.
+    /// Returns the entry at a slot.
     pub fn get(&self, slot: u32) -> Option<&T>
         ensures { MatchOption result (entry_at self.now.entries slot ≡ None) (λ entry. entry_at self.now.entries slot ≡ Some entry.now) }
     {
@@ -97,7 +97,7 @@ impl<T: Drop> Slots<T> {
         }
     }
 
-    /// The least slot that is empty, or `SLOTS` where none is.
+    /// Returns the least empty slot, or `SLOTS` if there is none.
     pub fn front(&self) -> u32
         ensures front { result ≡ front_of self.now.entries }
         ensures within { result ≤ SLOTS }
@@ -105,7 +105,9 @@ impl<T: Drop> Slots<T> {
         self.front
     }
 
-    /// The front once there is an entry at a slot. The entries stay.
+    /// Returns what `front` would be with an entry at `slot`.
+    ///
+    /// Cost: constant, unless `slot` is the front: then the entries after it up to the next gap.
     pub fn front_with(&self, slot: u32) -> u32
         requires { slot < SLOTS }
         ensures front { (entry : T) → front_of (put_at self.now.entries slot entry) ≡ result }
@@ -121,7 +123,7 @@ impl<T: Drop> Slots<T> {
         }
     }
 
-    /// One above the greatest slot that is not empty, else 0.
+    /// Returns one above the greatest slot with an entry, or 0.
     pub fn top(&self) -> u32
         ensures top { result ≡ top_of self.now.entries }
         ensures within { result ≤ SLOTS }
@@ -129,7 +131,7 @@ impl<T: Drop> Slots<T> {
         self.top
     }
 
-    /// Gives all entries up.
+    /// Removes all entries.
     pub fn clear(&mut self)
         ensures entries { self.new.entries ≡ [] }
     {
@@ -139,7 +141,7 @@ impl<T: Drop> Slots<T> {
     }
 }
 
-/// The first slot from `from` on that is empty, or the end of the pages.
+/// Returns the first empty slot from `from` on, or the end of the pages.
 fn gap_from<T: Drop>(pages: &Pages<T>, from: u32) -> u32
     requires pages { length pages.now ≤ SLOTS }
     requires from { from ≤ length pages.now }
@@ -153,7 +155,7 @@ fn gap_from<T: Drop>(pages: &Pages<T>, from: u32) -> u32
     slot
 }
 
-/// The top once there is an entry at a slot.
+/// Returns the top with an entry at `slot`.
 fn top_with(top: u32, slot: u32) -> u32
     requires { slot < SLOTS }
     ensures { result ≡ max top (slot + 1) }

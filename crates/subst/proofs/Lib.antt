@@ -6,6 +6,7 @@ mod WrittenImages
 mod AlikeLemmas
 mod MatchLemmas
 mod CopyLemmas
+mod VanishingLemmas
 pub mod SubstitutionLemmas
 pub mod DisjointLemmas
 pub mod NumbersApartLemmas

@@ -1,6 +1,6 @@
 -- The answer of a call on one node: contracts see the fields, and the world is the one after the history.
 use Rattle.switch.proofs.Words.{◌≡◌, ℕ, ◌+◌, ◌<◌, false, List, [], ◌∷◌, ◌++◌, length, set, slice_get, inl, inr, Option, Some, None, Result, Ok, Err, refl, ap, sym, ◌∙◌, subst, arith, IfErr, OnOk, IsOkUnless, ForOk, slice_get_within}
-use Rattle.switch.proofs.Words.{Packet, Change, Kept, changed_by, Node, Stepped, kept_of, MOST_EVENTS, Event, StepFault, Memory, Device, World, stepped, happens, packets_after, Taken, world_of_taken, addressed, node_of, change_of, Due, NetView, IsDue, IsEventAt, IsStill, IsTaken, change_in, step_of, after-push, length-nodes_of, Standing, up, down, StoreState, IsRecordOf, IsWithOrWithout, Fails, change_owed, StoreView, SwitchView, event_owed, standing_seen, view_of, views_of, IsOwing, IsSwitch, world_of, IsRecordIn, IsViewOf, AreStores, is_down_at, with_store, due, TakesAt, ActsUp}
+use Rattle.switch.proofs.Words.{Packet, Change, Kept, changed_by, Node, Stepped, kept_of, MOST_EVENTS, Event, StepFault, Memory, Device, World, stepped, happens, packets_after, Taken, world_of_taken, addressed, node_of, change_of, StagedEvent, NetView, IsStaged, IsEventAt, IsStill, IsTaken, change_in, step_of, after-push, length-nodes_of, Standing, up, down, StoreState, IsRecordOf, IsWithOrWithout, Fails, change_owed, StoreView, SwitchView, event_owed, standing_seen, view_of, views_of, IsOwing, IsSwitch, world_of, IsRecordIn, IsViewOf, AreStores, is_down_at, with_store, due, TakesAt, ActsUp}
 use Rattle.net.specs.Taken.{with_event}
 use Rattle.switch.proofs.StoresLemmas.{views_of-set, view_at, view_past, item_at, up_at}
 use Rattle.switch.proofs.SwitchLemmas.{switch_view, other_store, committed, node_is, at, happens_is, change_is, change_told, changes}
@@ -61,7 +61,7 @@ module _ {V : Type 0} (size : V → ℕ) (net : NetView V) (stores : List (Store
       omega (arith, low, count, nodes, cores))
 
   -- a keep that fits its node fits it with the change that the world tells of the event owed
-  record_in : (n : Node V) (k : ℕ) (s : Standing (Due V)) (kept : Kept V) → IsRecordOf n s kept → IsOwing size net k s → IsRecordIn size w n (standing_seen s) kept
+  record_in : (n : Node V) (k : ℕ) (s : Standing (StagedEvent V)) (kept : Kept V) → IsRecordOf n s kept → IsOwing size net k s → IsRecordIn size w n (standing_seen s) kept
   record_in n k up kept fits owing = fits
   record_in n k (down None) kept fits owing = fits
   record_in n k (down (Some o)) kept fits owing = subst (λ (c : Option (Change V)). IsWithOrWithout (kept_of n) c kept) (change_told size net stores h o owing.1) fits
@@ -84,7 +84,7 @@ module _ {V : Type 0} (size : V → ℕ) (net : NetView V) (stores : List (Store
 
   -- An event that was not made ready.
 
-  module _ (e : Event V) (fault : StepFault) (r : Result (Due V) StepFault) (is_err : r ≡ Err fault) (new : SwitchView V) (same : new ≡ old) where
+  module _ (e : Event V) (fault : StepFault) (r : Result (StagedEvent V) StepFault) (is_err : r ≡ Err fault) (new : SwitchView V) (same : new ≡ old) where
     -- what is answered is the fault that the event meets, or Memory where it meets none
     not_ready : (x : Result (World V) StepFault) → happens size w e ≡ x → IfErr x (λ met. r ≡ Err met) → OnOk x (IsOkUnless r Memory) → ActsUp size w old new e (Err fault)
     not_ready (Err met) happened refused memory =
@@ -95,7 +95,7 @@ module _ {V : Type 0} (size : V → ℕ) (net : NetView V) (stores : List (Store
           taken = λ x d. let no : Err met ≡ Ok x = sym happened ∙ d in cc;
         }
     not_ready (Ok y) happened refused memory =
-        let is_memory : fault ≡ Memory = subst (λ (a : Result (Due V) StepFault). IsOkUnless a Memory) is_err memory in
+        let is_memory : fault ≡ Memory = subst (λ (a : Result (StagedEvent V) StepFault). IsOkUnless a Memory) is_err memory in
         record {
           refused = λ other d. let no : Ok y ≡ Err other = sym happened ∙ d in cc;
           taken = λ x d k node view found. inl (is_memory, same);
@@ -108,7 +108,7 @@ module _ {V : Type 0} (size : V → ℕ) (net : NetView V) (stores : List (Store
 
   -- An event that is due, at a node that is up.
 
-  module _ (d1 : Due V) (d : IsDue size net d1) (low : length net.taken.events < MOST_EVENTS) (e : Event V) (is_e : d1.event ≡ e) (store : StoreState V) (is : slice_get stores d1.at ≡ Some store) where
+  module _ (d1 : StagedEvent V) (d : IsStaged size net d1) (low : length net.taken.events < MOST_EVENTS) (e : Event V) (is_e : d1.event ≡ e) (store : StoreState V) (is : slice_get stores d1.at ≡ Some store) where
     abbrev step : Stepped V
     step = step_of d1.work d.core.node
 
@@ -127,7 +127,7 @@ module _ {V : Type 0} (size : V → ℕ) (net : NetView V) (stores : List (Store
     module _ (is_up : store.standing ≡ up) where
       -- the record of its keep is the kept part of the node
       pub kept_up : store.kept ≡ kept_of d.core.node
-      kept_up = subst (λ (s : Standing (Due V)). IsRecordOf d.core.node s store.kept) is_up (h.each d1.at d.core.node store (node_is size net stores h d1 d) is).fits
+      kept_up = subst (λ (s : Standing (StagedEvent V)). IsRecordOf d.core.node s store.kept) is_up (h.each d1.at d.core.node store (node_is size net stores h d1 d) is).fits
 
       -- what is told of the step by its own number, view and world is told by those that are found
       told : (new : SwitchView V) (result : Result ℕ StepFault) → TakesAt old new e d1.at (view_of store) (change_in d1.work) (stepped w d1.at step) result → ActsUp size w old new e result
@@ -147,13 +147,13 @@ module _ {V : Type 0} (size : V → ℕ) (net : NetView V) (stores : List (Store
       }
 
       -- a call of the keep failed, and o is owed
-      module _ (o : Option (Due V)) (change : Option (Change V)) (is_change : change ≡ change_in d1.work) (owes : change_owed o ≡ change) (is_due : event_owed o ≡ due e) (owing : IsOwing size net d1.at (down o)) (new : StoreState V) (fails : Fails store change (down o) new) where
+      module _ (o : Option (StagedEvent V)) (change : Option (Change V)) (is_change : change ≡ change_in d1.work) (owes : change_owed o ≡ change) (is_due : event_owed o ≡ due e) (owing : IsOwing size net d1.at (down o)) (new : StoreState V) (fails : Fails store change (down o) new) where
         -- the stores still make a switch
         pub failed : IsSwitch size net (set stores d1.at new)
         failed = other_store size net stores h d1.at d.core.node store new (node_is size net stores h d1 d) is record {
-          fits = subst (λ (s : Standing (Due V)). IsRecordOf d.core.node s new.kept) (sym (ap (λ (s : StoreState V). s.standing) fails.rest))
+          fits = subst (λ (s : Standing (StagedEvent V)). IsRecordOf d.core.node s new.kept) (sym (ap (λ (s : StoreState V). s.standing) fails.rest))
               (subst (λ (c : Option (Change V)). IsWithOrWithout (kept_of d.core.node) c new.kept) (sym owes) (subst (λ (k : Kept V). IsWithOrWithout k change new.kept) kept_up fails.kept));
-          owing = subst (λ (s : Standing (Due V)). IsOwing size net d1.at s) (sym (ap (λ (s : StoreState V). s.standing) fails.rest)) owing;
+          owing = subst (λ (s : Standing (StagedEvent V)). IsOwing size net d1.at s) (sym (ap (λ (s : StoreState V). s.standing) fails.rest)) owing;
         }
 
         -- Device is what an event answers there, and its node is down with what it owes

@@ -1,6 +1,6 @@
 -- How many nodes there are, the dispatch of an event by its node, and a call as its function has it.
 use Rattle.switch.proofs.Words.{◌≡◌, ℕ, ◌<◌, Bool, true, false, List, length, get_or, set, slice_get, Option, Some, Result, Ok, Err, refl, ap, sym, ◌∙◌, subst, arith, ForOk, slice_get_within, slice_get_read}
-use Rattle.switch.proofs.Words.{Change, changed_by, kept_of, MOST_EVENTS, Event, Offer, Begin, Deliver, Restart, StepFault, Device, Down, World, packets_after, Taken, world_of_taken, node_of, Due, NetView, IsDue, IsStill, IsTaken, change_in, count_shown, up, down, StoreState, Fails, change_owed, SwitchView, event_owed, IsOwing, IsSwitch, world_of, is_down_at, due, ActsUp, ActsDown, Acts}
+use Rattle.switch.proofs.Words.{Change, changed_by, kept_of, MOST_EVENTS, Event, Offer, Begin, Deliver, Restart, StepFault, Device, Down, World, packets_after, Taken, world_of_taken, node_of, StagedEvent, NetView, IsStaged, IsStill, IsTaken, change_in, count_shown, up, down, StoreState, Fails, change_owed, SwitchView, event_owed, IsOwing, IsSwitch, world_of, is_down_at, due, ActsUp, ActsDown, Acts}
 use Rattle.switch.proofs.StoresLemmas.{count_views}
 use Rattle.switch.proofs.SwitchLemmas.{switch_view, still_switch}
 use Rattle.switch.proofs.CallLemmas.{still_view, after_is, is_up_at, kept_up, failed, failed_acts, played, played_acts}
@@ -41,7 +41,7 @@ refused_down size now (Restart k) is = cc
 
 -- A call as its function has it: the net was made ready, and the store is found by its number.
 
-module _ {V : Type 0} (size : V → ℕ) (a b : NetView V) (still : IsStill a b) (stores : List (StoreState V)) (h : IsSwitch size a stores) (now : SwitchView V) (seen : switch_view a stores ≡ now) (d1 : Due V) (d : IsDue size b d1) (k : ℕ) (is_at : k ≡ d1.at) where
+module _ {V : Type 0} (size : V → ℕ) (a b : NetView V) (still : IsStill a b) (stores : List (StoreState V)) (h : IsSwitch size a stores) (now : SwitchView V) (seen : switch_view a stores ≡ now) (d1 : StagedEvent V) (d : IsStaged size b d1) (k : ℕ) (is_at : k ≡ d1.at) where
   -- the stores make a switch with the net as it is then
   hb : IsSwitch size b stores
   hb = still_switch size a stores h b still
@@ -72,7 +72,7 @@ module _ {V : Type 0} (size : V → ℕ) (a b : NetView V) (still : IsStill a b)
     kept_is = kept_up size b stores hb now seen_b d1 d low e is_e store found is_up
 
     -- a call of the keep failed: the stores still make a switch, and Device is what an event answers there
-    pub call_failed : (o : Option (Due V)) (change : Option (Change V)) → change ≡ change_in d1.work → change_owed o ≡ change → event_owed o ≡ due e → IsOwing size b d1.at (down o) → (new : StoreState V) → Fails store change (down o) new
+    pub call_failed : (o : Option (StagedEvent V)) (change : Option (Change V)) → change ≡ change_in d1.work → change_owed o ≡ change → event_owed o ≡ due e → IsOwing size b d1.at (down o) → (new : StoreState V) → Fails store change (down o) new
         → IsSwitch size b (set stores k new) × ForOk (world_of size now) (λ x. ActsUp size x now (switch_view b (set stores k new)) e (Err Device))
     call_failed o change is_change owes is_due owing new fails =
         subst (λ (i : ℕ). IsSwitch size b (set stores i new) × ForOk (world_of size now) (λ x. ActsUp size x now (switch_view b (set stores i new)) e (Err Device))) (sym is_at) (

@@ -1,6 +1,6 @@
 -- What is owed at a node that is down: that it can be taken, and the switch once it is.
 use Rattle.switch.proofs.Words.{◌≡◌, ℕ, ◌+◌, ◌<◌, ◌≤◌, List, ◌++◌, length, set, slice_get, Option, Some, None, refl, ap, sym, ◌∙◌, subst, arith}
-use Rattle.switch.proofs.Words.{changed_by, Node, kept_of, MOST_EVENTS, World, Taken, Due, NetView, HasRoom, step_of, Standing, up, down, StoreState, change_owed, posts_owed, IsRecordOf, event_owed, IsOwing, IsSwitch, CanTakeOwed, TakesOwed, change_due, events_due}
+use Rattle.switch.proofs.Words.{changed_by, Node, kept_of, MOST_EVENTS, World, Taken, StagedEvent, NetView, HasRoom, step_of, Standing, up, down, StoreState, change_owed, posts_owed, IsRecordOf, event_owed, IsOwing, IsSwitch, CanTakeOwed, TakesOwed, change_due, events_due}
 use Rattle.std.proofs.Common.{append-nil}
 use Rattle.switch.proofs.KeepLemmas.{with_either}
 use Rattle.switch.proofs.SwitchLemmas.{other_store, node_is, committed, change_told, changes}
@@ -10,13 +10,13 @@ module _ {V : Type 0} (size : V → ℕ) (net : NetView V) (stores : List (Store
   w = h.world.world
 
   -- its change is the one that the world after the history tells of its event
-  pub owed_change : (o : Option (Due V)) → IsOwing size net k (down o) → change_owed o ≡ change_due size w (event_owed o)
+  pub owed_change : (o : Option (StagedEvent V)) → IsOwing size net k (down o) → change_owed o ≡ change_due size w (event_owed o)
   owed_change None q = refl
   owed_change (Some due) q = change_told size net stores h due q.1
 
   module _ (room : length net.taken.events + 2 ≤ MOST_EVENTS) where
     -- it can be taken, where there is room for it and for the restart
-    pub can_take : (o : Option (Due V)) → IsOwing size net k (down o) → (more : ℕ) → HasRoom net (length (posts_owed o) + more) 2 → CanTakeOwed size net o
+    pub can_take : (o : Option (StagedEvent V)) → IsOwing size net k (down o) → (more : ℕ) → HasRoom net (length (posts_owed o) + more) 2 → CanTakeOwed size net o
     can_take None q more r = tt
     can_take (Some due) q more r = (
       q.1,
@@ -26,13 +26,13 @@ module _ {V : Type 0} (size : V → ℕ) (net : NetView V) (stores : List (Store
 
   module _ (n : Node V) (store new : StoreState V) (node_k : slice_get w.nodes k ≡ Some n) (found : slice_get stores k ≡ Some store) (new_up : new.standing ≡ up) (room : length net.taken.events + 2 ≤ MOST_EVENTS) (m : NetView V) where
     -- the switch and the net once it is taken, the keep having made its change
-    pub owed_taken : (p : Option (Due V)) → IsOwing size net k (down p) → IsRecordOf n (down p) store.kept → new.kept ≡ changed_by store.kept (change_owed p) → TakesOwed net m p
+    pub owed_taken : (p : Option (StagedEvent V)) → IsOwing size net k (down p) → IsRecordOf n (down p) store.kept → new.kept ≡ changed_by store.kept (change_owed p) → TakesOwed net m p
         → (switch : IsSwitch size m (set stores k new)) × (m.taken.weights ≡ net.taken.weights) × (m.taken.events ≡ net.taken.events ++ events_due (event_owed p)) × (m.packets ≡ net.packets ++ posts_owed p)
         × (net.packet_room ≤ m.packet_room) × (net.event_room ≤ m.event_room)
     owed_taken None q f kept same =
         let base : IsSwitch size net (set stores k new) = other_store size net stores h k n store new node_k found record {
-          fits = subst (λ (s : Standing (Due V)). IsRecordOf n s new.kept) (sym new_up) (kept ∙ with_either (kept_of n) store.kept None f);
-          owing = subst (λ (s : Standing (Due V)). IsOwing size net k s) (sym new_up) tt;
+          fits = subst (λ (s : Standing (StagedEvent V)). IsRecordOf n s new.kept) (sym new_up) (kept ∙ with_either (kept_of n) store.kept None f);
+          owing = subst (λ (s : Standing (StagedEvent V)). IsOwing size net k s) (sym new_up) tt;
         } in (
           subst (λ (x : NetView V). IsSwitch size x (set stores k new)) (sym same) base,
           ap (λ (x : NetView V). x.taken.weights) same,

@@ -1,6 +1,6 @@
 -- The restart of a node that is down: what is owed is taken first.
 use Rattle.switch.proofs.Words.{◌≡◌, ℕ, ◌+◌, ◌<◌, ◌≤◌, true, List, [], ◌∷◌, ◌++◌, length, get_or, set, slice_get, inl, inr, Option, Some, None, Result, Ok, Err, refl, ap, sym, ◌∙◌, subst, arith, length-append, AllByRecursion, option_map, ForOk, length-set, slice_get_read}
-use Rattle.switch.proofs.Words.{Packet, Ask, Change, IsPost, to_others, Kept, changed_by, Node, Stepped, kept_of, Core, reloaded, restarted, MOST_EVENTS, Event, Restart, StepFault, Memory, Device, World, packets_after, IsAfter, Taken, world_of_taken, kept_part, Work, steps, restarts, Due, NetView, HasRoom, IsDue, IsReadyAt, IsOfEvent, IsEventAt, ComesTo, IsTaken, posts_of, step_of, loads, loads_due, at_set, set_twice, comes_restart, set_same, Standing, up, down, StoreState, owed_in, change_owed, posts_owed, IsRecordOf, IsWithOrWithout, Fails, StoreView, SwitchView, event_owed, standing_seen, view_of, views_of, IsOwing, IsStore, IsSwitch, CanTakeOwed, TakesOwed, world_of, is_down_at, events_due, with_store, RevivesAt, Revives}
+use Rattle.switch.proofs.Words.{Packet, Ask, Change, IsPost, to_others, Kept, changed_by, Node, Stepped, kept_of, Core, reloaded, restarted, MOST_EVENTS, Event, Restart, StepFault, Memory, Device, World, packets_after, IsAfter, Taken, world_of_taken, kept_part, StagedWork, steps, restarts, StagedEvent, NetView, HasRoom, IsStaged, IsReadyAt, IsOfEvent, IsEventAt, ComesTo, IsTaken, posts_of, step_of, loads, with_record, at_set, set_twice, comes_restart, set_same, Standing, up, down, StoreState, owed_in, change_owed, posts_owed, IsRecordOf, IsWithOrWithout, Fails, StoreView, SwitchView, event_owed, standing_seen, view_of, views_of, IsOwing, IsStore, IsSwitch, CanTakeOwed, TakesOwed, world_of, is_down_at, events_due, with_store, RevivesAt, Revives}
 use Rattle.switch.proofs.KeepLemmas.{either_twice}
 use Rattle.switch.proofs.StoresLemmas.{views_of-set, view_at, item_at, down_at, few_due}
 use Rattle.switch.proofs.SwitchLemmas.{switch_view, core_node, own_number, own_weights, other_store, at, node_is, committed}
@@ -10,7 +10,7 @@ use Rattle.switch.proofs.OwedLemmas.{owed_change, can_take, owed_taken}
 
 -- The switch before, stores and net being as they are when the keep is called.
 module _ {V : Type 0} (size : V → ℕ) (net : NetView V) (stores : List (StoreState V)) (h : IsSwitch size net stores) (now : SwitchView V) (seen : switch_view net stores ≡ now)
-    (d1 : Due V) (d : IsDue size net d1) (j : ℕ) (is_e : d1.event ≡ Restart j) (kind : IsOfEvent (Restart j) d1.work) (k : ℕ) (is_at : k ≡ d1.at) (store : StoreState V) (is : store ≡ get_or stores k store) (low_k : k < length stores)
+    (d1 : StagedEvent V) (d : IsStaged size net d1) (j : ℕ) (is_e : d1.event ≡ Restart j) (kind : IsOfEvent (Restart j) d1.work) (k : ℕ) (is_at : k ≡ d1.at) (store : StoreState V) (is : store ≡ get_or stores k store) (low_k : k < length stores)
     (test : is_down_at now.stores (Some j) ≡ true) (room : length net.taken.events + 2 ≤ MOST_EVENTS) where
   abbrev w : World V
   w = h.world.world
@@ -39,23 +39,23 @@ module _ {V : Type 0} (size : V → ℕ) (net : NetView V) (stores : List (Store
   own = h.each k d.core.node store node_k found
 
   -- the store is down, with an event that is owed or none
-  is_down : (o : Option (Due V)) × (store.standing ≡ down o)
+  is_down : (o : Option (StagedEvent V)) × (store.standing ≡ down o)
   is_down = down_at stores k store found (ap (λ (i : ℕ). is_down_at (views_of stores) (Some i)) (sym is_j) ∙ ap (λ (s : SwitchView V). is_down_at s.stores (Some j)) seen ∙ test)
 
-  abbrev o : Option (Due V)
+  abbrev o : Option (StagedEvent V)
   o = is_down.0
 
   -- that is what the store owes
   owed_is : owed_in store.standing ≡ o
-  owed_is = ap (λ (s : Standing (Due V)). owed_in s) is_down.1
+  owed_is = ap (λ (s : Standing (StagedEvent V)). owed_in s) is_down.1
 
   -- the record of the keep is that of the node, with or without the change that is owed
   fits : IsRecordOf d.core.node (down o) store.kept
-  fits = subst (λ (s : Standing (Due V)). IsRecordOf d.core.node s store.kept) is_down.1 own.fits
+  fits = subst (λ (s : Standing (StagedEvent V)). IsRecordOf d.core.node s store.kept) is_down.1 own.fits
 
   -- what is owed is due at the node
   owing : IsOwing size net k (down o)
-  owing = subst (λ (s : Standing (Due V)). IsOwing size net k s) is_down.1 own.owing
+  owing = subst (λ (s : Standing (StagedEvent V)). IsOwing size net k s) is_down.1 own.owing
 
   -- the view that is seen
   of_view : (new : SwitchView V) (result : Result ℕ StepFault) → RevivesAt size w old new j (view_of store) (event_owed o) result
@@ -64,7 +64,7 @@ module _ {V : Type 0} (size : V → ℕ) (net : NetView V) (stores : List (Store
       (λ view at_j e stands.
       let views : Some (view_of store) ≡ Some view = sym (view_at stores k store found) ∙ ap (λ (i : ℕ). slice_get (views_of stores) i) (sym is_j) ∙ at_j in
       let is_view : view_of store ≡ view = cc in
-      let stand : down (event_owed o) ≡ down e = sym (ap (λ (s : Standing (Due V)). standing_seen s) is_down.1) ∙ ap (λ (p : StoreView V). p.standing) is_view ∙ stands in
+      let stand : down (event_owed o) ≡ down e = sym (ap (λ (s : Standing (StagedEvent V)). standing_seen s) is_down.1) ∙ ap (λ (p : StoreView V). p.standing) is_view ∙ stands in
       let is_f : event_owed o ≡ e = cc in
       record {
         spent = λ spent. absurd (omega (arith, spent, room));
@@ -87,7 +87,7 @@ module _ {V : Type 0} (size : V → ℕ) (net : NetView V) (stores : List (Store
   module _ (new : StoreState V) (fails : Fails store (change_owed (owed_in store.standing)) store.standing new) where
     -- its record is the one before, with or without the change that is owed
     either : IsWithOrWithout store.kept (change_owed o) new.kept
-    either = subst (λ (p : Option (Due V)). IsWithOrWithout store.kept (change_owed p) new.kept) owed_is fails.kept
+    either = subst (λ (p : Option (StagedEvent V)). IsWithOrWithout store.kept (change_owed p) new.kept) owed_is fails.kept
 
     -- the store is down as before
     stands : new.standing ≡ down o
@@ -96,8 +96,8 @@ module _ {V : Type 0} (size : V → ℕ) (net : NetView V) (stores : List (Store
     -- the stores still make a switch
     pub stays_down : IsSwitch size net (set stores k new)
     stays_down = other_store size net stores h k d.core.node store new node_k found record {
-      fits = subst (λ (s : Standing (Due V)). IsRecordOf d.core.node s new.kept) (sym stands) (either_twice (kept_of d.core.node) store.kept new.kept (change_owed o) fits either);
-      owing = subst (λ (s : Standing (Due V)). IsOwing size net k s) (sym stands) owing;
+      fits = subst (λ (s : Standing (StagedEvent V)). IsRecordOf d.core.node s new.kept) (sym stands) (either_twice (kept_of d.core.node) store.kept new.kept (change_owed o) fits either);
+      owing = subst (λ (s : Standing (StagedEvent V)). IsOwing size net k s) (sym stands) owing;
     }
 
     -- Device is what the restart answers there, and the node stays down
@@ -114,17 +114,17 @@ module _ {V : Type 0} (size : V → ℕ) (net : NetView V) (stores : List (Store
     ))
 
   -- what the call found to be owed can be taken, where there is room for its posts and two events
-  pub can_take_owed : (owed : Option (Due V)) → owed ≡ owed_in store.standing → (posts more : ℕ) → posts ≡ length (posts_owed (owed_in store.standing)) → HasRoom net (posts + more) 2 → CanTakeOwed size net owed
+  pub can_take_owed : (owed : Option (StagedEvent V)) → owed ≡ owed_in store.standing → (posts more : ℕ) → posts ≡ length (posts_owed (owed_in store.standing)) → HasRoom net (posts + more) 2 → CanTakeOwed size net owed
   can_take_owed owed is_owed posts more count r =
-      subst (λ (p : Option (Due V)). CanTakeOwed size net p) (sym (is_owed ∙ owed_is))
-      (can_take size net stores h k room o owing more (subst (λ (i : ℕ). HasRoom net (i + more) 2) (count ∙ ap (λ (p : Option (Due V)). length (posts_owed p)) owed_is) r))
+      subst (λ (p : Option (StagedEvent V)). CanTakeOwed size net p) (sym (is_owed ∙ owed_is))
+      (can_take size net stores h k room o owing more (subst (λ (i : ℕ). HasRoom net (i + more) 2) (count ∙ ap (λ (p : Option (StagedEvent V)). length (posts_owed p)) owed_is) r))
 
   -- The keep has made what is owed, and it is taken.
-  module _ (new : StoreState V) (repaired : new ≡ record { kept = changed_by store.kept (change_owed (owed_in store.standing)); failures = store.failures; standing = up }) (m : NetView V) (owed : Option (Due V)) (is_owed : owed ≡ owed_in store.standing)
+  module _ (new : StoreState V) (repaired : new ≡ record { kept = changed_by store.kept (change_owed (owed_in store.standing)); failures = store.failures; standing = up }) (m : NetView V) (owed : Option (StagedEvent V)) (is_owed : owed ≡ owed_in store.standing)
       (takes : TakesOwed net m owed) where
     -- the record of the keep is the one before with the change that was owed
     new_kept_is : new.kept ≡ changed_by store.kept (change_owed o)
-    new_kept_is = ap (λ (s : StoreState V). s.kept) repaired ∙ ap (λ (p : Option (Due V)). changed_by store.kept (change_owed p)) owed_is
+    new_kept_is = ap (λ (s : StoreState V). s.kept) repaired ∙ ap (λ (p : Option (StagedEvent V)). changed_by store.kept (change_owed p)) owed_is
 
     -- the store is up
     new_up : new.standing ≡ up
@@ -132,7 +132,7 @@ module _ {V : Type 0} (size : V → ℕ) (net : NetView V) (stores : List (Store
 
     -- what was taken is what the store owed
     takes_o : TakesOwed net m o
-    takes_o = subst (λ (p : Option (Due V)). TakesOwed net m p) (is_owed ∙ owed_is) takes
+    takes_o = subst (λ (p : Option (StagedEvent V)). TakesOwed net m p) (is_owed ∙ owed_is) takes
 
     abbrev mid : (switch : IsSwitch size m (set stores k new)) × (m.taken.weights ≡ net.taken.weights) × (m.taken.events ≡ net.taken.events ++ events_due (event_owed o)) × (m.packets ≡ net.packets ++ posts_owed o)
         × (net.packet_room ≤ m.packet_room) × (net.event_room ≤ m.event_room)
@@ -155,7 +155,7 @@ module _ {V : Type 0} (size : V → ℕ) (net : NetView V) (stores : List (Store
 
     -- the record of the keep is the kept part of this node
     kept_m : new.kept ≡ kept_of core_m.0.node
-    kept_m = subst (λ (s : Standing (Due V)). IsRecordOf core_m.0.node s new.kept) new_up (hm.each k core_m.0.node new node_m new_at).fits
+    kept_m = subst (λ (s : Standing (StagedEvent V)). IsRecordOf core_m.0.node s new.kept) new_up (hm.each k core_m.0.node new node_m new_at).fits
 
     -- the history has room for the restart behind what was owed
     pub low_m : length m.taken.events < MOST_EVENTS
@@ -166,7 +166,7 @@ module _ {V : Type 0} (size : V → ℕ) (net : NetView V) (stores : List (Store
         omega (arith, count, more, one, room)
 
     -- the restart is due there
-    asks : (work : Work V) → IsOfEvent (Restart j) work → IsReadyAt d.core work → posts_of work ≡ to_others k m.taken.weights (Ask 0)
+    asks : (work : StagedWork V) → IsOfEvent (Restart j) work → IsReadyAt d.core work → posts_of work ≡ to_others k m.taken.weights (Ask 0)
     asks (steps made) q r = elim q [ ]
     asks (restarts posts None) q r =
         r ∙ ap (λ (i : ℕ). to_others i d.core.node.weights (Ask 0)) (own_number size net stores h k d.core.node node_k)
@@ -174,7 +174,7 @@ module _ {V : Type 0} (size : V → ℕ) (net : NetView V) (stores : List (Store
     asks (restarts posts (Some x)) q r = cc
 
     -- the restart is ready at this node with the record of its keep loaded
-    ready_then : (work : Work V) (kept : Kept V) → IsOfEvent (Restart j) work → posts_of work ≡ to_others k m.taken.weights (Ask 0) → kept ≡ new.kept → IsReadyAt core_m.0 (loads work kept)
+    ready_then : (work : StagedWork V) (kept : Kept V) → IsOfEvent (Restart j) work → posts_of work ≡ to_others k m.taken.weights (Ask 0) → kept ≡ new.kept → IsReadyAt core_m.0 (loads work kept)
     ready_then (steps made) kept q r same = elim q [ ]
     ready_then (restarts posts loaded) kept q r same = (
       r ∙ ap (λ (i : ℕ). to_others i m.taken.weights (Ask 0)) (sym (own_number size m (set stores k new) hm k core_m.0.node node_m))
@@ -183,7 +183,7 @@ module _ {V : Type 0} (size : V → ℕ) (net : NetView V) (stores : List (Store
     )
 
     -- the step is that of a restart of this node
-    step_then : (work : Work V) (kept : Kept V) → IsOfEvent (Restart j) work → kept ≡ new.kept → restarted core_m.0.node ≡ step_of (loads work kept) core_m.0.node
+    step_then : (work : StagedWork V) (kept : Kept V) → IsOfEvent (Restart j) work → kept ≡ new.kept → restarted core_m.0.node ≡ step_of (loads work kept) core_m.0.node
     step_then (steps made) kept q same = elim q [ ]
     step_then (restarts posts loaded) kept q same = ap (λ (x : Kept V). reloaded core_m.0.node x) (sym (same ∙ kept_m))
 
@@ -192,11 +192,11 @@ module _ {V : Type 0} (size : V → ℕ) (net : NetView V) (stores : List (Store
       is_new_kept : kept ≡ new.kept
       is_new_kept = same_kept ∙ sym (ap (λ (s : StoreState V). s.kept) repaired)
 
-      abbrev d2 : Due V
-      d2 = loads_due d1 kept
+      abbrev d2 : StagedEvent V
+      d2 = with_record d1 kept
 
       -- the restart with that record is due at this node
-      pub due_m : IsDue size m d2
+      pub due_m : IsStaged size m d2
       due_m = record {
         core = core_m.0;
         at = ap (λ (i : ℕ). slice_get m.cores i) (sym is_at) ∙ core_m.1;
@@ -210,7 +210,7 @@ module _ {V : Type 0} (size : V → ℕ) (net : NetView V) (stores : List (Store
       -- there is room for the posts of the restart and one event
       pub room_m : (posts more : ℕ) → posts ≡ length (posts_owed (owed_in store.standing)) → more ≡ length (posts_of d1.work) → HasRoom net (posts + more) 2 → HasRoom m (length (posts_of d2.work)) 1
       room_m posts more count all r =
-          let p = ap (λ (x : Option (Due V)). length (posts_owed x)) owed_is in
+          let p = ap (λ (x : Option (StagedEvent V)). length (posts_owed x)) owed_is in
           let l = ap (λ (ps : List (Packet V)). length ps) mid.3 in
           let q = length-append net.packets (posts_owed o) in
           let e = ap (λ (es : List (Event V)). length es) mid.2 in
@@ -225,7 +225,7 @@ module _ {V : Type 0} (size : V → ℕ) (net : NetView V) (stores : List (Store
 
       module _ (z : NetView V) (t : IsTaken m z d2) where
         -- the restart leaves the node the record of its keep as kept part
-        kept_then : (work : Work V) (n : Node V) → IsOfEvent (Restart j) work → new.kept ≡ kept_of (step_of (loads work kept) n).node
+        kept_then : (work : StagedWork V) (n : Node V) → IsOfEvent (Restart j) work → new.kept ≡ kept_of (step_of (loads work kept) n).node
         kept_then (steps made) n q = elim q [ ]
         kept_then (restarts posts loaded) n q = sym is_new_kept
 
@@ -249,7 +249,7 @@ module _ {V : Type 0} (size : V → ℕ) (net : NetView V) (stores : List (Store
             let low_z : k < length z.cores = (let c = revived.count in let l = length-set stores k new in let low = low_k in omega (arith, c, l, low)) in
             let c = item_at z.cores k low_z in
             let node_z = core_node size z (set stores k new) revived k c.0 c.1 in
-            let fits_z : new.kept ≡ kept_of c.0.node = subst (λ (s : Standing (Due V)). IsRecordOf c.0.node s new.kept) new_up (revived.each k c.0.node new node_z new_at).fits in
+            let fits_z : new.kept ≡ kept_of c.0.node = subst (λ (s : Standing (StagedEvent V)). IsRecordOf c.0.node s new.kept) new_up (revived.each k c.0.node new node_z new_at).fits in
             of_view (switch_view z (set stores k new)) (Ok count) record {
               world = x;
               is_after = subst (λ (us : List ℕ). IsAfter size us (net.taken.events ++ events_due (event_owed o) ++ Restart j ∷ []) x) weights (subst (λ (es : List (Event V)). IsAfter size z.taken.weights es x) history revived.world.is_after);
@@ -259,5 +259,5 @@ module _ {V : Type 0} (size : V → ℕ) (net : NetView V) (stores : List (Store
               rest = view_is_same _ _ _ _ _ _ weights history
                   (views_of-set stores k new ∙ ap (λ (i : ℕ). set (views_of stores) i (view_of new)) (sym is_j)
                   ∙ ap (λ (i : ℕ). set (views_of stores) j (let p : StoreView V = record { kept = new.kept; failures = i; standing = standing_seen new.standing } in p)) (ap (λ (s : StoreState V). s.failures) repaired)
-                  ∙ ap (λ (s : Standing (Due V)). set (views_of stores) j (let p : StoreView V = record { kept = new.kept; failures = store.failures; standing = standing_seen s } in p)) new_up);
+                  ∙ ap (λ (s : Standing (StagedEvent V)). set (views_of stores) j (let p : StoreView V = record { kept = new.kept; failures = store.failures; standing = standing_seen s } in p)) new_up);
             }

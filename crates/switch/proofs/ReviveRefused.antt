@@ -1,6 +1,6 @@
 -- A restart of a node that is down and finds no room in the history, or no memory.
 use Rattle.switch.proofs.Words.{◌≡◌, ℕ, ◌+◌, ◌<◌, ◌≤◌, true, false, List, length, slice_get, inl, Option, Some, None, Result, Ok, Err, refl, ap, sym, ◌∙◌, subst, arith, ForOk, OnOk, IsOkUnless}
-use Rattle.switch.proofs.Words.{Node, restarted, MOST_EVENTS, Event, Restart, StepFault, Memory, EventsSpent, World, stepped, at_node, world_of_taken, Due, NetView, set_same, next_is, down, StoreState, StoreView, SwitchView, views_of, IsSwitch, world_of, is_down_at, is_down_view, with_store, Revives}
+use Rattle.switch.proofs.Words.{Node, restarted, MOST_EVENTS, Event, Restart, StepFault, Memory, EventsSpent, World, stepped, at_node, world_of_taken, StagedEvent, NetView, set_same, next_is, down, StoreState, StoreView, SwitchView, views_of, IsSwitch, world_of, is_down_at, is_down_view, with_store, Revives}
 use Rattle.net.specs.Taken.{with_event}
 use Rattle.switch.proofs.StoresLemmas.{view_past}
 use Rattle.switch.proofs.SwitchLemmas.{switch_view}
@@ -14,7 +14,7 @@ revive_spent {V} size net stores h now seen j spent = of_world size net stores h
 
 -- the restart was not made ready: there is no memory
 pub revive_unready : {V : Type 0} (size : V → ℕ) (net : NetView V) (stores : List (StoreState V)) (h : IsSwitch size net stores) (now : SwitchView V) (seen : switch_view net stores ≡ now) (j : ℕ) → is_down_at now.stores (Some j) ≡ true
-    → length net.taken.events + 2 ≤ MOST_EVENTS → (fault : StepFault) (r : Result (Due V) StepFault) → r ≡ Err fault → (new : SwitchView V) → new ≡ switch_view net stores → OnOk (world_of_taken size (with_event net.taken (Restart j))) (IsOkUnless r Memory)
+    → length net.taken.events + 2 ≤ MOST_EVENTS → (fault : StepFault) (r : Result (StagedEvent V) StepFault) → r ≡ Err fault → (new : SwitchView V) → new ≡ switch_view net stores → OnOk (world_of_taken size (with_event net.taken (Restart j))) (IsOkUnless r Memory)
     → ForOk (world_of size now) (λ x. (view : StoreView V) → slice_get now.stores j ≡ Some view → (e : Option (Event V)) → view.standing ≡ down e → Revives size x now new j view e (Err fault))
 revive_unready {V} size net stores h now seen j test room fault r is_err new same memory =
     of_world size net stores h now seen (λ s x. (view : StoreView V) → slice_get s.stores j ≡ Some view → (e : Option (Event V)) → view.standing ≡ down e → Revives size x s new j view e (Err fault))
@@ -38,4 +38,4 @@ revive_unready {V} size net stores h now seen j test room fault r is_err new sam
           let store = down_store (slice_get stores j) refl in
           let n = node_there size net stores h now seen j store.0 store.1 in
           let told : IsOkUnless r Memory = subst (λ (x : Result (World V) StepFault). OnOk x (IsOkUnless r Memory)) (happens_ok n.0 n.1) memory in
-          subst (λ (a : Result (Due V) StepFault). IsOkUnless a Memory) is_err told
+          subst (λ (a : Result (StagedEvent V) StepFault). IsOkUnless a Memory) is_err told

@@ -1,6 +1,6 @@
 -- Stores and their views, one after another and one by one.
 use Rattle.switch.proofs.Words.{◌≡◌, ◌≢◌, ℕ, zero, suc, ◌+◌, ◌<◌, ◌≤◌, ◌==◌, Bool, true, false, List, [], ◌∷◌, ◌++◌, length, get_or, set, slice_get, Option, Some, None, refl, ap, sym, ◌∙◌, subst, arith, le_of_suc-le-suc, AllByRecursion, nat_tests}
-use Rattle.switch.proofs.Words.{Kept, new_kept, Node, Event, Due, at_set, at_set_other, Standing, up, down, StoreState, StoreView, standing_seen, view_of, views_of, new_views, new_stores, is_down, is_down_view, is_down_at, events_due}
+use Rattle.switch.proofs.Words.{Kept, new_kept, Node, Event, StagedEvent, at_set, at_set_other, Standing, up, down, StoreState, StoreView, standing_seen, view_of, views_of, new_views, new_stores, is_down, is_down_view, is_down_at, events_due}
 
 pub views_of-set : {V : Type 0} (stores : List (StoreState V)) (k : ℕ) (store : StoreState V) → views_of (set stores k store) ≡ set (views_of stores) k (view_of store)
 views_of-set [] k store = refl
@@ -55,7 +55,7 @@ each_after {V} nodes stores P k store new is own others j m s at is_s = by_test 
 -- A node that is not down is up.
 
 -- what is not seen as down is up
-up_of : {V : Type 0} (s : Standing (Due V)) → is_down (standing_seen s) ≡ false → s ≡ up
+up_of : {V : Type 0} (s : Standing (StagedEvent V)) → is_down (standing_seen s) ≡ false → s ≡ up
 up_of up e = refl
 up_of (down o) e = cc
 
@@ -64,9 +64,9 @@ pub up_at : {V : Type 0} (stores : List (StoreState V)) (k : ℕ) (store : Store
 up_at stores k store is e = up_of store.standing (sym (ap (λ o. is_down_view o) (view_at stores k store is)) ∙ e)
 
 -- a store whose view is down is down, with an event that is owed or none
-pub down_at : {V : Type 0} (stores : List (StoreState V)) (k : ℕ) (store : StoreState V) → slice_get stores k ≡ Some store → is_down_at (views_of stores) (Some k) ≡ true → (o : Option (Due V)) × (store.standing ≡ down o)
+pub down_at : {V : Type 0} (stores : List (StoreState V)) (k : ℕ) (store : StoreState V) → slice_get stores k ≡ Some store → is_down_at (views_of stores) (Some k) ≡ true → (o : Option (StagedEvent V)) × (store.standing ≡ down o)
 down_at stores k store is e = down_owing store.standing (sym (ap (λ o. is_down_view o) (view_at stores k store is)) ∙ e) where
-  down_owing : {V : Type 0} (s : Standing (Due V)) → is_down (standing_seen s) ≡ true → (o : Option (Due V)) × (s ≡ down o)
+  down_owing : {V : Type 0} (s : Standing (StagedEvent V)) → is_down (standing_seen s) ≡ true → (o : Option (StagedEvent V)) × (s ≡ down o)
   down_owing up d = cc
   down_owing (down o) d = (o, refl)
 

@@ -1,6 +1,6 @@
 -- A switch after its net or one of its stores has changed.
 use Rattle.switch.proofs.Words.{◌≡◌, ◌≢◌, ℕ, zero, suc, ◌<◌, List, [], ◌∷◌, ◌++◌, length, set, slice_get, Option, Some, None, Ok, refl, ap, sym, ◌∙◌, subst, arith, append_assoc, AllByRecursion, option_map, length-set}
-use Rattle.switch.proofs.Words.{Packet, Change, IsPost, Kept, changed_by, new_kept, Node, Stepped, kept_of, new_node, Core, MOST_EVENTS, Event, World, start, nodes_from, stepped, happens, happens_at, after, offers_of, IsAfter, Taken, nodes_of, AreOfWorld, change_of, kept_part, Work, steps, restarts, Due, change_in, posts_of, step_of, IsEventAt, NetView, AreStill, IsStill, IsDue, IsTaken, at_set, at_set_other, if_taken, node_at, holds_after, world_lasts, Happens, event_moves, taken_count, happens-not_spent, rooms_stay, makes, nodes_of-set, nodes_found, nodes_still, due_still, posts_same, Standing, up, down, StoreState, IsRecordOf, SwitchView, views_of, new_stores, IsOwing, IsStore, IsSwitch, all_append}
+use Rattle.switch.proofs.Words.{Packet, Change, IsPost, Kept, changed_by, new_kept, Node, Stepped, kept_of, new_node, Core, MOST_EVENTS, Event, World, start, nodes_from, stepped, happens, happens_at, after, offers_of, IsAfter, Taken, nodes_of, AreOfWorld, change_of, kept_part, StagedWork, steps, restarts, StagedEvent, change_in, posts_of, step_of, IsEventAt, NetView, AreStill, IsStill, IsStaged, IsTaken, at_set, at_set_other, if_taken, node_at, holds_after, world_lasts, Happens, event_moves, taken_count, happens-not_spent, rooms_stay, makes, nodes_of-set, nodes_found, nodes_still, due_still, posts_same, Standing, up, down, StoreState, IsRecordOf, SwitchView, views_of, new_stores, IsOwing, IsStore, IsSwitch, all_append}
 use Rattle.std.proofs.Common.{append-nil}
 use Rattle.net.specs.Taken.{with_event}
 use Rattle.switch.proofs.StoresLemmas.{each_after, new_at, count_stores}
@@ -42,8 +42,8 @@ starts {V} size kept failures net weights keeps stores h is cores count new are 
 } where
   store_is : {V : Type 0} {size : V → ℕ} {net : NetView V} {k : ℕ} {n : Node V} {store : StoreState V} → store.kept ≡ new_kept → store.standing ≡ up → kept_of n ≡ new_kept → IsStore size net k n store
   store_is {V} {size} {net} {k} {n} {store} is_new is_up fits = record {
-    fits = subst (λ (s : Standing (Due V)). IsRecordOf n s store.kept) (sym is_up) (is_new ∙ sym fits);
-    owing = subst (λ (s : Standing (Due V)). IsOwing size net k s) (sym is_up) tt;
+    fits = subst (λ (s : Standing (StagedEvent V)). IsRecordOf n s store.kept) (sym is_up) (is_new ∙ sym fits);
+    owing = subst (λ (s : Standing (StagedEvent V)). IsOwing size net k s) (sym is_up) tt;
   }
 
 module _ {V : Type 0} (size : V → ℕ) (net : NetView V) (stores : List (StoreState V)) (h : IsSwitch size net stores) where
@@ -82,7 +82,7 @@ module _ {V : Type 0} (size : V → ℕ) (net : NetView V) (stores : List (Store
   -- Only rooms change.
 
   -- what is owed is still due
-  still_owing : (b : NetView V) → IsStill net b → (k : ℕ) (s : Standing (Due V)) → IsOwing size net k s → IsOwing size b k s
+  still_owing : (b : NetView V) → IsStill net b → (k : ℕ) (s : Standing (StagedEvent V)) → IsOwing size net k s → IsOwing size b k s
   still_owing b still k up o = tt
   still_owing b still k (down None) o = tt
   still_owing b still k (down (Some due)) o = (o.0, due_still size net b due still o.1)
@@ -113,7 +113,7 @@ module _ {V : Type 0} (size : V → ℕ) (net : NetView V) (stores : List (Store
 
   -- A due event is taken.
 
-  module _ (due : Due V) (d : IsDue size net due) where
+  module _ (due : StagedEvent V) (d : IsStaged size net due) where
     abbrev step : Stepped V
     step = step_of due.work d.core.node
 
@@ -126,7 +126,7 @@ module _ {V : Type 0} (size : V → ℕ) (net : NetView V) (stores : List (Store
     at = d.comes w [] (h.world.posted ∙ sym (append-nil net.packets)) node_is
 
     -- the change of what was made ready is that of its step at any node
-    change_work : (work : Work V) (n : Node V) → change_in work ≡ (step_of work n).change
+    change_work : (work : StagedWork V) (n : Node V) → change_in work ≡ (step_of work n).change
     change_work (steps made) n = refl
     change_work (restarts posts None) n = refl
     change_work (restarts posts (Some kept)) n = refl
@@ -183,7 +183,7 @@ module _ {V : Type 0} (size : V → ℕ) (net : NetView V) (stores : List (Store
             ∙ ap (λ (n : Node V). set (nodes_of net.cores) due.at n) node_then ∙ ap (λ (ns : List (Node V)). set ns due.at step.node) (sym h.world.nodes)
 
         -- another node's due event is still due
-        other_due : (other : Due V) → due.at ≢ other.at → IsDue size net other → IsDue size b other
+        other_due : (other : StagedEvent V) → due.at ≢ other.at → IsStaged size net other → IsStaged size b other
         other_due other apart o = record {
           core = o.core;
           at = ap (λ (cs : List (Core V)). slice_get cs other.at) t.cores ∙ at_set_other net.cores due.at other.at t.core apart ∙ o.at;
@@ -193,7 +193,7 @@ module _ {V : Type 0} (size : V → ℕ) (net : NetView V) (stores : List (Store
         }
 
         -- what another node owes is still due
-        other_owing : (j : ℕ) → due.at ≢ j → (s : Standing (Due V)) → IsOwing size net j s → IsOwing size b j s
+        other_owing : (j : ℕ) → due.at ≢ j → (s : Standing (StagedEvent V)) → IsOwing size net j s → IsOwing size b j s
         other_owing j apart up o = tt
         other_owing j apart (down None) o = tt
         other_owing j apart (down (Some other)) o = (o.0, other_due other (λ e. apart (e ∙ o.0)) o.1)
@@ -208,8 +208,8 @@ module _ {V : Type 0} (size : V → ℕ) (net : NetView V) (stores : List (Store
               (let both : Some step.node ≡ Some m = sym (ap (λ (ns : List (Node V)). slice_get ns due.at) nodes_then ∙ at_set w.nodes due.at step.node d.core.node node_is) ∙ there in
               let same : step.node ≡ m = cc in
               record {
-                fits = subst (λ (s : Standing (Due V)). IsRecordOf m s new.kept) (sym is_up) (kept ∙ ap (λ (n : Node V). kept_of n) same);
-                owing = subst (λ (s : Standing (Due V)). IsOwing size b due.at s) (sym is_up) tt;
+                fits = subst (λ (s : Standing (StagedEvent V)). IsRecordOf m s new.kept) (sym is_up) (kept ∙ ap (λ (n : Node V). kept_of n) same);
+                owing = subst (λ (s : Standing (StagedEvent V)). IsOwing size b due.at s) (sym is_up) tt;
               }))
               (λ j m s other there is_s.
               (let own = h.each j m s (sym (ap (λ (ns : List (Node V)). slice_get ns j) nodes_then ∙ at_set_other w.nodes due.at j step.node other) ∙ there) is_s in

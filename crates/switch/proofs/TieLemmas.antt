@@ -1,6 +1,6 @@
 -- A call as a whole: its answer in the world after the history, and the logs after it.
 use Rattle.switch.proofs.Words.{◌≡◌, ℕ, true, false, List, Option, Some, None, Result, Ok, Err, refl, ap, sym, ◌∙◌, subst, slice_get, IsErrAnd, ForOk}
-use Rattle.switch.proofs.Words.{Event, StepFault, Memory, World, addressed, node_of, Due, NetView, Standing, up, down, StoreState, StoreView, SwitchView, standing_seen, view_of, views_of, IsOwing, IsSwitch, is_down_at, world_of, ActsUp, ActsDown, Revives, Acts, Plays, KeepsLogs}
+use Rattle.switch.proofs.Words.{Event, StepFault, Memory, World, addressed, node_of, StagedEvent, NetView, Standing, up, down, StoreState, StoreView, SwitchView, standing_seen, view_of, views_of, IsOwing, IsSwitch, is_down_at, world_of, ActsUp, ActsDown, Revives, Acts, Plays, KeepsLogs}
 use Rattle.switch.proofs.StoresLemmas.{view_at, view_past}
 use Rattle.switch.proofs.SwitchLemmas.{switch_view, at}
 use Rattle.switch.proofs.CallLemmas.{stores_are, after_is, node_there, node_seen}
@@ -30,7 +30,7 @@ module _ {V : Type 0} (size : V → ℕ) (now new : SwitchView V) (fault : StepF
 
 module _ {V : Type 0} (size : V → ℕ) (net : NetView V) (stores : List (StoreState V)) (h : IsSwitch size net stores) (now : SwitchView V) (seen : switch_view net stores ≡ now) where
   -- what is owed is an event of its node
-  owed_own : (k : ℕ) (s : Standing (Due V)) → IsOwing size net k s → (e : Event V) → standing_seen s ≡ down (Some e) → node_of h.world.world e ≡ Some k
+  owed_own : (k : ℕ) (s : Standing (StagedEvent V)) → IsOwing size net k s → (e : Event V) → standing_seen s ≡ down (Some e) → node_of h.world.world e ≡ Some k
   owed_own k up owing e is = cc
   owed_own k (down None) owing e is = cc
   owed_own k (down (Some o)) owing e is =

@@ -2,7 +2,7 @@
 -- Source: Lamport, Paxos Made Simple, section 2.5: what an acceptor must remember is in stable storage before it is seen.
 -- The code has the keep itself. Contracts see the record that it would load, how often it failed, and the event that is owed.
 use Rattle.std.specs.Prelude.{◌≡◌, ◌⊎◌, ◌+◌, ℕ, List, [], Option, Some, None}
-use Rattle.switch.specs.Words.{Packet, Change, Kept, changed_by, Node, kept_of, Due, change_in, posts_of}
+use Rattle.switch.specs.Words.{Packet, Change, Kept, changed_by, Node, kept_of, StagedEvent, change_in, posts_of}
 use Rattle.switch.specs.declared.node_store.Standing.{Standing as Stands}
 use Rattle.switch.specs.declared.node_store.Standing.TheVariants.{Up, Down}
 
@@ -11,26 +11,26 @@ pub data Standing (A : Type 0) : Type 0 where
   up : Standing A
   down : Option A → Standing A
 
-abbrev pub standing_of : {V : Type 0} → Stands V → Standing (Due V)
+abbrev pub standing_of : {V : Type 0} → Stands V → Standing (StagedEvent V)
 standing_of Up = up
 standing_of (Down due) = down due
 
 pub record StoreState (V : Type 0) : Type 0 where
   pub kept : Kept V  -- the record that the keep would load
   pub failures : ℕ  -- how many calls of the keep failed
-  pub standing : Standing (Due V)
+  pub standing : Standing (StagedEvent V)
 
 -- The event that is owed: its change, its posts.
 
-abbrev pub owed_in : {V : Type 0} → Standing (Due V) → Option (Due V)
+abbrev pub owed_in : {V : Type 0} → Standing (StagedEvent V) → Option (StagedEvent V)
 owed_in up = None
 owed_in (down o) = o
 
-abbrev pub change_owed : {V : Type 0} → Option (Due V) → Option (Change V)
+abbrev pub change_owed : {V : Type 0} → Option (StagedEvent V) → Option (Change V)
 change_owed None = None
 change_owed (Some due) = change_in due.work
 
-abbrev pub posts_owed : {V : Type 0} → Option (Due V) → List (Packet V)
+abbrev pub posts_owed : {V : Type 0} → Option (StagedEvent V) → List (Packet V)
 posts_owed None = []
 posts_owed (Some due) = posts_of due.work
 
@@ -40,11 +40,11 @@ posts_owed (Some due) = posts_of due.work
 abbrev pub IsWithOrWithout : {V : Type 0} → Kept V → Option (Change V) → Kept V → Type 0
 IsWithOrWithout old change new = (new ≡ old) ⊎ (new ≡ changed_by old change)
 
-abbrev pub IsRecordOf : {V : Type 0} → Node V → Standing (Due V) → Kept V → Type 0
+abbrev pub IsRecordOf : {V : Type 0} → Node V → Standing (StagedEvent V) → Kept V → Type 0
 IsRecordOf n up kept = kept ≡ kept_of n
 IsRecordOf n (down o) kept = IsWithOrWithout (kept_of n) (change_owed o) kept
 
 -- a call of the keep failed
-pub record Fails {V : Type 0} (old : StoreState V) (change : Option (Change V)) (left : Standing (Due V)) (new : StoreState V) : Type 0 where
+pub record Fails {V : Type 0} (old : StoreState V) (change : Option (Change V)) (left : Standing (StagedEvent V)) (new : StoreState V) : Type 0 where
   pub kept : IsWithOrWithout old.kept change new.kept
   pub rest : new ≡ record { kept = new.kept; failures = old.failures + 1; standing = left }

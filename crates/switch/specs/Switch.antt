@@ -2,7 +2,7 @@
 -- Source: Lamport, Paxos Made Simple, section 3; that a node with a failed store is down is this project's profile.
 -- The code has a net beside the keeps; the type keeps that its state is that of the world after the history.
 use Rattle.std.specs.Prelude.{◌≡◌, ◌⊎◌, ◌+◌, ◌≤◌, ◌<◌, ℕ, Bool, true, false, List, [], ◌∷◌, ◌++◌, Option, Some, None, Result, Ok, Err, length, slice_get, slice_set}
-use Rattle.switch.specs.Words.{Change, Kept, changed_by, new_kept, Node, kept_of, MOST_EVENTS, Event, Offer, Begin, Deliver, Restart, StepFault, Memory, Device, Down, EventsSpent, World, happens, after, IsAfter, AreOfWorld, node_of, change_of, kept_part, Due, NetView, IsDue, HasRoom, IsTaken, posts_of}
+use Rattle.switch.specs.Words.{Change, Kept, changed_by, new_kept, Node, kept_of, MOST_EVENTS, Event, Offer, Begin, Deliver, Restart, StepFault, Memory, Device, Down, EventsSpent, World, happens, after, IsAfter, AreOfWorld, node_of, change_of, kept_part, StagedEvent, NetView, IsStaged, HasRoom, IsTaken, posts_of}
 use Rattle.switch.specs.NodeStore.{Standing, up, down, StoreState, IsRecordOf, IsWithOrWithout}
 
 -- The view that contracts have.
@@ -18,11 +18,11 @@ pub record SwitchView (V : Type 0) : Type 0 where
   pub history : List (Event V)
   pub stores : List (StoreView V)
 
-abbrev pub event_owed : {V : Type 0} → Option (Due V) → Option (Event V)
+abbrev pub event_owed : {V : Type 0} → Option (StagedEvent V) → Option (Event V)
 event_owed None = None
 event_owed (Some due) = Some due.event
 
-abbrev pub standing_seen : {V : Type 0} → Standing (Due V) → Standing (Event V)
+abbrev pub standing_seen : {V : Type 0} → Standing (StagedEvent V) → Standing (Event V)
 standing_seen up = up
 standing_seen (down o) = down (event_owed o)
 
@@ -46,10 +46,10 @@ new_stores kept failures (keep ∷ keeps) = record { kept = kept keep; failures 
 -- The invariant of the type.
 
 -- the event that is owed is due at the node
-abbrev pub IsOwing : {V : Type 0} → (V → ℕ) → NetView V → ℕ → Standing (Due V) → Type 0
+abbrev pub IsOwing : {V : Type 0} → (V → ℕ) → NetView V → ℕ → Standing (StagedEvent V) → Type 0
 IsOwing size net k up = Unit {0}
 IsOwing size net k (down None) = Unit {0}
-IsOwing size net k (down (Some due)) = (due.at ≡ k) × IsDue size net due
+IsOwing size net k (down (Some due)) = (due.at ≡ k) × IsStaged size net due
 
 -- the keep fits its node, and so does what is owed
 pub record IsStore {V : Type 0} (size : V → ℕ) (net : NetView V) (k : ℕ) (n : Node V) (store : StoreState V) : Type 0 where
@@ -192,10 +192,10 @@ pub record Plays {V : Type 0} (size : V → ℕ) (old new : SwitchView V) (e : E
 
 -- The event that is owed at the node comes first.
 
-abbrev pub CanTakeOwed : {V : Type 0} → (V → ℕ) → NetView V → Option (Due V) → Type 0
+abbrev pub CanTakeOwed : {V : Type 0} → (V → ℕ) → NetView V → Option (StagedEvent V) → Type 0
 CanTakeOwed size net None = Unit {0}
-CanTakeOwed size net (Some due) = IsDue size net due × HasRoom net (length (posts_of due.work)) 1 × (length net.taken.events < MOST_EVENTS)
+CanTakeOwed size net (Some due) = IsStaged size net due × HasRoom net (length (posts_of due.work)) 1 × (length net.taken.events < MOST_EVENTS)
 
-abbrev pub TakesOwed : {V : Type 0} → NetView V → NetView V → Option (Due V) → Type 0
+abbrev pub TakesOwed : {V : Type 0} → NetView V → NetView V → Option (StagedEvent V) → Type 0
 TakesOwed old new None = new ≡ old
 TakesOwed old new (Some due) = IsTaken old new due

@@ -1,11 +1,11 @@
 //! A node's store: its keep, and whether the node is up, or down since a call of its keep failed.
 ghost use Rattle.std.specs.Prelude.{◌≡◌, ◌+◌, Ok, Some, None, length, IfOk, OnOk, OnErr, is_ok, if◌then◌else◌};
 ghost use Rattle.synod.specs.Record.{changed_by};
-ghost use Rattle.net.specs.Due.{change_in, posts_of};
+ghost use Rattle.net.specs.Staged.{change_in, posts_of};
 ghost use Rattle.switch.specs.NodeStore.{Fails, IsWithOrWithout, change_owed, owed_in, posts_owed, standing_of, up, down};
 ghost use Rattle.switch.specs.Switch.{is_down, standing_seen};
 
-use net::Due;
+use net::StagedEvent;
 use std::marker::Model;
 use std::mem;
 use synod::{Failed, Keep, Record, Value};
@@ -15,7 +15,7 @@ use synod::{Failed, Keep, Record, Value};
 pub(crate) enum Standing<V> {
     Up,
     /// A call of the keep failed: a load, or the store of this event.
-    Down(Option<Due<V>>),
+    Down(Option<StagedEvent<V>>),
 }
 
 /// A node's keep, and whether the node is up.
@@ -55,7 +55,7 @@ impl<V: Value, K: Keep<V>> NodeStore<V, K> {
     }
 
     /// Stores the change of an event that is due, and returns the event. Where that fails, the node is down and owes the event.
-    pub fn store(&mut self, due: Due<V>) -> Result<Due<V>, Failed>
+    pub fn store(&mut self, due: StagedEvent<V>) -> Result<StagedEvent<V>, Failed>
         ensures stored { OnOk result (self.new ≡ record { kept = changed_by self.old.kept (change_in due.work); failures = self.old.failures; standing = self.old.standing }) }
         ensures due { IfOk result (λ same. same ≡ due) }
         ensures failed { OnErr result (Fails self.old (change_in due.work) (down (Some due)) self.new) }
@@ -97,7 +97,7 @@ impl<V: Value, K: Keep<V>> NodeStore<V, K> {
 
     /// Stores the change that is owed, if there is one, and loads the record: the node is up. Returns the event that it owed. Where a
     /// call of the keep fails, the node stays down.
-    pub fn repair(&mut self) -> Result<(Option<Due<V>>, Record<V>), Failed>
+    pub fn repair(&mut self) -> Result<(Option<StagedEvent<V>>, Record<V>), Failed>
         ensures owed { IfOk result (λ made. made.0 ≡ owed_in self.old.standing) }
         ensures loaded { IfOk result (λ made. made.1.kept ≡ changed_by self.old.kept (change_owed (owed_in self.old.standing))) }
         ensures up { OnOk result (self.new ≡ record { kept = changed_by self.old.kept (change_owed (owed_in self.old.standing)); failures = self.old.failures; standing = up }) }
@@ -121,7 +121,7 @@ impl<V: Value, K: Keep<V>> NodeStore<V, K> {
     }
 
     /// Makes the node up. Returns the event that it owed.
-    fn take_owed(&mut self) -> Option<Due<V>>
+    fn take_owed(&mut self) -> Option<StagedEvent<V>>
         ensures owed { result ≡ owed_in self.old.standing }
         ensures up { self.new ≡ record { kept = self.old.kept; failures = self.old.failures; standing = up } }
     {
@@ -133,7 +133,7 @@ impl<V: Value, K: Keep<V>> NodeStore<V, K> {
 }
 
 /// Stores the change of an event that is due, if it makes one.
-fn store_change<V: Value, K: Keep<V>>(keep: &mut K, due: &Due<V>) -> Result<(), Failed>
+fn store_change<V: Value, K: Keep<V>>(keep: &mut K, due: &StagedEvent<V>) -> Result<(), Failed>
     ensures stored { OnOk result (K.kept keep.new ≡ changed_by (K.kept keep.old) (change_in due.now.work)) }
     ensures failed { OnErr result (IsWithOrWithout (K.kept keep.old) (change_in due.now.work) (K.kept keep.new)) }
     ensures counted { K.failures keep.new ≡ (if is_ok result then K.failures keep.old else K.failures keep.old + 1) }

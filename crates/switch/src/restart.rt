@@ -7,7 +7,7 @@ ghost use Rattle.switch.specs.NodeStore.{down};
 ghost use Rattle.switch.specs.Switch.{StoreView, is_down_at, world_of, ActsUp, Revives, CanTakeOwed, TakesOwed};
 
 use crate::switch::Switch;
-use net::{Due, Event, MOST_EVENTS, Net, StepFault};
+use net::{StagedEvent, Event, MOST_EVENTS, Net, StepFault};
 use synod::{Keep, Value};
 
 impl<V: Value, K: Keep<V>> Switch<V, K> {
@@ -46,7 +46,7 @@ impl<V: Value, K: Keep<V>> Switch<V, K> {
 }
 
 /// Takes the event that was owed, if there is one. Does not allocate.
-fn take_owed<V: Value>(net: &mut Net<V>, owed: Option<Due<V>>)
+fn take_owed<V: Value>(net: &mut Net<V>, owed: Option<StagedEvent<V>>)
     requires { CanTakeOwed V.bytes net.old owed }
     ensures { TakesOwed net.old net.new owed }
 {

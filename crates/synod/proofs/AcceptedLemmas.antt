@@ -1,70 +1,52 @@
 -- An Accepted at a slot that is not learned: the sender is counted, and a quorum learns.
-use Rattle.std.proofs.Common.{◌≡◌, ◌∙◌, ℕ, Bool, true, false, List, [], Option, Some, None, MatchOption, is_some, ap, sym, if◌then◌else◌}
-use Rattle.slots.specs.FiniteMap.{entry_at, put_at, front_of}
-use Rattle.slots.proofs.MapReads.{put_same}
-use Rattle.synod.specs.declared.ballot.Ballot.{Ballot}
-use Rattle.synod.specs.declared.packet.Packet.{Packet}
-use Rattle.synod.specs.declared.learner.Tally.{Tally}
-use Rattle.synod.specs.declared.learner.Lesson.TheVariants.{Count, Choose}
-use Rattle.synod.specs.Weights.{is_quorum}
-use Rattle.synod.specs.Node.{Node, unchanged, answers, kept_of}
-use Rattle.synod.specs.Learner.{counted_in, tallies_at, voted_in, chooses, counts, on_accepted_at, on_accepted, asks_below}
-use Rattle.synod.specs.Core.{Learning, assembled, proposing_of, learning_of}
-use Rattle.synod.specs.Ready.{taught_node}
+use Rattle.synod.proofs.Words.{◌≡◌, ◌∙◌, ℕ, Bool, true, false, List, [], Option, Some, None, MatchOption, is_some, ap, sym, if◌then◌else◌, entry_at, put_at, front_of, Ballot, Packet, Count, Choose, is_quorum, Node, unchanged, answers, kept_of, has_voter, counted, chooses, on_accepted_at, on_accepted, asks_below, LearnerState, assembled, proposer_state, learner_state, with_learner_update}
 
-module _ {V : Type 0} (n : Node V) (p : ℕ) (b : Ballot) (s : ℕ) (v : Option V) (tallies : List Tally)
-    (none : entry_at n.learned s ≡ None) (counted : tallies ≡ counted_in (tallies_at (entry_at n.tallies s)) b p) where
-  -- the sender is counted at the slot with these tallies
-  accepted_counts : on_accepted n p b s v ≡ counts (record n { tallies = put_at n.tallies s tallies }) b s v
-  accepted_counts =
-      ap (λ (o : Option (Option V)). on_accepted_at o n p b s v) none
-      ∙ ap (λ (ts : List Tally). counts (record n { tallies = put_at n.tallies s ts }) b s v) (sym counted)
+module _ {V : Type 0} (n : Node V) (p : ℕ) (b : Ballot) (s : ℕ) (v : Option V) (none : entry_at n.learned s ≡ None) where
+  abbrev counting : Node V
+  counting = record n { tallies = counted n.tallies s b p }
 
-  -- a quorum chooses the value, and without one the node only has the tallies
-  tested : (q : Bool) → is_quorum n.weights (voted_in tallies b) ≡ q
-      → on_accepted n p b s v ≡ (if q then chooses (record n { tallies = put_at n.tallies s tallies }) s v else unchanged (record n { tallies = put_at n.tallies s tallies }))
+  -- a quorum chooses the value, and without one the node only has the vote
+  tested : (q : Bool) → is_quorum n.weights (has_voter counting.tallies s b) ≡ q → on_accepted n p b s v ≡ (if q then chooses counting s v else unchanged counting)
   tested q quorum =
-      accepted_counts
-      ∙ ap (λ (q : Bool). if q then chooses (record n { tallies = put_at n.tallies s tallies }) s v else unchanged (record n { tallies = put_at n.tallies s tallies }))
-      (ap (λ (e : Option (List Tally)). is_quorum n.weights (λ k. voted_in (tallies_at e) b k)) (put_same n.tallies s tallies) ∙ quorum)
+      ap (λ (o : Option (Option V)). on_accepted_at o n p b s v) none
+      ∙ ap (λ (q : Bool). if q then chooses counting s v else unchanged counting) quorum
 
   -- without a quorum the node is taught the count
-  pub is_counted : is_quorum n.weights (voted_in tallies b) ≡ false → on_accepted n p b s v ≡ answers (taught_node n (Count s tallies)) []
+  pub is_counted : is_quorum n.weights (has_voter counting.tallies s b) ≡ false → on_accepted n p b s v ≡ answers (with_learner_update n (Count s b p)) []
   is_counted quorum = tested false quorum
 
   -- with a quorum the node is taught the choice, and asks where a gap is left below
-  pub is_chosen : is_quorum n.weights (voted_in tallies b) ≡ true → (gap : ℕ) → front_of (put_at n.learned s v) ≡ gap
-      → on_accepted n p b s v ≡ answers (taught_node n (Choose s tallies v)) (asks_below n s gap)
+  pub is_chosen : is_quorum n.weights (has_voter counting.tallies s b) ≡ true → (gap : ℕ) → front_of (put_at n.learned s v) ≡ gap
+      → on_accepted n p b s v ≡ answers (with_learner_update n (Choose s b p v)) (asks_below n s gap)
   is_chosen quorum gap front =
       tested true quorum
-      ∙ ap (λ (g : ℕ). answers (taught_node n (Choose s tallies v)) (asks_below n s g)) front
+      ∙ ap (λ (g : ℕ). answers (with_learner_update n (Choose s b p v)) (asks_below n s g)) front
 
 -- The same where room was made in between, and the node is seen by its parts.
 
-abbrev pub with_learning : {V : Type 0} → Node V → Learning V → Node V
-with_learning n l = assembled n.me n.weights (kept_of n) (proposing_of n) l
+abbrev pub with_learner_state : {V : Type 0} → Node V → LearnerState V → Node V
+with_learner_state n l = assembled n.me n.weights (kept_of n) (proposer_state n) l
 
 -- what was looked up and not found is not there
 pub none_is : {X Y : Type 0} (r : Option Y) (e : Option X) (Q : Y → Type 0) (b : Bool) → MatchOption r (e ≡ None) Q → b ≡ is_some r → b ≡ false → e ≡ None
 none_is None e Q b none told is_false = none
 none_is (Some y) e Q b some told is_false = cc
 
--- without a quorum the node is taught the count
-pub count_step : {V : Type 0} (m n : Node V) (same : m ≡ n) (l : Learning V) (room : l ≡ learning_of m) (p : ℕ) (b : Ballot) (s : ℕ) (v : Option V) (tallies : List Tally)
-    → entry_at m.learned s ≡ None → tallies ≡ counted_in (tallies_at (entry_at n.tallies s)) b p → is_quorum m.weights (voted_in tallies b) ≡ false
-    → (posts : List (Packet V)) → posts ≡ [] → on_accepted n p b s v ≡ answers (taught_node (with_learning m l) (Count s tallies)) posts
-count_step {V} m n same l room p b s v tallies none counted quorum posts no_posts =
-    ap (λ (x : Node V). on_accepted x p b s v) (sym same)
-    ∙ is_counted m p b s v tallies none (counted ∙ ap (λ (x : Node V). counted_in (tallies_at (entry_at x.tallies s)) b p) (sym same)) quorum
-    ∙ (λ i. answers (taught_node (with_learning m (sym room i)) (Count s tallies)) (sym no_posts i))
+module _ {V : Type 0} (m n : Node V) (same : m ≡ n) (l : LearnerState V) (room : l ≡ learner_state m) (p : ℕ) (b : Ballot) (s : ℕ) (v : Option V) (none : entry_at m.learned s ≡ None) where
+  -- without a quorum the node is taught the count
+  pub count_step : is_quorum m.weights (has_voter (counted l.tallies s b p) s b) ≡ false → (posts : List (Packet V)) → posts ≡ []
+      → on_accepted n p b s v ≡ answers (with_learner_update (with_learner_state m l) (Count s b p)) posts
+  count_step quorum posts no_posts =
+      ap (λ (x : Node V). on_accepted x p b s v) (sym same)
+      ∙ is_counted m p b s v none (ap (λ (x : LearnerState V). is_quorum m.weights (has_voter (counted x.tallies s b p) s b)) (sym room) ∙ quorum)
+      ∙ (λ i. answers (with_learner_update (with_learner_state m (sym room i)) (Count s b p)) (sym no_posts i))
 
--- with a quorum the node is taught the choice of a copy of the value, and asks where a gap is left below
-pub choose_step : {V : Type 0} (m n : Node V) (same : m ≡ n) (l : Learning V) (room : l ≡ learning_of m) (p : ℕ) (b : Ballot) (s : ℕ) (v copy : Option V) (tallies : List Tally)
-    → entry_at m.learned s ≡ None → tallies ≡ counted_in (tallies_at (entry_at n.tallies s)) b p → is_quorum m.weights (voted_in tallies b) ≡ true
-    → copy ≡ v → (gap : ℕ) → ((w : Option V) → front_of (put_at l.learned s w) ≡ gap) → (posts : List (Packet V)) → posts ≡ asks_below m s gap
-    → on_accepted n p b s v ≡ answers (taught_node (with_learning m l) (Choose s tallies copy)) posts
-choose_step {V} m n same l room p b s v copy tallies none counted quorum copied gap front posts asked =
-    ap (λ (x : Node V). on_accepted x p b s v) (sym same)
-    ∙ is_chosen m p b s v tallies none (counted ∙ ap (λ (x : Node V). counted_in (tallies_at (entry_at x.tallies s)) b p) (sym same)) quorum gap
-    (ap (λ (x : Learning V). front_of (put_at x.learned s v)) (sym room) ∙ front v)
-    ∙ (λ i. answers (taught_node (with_learning m (sym room i)) (Choose s tallies (sym copied i))) (sym asked i))
+  -- with a quorum the node is taught the choice of a copy of the value, and asks where a gap is left below
+  pub choose_step : (copy : Option V) → is_quorum m.weights (has_voter (counted l.tallies s b p) s b) ≡ true
+      → copy ≡ v → (gap : ℕ) → ((w : Option V) → front_of (put_at l.learned s w) ≡ gap) → (posts : List (Packet V)) → posts ≡ asks_below m s gap
+      → on_accepted n p b s v ≡ answers (with_learner_update (with_learner_state m l) (Choose s b p copy)) posts
+  choose_step copy quorum copied gap front posts asked =
+      ap (λ (x : Node V). on_accepted x p b s v) (sym same)
+      ∙ is_chosen m p b s v none (ap (λ (x : LearnerState V). is_quorum m.weights (has_voter (counted x.tallies s b p) s b)) (sym room) ∙ quorum) gap
+      (ap (λ (x : LearnerState V). front_of (put_at x.learned s v)) (sym room) ∙ front v)
+      ∙ (λ i. answers (with_learner_update (with_learner_state m (sym room i)) (Choose s b p (sym copied i))) (sym asked i))

@@ -1,8 +1,5 @@
 -- The order of ballots, as facts.
-use Rattle.std.proofs.Common.{◌≡◌, ℕ, ◌<◌, ◌≤◌, true, false, ◌⊎◌, inl, inr, refl, arith, ap₂, eq-or-lt_of_le}
-use Rattle.std.proofs.lemmas.Bool.Decides.{nat_tests}
-use Rattle.synod.specs.declared.ballot.Ballot.{Ballot}
-use Rattle.synod.specs.Ballots.{is_under, is_same}
+use Rattle.synod.proofs.Words.{◌≡◌, ℕ, ◌<◌, ◌≤◌, true, false, ◌⊎◌, inl, inr, refl, arith, ap₂, eq-or-lt_of_le, nat_tests, Ballot, is_under, is_same}
 
 abbrev pub Under : Ballot → Ballot → Type 0
 Under a b = (a.round < b.round) ⊎ ((a.round ≡ b.round) × (a.node < b.node))

@@ -1,43 +1,26 @@
 -- A page that is new is kept, and its sender may be heard with it.
-use Rattle.std.proofs.Common.{◌≡◌, ◌∙◌, ◌<◌, ◌≤◌, ◌-◌, ◌&&◌, not, ℕ, Bool, true, false, List, [], ◌∷◌, ◌++◌, Option, None, length, ap, sym, arith, if◌then◌else◌}
-use Rattle.std.proofs.lemmas.Bool.Decides.{nat_tests}
-use Rattle.std.proofs.lemmas.List.{get_or_past, set_past}
-use Rattle.slots.specs.FiniteMap.{entry_at, put_at, front_of}
-use Rattle.synod.specs.declared.ballot.Ballot.{Ballot}
-use Rattle.synod.specs.declared.proposer.Role.{Role}
-use Rattle.synod.specs.declared.proposer.Role.TheVariants.{Preparing}
-use Rattle.synod.specs.Ballots.{is_same}
-use Rattle.synod.specs.Weights.{is_quorum}
-use Rattle.synod.specs.PromisePages.{all_had}
-use Rattle.synod.specs.declared.packet.SlotReport.{SlotReport}
-use Rattle.synod.specs.declared.packet.Packet.{Packet}
-use Rattle.synod.specs.declared.proposer.Heard.{Heard}
-use Rattle.synod.specs.declared.proposer.Proposal.TheVariants.{Page, HearPage}
-use Rattle.synod.specs.Node.{Node, Stepped, unchanged, answers, kept_of, pages_from, page_of, with_page, is_heard}
-use Rattle.synod.specs.Core.{Proposing, assembled, proposing_of, learning_of}
-use Rattle.synod.specs.Proposer.{keeps_page, keeps_promise, hears, leads_with, gathers, on_promise_as, on_promise}
-use Rattle.synod.specs.Ready.{proposed_node}
+use Rattle.synod.proofs.Words.{◌≡◌, ◌∙◌, ◌<◌, ◌≤◌, ◌-◌, ◌&&◌, not, ℕ, Bool, true, false, List, [], ◌∷◌, ◌++◌, Option, None, length, ap, sym, arith, if◌then◌else◌, nat_tests, get_or_past, set_past, entry_at, put_at, front_of, Ballot, Role, Preparing, is_same, is_quorum, all_had, SlotReport, Packet, Heard, Page, CompletePromise, Node, Stepped, unchanged, answers, kept_of, pages_from, page_of, with_page, is_heard, ProposerState, assembled, proposer_state, learner_state, keeps_page, keeps_promise, hears, leads_with, gathers, on_promise_as, on_promise, with_proposer_update}
 use Rattle.synod.proofs.PagesWithLemmas.{with_new}
 
-abbrev pub with_proposing : {V : Type 0} → Node V → Proposing V → Node V
-with_proposing n p = assembled n.me n.weights (kept_of n) p (learning_of n)
+abbrev pub with_proposing : {V : Type 0} → Node V → ProposerState V → Node V
+with_proposing n p = assembled n.me n.weights (kept_of n) p (learner_state n)
 
-module _ {V : Type 0} (m n : Node V) (same : m ≡ n) (p : Proposing V) (room : p ≡ proposing_of m) (i : ℕ) (reports copy : List (SlotReport V)) (copied : copy ≡ reports)
+module _ {V : Type 0} (m n : Node V) (same : m ≡ n) (p : ProposerState V) (room : p ≡ proposer_state m) (i : ℕ) (reports copy : List (SlotReport V)) (copied : copy ≡ reports)
     (posts : List (Packet V)) (no_posts : posts ≡ []) where
   -- the page is kept, and the promise of its sender has more
-  pub keep_step : (k : ℕ) → page_of m.pages k i ≡ None → keeps_page n (with_page n.pages k i reports) ≡ answers (proposed_node (with_proposing m p) (Page k i copy)) posts
+  pub keep_step : (k : ℕ) → page_of m.pages k i ≡ None → keeps_page n (with_page n.pages k i reports) ≡ answers (with_proposer_update (with_proposing m p) (Page k i copy)) posts
   keep_step k none =
       ap (λ (x : Node V). keeps_page x (with_page x.pages k i reports)) (sym same)
       ∙ ap (λ (ps : List (List (Option (List (SlotReport V))))). keeps_page m ps) (with_new m.pages k i reports none)
-      ∙ (λ j. answers (proposed_node (with_proposing m (sym room j)) (Page k i (sym copied j))) (sym no_posts j))
+      ∙ (λ j. answers (with_proposer_update (with_proposing m (sym room j)) (Page k i (sym copied j))) (sym no_posts j))
 
   -- the page is kept and its sender is heard, and no quorum yet
   pub hear_step : (h : Heard) → page_of m.pages h.node i ≡ None
-      → keeps_promise n (with_page n.pages h.node i reports) (n.heard ++ h ∷ []) ≡ answers (proposed_node (with_proposing m p) (HearPage h i copy)) posts
+      → keeps_promise n (with_page n.pages h.node i reports) (n.heard ++ h ∷ []) ≡ answers (with_proposer_update (with_proposing m p) (CompletePromise h i copy)) posts
   hear_step h none =
       ap (λ (x : Node V). keeps_promise x (with_page x.pages h.node i reports) (x.heard ++ h ∷ [])) (sym same)
       ∙ ap (λ (ps : List (List (Option (List (SlotReport V))))). keeps_promise m ps (m.heard ++ h ∷ [])) (with_new m.pages h.node i reports none)
-      ∙ (λ j. answers (proposed_node (with_proposing m (sym room j)) (HearPage h i (sym copied j))) (sym no_posts j))
+      ∙ (λ j. answers (with_proposer_update (with_proposing m (sym room j)) (CompletePromise h i (sym copied j))) (sym no_posts j))
 
 -- Which branch a page takes.
 

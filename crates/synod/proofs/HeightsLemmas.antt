@@ -1,21 +1,5 @@
 -- The highest report of a slot, the reports being gone through from the first on, and one above the greatest slot.
-use Rattle.std.proofs.Common.{◌≡◌, ◌≢◌, ℕ, zero, suc, ◌+◌, ◌-◌, ◌<◌, ◌≤◌, max, min, Bool, true, false, ◌==◌, List, [], ◌∷◌, ◌++◌, length, take, drop, drop-cons, add-one, Option, Some, None, refl, ap, sym, ◌∙◌, subst, arith, if◌then◌else◌, append_assoc, append-nil, get_or, set, length-set, slice_index_or, eqb-true, le_of_suc-le-suc, ◌⊎◌, inl, inr, drop_of_length-le, length-take-le}
-use Rattle.std.proofs.lemmas.List.{get_or-set_same, get_or-set_other, get_or_default, take_all}
-use Rattle.std.proofs.lemmas.Bool.Decides.{nat_tests}
-use Rattle.std.specs.List.{AllByRecursion}
-use Rattle.std.specs.Borrow.{Bor}
-use Rattle.std.specs.Option.{option_copied}
-use Rattle.synod.specs.declared.ballot.Ballot.{Ballot}
-use Rattle.synod.specs.declared.packet.SlotReport.{SlotReport}
-use Rattle.synod.specs.Ballots.{is_under}
-use Rattle.synod.specs.declared.packet.Packet.{Packet}
-use Rattle.synod.specs.declared.packet.Body.TheVariants.{Accept}
-use Rattle.synod.specs.Packets.{to_all, accepts}
-use Rattle.synod.specs.Proposer.{higher, highest_at, reported_value, above_all, top_reported, fills}
-use Rattle.slots.specs.FiniteMap.{entry_at}
-use Rattle.synod.specs.PromisePages.{joined_pages}
-use Rattle.slots.specs.declared.slots.TheConstants.{SLOTS}
-use Rattle.synod.specs.Heights.{all_of, AreHighest, some_of, IsLead}
+use Rattle.synod.proofs.Words.{◌≡◌, ◌≢◌, ℕ, zero, suc, ◌+◌, ◌-◌, ◌<◌, ◌≤◌, max, min, Bool, true, false, ◌==◌, List, [], ◌∷◌, ◌++◌, length, take, drop, drop-cons, add-one, Option, Some, None, refl, ap, sym, ◌∙◌, subst, arith, if◌then◌else◌, append_assoc, append-nil, get_or, set, length-set, slice_index_or, eqb-true, le_of_suc-le-suc, ◌⊎◌, inl, inr, drop_of_length-le, length-take-le, get_or-set_same, get_or-set_other, get_or_default, take_all, nat_tests, AllByRecursion, Bor, option_copied, Ballot, SlotReport, is_under, Packet, Accept, to_all, accepts, higher, highest_at, reported_value, above_all, top_reported, fills, entry_at, joined_pages, SLOTS, all_of, AreHighest, some_of, IsLead}
 
 -- The order of ballots, as a test.
 

@@ -1,28 +1,5 @@
 -- Each step makes of the kept part its one change, or leaves it.
-use Rattle.std.proofs.Common.{◌≡◌, ℕ, ◌-◌, ◌^◌, ◌==◌, ◌&&◌, not, nat_lt, Bool, true, false, List, [], ◌∷◌, ◌++◌, length, Option, Some, None, Result, Ok, Err, refl, if◌then◌else◌}
-use Rattle.slots.specs.FiniteMap.{entry_at}
-use Rattle.synod.specs.declared.ballot.Ballot.{Ballot}
-use Rattle.synod.specs.declared.packet.SlotReport.{SlotReport}
-use Rattle.synod.specs.declared.packet.Body.{Body}
-use Rattle.synod.specs.declared.packet.Body.TheVariants.{Prepare, Promise, Accept, Accepted, Nack, Ask, Told}
-use Rattle.synod.specs.declared.proposer.Heard.{Heard}
-use Rattle.synod.specs.declared.proposer.Role.{Role}
-use Rattle.synod.specs.declared.proposer.Role.TheVariants.{Idle, Preparing, Leading}
-use Rattle.synod.specs.declared.refusal.Refusal.{Refusal}
-use Rattle.synod.specs.declared.refusal.Refusal.TheVariants.{Busy, LogFull, RoundsSpent, TooLong}
-use Rattle.synod.specs.declared.value.TheConstants.{MOST_BYTES}
-use Rattle.synod.specs.declared.proposer.TheConstants.{MOST_WAITING}
-use Rattle.slots.specs.declared.slots.TheConstants.{SLOTS}
-use Rattle.synod.specs.Ballots.{is_under, is_same}
-use Rattle.synod.specs.Weights.{is_quorum}
-use Rattle.synod.specs.PromisePages.{all_had}
-use Rattle.synod.specs.Record.{changed_by}
-use Rattle.synod.specs.Node.{Node, Stepped, kept_of, unchanged, pages_from, with_page, is_heard}
-use Rattle.synod.specs.Acceptor.{promises, refuses, takes_value}
-use Rattle.synod.specs.Proposer.{waits, takes_slot, offer_waits, offer_as, offered, next_round, begins, begun, top_reported, all_reports, leads, keeps_page, keeps_promise, hears, gathers, on_promise_as, is_at, idles}
-use Rattle.synod.specs.Learner.{has_voter, counted, chooses, on_accepted_at, on_ask_at, on_told_at}
-use Rattle.synod.specs.Log.{log_length}
-use Rattle.synod.specs.Step.{on_body, restarted}
+use Rattle.synod.proofs.Words.{◌≡◌, ℕ, ◌-◌, ◌^◌, ◌==◌, ◌&&◌, not, nat_lt, Bool, true, false, List, [], ◌∷◌, ◌++◌, length, Option, Some, None, Result, Ok, Err, refl, if◌then◌else◌, entry_at, Ballot, SlotReport, Body, Prepare, Promise, Accept, Accepted, Nack, Ask, Told, Heard, Role, Idle, Preparing, Leading, Refusal, Busy, LogFull, RoundsSpent, TooLong, MOST_BYTES, MOST_WAITING, SLOTS, is_under, is_same, is_quorum, all_had, changed_by, Node, Stepped, kept_of, unchanged, pages_from, with_page, is_heard, promises, refuses, takes_value, waits, takes_slot, offer_waits, offer_as, offered, next_round, begins, begun, top_reported, all_reports, leads, keeps_page, keeps_promise, hears, gathers, on_promise_as, is_at, idles, has_voter, counted, chooses, on_accepted_at, on_ask_at, on_told_at, log_length, on_body, restarted}
 
 -- the step changes the kept part as it says
 abbrev pub ChangesKept : {V : Type 0} → Node V → Stepped V → Type 0

@@ -1,13 +1,5 @@
 -- Which pages were had and which votes are known, after one more.
-use Rattle.std.proofs.Common.{◌≡◌, ◌≢◌, ℕ, zero, suc, Bool, true, false, is_some, List, [], ◌∷◌, Option, Some, ◌⊎◌, inl, inr, refl, ap, sym, ◌∙◌, subst, if◌then◌else◌, get_or, set, replicate}
-use Rattle.slots.specs.FiniteMap.{entry_at, put_at}
-use Rattle.slots.proofs.MapReads.{put_either}
-use Rattle.synod.specs.declared.ballot.Ballot.{Ballot}
-use Rattle.synod.specs.declared.packet.SlotReport.{SlotReport}
-use Rattle.synod.specs.declared.learner.Tally.{Tally}
-use Rattle.synod.specs.Ballots.{is_same}
-use Rattle.synod.specs.Node.{pages_from, page_of, with_page}
-use Rattle.synod.specs.Learner.{is_voter, no_voters, voted_in, tallies_at, has_voter, counted_in, counted}
+use Rattle.synod.proofs.Words.{◌≡◌, ◌≢◌, ℕ, zero, suc, Bool, true, false, is_some, List, [], ◌∷◌, Option, Some, ◌⊎◌, inl, inr, refl, ap, sym, ◌∙◌, subst, if◌then◌else◌, get_or, set, replicate, entry_at, put_at, put_either, Ballot, SlotReport, Tally, is_same, pages_from, page_of, with_page, is_voter, no_voters, voted_in, tallies_at, has_voter, counted_in, counted}
 use Rattle.synod.proofs.BallotsLemmas.{same_true}
 
 -- after a write at i, the element at k is the one written, or is as before

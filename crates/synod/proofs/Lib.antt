@@ -1,3 +1,4 @@
+pub mod Words
 pub mod WeighLemmas
 pub mod BallotsLemmas
 pub mod QuorumLemmas
@@ -5,6 +6,7 @@ pub mod PromisePages
 pub mod ReportsLemmas
 pub mod KnownVoteLemmas
 pub mod PostsLemmas
+pub mod LaterTalliesLemmas
 pub mod PagesHadLemmas
 pub mod KeptPartLemmas
 pub mod NodeKeeps

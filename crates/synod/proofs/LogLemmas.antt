@@ -1,7 +1,5 @@
 -- The log read from the slots below the first gap.
-use Rattle.std.proofs.Common.{◌≡◌, ◌∙◌, ℕ, zero, suc, ◌+◌, ◌<◌, List, [], ◌∷◌, ◌++◌, take, Option, Some, None, refl, ap, sym, arith, add-one, le_of_suc-le-suc}
-use Rattle.std.specs.List.{slice_get}
-use Rattle.slots.specs.FiniteMap.{entry_at, entries_to_gap, front_of}
+use Rattle.synod.proofs.Words.{◌≡◌, ◌∙◌, ℕ, zero, suc, ◌+◌, ◌<◌, List, [], ◌∷◌, ◌++◌, take, Option, Some, None, refl, ap, sym, arith, add-one, le_of_suc-le-suc, slice_get, entry_at, entries_to_gap, front_of}
 
 -- below the first gap the list of entries has the entry of the slot
 pub gap_entry : {T : Type 0} (xs : List (Option T)) (s : ℕ) → s < front_of xs → slice_get (entries_to_gap xs) s ≡ entry_at xs s

@@ -1,32 +1,6 @@
 -- What every node is, and what it posts, over steps that change no proposal.
-use Rattle.std.proofs.Common.{◌≡◌, ℕ, zero, suc, ◌+◌, ◌^◌, ◌<◌, ◌≤◌, Bool, true, false, ◌&&◌, ◌==◌, nat_lt, List, [], ◌∷◌, ◌++◌, length, Option, Some, None, Result, Ok, Err, refl, arith, set, if◌then◌else◌}
-use Rattle.std.proofs.lemmas.Bool.Decides.{nat_tests}
-use Rattle.std.specs.List.{AllByRecursion, slice_index_or}
-use Rattle.slots.specs.declared.slots.TheConstants.{SLOTS}
-use Rattle.slots.specs.FiniteMap.{entry_at, put_at}
-use Rattle.slots.proofs.FiniteMapLemmas.{top_of-put_at, front_of-le}
-use Rattle.synod.specs.declared.value.TheConstants.{MOST_BYTES}
-use Rattle.synod.specs.declared.proposer.TheConstants.{MOST_WAITING}
-use Rattle.synod.specs.declared.ballot.Ballot.{Ballot}
-use Rattle.synod.specs.declared.packet.SlotReport.{SlotReport}
-use Rattle.synod.specs.declared.packet.Packet.{Packet}
-use Rattle.synod.specs.declared.packet.Body.{Body}
-use Rattle.synod.specs.declared.packet.Body.TheVariants.{Prepare, Accept, Accepted, Nack, Ask, Told}
-use Rattle.synod.specs.declared.change.Held.{Held}
-use Rattle.synod.specs.declared.proposer.Heard.{Heard}
-use Rattle.synod.specs.declared.proposer.Role.{Role}
-use Rattle.synod.specs.declared.proposer.Role.TheVariants.{Idle, Preparing, Leading}
-use Rattle.synod.specs.declared.refusal.Refusal.{Refusal}
-use Rattle.synod.specs.declared.refusal.Refusal.TheVariants.{Busy, LogFull, RoundsSpent, TooLong}
-use Rattle.synod.specs.Ballots.{is_under}
-use Rattle.synod.specs.Packets.{packet, to_all_from, to_all, to_others_from, to_others, accepts, IsBody, IsPost}
-use Rattle.synod.specs.Record.{Kept}
-use Rattle.synod.specs.Node.{Node, Stepped, unchanged, no_pages}
-use Rattle.synod.specs.Log.{log_length}
-use Rattle.synod.specs.Acceptor.{refuses, held, takes_value, on_accept}
-use Rattle.synod.specs.Proposer.{waits, takes_slot, offer_waits, offer_as, offered, next_round, next_ballot, begins, begun, is_at, idles, on_nack}
-use Rattle.synod.specs.Learner.{learns, chooses, on_ask_at, on_ask, on_told_at, on_told}
-use Rattle.synod.specs.Step.{Keeps, reloaded, IsRole, ArePages, IsNode}
+use Rattle.synod.proofs.Words.{◌≡◌, ℕ, zero, suc, ◌+◌, ◌^◌, ◌<◌, ◌≤◌, Bool, true, false, ◌&&◌, ◌==◌, nat_lt, List, [], ◌∷◌, ◌++◌, length, Option, Some, None, Result, Ok, Err, refl, arith, set, if◌then◌else◌, nat_tests, AllByRecursion, SLOTS, entry_at, put_at, top_of-put_at, front_of-le, MOST_BYTES, MOST_WAITING, Ballot, SlotReport, Packet, Body, Prepare, Accept, Accepted, Nack, Ask, Told, Held, Heard, Role, Idle, Preparing, Leading, Refusal, Busy, LogFull, RoundsSpent, TooLong, is_under, packet, to_all_from, to_all, to_others_from, to_others, accepts, IsBody, IsPost, Kept, Node, Stepped, unchanged, no_pages, log_length, refuses, held, takes_value, on_accept, waits, takes_slot, offer_waits, offer_as, offered, next_round, next_ballot, begins, begun, is_at, idles, on_nack, learns, chooses, on_ask_at, on_ask, on_told_at, on_told, Keeps, reloaded, IsRole, ArePages, IsNode}
+use Rattle.std.specs.List.{slice_index_or}
 
 -- where it is not refused
 abbrev pub KeepsOnOk : {V : Type 0} → ℕ → Result (Stepped V) Refusal → Type 0

@@ -1,19 +1,5 @@
 -- What a node keeps, told of what contracts see of it.
-use Rattle.std.proofs.Common.{◌≡◌, ℕ, ◌^◌, ◌<◌, Bool, List, length, Result, Ok, Err, refl, subst, sym, ap, if◌then◌else◌}
-use Rattle.std.specs.List.{AllByRecursion}
-use Rattle.std.specs.Result.{IfOk}
-use Rattle.std.specs.declared.alloc.AllocError.{AllocError}
-use Rattle.std.proofs.lemmas.Bool.{lt-ltb}
-use Rattle.synod.specs.declared.refusal.Refusal.{Refusal}
-use Rattle.synod.specs.declared.refusal.Refusal.TheVariants.{RoundsSpent, Memory}
-use Rattle.synod.specs.Packets.{IsPost, to_others}
-use Rattle.synod.specs.declared.packet.Body.TheVariants.{Ask}
-use Rattle.synod.specs.Node.{Node, Stepped, kept_of}
-use Rattle.synod.specs.Record.{RecordView}
-use Rattle.synod.specs.Core.{Core, ProposerView, LearnerView, core_of, assembled}
-use Rattle.synod.specs.Proposer.{begun, begins, next_round}
-use Rattle.synod.specs.Step.{IsNode, Keeps}
-use Rattle.synod.specs.Ready.{Made, IsReadyFor}
+use Rattle.synod.proofs.Words.{◌≡◌, ℕ, ◌^◌, ◌<◌, Bool, List, length, Result, Ok, Err, refl, subst, sym, ap, if◌then◌else◌, AllByRecursion, IfOk, AllocError, lt-ltb, Refusal, RoundsSpent, Memory, IsPost, to_others, Ask, Node, Stepped, kept_of, RecordView, Core, ProposerView, LearnerView, core_of, assembled, begun, begins, next_round, IsNode, Keeps, Made, IsReadyFor}
 use Rattle.synod.proofs.NodeKeeps.{KeepsOnOk, keeps_begun, keeps_reloaded}
 
 -- the parts of a node make a node

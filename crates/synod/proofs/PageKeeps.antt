@@ -1,20 +1,5 @@
 -- The pages of a promise, and what is proposed, stay below the limit.
-use Rattle.std.proofs.Common.{◌≡◌, ℕ, zero, suc, ◌+◌, ◌*◌, ◌<◌, ◌≤◌, max, Bool, true, false, nat_lt, is_some, List, [], ◌∷◌, length, Option, Some, None, refl, ap, arith, set, if◌then◌else◌}
-use Rattle.std.specs.List.{AllByRecursion}
-use Rattle.slots.specs.declared.slots.TheConstants.{SLOTS}
-use Rattle.slots.specs.FiniteMap.{put_at}
-use Rattle.synod.specs.declared.packet.TheConstants.{MOST_PAGES}
-use Rattle.synod.specs.declared.ballot.Ballot.{Ballot}
-use Rattle.synod.specs.declared.packet.SlotReport.{SlotReport}
-use Rattle.synod.specs.declared.packet.Body.TheVariants.{Promise}
-use Rattle.synod.specs.declared.change.Held.{Held}
-use Rattle.synod.specs.declared.proposer.Heard.{Heard}
-use Rattle.synod.specs.Packets.{IsReport, IsPost}
-use Rattle.synod.specs.PromisePages.{onto_first, cut, joined_pages}
-use Rattle.synod.specs.Node.{pages_from, page_of, with_page}
-use Rattle.synod.specs.Acceptor.{reports_from, promise_pages}
-use Rattle.synod.specs.Proposer.{above_all, top_reported, fills, all_reports}
-use Rattle.synod.specs.Step.{ArePages}
+use Rattle.synod.proofs.Words.{◌≡◌, ℕ, zero, suc, ◌+◌, ◌*◌, ◌<◌, ◌≤◌, max, Bool, true, false, nat_lt, is_some, List, [], ◌∷◌, length, Option, Some, None, refl, ap, arith, set, if◌then◌else◌, AllByRecursion, SLOTS, put_at, MOST_PAGES, Ballot, SlotReport, Promise, Held, Heard, IsReport, IsPost, onto_first, cut, joined_pages, pages_from, page_of, with_page, reports_from, promise_pages, above_all, top_reported, fills, all_reports, ArePages}
 use Rattle.synod.proofs.NodeKeeps.{all_append, all_set, all_index, post, nodes}
 
 -- The pages of a promise.

@@ -1,9 +1,5 @@
 -- The maps of pages after one of them changes.
-use Rattle.std.proofs.Common.{◌≡◌, ◌∙◌, ℕ, zero, suc, ◌<◌, Result, Ok, Err, List, [], ◌∷◌, Option, length, get_or, set, ap, sym, arith}
-use Rattle.std.proofs.lemmas.List.{map-set, set-get_or, get_or-map, get_or-set_same, length-map}
-use Rattle.std.specs.Result.{OnOk}
-use Rattle.slots.specs.FiniteMap.{SlotsView, put_at}
-use Rattle.synod.specs.Stored.PagesHad.{entries_of, rooms_of}
+use Rattle.synod.proofs.Words.{◌≡◌, ◌∙◌, ℕ, zero, suc, ◌<◌, Result, Ok, Err, List, [], ◌∷◌, Option, length, get_or, set, ap, sym, arith, map-set, set-get_or, get_or-map, get_or-set_same, length-map, OnOk, SlotsView, put_at, entries_of, rooms_of}
 
 pub entries-same : {T : Type 0} (maps : List (SlotsView T)) (k : ℕ) (m more : SlotsView T) → m ≡ get_or maps k m → more.entries ≡ m.entries → k < length maps → entries_of (set maps k more) ≡ entries_of maps
 entries-same {T} maps k m more read same within =

@@ -1,11 +1,6 @@
 -- A page with the one just delivered.
-use Rattle.std.proofs.Common.{◌≡◌, ◌≢◌, ◌∙◌, ◌<◌, ◌⊎◌, inl, inr, ℕ, Bool, true, false, List, [], Option, Some, None, MatchOption, Bor, is_some, length, set, refl, ap, sym, if◌then◌else◌}
-use Rattle.std.proofs.lemmas.List.{get_or-set_same, get_or-set_other}
-use Rattle.std.proofs.lemmas.Bool.{cases_eq}
-use Rattle.slots.specs.FiniteMap.{entry_at, put_at}
-use Rattle.slots.proofs.MapReads.{put_either, put_same}
-use Rattle.synod.specs.declared.packet.SlotReport.{SlotReport}
-use Rattle.synod.specs.Node.{pages_from, page_of, with_page}
+use Rattle.synod.proofs.Words.{◌≡◌, ◌≢◌, ◌∙◌, ◌<◌, ◌⊎◌, inl, inr, ℕ, Bool, true, false, List, [], Option, Some, None, MatchOption, is_some, length, set, refl, ap, sym, if◌then◌else◌, get_or-set_same, get_or-set_other, cases_eq, entry_at, put_at, put_either, put_same, SlotReport, pages_from, page_of, with_page}
+use Rattle.std.proofs.Common.{Bor}
 
 -- what is there is not found to be missing
 had_not : {X : Type 0} (o : Option X) (x : X) → o ≡ Some x → is_some o ≡ false → ⊥

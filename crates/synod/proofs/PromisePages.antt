@@ -1,9 +1,6 @@
 -- Pages that are all there are the whole list.
-use Rattle.std.proofs.Common.{◌≡◌, ℕ, zero, suc, ◌+◌, ◌-◌, ◌*◌, ◌<◌, ◌≤◌, List, [], ◌∷◌, ◌++◌, length, take, drop, Option, Some, None, ◌⊎◌, inl, inr, refl, ap, sym, ◌∙◌, arith, le_of_suc-le-suc, length-drop, drop-drop, eq-zero-or-pos, ap₂, true}
+use Rattle.synod.proofs.Words.{◌≡◌, ℕ, zero, suc, ◌+◌, ◌-◌, ◌*◌, ◌<◌, ◌≤◌, List, [], ◌∷◌, ◌++◌, length, take, drop, Option, Some, None, ◌⊎◌, inl, inr, refl, ap, sym, ◌∙◌, arith, le_of_suc-le-suc, length-drop, drop-drop, eq-zero-or-pos, ap₂, true, nat_tests, entry_at, front_of, onto_first, cut, pages_of, joined_pages, all_had}
 use Rattle.std.proofs.Common.{slice_get}
-use Rattle.std.proofs.lemmas.Bool.Decides.{nat_tests}
-use Rattle.slots.specs.FiniteMap.{entry_at, front_of}
-use Rattle.synod.specs.PromisePages.{onto_first, cut, pages_of, joined_pages, all_had}
 
 abbrev pub append_all : {T : Type 0} → List (List T) → List T
 append_all [] = []

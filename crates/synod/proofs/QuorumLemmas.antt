@@ -1,6 +1,5 @@
 -- Two majorities share a node.
-use Rattle.std.proofs.Common.{◌≡◌, ℕ, ◌+◌, ◌*◌, ◌<◌, Bool, true, false, List, [], ◌∷◌, suc, refl, arith, ltb-true, if◌then◌else◌, ◌⊎◌, inl, inr}
-use Rattle.synod.specs.Weights.{weigh, is_quorum}
+use Rattle.synod.proofs.Words.{◌≡◌, ℕ, ◌+◌, ◌*◌, ◌<◌, Bool, true, false, List, [], ◌∷◌, suc, refl, arith, ltb-true, if◌then◌else◌, ◌⊎◌, inl, inr, weigh, is_quorum}
 
 abbrev pub Shared : (ℕ → Bool) → (ℕ → Bool) → Type 0
 Shared p q = (k : ℕ) × (p k ≡ true) × (q k ≡ true)

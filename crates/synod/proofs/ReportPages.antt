@@ -1,17 +1,5 @@
 -- The reports of a promise, gathered slot by slot and cut into pages on the way.
-use Rattle.std.proofs.Common.{◌≡◌, ℕ, zero, suc, ◌+◌, ◌-◌, ◌<◌, ◌≤◌, ◌≢◌, Bool, true, false, nat_lt, List, [], ◌∷◌, ◌++◌, length, drop, Option, Some, None, refl, ap, sym, ◌∙◌, subst, arith, if◌then◌else◌, append_assoc, append-nil, add-one, le_of_suc-le-suc, length-append, drop_of_length-le}
-use Rattle.std.proofs.lemmas.Bool.Decides.{nat_tests}
-use Rattle.slots.specs.declared.slots.TheConstants.{SLOTS}
-use Rattle.slots.specs.FiniteMap.{entry_at}
-use Rattle.synod.specs.declared.packet.TheConstants.{MOST_PAGES}
-use Rattle.synod.specs.declared.ballot.Ballot.{Ballot}
-use Rattle.synod.specs.declared.packet.SlotReport.{SlotReport}
-use Rattle.synod.specs.declared.packet.Packet.{Packet}
-use Rattle.synod.specs.declared.packet.Body.TheVariants.{Promise}
-use Rattle.synod.specs.declared.change.Held.{Held}
-use Rattle.synod.specs.Packets.{packet}
-use Rattle.synod.specs.PromisePages.{onto_first, cut, pages_of}
-use Rattle.synod.specs.Acceptor.{reports_from, promise_pages}
+use Rattle.synod.proofs.Words.{◌≡◌, ℕ, zero, suc, ◌+◌, ◌-◌, ◌<◌, ◌≤◌, ◌≢◌, Bool, true, false, nat_lt, List, [], ◌∷◌, ◌++◌, length, drop, Option, Some, None, refl, ap, sym, ◌∙◌, subst, arith, if◌then◌else◌, append_assoc, append-nil, add-one, le_of_suc-le-suc, length-append, drop_of_length-le, nat_tests, SLOTS, entry_at, MOST_PAGES, Ballot, SlotReport, Packet, Promise, Held, packet, onto_first, cut, pages_of, reports_from, promise_pages}
 use Rattle.synod.proofs.PageKeeps.{reports_few, pages_few}
 
 -- a page that was begun, and the pages after it

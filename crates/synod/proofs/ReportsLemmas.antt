@@ -1,14 +1,5 @@
 -- What reports say, and what the highest of them is.
-use Rattle.synod.specs.declared.change.Held.{Held}
-use Rattle.std.proofs.Common.{◌≡◌, ℕ, zero, suc, ◌+◌, ◌<◌, ◌≤◌, max, Bool, true, false, ◌==◌, nat_lt, List, [], ◌∷◌, Option, Some, None, inl, inr, refl, ap, ◌∙◌, subst, arith, ltb-true, ltb-false, eqb-true, if◌then◌else◌}
-use Rattle.std.proofs.lemmas.Bool.Decides.{nat_tests}
-use Rattle.slots.proofs.Lists.{In}
-use Rattle.slots.specs.FiniteMap.{entry_at}
-use Rattle.synod.specs.declared.ballot.Ballot.{Ballot}
-use Rattle.synod.specs.declared.packet.SlotReport.{SlotReport}
-use Rattle.synod.specs.Ballots.{is_under}
-use Rattle.synod.specs.Acceptor.{reports_from}
-use Rattle.synod.specs.Proposer.{higher, highest_at, above_all, top_reported}
+use Rattle.synod.proofs.Words.{Held, ◌≡◌, ℕ, zero, suc, ◌+◌, ◌<◌, ◌≤◌, max, Bool, true, false, ◌==◌, nat_lt, List, [], ◌∷◌, Option, Some, None, inl, inr, refl, ap, ◌∙◌, subst, arith, ltb-true, ltb-false, eqb-true, if◌then◌else◌, nat_tests, In, entry_at, Ballot, SlotReport, is_under, reports_from, higher, highest_at, above_all, top_reported}
 use Rattle.synod.proofs.BallotsLemmas.{Upto, upto_self, under_true, under_false, under_is_upto, upto_upto}
 
 -- a report says what is held at its slot, the list beginning at slot s

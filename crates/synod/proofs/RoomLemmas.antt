@@ -1,22 +1,7 @@
 -- The room of a node after one of its parts has grown, and what that leaves of a step that is ready.
-use Rattle.std.proofs.Common.{◌≡◌, ℕ, zero, suc, ◌≤◌, List, [], ◌∷◌, length, get_or, set, Option, Some, None, Result, Ok, Err, ap, sym, subst, arith}
-use Rattle.slots.specs.FiniteMap.{SlotsView}
-use Rattle.synod.specs.declared.change.Change.{Change}
-use Rattle.synod.specs.declared.change.Change.TheVariants.{Round, Promise, Entry}
-use Rattle.synod.specs.declared.proposer.Proposal.{Proposal}
-use Rattle.synod.specs.declared.proposer.Proposal.TheVariants.{Wait, Propose, Begin, Page, Hear, HearPage, Lead, Idle}
-use Rattle.synod.specs.declared.learner.Lesson.{Lesson}
-use Rattle.synod.specs.declared.learner.Lesson.TheVariants.{Count, Choose, Learn}
-use Rattle.synod.specs.declared.ready.Plan.{Plan}
-use Rattle.synod.specs.Record.{RecordView, HasRoomFor}
-use Rattle.synod.specs.Node.{Node, Stepped}
-use Rattle.synod.specs.declared.refusal.Refusal.{Refusal}
-use Rattle.synod.specs.Core.{Core, ProposerView, LearnerView, core_of}
-use Rattle.synod.specs.Stored.PagesHad.{rooms_of}
-use Rattle.synod.specs.Plans.{HasRoomToPropose, HasRoomToLearn}
-use Rattle.synod.specs.Rooms.{RoomsGrow, HasAtLeast}
-use Rattle.synod.specs.Step.{IsNode}
-use Rattle.synod.specs.Ready.{Made, Readies, planned, proposer_of, learner_of, CanFollow}
+use Rattle.synod.proofs.Words.{◌≡◌, ℕ, zero, suc, ◌≤◌, List, [], ◌∷◌, length, get_or, set, Option, Some, None, Result, Ok, Err, ap, sym, subst, arith, SlotsView, Change, Round, Entry, ProposerUpdate, Wait, Propose, Begin, Page, Hear, CompletePromise, Lead, LearnerUpdate, Count, Choose, Learn, StagedStep, RecordView, HasRoomFor, Node, Stepped, Refusal, Core, ProposerView, LearnerView, core_of, rooms_of, CanUpdateProposer, CanCount, CanUpdateLearner, RoomsGrow, HasAtLeast, IsNode, Made, Readies, staged_node, proposer_of, learner_of, CanCommit}
+use Rattle.synod.specs.declared.change.Change.TheVariants.{Promise}
+use Rattle.synod.specs.declared.proposer.ProposerUpdate.TheVariants.{Idle}
 
 -- A map of pages has more room.
 
@@ -44,6 +29,7 @@ same_room c = record {
   heard = omega arith;
   waiting = omega arith;
   tallies = omega arith;
+  later = omega arith;
   learned = omega arith;
 }
 
@@ -67,6 +53,7 @@ module _ {V : Type 0} (me : ℕ) (weights : List ℕ) (r : RecordView V) (p : Pr
     heard = omega arith;
     waiting = omega arith;
     tallies = omega arith;
+    later = omega arith;
     learned = omega arith;
   }
 
@@ -78,17 +65,19 @@ module _ {V : Type 0} (me : ℕ) (weights : List ℕ) (r : RecordView V) (p : Pr
     heard = heard;
     waiting = waiting;
     tallies = omega arith;
+    later = omega arith;
     learned = omega arith;
   }
 
   -- the learner has more room
-  pub learner_room : (more : LearnerView V) → l.tallies_room ≤ more.tallies_room → l.learned_room ≤ more.learned_room → Grows (core_of me weights r p more)
-  learner_room more tallies learned = back (core_of me weights r p more) record {
+  pub learner_room : (more : LearnerView V) → l.tallies_room ≤ more.tallies_room → l.later_room ≤ more.later_room → l.learned_room ≤ more.learned_room → Grows (core_of me weights r p more)
+  learner_room more tallies later learned = back (core_of me weights r p more) record {
     accepted = omega arith;
     pages = rooms_same p.page_rooms;
     heard = omega arith;
     waiting = omega arith;
     tallies = tallies;
+    later = later;
     learned = learned;
   }
 
@@ -100,41 +89,45 @@ ready_room core (Err met) made h = elim h [ ]
 -- A plan can be followed where there is as much room.
 
 -- as to the change of the record
-more_to_change : {V : Type 0} (room more : ℕ) (change : Option (Change V)) → room ≤ more → HasRoomFor room change → HasRoomFor more change
-more_to_change room more None grows h = tt
-more_to_change room more (Some (Round r)) grows h = tt
-more_to_change room more (Some (Promise b)) grows h = tt
-more_to_change room more (Some (Entry s held)) grows h = omega (arith, grows, h)
+record_has_room : {V : Type 0} (room more : ℕ) (change : Option (Change V)) → room ≤ more → HasRoomFor room change → HasRoomFor more change
+record_has_room room more None grows h = tt
+record_has_room room more (Some (Round r)) grows h = tt
+record_has_room room more (Some (Promise b)) grows h = tt
+record_has_room room more (Some (Entry s held)) grows h = omega (arith, grows, h)
 
 module _ {V : Type 0} (c d : Core V) (same : d.node ≡ c.node) (h : HasAtLeast c d) where
   -- as to what is proposed
-  more_to_propose : (proposal : Option (Proposal V)) → HasRoomToPropose (proposer_of c) proposal → HasRoomToPropose (proposer_of d) proposal
-  more_to_propose None room = tt
-  more_to_propose (Some (Wait v)) room = let count = ap (λ (n : Node V). length n.waiting) same in let more = h.waiting in omega (arith, count, more, room)
-  more_to_propose (Some (Propose b next)) room = tt
-  more_to_propose (Some (Begin b first pages)) room = tt
-  more_to_propose (Some (Page k i reports)) room = let more = h.pages k in omega (arith, more, room)
-  more_to_propose (Some (Hear heard)) room = let count = ap (λ (n : Node V). length n.heard) same in let more = h.heard in omega (arith, count, more, room)
-  more_to_propose (Some (HearPage heard i reports)) room =
+  proposer_has_room : (update : Option (ProposerUpdate V)) → CanUpdateProposer (proposer_of c) update → CanUpdateProposer (proposer_of d) update
+  proposer_has_room None room = tt
+  proposer_has_room (Some (Wait v)) room = let count = ap (λ (n : Node V). length n.waiting) same in let more = h.waiting in omega (arith, count, more, room)
+  proposer_has_room (Some (Propose b next)) room = tt
+  proposer_has_room (Some (Begin b first pages)) room = tt
+  proposer_has_room (Some (Page k i reports)) room = let more = h.pages k in omega (arith, more, room)
+  proposer_has_room (Some (Hear heard)) room = let count = ap (λ (n : Node V). length n.heard) same in let more = h.heard in omega (arith, count, more, room)
+  proposer_has_room (Some (CompletePromise heard i reports)) room =
       let count = ap (λ (n : Node V). length n.heard) same in
       let more = h.heard in
       let pages = h.pages heard.node in
       (omega (arith, pages, room.0), omega (arith, count, more, room.1))
-  more_to_propose (Some (Lead b next taken)) room = let count = ap (λ (n : Node V). length n.waiting) same in omega (arith, count, room)
-  more_to_propose (Some Idle) room = tt
+  proposer_has_room (Some (Lead b next taken)) room = let count = ap (λ (n : Node V). length n.waiting) same in omega (arith, count, room)
+  proposer_has_room (Some Idle) room = tt
+
+  -- as to a vote
+  has_room_to_count : (s k : ℕ) → CanCount (learner_of c) s k → CanCount (learner_of d) s k
+  has_room_to_count s k can = let first = h.tallies in let later = h.later in record { slot = omega (arith, first, can.slot); later = omega (arith, later, can.later); node = can.node }
 
   -- as to what is learned
-  more_to_learn : (lesson : Option (Lesson V)) → HasRoomToLearn (learner_of c) lesson → HasRoomToLearn (learner_of d) lesson
-  more_to_learn None room = tt
-  more_to_learn (Some (Count s tallies)) room = let more = h.tallies in omega (arith, more, room)
-  more_to_learn (Some (Choose s tallies v)) room = let t = h.tallies in let l = h.learned in (omega (arith, t, room.0), omega (arith, l, room.1))
-  more_to_learn (Some (Learn s v)) room = let more = h.learned in omega (arith, more, room)
+  learner_has_room : (update : Option (LearnerUpdate V)) → CanUpdateLearner (learner_of c) update → CanUpdateLearner (learner_of d) update
+  learner_has_room None room = tt
+  learner_has_room (Some (Count s b k)) room = has_room_to_count s k room
+  learner_has_room (Some (Choose s b k v)) room = let more = h.learned in (has_room_to_count s k room.0, omega (arith, more, room.1))
+  learner_has_room (Some (Learn s v)) room = let more = h.learned in omega (arith, more, room)
 
   -- as to all its parts
-  pub can_follow : (plan : Plan V) → CanFollow c plan → CanFollow d plan
-  can_follow plan can = record {
-    change = more_to_change c.accepted_room d.accepted_room plan.change h.accepted can.change;
-    proposal = more_to_propose plan.proposal can.proposal;
-    lesson = more_to_learn plan.lesson can.lesson;
-    node = subst (λ (n : Node V). IsNode (planned n plan)) (sym same) can.node;
+  pub can_commit : (staged : StagedStep V) → CanCommit c staged → CanCommit d staged
+  can_commit staged can = record {
+    change = record_has_room c.accepted_room d.accepted_room staged.change h.accepted can.change;
+    proposer = proposer_has_room staged.proposer can.proposer;
+    learner = learner_has_room staged.learner can.learner;
+    node = subst (λ (n : Node V). IsNode (staged_node n staged)) (sym same) can.node;
   }

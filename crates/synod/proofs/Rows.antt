@@ -1,16 +1,5 @@
 -- The definitions of one node, run on worked examples.
-use Rattle.std.proofs.Common.{◌≡◌, ℕ, zero, suc, List, [], ◌∷◌, Bool, true, false, Some, None, Err, length, map, replicate, refl}
-use Rattle.synod.specs.declared.packet.Body.TheVariants.{Promise, Nack, Ask}
-use Rattle.synod.specs.declared.refusal.Refusal.TheVariants.{Busy, LogFull, RoundsSpent, TooLong}
-use Rattle.synod.specs.declared.proposer.Role.TheVariants.{Idle, Leading}
-use Rattle.synod.specs.Weights.{is_quorum}
-use Rattle.synod.specs.Ballots.{is_under, no_ballot}
-use Rattle.synod.specs.Packets.{packet}
-use Rattle.synod.specs.Node.{new_node}
-use Rattle.synod.specs.PromisePages.{pages_of}
-use Rattle.synod.specs.Acceptor.{on_prepare, on_accept}
-use Rattle.synod.specs.Proposer.{offered, begun, fills}
-use Rattle.synod.specs.Step.{restarted}
+use Rattle.synod.proofs.Words.{◌≡◌, ℕ, zero, suc, List, [], ◌∷◌, Bool, true, false, Some, None, Err, length, map, replicate, refl, Promise, Nack, Ask, Busy, LogFull, RoundsSpent, TooLong, Idle, Leading, is_quorum, is_under, no_ballot, packet, new_node, pages_of, on_prepare, on_accept, offered, begun, fills, restarted}
 
 -- Quorums.
 

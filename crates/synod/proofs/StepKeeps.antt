@@ -1,26 +1,5 @@
 -- Each step leaves the node what every node is, and posts only packets that every node may take for granted.
-use Rattle.std.proofs.Common.{◌≡◌, ℕ, ◌+◌, ◌-◌, ◌<◌, ◌≤◌, not, ◌&&◌, is_some, List, [], ◌∷◌, ◌++◌, map, take, drop, length, Option, Some, None, refl, arith, length-take}
-use Rattle.std.proofs.lemmas.List.{length-map}
-use Rattle.std.specs.List.{AllByRecursion}
-use Rattle.slots.specs.declared.slots.TheConstants.{SLOTS}
-use Rattle.slots.specs.FiniteMap.{entry_at}
-use Rattle.synod.specs.declared.ballot.Ballot.{Ballot}
-use Rattle.synod.specs.declared.packet.SlotReport.{SlotReport}
-use Rattle.synod.specs.declared.packet.Packet.{Packet}
-use Rattle.synod.specs.declared.packet.Body.{Body}
-use Rattle.synod.specs.declared.packet.Body.TheVariants.{Prepare, Promise, Accept, Accepted, Nack, Ask, Told}
-use Rattle.synod.specs.declared.proposer.Heard.{Heard}
-use Rattle.synod.specs.declared.proposer.Role.{Role}
-use Rattle.synod.specs.declared.proposer.Role.TheVariants.{Idle, Preparing, Leading}
-use Rattle.synod.specs.Weights.{is_quorum}
-use Rattle.synod.specs.Ballots.{is_under, is_same}
-use Rattle.synod.specs.Packets.{accepts, IsReport, IsPage, IsBody, IsPacket, IsPost}
-use Rattle.synod.specs.PromisePages.{pages_of, all_had}
-use Rattle.synod.specs.Node.{Node, unchanged, pages_from, page_of, with_page, is_heard}
-use Rattle.synod.specs.Acceptor.{reports_from, promises, refuses, on_prepare}
-use Rattle.synod.specs.Proposer.{top_reported, fills, all_reports, leads, keeps_page, keeps_promise, hears, gathers, on_promise_as, on_promise}
-use Rattle.synod.specs.Learner.{has_voter, counted, chooses, on_accepted_at, on_accepted}
-use Rattle.synod.specs.Step.{Keeps, on_packet, on_body, IsRole, ArePages, IsNode}
+use Rattle.synod.proofs.Words.{◌≡◌, ℕ, ◌+◌, ◌-◌, ◌<◌, ◌≤◌, not, ◌&&◌, is_some, List, [], ◌∷◌, ◌++◌, map, take, drop, length, Option, Some, None, refl, arith, length-take, length-map, AllByRecursion, SLOTS, entry_at, Ballot, SlotReport, Packet, Body, Prepare, Promise, Accept, Accepted, Nack, Ask, Told, Heard, Role, Idle, Preparing, Leading, is_quorum, is_under, is_same, accepts, IsReport, IsPage, IsBody, IsPacket, IsPost, pages_of, all_had, Node, unchanged, pages_from, page_of, with_page, is_heard, reports_from, promises, refuses, on_prepare, top_reported, fills, all_reports, leads, keeps_page, keeps_promise, hears, gathers, on_promise_as, on_promise, has_voter, counted, chooses, on_accepted_at, on_accepted, Keeps, on_packet, on_body, IsRole, ArePages, IsNode}
 use Rattle.synod.proofs.NodeKeeps.{either, all_append, posts_accepts, same, with_parts, refuses_keeps, keeps_accept, chooses_keeps, keeps_ask, keeps_told, keeps_nack}
 use Rattle.synod.proofs.PageKeeps.{reports_low, reports_few, all_cut, pages_few, posts_pages, top_low, reports_heard, all_with_page, length-fills}
 

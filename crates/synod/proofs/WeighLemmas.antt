@@ -1,6 +1,5 @@
 -- The weight of the nodes that a test picks, counted from some node on.
-use Rattle.std.proofs.Common.{◌≡◌, ℕ, suc, ◌+◌, ◌*◌, ◌<◌, nat_lt, Bool, List, [], ◌∷◌, length, refl, ap, ◌∙◌, arith, if◌then◌else◌, true}
-use Rattle.synod.specs.Weights.{weigh, is_quorum}
+use Rattle.synod.proofs.Words.{◌≡◌, ℕ, suc, ◌+◌, ◌*◌, ◌<◌, nat_lt, Bool, List, [], ◌∷◌, length, refl, ap, ◌∙◌, arith, if◌then◌else◌, true, weigh, is_quorum}
 
 -- the nodes being numbered from i
 abbrev pub weigh_from : (ℕ → Bool) → ℕ → List ℕ → ℕ

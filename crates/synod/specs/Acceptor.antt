@@ -1,14 +1,8 @@
--- The acceptor: what it promises and what it accepts.
+-- The acceptor: its promises and its accepted entries.
 -- Source: Lamport, Paxos Made Simple, 2.2, phases 1(b) and 2(b); a refused proposer is told (2.5).
 -- The code makes the pages of a promise straight from the slots. The model lists all reports and cuts them.
-use Rattle.std.specs.Prelude.{ℕ, suc, nat_lt, List, [], ◌∷◌, Option, Some, None, length, if◌then◌else◌}
-use Rattle.slots.specs.FiniteMap.{put_at}
-use Rattle.synod.specs.declared.ballot.Ballot.{Ballot}
-use Rattle.synod.specs.declared.packet.SlotReport.{SlotReport}
-use Rattle.synod.specs.declared.packet.Packet.{Packet}
-use Rattle.synod.specs.declared.packet.Body.TheVariants.{Promise, Accepted, Nack}
-use Rattle.synod.specs.declared.change.Held.{Held}
-use Rattle.synod.specs.declared.change.Change.TheVariants.{Promise as PromiseChange, Entry}
+use Rattle.synod.specs.Words.{ℕ, suc, nat_lt, List, [], ◌∷◌, Option, Some, None, length, if◌then◌else◌, put_at, Ballot, SlotReport, Packet, Promise, Accepted, Nack, Held, Entry}
+use Rattle.synod.specs.declared.change.Change.TheVariants.{Promise as PromiseChange}
 use Rattle.synod.specs.Ballots.{is_under}
 use Rattle.synod.specs.Packets.{packet, to_all}
 use Rattle.synod.specs.PromisePages.{pages_of}
@@ -31,7 +25,7 @@ promise_pages me p b count i (page ∷ pages) = packet me p (Promise b i count p
 abbrev pub promise_posts : {V : Type 0} → ℕ → ℕ → Ballot → List (List (SlotReport V)) → List (Packet V)
 promise_posts me p b pages = promise_pages me p b (length pages) 1 pages
 
--- the ballot is promised to p, with what was accepted from first on
+-- the ballot is promised to p, with the entries accepted from first on
 abbrev pub promises : {V : Type 0} → Node V → ℕ → Ballot → ℕ → Stepped V
 promises n p b first = record {
   node = record n { promise = b };

@@ -1,13 +1,7 @@
--- The highest reports, slot by slot, while the reports are gone through.
+-- The highest report of each slot, in a table.
 -- Source: Lamport, Paxos Made Simple, 2.2: the value of the highest-numbered proposal among the responses.
 -- The code has a table by slot, and goes through the pages once. The definition of what is proposed asks one list of all reports.
-use Rattle.std.specs.Prelude.{◌≡◌, ◌<◌, ◌≤◌, ◌+◌, ◌-◌, ℕ, List, [], ◌∷◌, ◌++◌, Option, Some, None, length, map, take, drop, slice_index_or}
-use Rattle.std.specs.Borrow.{Bor}
-use Rattle.std.specs.Option.{option_copied}
-use Rattle.synod.specs.declared.packet.SlotReport.{SlotReport}
-use Rattle.slots.specs.declared.slots.TheConstants.{SLOTS}
-use Rattle.synod.specs.declared.ballot.Ballot.{Ballot}
-use Rattle.synod.specs.declared.packet.Packet.{Packet}
+use Rattle.synod.specs.Words.{◌≡◌, ◌<◌, ◌≤◌, ◌+◌, ◌-◌, ℕ, List, [], ◌∷◌, ◌++◌, Option, Some, None, length, map, take, drop, slice_index_or, Bor, option_copied, SlotReport, SLOTS, Ballot, Packet}
 use Rattle.synod.specs.Packets.{accepts}
 use Rattle.synod.specs.Proposer.{highest_at, top_reported, fills}
 
@@ -24,7 +18,7 @@ AreHighest first table reports = (k : ℕ) → k < length table → option_copie
 abbrev pub some_of : {V : Type 0} → List V → List (Option V)
 some_of values = map (λ v. Some v) values
 
--- what `leads` says, part by part: the posts, the next slot, and how many that waited are proposed
+-- the parts of `leads`: the posts, the next slot, and the number of waiting values that are proposed
 pub record IsLead {V : Type 0} (me : ℕ) (weights : List ℕ) (b : Ballot) (first : ℕ) (reports : List (SlotReport V)) (waiting : List V) (posts : List (Packet V)) (next taken : ℕ) : Type 0 where
   pub posted : let top = top_reported first reports in
       posts ≡ accepts me weights b first (fills reports first (top - first)) ++ accepts me weights b top (some_of (take (SLOTS - top) waiting))

@@ -1,21 +1,14 @@
--- The learner: whom it counts, and what it learns and tells.
+-- The learner: the votes that it counts, and the values that it learns and tells.
 -- Source: Lamport, Paxos Made Simple, 2.3.
--- The code keeps the first ballot of a slot apart from later ones. A vote is counted by set, never by a counter.
-use Rattle.std.specs.Prelude.{ℕ, Bool, false, true, nat_lt, List, [], ◌∷◌, Option, Some, None, slice_set, slice_index_or, replicate, if◌then◌else◌}
-use Rattle.slots.specs.declared.slots.TheConstants.{SLOTS}
-use Rattle.slots.specs.FiniteMap.{entry_at, put_at}
-use Rattle.synod.specs.declared.weights.TheConstants.{MOST_NODES}
-use Rattle.synod.specs.declared.ballot.Ballot.{Ballot}
-use Rattle.synod.specs.declared.packet.Packet.{Packet}
-use Rattle.synod.specs.declared.packet.Body.TheVariants.{Ask, Told}
-use Rattle.synod.specs.declared.learner.Tally.{Tally}
+-- The code keeps the first tally of each slot by slot, and all later ones in a table. Votes are sets of nodes, never counters.
+use Rattle.synod.specs.Words.{ℕ, Bool, false, true, nat_lt, List, [], ◌∷◌, Option, Some, None, slice_set, slice_index_or, replicate, if◌then◌else◌, SLOTS, entry_at, put_at, MOST_NODES, Ballot, Packet, Ask, Told, Tally}
 use Rattle.synod.specs.Weights.{is_quorum}
 use Rattle.synod.specs.Ballots.{is_same}
 use Rattle.synod.specs.Packets.{packet, to_others}
 use Rattle.synod.specs.Node.{Node, Stepped, unchanged, answers}
 use Rattle.synod.specs.Log.{log_length}
 
--- voters have a mark for each node
+-- voters are a mark for each node
 abbrev pub is_voter : List Bool → ℕ → Bool
 is_voter voters k = slice_index_or voters k false
 
@@ -50,7 +43,7 @@ counted tallies s b k = put_at tallies s (counted_in (tallies_at (entry_at talli
 abbrev pub learns : {V : Type 0} → Node V → ℕ → Option V → Node V
 learns n s v = record n { learned = put_at n.learned s v }
 
--- where a gap is left below, the others are asked
+-- if a gap is left below, the others are asked
 abbrev pub asks_below : {V : Type 0} → Node V → ℕ → ℕ → List (Packet V)
 asks_below n s gap = if nat_lt gap s then to_others n.me n.weights (Ask gap) else []
 
@@ -61,7 +54,7 @@ ask_below n s = asks_below n s (log_length n)
 abbrev pub chooses : {V : Type 0} → Node V → ℕ → Option V → Stepped V
 chooses n s v = answers (learns n s v) (ask_below (learns n s v) s)
 
--- with one vote more
+-- once one more vote is counted
 abbrev pub counts : {V : Type 0} → Node V → Ballot → ℕ → Option V → Stepped V
 counts n b s v = if is_quorum n.weights (has_voter n.tallies s b) then chooses n s v else unchanged n
 

@@ -1,3 +1,4 @@
+pub mod Words
 pub mod Weights
 pub mod Ballots
 pub mod Packets
@@ -11,8 +12,8 @@ pub mod Learner
 pub mod Step
 pub mod Refusals
 pub mod Core
-pub mod Plans
-pub mod Said
+pub mod Updates
+pub mod Broadcast
 pub mod Rooms
 pub mod Ready
 pub mod Heights

@@ -1,17 +1,7 @@
 -- The state of a node: proposer, acceptor and learner at once.
 -- Source: Lamport, Paxos Made Simple, 2.1 to 2.3 and 3.
--- The code has room beside this state, and keeps the maps in pages.
-use Rattle.std.specs.Prelude.{ℕ, Bool, false, ◌==◌, ◌||◌, List, [], ◌∷◌, Option, None, is_some, map, slice_set, slice_index_or, if◌then◌else◌}
-use Rattle.slots.specs.FiniteMap.{entry_at, put_at}
-use Rattle.synod.specs.declared.ballot.Ballot.{Ballot}
-use Rattle.synod.specs.declared.packet.SlotReport.{SlotReport}
-use Rattle.synod.specs.declared.packet.Packet.{Packet}
-use Rattle.synod.specs.declared.change.Held.{Held}
-use Rattle.synod.specs.declared.change.Change.{Change}
-use Rattle.synod.specs.declared.proposer.Role.{Role}
-use Rattle.synod.specs.declared.proposer.Role.TheVariants.{Idle}
-use Rattle.synod.specs.declared.proposer.Heard.{Heard}
-use Rattle.synod.specs.declared.learner.Tally.{Tally}
+-- The code also has reserved room, and keeps the maps in pages.
+use Rattle.synod.specs.Words.{ℕ, Bool, false, ◌==◌, ◌||◌, List, [], ◌∷◌, Option, None, is_some, map, slice_set, slice_index_or, if◌then◌else◌, entry_at, put_at, Ballot, SlotReport, Packet, Held, Change, Role, Idle, Heard, Tally}
 use Rattle.synod.specs.Record.{Kept, new_kept}
 
 pub record Node (V : Type 0) : Type 0 where
@@ -22,10 +12,10 @@ pub record Node (V : Type 0) : Type 0 where
   pub accepted : List (Option (Held V))  -- by slot
   pub role : Role
   pub pages : List (List (Option (List (SlotReport V))))  -- by node, and then by page, from 0
-  pub heard : List Heard  -- the first heard first
+  pub heard : List Heard  -- in the order in which they were heard
   pub tallies : List (Option (List Tally))  -- by slot
   pub learned : List (Option (Option V))  -- by slot
-  pub waiting : List V  -- the first in first
+  pub waiting : List V  -- the oldest first
 
 -- the part that outlives a restart
 abbrev pub kept_of : {V : Type 0} → Node V → Kept V
@@ -50,7 +40,7 @@ rest_of me weights kept = record {
 abbrev pub new_node : {V : Type 0} → ℕ → List ℕ → Node V
 new_node me weights = rest_of me weights new_kept
 
--- what a step makes of a node: its state, its change of the kept part, and its posts in order
+-- the result of a step: the state of the node, the change of its kept part, and its posts in order
 pub record Stepped (V : Type 0) : Type 0 where
   pub node : Node V
   pub change : Option (Change V)
@@ -64,20 +54,20 @@ unchanged n = record { node = n; change = None; posts = [] }
 abbrev pub answers : {V : Type 0} → Node V → List (Packet V) → Stepped V
 answers n posts = record { node = n; change = None; posts = posts }
 
--- the pages had of node k
+-- the pages received of node k
 abbrev pub pages_from : {V : Type 0} → List (List (Option (List (SlotReport V)))) → ℕ → List (Option (List (SlotReport V)))
 pages_from pages k = slice_index_or pages k []
 
--- the page of node k at that index, where it was had
+-- the page of node k at that index, if it was received
 abbrev pub page_of : {V : Type 0} → List (List (Option (List (SlotReport V)))) → ℕ → ℕ → Option (List (SlotReport V))
 page_of pages k i = entry_at (pages_from pages k) i
 
--- a page is kept, unless it was had before
+-- a page is kept, unless it was received before
 abbrev pub with_page : {V : Type 0} → List (List (Option (List (SlotReport V)))) → ℕ → ℕ → List (SlotReport V) → List (List (Option (List (SlotReport V))))
 with_page pages k i reports =
     if is_some (page_of pages k i) then pages else slice_set pages k (put_at (pages_from pages k) i reports)
 
--- no page was had of any node
+-- no page was received of any node
 abbrev pub no_pages : {V : Type 0} → List ℕ → List (List (Option (List (SlotReport V))))
 no_pages weights = map (λ w. []) weights
 

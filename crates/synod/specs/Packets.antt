@@ -1,15 +1,7 @@
--- Packets: whom they are for, and what every packet keeps.
+-- Packets: their receivers, and the limits that every packet keeps.
 -- Source: Lamport, Paxos Made Simple, 2.2 (the messages of the two phases) and 2.3 (learning).
 -- The code posts them one after another into one list, as here.
-use Rattle.std.specs.Prelude.{ℕ, suc, ◌<◌, ◌≤◌, ◌==◌, List, [], ◌∷◌, ◌++◌, Option, if◌then◌else◌}
-use Rattle.std.specs.List.{AllByRecursion}
-use Rattle.slots.specs.declared.slots.TheConstants.{SLOTS}
-use Rattle.synod.specs.declared.packet.TheConstants.{MOST_PAGES}
-use Rattle.synod.specs.declared.ballot.Ballot.{Ballot}
-use Rattle.synod.specs.declared.packet.SlotReport.{SlotReport}
-use Rattle.synod.specs.declared.packet.Packet.{Packet}
-use Rattle.synod.specs.declared.packet.Body.{Body}
-use Rattle.synod.specs.declared.packet.Body.TheVariants.{Prepare, Promise, Accept, Accepted, Nack, Ask, Told}
+use Rattle.synod.specs.Words.{ℕ, suc, ◌<◌, ◌≤◌, ◌==◌, List, [], ◌∷◌, ◌++◌, Option, if◌then◌else◌, AllByRecursion, SLOTS, MOST_PAGES, Ballot, SlotReport, Packet, Body, Prepare, Promise, Accept, Accepted, Nack, Ask, Told}
 
 abbrev pub packet : {V : Type 0} → ℕ → ℕ → Body V → Packet V
 packet from to body = record { from = from; to = to; body = body }
@@ -37,7 +29,7 @@ abbrev pub accepts : {V : Type 0} → ℕ → List ℕ → Ballot → ℕ → Li
 accepts me weights ballot s [] = []
 accepts me weights ballot s (v ∷ vs) = to_all me weights (Accept ballot s v) ++ accepts me weights ballot (suc s) vs
 
--- What every packet keeps: each slot that it names is below the limit, that of a Prepare at most the limit,
+-- The limits of every packet: each slot that it names is below the limit, that of a Prepare at most the limit,
 -- and a page is one of those counted.
 
 abbrev pub IsReport : {V : Type 0} → SlotReport V → Type 0
@@ -58,12 +50,12 @@ IsBody (Nack ballot promise) = Unit {0}
 IsBody (Ask s) = s < SLOTS
 IsBody (Told s v) = s < SLOTS
 
--- what a node may take for granted of a packet, where there are so many nodes
+-- the precondition on a packet that a node receives
 pub record IsPacket {V : Type 0} (nodes : ℕ) (p : Packet V) : Type 0 where
   pub sender : p.from < nodes
   pub body : IsBody p.body
 
--- what a node keeps of a packet that it posts
+-- a packet that a node posts
 pub record IsPost {V : Type 0} (nodes : ℕ) (p : Packet V) : Type 0 where
   pub packet : IsPacket nodes p
   pub receiver : p.to < nodes

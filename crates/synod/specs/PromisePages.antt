@@ -1,14 +1,13 @@
 -- The pages of a promise: its reports are sent in pages of 256.
 -- Source: this project's profile of Lamport, Paxos Made Simple, 2.5, where one promise serves all instances.
--- The code keeps the pages had by sender and number. The model cuts a list, and joins what was had.
-use Rattle.std.specs.Prelude.{ℕ, zero, suc, Bool, not, nat_lt, List, [], ◌∷◌, ◌++◌, Option, Some, None}
-use Rattle.slots.specs.FiniteMap.{front_of}
+-- The code keeps the received pages by sender and number. The model cuts a list, and joins the received pages.
+use Rattle.synod.specs.Words.{ℕ, zero, suc, Bool, not, nat_lt, List, [], ◌∷◌, ◌++◌, Option, Some, None, front_of}
 
 abbrev pub onto_first : {T : Type 0} → T → List (List T) → List (List T)
 onto_first x [] = (x ∷ []) ∷ []
 onto_first x (page ∷ pages) = (x ∷ page) ∷ pages
 
--- the pages of a list, the first of which has room for so many
+-- the pages of a list; the first has room for `room` elements
 abbrev pub cut : {T : Type 0} → ℕ → List T → List (List T)
 cut room [] = [] ∷ []
 cut (suc room) (x ∷ xs) = onto_first x (cut room xs)
@@ -18,11 +17,11 @@ cut zero (x ∷ xs) = [] ∷ onto_first x (cut 255 xs)
 abbrev pub pages_of : {T : Type 0} → List T → List (List T)
 pages_of xs = cut 256 xs
 
--- the first so many pages are there
+-- the first `count` pages are there
 abbrev pub all_had : {T : Type 0} → List (Option (List T)) → ℕ → Bool
 all_had pages count = not (nat_lt (front_of pages) count)
 
--- what stands in the first so many pages
+-- the contents of the first `count` pages
 abbrev pub joined_pages : {T : Type 0} → List (Option (List T)) → ℕ → List T
 joined_pages pages zero = []
 joined_pages [] (suc count) = []

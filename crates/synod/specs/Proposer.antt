@@ -1,19 +1,7 @@
--- The proposer: what it offers, begins, hears and proposes.
+-- The proposer: its offers, ballots, promises and proposals.
 -- Source: Lamport, Paxos Made Simple, 2.2, phases 1(a) and 2(a), and section 3 for a leader of all instances.
 -- The code looks the highest report up by slot. The model asks it of one list of all reports heard.
-use Rattle.std.specs.Prelude.{ℕ, zero, suc, ◌+◌, ◌-◌, ◌^◌, max, Bool, false, not, ◌==◌, ◌&&◌, nat_lt, List, [], ◌∷◌, ◌++◌, map, take, drop, length, Option, Some, None, Result, Ok, Err, if◌then◌else◌}
-use Rattle.slots.specs.declared.slots.TheConstants.{SLOTS}
-use Rattle.synod.specs.declared.value.TheConstants.{MOST_BYTES}
-use Rattle.synod.specs.declared.proposer.TheConstants.{MOST_WAITING}
-use Rattle.synod.specs.declared.ballot.Ballot.{Ballot}
-use Rattle.synod.specs.declared.packet.SlotReport.{SlotReport}
-use Rattle.synod.specs.declared.packet.Body.TheVariants.{Prepare, Accept}
-use Rattle.synod.specs.declared.change.Change.TheVariants.{Round}
-use Rattle.synod.specs.declared.proposer.Heard.{Heard}
-use Rattle.synod.specs.declared.proposer.Role.{Role}
-use Rattle.synod.specs.declared.proposer.Role.TheVariants.{Idle, Preparing, Leading}
-use Rattle.synod.specs.declared.refusal.Refusal.{Refusal}
-use Rattle.synod.specs.declared.refusal.Refusal.TheVariants.{Busy, LogFull, RoundsSpent, TooLong}
+use Rattle.synod.specs.Words.{ℕ, zero, suc, ◌+◌, ◌-◌, ◌^◌, max, Bool, false, not, ◌==◌, ◌&&◌, nat_lt, List, [], ◌∷◌, ◌++◌, map, take, drop, length, Option, Some, None, Result, Ok, Err, if◌then◌else◌, SLOTS, MOST_BYTES, MOST_WAITING, Ballot, SlotReport, Prepare, Accept, Round, Heard, Role, Idle, Preparing, Leading, Refusal, Busy, LogFull, RoundsSpent, TooLong}
 use Rattle.synod.specs.Weights.{is_quorum}
 use Rattle.synod.specs.Ballots.{is_under, is_same}
 use Rattle.synod.specs.Packets.{to_all, accepts}
@@ -23,7 +11,7 @@ use Rattle.synod.specs.Log.{log_length}
 
 -- A value is offered.
 
--- it waits, where it may
+-- it waits, if there is room
 abbrev pub waits : {V : Type 0} → Node V → V → Stepped V
 waits n v = answers (record n { waiting = n.waiting ++ v ∷ [] }) []
 
@@ -76,7 +64,7 @@ begins n = record {
 abbrev pub begun : {V : Type 0} → Node V → Result (Stepped V) Refusal
 begun n = if nat_lt (next_round n) (2 ^ 64) then Ok (begins n) else Err RoundsSpent
 
--- What is proposed.
+-- The proposals.
 
 -- the earlier one, unless the later is of a higher ballot
 abbrev pub higher : {V : Type 0} → SlotReport V → Option (SlotReport V) → Option (SlotReport V)
@@ -102,17 +90,17 @@ abbrev pub top_reported : {V : Type 0} → ℕ → List (SlotReport V) → ℕ
 top_reported first [] = first
 top_reported first (r ∷ rs) = above_all (r ∷ rs)
 
--- the values for so many slots from s on
+-- the values for `count` slots from s on
 abbrev pub fills : {V : Type 0} → List (SlotReport V) → ℕ → ℕ → List (Option V)
 fills reports s zero = []
 fills reports s (suc count) = reported_value (highest_at s reports) ∷ fills reports (suc s) count
 
--- the reports of all nodes heard, the first heard first
+-- the reports of all nodes heard, in the order in which they were heard
 abbrev pub all_reports : {V : Type 0} → List (List (Option (List (SlotReport V)))) → List Heard → List (SlotReport V)
 all_reports pages [] = []
 all_reports pages (h ∷ hs) = joined_pages (pages_from pages h.node) h.count ++ all_reports pages hs
 
--- it leads: what was reported goes to the slots from first to top, and what waits to those after
+-- it leads: reported values go to the slots from first to top, waiting values to those after
 abbrev pub leads : {V : Type 0} → Node V → Ballot → ℕ → List (SlotReport V) → ℕ → Stepped V
 leads n b first reports top =
     let taken = take (SLOTS - top) n.waiting in
@@ -120,7 +108,7 @@ leads n b first reports top =
     (record n { role = Leading b (top + length taken); pages = []; heard = []; waiting = drop (SLOTS - top) n.waiting })
     (accepts n.me n.weights b first (fills reports first (top - first)) ++ accepts n.me n.weights b top (map (λ v. Some v) taken))
 
--- the same, of what the nodes heard have reported
+-- it leads, with the reports of the nodes heard
 abbrev pub leads_with : {V : Type 0} → Node V → Ballot → ℕ → List (List (Option (List (SlotReport V)))) → List Heard → Stepped V
 leads_with n b first pages heard = leads n b first (all_reports pages heard) (top_reported first (all_reports pages heard))
 

@@ -1,12 +1,8 @@
 -- The kept part of a node, and its changes.
--- Source: Lamport, Paxos Made Simple, 2.5: stable storage keeps what an acceptor must remember.
+-- Source: Lamport, Paxos Made Simple, 2.5, on stable storage.
 -- The code stores one change at a time and loads a record. The kept part is that record.
-use Rattle.std.specs.Prelude.{ℕ, ◌<◌, List, [], Option, Some, None}
-use Rattle.slots.specs.FiniteMap.{put_at}
-use Rattle.synod.specs.declared.ballot.Ballot.{Ballot}
-use Rattle.synod.specs.declared.change.Held.{Held}
-use Rattle.synod.specs.declared.change.Change.{Change}
-use Rattle.synod.specs.declared.change.Change.TheVariants.{Round, Promise, Entry}
+use Rattle.synod.specs.Words.{ℕ, ◌<◌, List, [], Option, Some, None, put_at, Ballot, Held, Change, Round, Entry}
+use Rattle.synod.specs.declared.change.Change.TheVariants.{Promise}
 use Rattle.synod.specs.Ballots.{no_ballot}
 
 -- promise, round and accepted entries
@@ -30,7 +26,7 @@ abbrev pub changed_by : {V : Type 0} → Kept V → Option (Change V) → Kept V
 changed_by kept None = kept
 changed_by kept (Some change) = changed kept change
 
--- what contracts see of a record: beside the kept part, how many slots from 0 on have room
+-- a record as contracts see it: the kept part, and the number of slots from 0 on that have room
 pub record RecordView (V : Type 0) : Type 0 where
   pub kept : Kept V
   pub room : ℕ

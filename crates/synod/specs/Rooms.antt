@@ -1,6 +1,6 @@
--- How the room of a node grows: a step that is made ready, and then let go, leaves room behind it.
--- Source: this project's way of making a step ready, and then making it.
--- The code never takes room away from a node but by a restart or a step that is made.
+-- How the room of a node grows: a step that is staged and then dropped leaves its room reserved.
+-- Source: this project stages a step before it commits it.
+-- Only a restart or a committed step takes room away from a node.
 use Rattle.std.specs.Prelude.{◌≤◌, ℕ, List, slice_index_or}
 use Rattle.synod.specs.Core.{Core}
 
@@ -8,11 +8,12 @@ use Rattle.synod.specs.Core.{Core}
 abbrev pub RoomsGrow : List ℕ → List ℕ → Type 0
 RoomsGrow old new = (k : ℕ) → slice_index_or old k 0 ≤ slice_index_or new k 0
 
--- the other has at least the room of the one
+-- the second has at least the room of the first
 pub record HasAtLeast {V : Type 0} (one other : Core V) : Type 0 where
   pub accepted : one.accepted_room ≤ other.accepted_room
   pub pages : RoomsGrow one.page_rooms other.page_rooms
   pub heard : one.heard_room ≤ other.heard_room
   pub waiting : one.waiting_room ≤ other.waiting_room
   pub tallies : one.tallies_room ≤ other.tallies_room
+  pub later : one.later_room ≤ other.later_room
   pub learned : one.learned_room ≤ other.learned_room

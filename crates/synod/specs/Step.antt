@@ -1,15 +1,7 @@
 -- One node and one event: the step that the packet or the restart makes.
 -- Source: Lamport, Paxos Made Simple, 2.2 to 2.5.
 -- The code makes a step in two halves, ready and commit. The step is one.
-use Rattle.std.specs.Prelude.{◌<◌, ◌≤◌, ℕ, List, Option, Some, None, length}
-use Rattle.std.specs.List.{AllByRecursion}
-use Rattle.slots.specs.declared.slots.TheConstants.{SLOTS}
-use Rattle.synod.specs.declared.packet.SlotReport.{SlotReport}
-use Rattle.synod.specs.declared.packet.Packet.{Packet}
-use Rattle.synod.specs.declared.packet.Body.{Body}
-use Rattle.synod.specs.declared.packet.Body.TheVariants.{Prepare, Promise, Accept, Accepted, Nack, Ask, Told}
-use Rattle.synod.specs.declared.proposer.Role.{Role}
-use Rattle.synod.specs.declared.proposer.Role.TheVariants.{Idle, Preparing, Leading}
+use Rattle.synod.specs.Words.{◌<◌, ◌≤◌, ℕ, List, Option, Some, None, length, AllByRecursion, SLOTS, SlotReport, Packet, Body, Prepare, Promise, Accept, Accepted, Nack, Ask, Told, Role, Idle, Preparing, Leading}
 use Rattle.synod.specs.Weights.{IsWeights}
 use Rattle.synod.specs.Packets.{IsReport, IsPost, to_others}
 use Rattle.synod.specs.Record.{Kept}
@@ -31,7 +23,7 @@ on_body n p (Told s v) = on_told n p s v
 abbrev pub on_packet : {V : Type 0} → Node V → Packet V → Stepped V
 on_packet n p = on_body n p.from p.body
 
--- it starts again with a kept part, and asks for what it may have missed
+-- it starts again with a kept part, and asks for missed entries
 abbrev pub reloaded : {V : Type 0} → Node V → Kept V → Stepped V
 reloaded n kept = record { node = rest_of n.me n.weights kept; change = None; posts = to_others n.me n.weights (Ask 0) }
 
@@ -39,7 +31,7 @@ reloaded n kept = record { node = rest_of n.me n.weights kept; change = None; po
 abbrev pub restarted : {V : Type 0} → Node V → Stepped V
 restarted n = reloaded n (kept_of n)
 
--- What every node keeps: it is one of the nodes, and each slot that it knows of is below the limit.
+-- The invariant of a node: it is one of the nodes, and each slot that it knows of is below the limit.
 
 abbrev pub IsRole : Role → Type 0
 IsRole Idle = Unit {0}

@@ -1,3 +1,4 @@
--- How a node keeps the pages that it had and the weights. No public clause cites it.
+-- How a node stores tallies, received pages and weights. No public clause cites it.
+pub mod LaterTallies
 pub mod PagesHad
 pub mod WeightPlaces

@@ -1,10 +1,10 @@
-//! Ballots, which number the proposals.
+//! Ballot numbers.
 ghost use Rattle.std.specs.Prelude.{◌≡◌};
 
-/// A ballot, written R.N: ordered by its round and then by its node.
+/// A ballot, written R.N: ordered by round, then by node.
 ///
 /// Source: Lamport, Paxos Made Simple, 2.2, where each proposal has a number.
-#[derive(Clone, Copy, PartialEq, Eq)]
+#[derive(Clone, Copy, PartialEq, Eq, Hash)]
 pub struct Ballot {
     pub round: u64,
     pub node: u8,
@@ -13,21 +13,21 @@ pub struct Ballot {
 impl Ballot {
     ghost use Rattle.synod.specs.Ballots.{is_under, is_same, no_ballot};
 
-    /// What a new node has promised.
+    /// Returns the ballot 0.0, which a new node has promised.
     pub fn none() -> Self
         ensures { result ≡ no_ballot }
     {
         Ballot { round: 0, node: 0 }
     }
 
-    /// Whether it is lower than another.
+    /// Returns whether this ballot is lower than `other`.
     pub fn is_under(self, other: Ballot) -> bool
         ensures { result ≡ is_under self other }
     {
         self.round < other.round || (self.round == other.round && self.node < other.node)
     }
 
-    /// Whether it is that ballot.
+    /// Returns whether the two ballots are equal.
     pub fn is_same(self, other: Ballot) -> bool
         ensures { result ≡ is_same self other }
     {

@@ -1,20 +1,20 @@
-//! The kept part of a node changes by one of these.
+//! Changes of the kept part of a node.
 use crate::ballot::Ballot;
 
-/// What an acceptor holds at a slot. A value of `None` is the no-operation.
+/// The entry that an acceptor holds at a slot; a value of `None` is the no-operation.
 #[derive(Drop)]
 pub struct Held<V> {
     pub ballot: Ballot,
     pub value: Option<V>,
 }
 
-/// A change of the kept part: an event makes at most one.
+/// A change of the kept part; an event makes at most one.
 #[derive(Drop)]
 pub enum Change<V> {
     /// The round last begun.
     Round(u64),
     /// The ballot promised.
     Promise(Ballot),
-    /// An accepted entry, with its ballot as promise.
+    /// An accepted entry; its ballot becomes the promise.
     Entry { slot: u32, held: Held<V> },
 }

@@ -1,4 +1,4 @@
-//! What a proposer proposes once a quorum is heard: at each slot the value of the highest ballot reported there.
+//! The proposals of a new leader: at each slot the value of the highest ballot reported there.
 ghost use Rattle.std.specs.Prelude.{◌≡◌, ◌<◌, ◌≤◌, ◌+◌, ◌-◌, ◌++◌, [], ◌∷◌, ℕ, List, Option, Some, None, max, min, map, length, OnOk, IfOk, slice_index_or};
 ghost use Rattle.std.specs.List.{AllByRecursion};
 ghost use Rattle.slots.specs.declared.slots.TheConstants.{SLOTS};
@@ -13,7 +13,7 @@ ghost use Rattle.synod.specs.Heights.{all_of, AreHighest, some_of, IsLead};
 
 use crate::ballot::Ballot;
 use crate::packet::{Packet, SlotReport};
-use crate::posts::{Said, post_to_all};
+use crate::posts::{Broadcast, post_broadcast};
 use crate::promise_pages::PagesWith;
 use crate::proposer::Heard;
 use crate::value::{Value, copy_value};
@@ -21,7 +21,7 @@ use crate::weights::Weights;
 use slots::SLOTS;
 use std::alloc::{AllocError, Global};
 
-/// One above the greatest slot of the reports, or `above` where that is greater.
+/// Returns one above the greatest slot of the reports, or `above` if that is greater.
 fn above_page<V>(above: u32, reports: &[SlotReport<V>]) -> u32
     requires { AllByRecursion IsReport reports.now }
     ensures { result ≡ max above (above_all reports.now) }
@@ -33,7 +33,7 @@ fn above_page<V>(above: u32, reports: &[SlotReport<V>]) -> u32
     most
 }
 
-/// One above the greatest slot reported, or `first` where none is.
+/// Returns one above the greatest slot reported, or `first` if none is.
 fn top_of_reports<V>(first: u32, pages: &[&[SlotReport<V>]]) -> u32
     requires { AllByRecursion IsReport (all_of pages.now) }
     ensures { result ≡ top_reported first (all_of pages.now) }
@@ -45,7 +45,7 @@ fn top_of_reports<V>(first: u32, pages: &[&[SlotReport<V>]]) -> u32
     if above == 0 { first } else { above }
 }
 
-/// Keeps a report where it is higher than what the table has at its slot.
+/// Enters a report in the table if its ballot is higher than the one at its slot.
 fn keep_report<'a, V>(
     table: &mut Vec<Option<&'a SlotReport<V>>>,
     first: u32,
@@ -70,7 +70,7 @@ fn keep_report<'a, V>(
     }
 }
 
-/// Keeps the reports of a page that are higher.
+/// Enters the reports of a page.
 fn keep_page<'a, V>(
     table: &mut Vec<Option<&'a SlotReport<V>>>,
     first: u32,
@@ -84,7 +84,7 @@ fn keep_page<'a, V>(
     }
 }
 
-/// The highest report of each slot from `first` to below `top`, of all pages.
+/// Returns the report of the highest ballot at each slot from `first` to `top`, of all pages.
 fn highest_reports<'a, V>(
     alloc: Global,
     first: u32,
@@ -104,7 +104,7 @@ fn highest_reports<'a, V>(
     Ok(table)
 }
 
-/// The value that is proposed at a slot: that of its highest report, or the no-operation.
+/// Returns the value to propose at a slot: that of its highest report, or the no-operation.
 fn value_of<V: Value>(highest: Option<&SlotReport<V>>) -> Result<Option<V>, AllocError>
     ensures { IfOk result (λ value. value ≡ reported_value (option_copied highest.entry)) }
 {
@@ -114,7 +114,7 @@ fn value_of<V: Value>(highest: Option<&SlotReport<V>>) -> Result<Option<V>, Allo
     }
 }
 
-/// An Accept to all for each slot from `first` to below `top`, with the value of the highest report.
+/// Appends an Accept to all for each slot from `first` to `top`, with the value of the highest report.
 fn fill_posts<V: Value>(
     alloc: Global,
     posts: &mut Vec<Packet<V>>,
@@ -131,18 +131,18 @@ fn fill_posts<V: Value>(
     let mut slot = first;
     for highest in &table {
         let value = value_of(*highest)?;
-        let said = Said::Accept {
+        let message = Broadcast::Accept {
             ballot,
             slot,
             value: &value,
         };
-        post_to_all(posts, me, weights, &said)?;
+        post_broadcast(posts, me, weights, &message)?;
         slot += 1;
     }
     Ok(())
 }
 
-/// Adds the first pages of a node, in order.
+/// Appends the first `count` pages of a node, in order.
 fn add_pages<'a, V: Drop>(
     all: &mut Vec<&'a [SlotReport<V>]>,
     pages: &'a PagesWith<'a, V>,
@@ -160,7 +160,7 @@ fn add_pages<'a, V: Drop>(
     Ok(())
 }
 
-/// The reports of all nodes heard, page by page, the first heard first.
+/// Returns the pages of all nodes heard, the first heard first.
 fn heard_pages<'a, V: Drop>(
     alloc: Global,
     pages: &'a PagesWith<'a, V>,
@@ -176,7 +176,7 @@ fn heard_pages<'a, V: Drop>(
     Ok(all)
 }
 
-/// An Accept to all for each value that waits, from slot `top` on.
+/// Appends an Accept to all for each waiting value, from slot `top` on.
 fn post_waiting<V: Value>(
     posts: &mut Vec<Packet<V>>,
     me: u8,
@@ -191,25 +191,25 @@ fn post_waiting<V: Value>(
     let mut slot = top;
     for value in waiting {
         let value = Some(value.copy()?);
-        let said = Said::Accept {
+        let message = Broadcast::Accept {
             ballot,
             slot,
             value: &value,
         };
-        post_to_all(posts, me, weights, &said)?;
+        post_broadcast(posts, me, weights, &message)?;
         slot += 1;
     }
     Ok(())
 }
 
-/// The lesser of two counts.
+/// Returns the lesser of two counts.
 fn lesser(a: usize, b: usize) -> usize
     ensures { result ≡ min a b }
 {
     std::cmp::min(a, b)
 }
 
-/// What a proposer posts once it leads, its next slot, and how many that waited are proposed.
+/// The posts of a new leader, its next slot, and the number of waiting values that it proposes.
 #[derive(Drop)]
 pub(crate) struct Lead<V> {
     pub posts: Vec<Packet<V>>,
@@ -217,8 +217,10 @@ pub(crate) struct Lead<V> {
     pub taken: usize,
 }
 
-/// The proposals of a proposer that has heard a quorum: what was reported goes to the slots from `first`
-/// on, and what waits to those after, while slots are left.
+/// Returns the proposals of a new leader: reported values at the slots from `first` on, then waiting
+/// values while slots are left.
+///
+/// Cost: the reports, the slots from `first` to the greatest one reported, and the posts.
 pub(crate) fn lead_posts<V: Value>(
     alloc: Global,
     me: u8,

@@ -1,16 +1,17 @@
 //! One node of the agreement: proposer, acceptor and learner at once.
 //!
-//! `NodeCore` makes exactly the steps of Multi-Paxos: each call's contract cites the definition of its
-//! step in `specs/Step.antt`, with the packets that it posts and the refusal that it meets. A step is made
-//! ready first, which may find no memory and changes nothing, and then committed, which takes none.
+//! `NodeCore` takes the steps of Multi-Paxos: the contract of each call cites the definition of its step in
+//! `specs/Step.antt`, with the packets that it posts and the refusal that it meets. A step is staged first:
+//! that allocates, may fail and changes nothing. Then it is committed, which does not allocate.
 //!
 //! Reading order: `value`, `weights`, `ballot`, `packet`, `change`, `record`, `keep`; `proposer` with `promise_pages` and
-//! `leading`, `learner`, `promise` and `posts`; `refusal`, `ready`, `node`.
+//! `leading`, `tally`, `later_tallies`, `learner`, `promise` and `posts`; `refusal`, `ready`, `node`.
 #![tactic(auto)]
 
 mod ballot;
 mod change;
 mod keep;
+mod later_tallies;
 mod leading;
 mod learner;
 mod node;
@@ -22,18 +23,19 @@ mod proposer;
 mod ready;
 mod record;
 mod refusal;
+mod tally;
 mod value;
 mod weights;
 
 pub use ballot::Ballot;
 pub use change::{Change, Held};
 pub use keep::{Failed, Keep};
-pub use learner::{Tallies, Tally};
 pub use node::NodeCore;
 pub use packet::{Body, MOST_PAGES, PAGE_REPORTS, Packet, Reports, SlotReport};
 pub use proposer::{Heard, MOST_WAITING, Role};
 pub use ready::Ready;
 pub use record::Record;
 pub use refusal::Refusal;
+pub use tally::Tally;
 pub use value::{MOST_BYTES, Value, copy_value};
 pub use weights::{MOST_NODES, MOST_WEIGHT, Weights};

@@ -10,9 +10,9 @@ mod proposing;
 use crate::ballot::Ballot;
 use crate::learner::Learner;
 use crate::packet::{Body, Packet};
-use crate::posts::{Said, post_to_others};
+use crate::posts::{Broadcast, post_broadcast};
 use crate::proposer::{MOST_WAITING, Proposer, Role};
-use crate::ready::{Plan, Ready};
+use crate::ready::{Ready, StagedStep};
 use crate::record::Record;
 use crate::refusal::Refusal;
 use crate::value::{MOST_BYTES, Value, copy_value};
@@ -21,7 +21,7 @@ use slots::SLOTS;
 use std::alloc::{AllocError, Global};
 use std::marker::Model;
 
-/// One node of the agreement, generic over the values that are agreed upon.
+/// One node of the agreement, generic over the values.
 ///
 /// Source: Lamport, Paxos Made Simple, 2 and 3; each call's step is in `specs/Step.antt`.
 #[derive(Drop)]
@@ -49,16 +49,16 @@ impl<V: Value> NodeCore<V> {
     ghost use Rattle.std.specs.Prelude.{slice_get};
     ghost use Rattle.synod.specs.Packets.{IsPacket, IsPost, IsBody, to_others};
     ghost use Rattle.synod.specs.declared.packet.Body.TheVariants.{Ask};
-    ghost use Rattle.synod.specs.Node.{new_node, unchanged};
+    ghost use Rattle.synod.specs.Node.{new_node, unchanged, answers};
     ghost use Rattle.synod.specs.Log.{log_of};
     ghost use Rattle.synod.specs.Proposer.{begun, offered, offer_waits};
     ghost use Rattle.synod.specs.Step.{IsNode, Keeps, on_body, on_packet, reloaded, restarted};
     ghost use Rattle.synod.specs.Refusals.{Makes};
-    ghost use Rattle.synod.specs.Ready.{Readies, IsReadyFor, planned, CanFollow};
+    ghost use Rattle.synod.specs.Ready.{Readies, IsReadyFor, staged_node, CanCommit};
     ghost use Rattle.synod.specs.Rooms.{HasAtLeast};
     ghost use Rattle.synod.specs.declared.refusal.Refusal.TheVariants.{Memory};
 
-    /// Node `me` of a world of such nodes. It takes no memory.
+    /// Creates node `me` of a world with these weights. It does not allocate.
     pub fn new(alloc: Global, me: u8, weights: Weights) -> Self
         requires { me < length weights }
         ensures { result.node ≡ new_node me weights }
@@ -74,7 +74,7 @@ impl<V: Value> NodeCore<V> {
         }
     }
 
-    /// How many nodes there are. This one is a node of them, and knows of no slot past the limit.
+    /// Returns the number of nodes, of which this is one.
     pub fn nodes(&self) -> u8
         ensures count { result ≡ length self.now.node.weights }
         ensures node { IsNode self.now.node }
@@ -82,7 +82,7 @@ impl<V: Value> NodeCore<V> {
         self.weights.count()
     }
 
-    /// Makes the growths of `begin`, or answers its refusal. The node stays.
+    /// Stages `begin`, or returns its refusal. The node is unchanged.
     pub fn ready_begin(&mut self) -> Result<Ready<V>, Refusal>
         ensures ready { Readies self.new (begun self.old.node) result }
         ensures node { self.new.node ≡ self.old.node }
@@ -100,7 +100,7 @@ impl<V: Value> NodeCore<V> {
         or_memory(self.ready_ballot(ballot))
     }
 
-    /// Makes the growths of `offer`, or answers its refusal. The node stays.
+    /// Stages `offer`, or returns its refusal. The node is unchanged.
     pub fn ready_offer(&mut self, value: V) -> Result<Ready<V>, Refusal>
         ensures ready { Readies self.new (offered V.bytes self.old.node value) result }
         ensures node { self.new.node ≡ self.old.node }
@@ -122,7 +122,7 @@ impl<V: Value> NodeCore<V> {
         }
     }
 
-    /// The same where the node does not lead.
+    /// Stages an offer to a node that does not lead.
     fn ready_offer_waiting(&mut self, value: V) -> Result<Ready<V>, Refusal>
         ensures ready { Readies self.new (offer_waits self.old.node value) result }
         ensures node { self.new.node ≡ self.old.node }
@@ -138,7 +138,7 @@ impl<V: Value> NodeCore<V> {
         or_memory(self.ready_waiting(value))
     }
 
-    /// Makes the growths of `on_packet`, or answers `Memory`. The node stays.
+    /// Stages `on_packet`, or returns `Memory`. The node is unchanged.
     pub fn ready_packet(&mut self, packet: &Packet<V>) -> Result<Ready<V>, Refusal>
         requires { IsPacket (length self.old.node.weights) packet.now }
         ensures ready { Readies self.new (Ok (on_packet self.old.node packet.now)) result }
@@ -150,7 +150,7 @@ impl<V: Value> NodeCore<V> {
         or_memory(self.ready_body(packet.from, &packet.body))
     }
 
-    /// The step of each body.
+    /// Stages the step of a body.
     fn ready_body(&mut self, from: u8, body: &Body<V>) -> Result<Ready<V>, AllocError>
         requires from { from < length self.old.node.weights }
         requires body { IsBody body.now }
@@ -183,22 +183,22 @@ impl<V: Value> NodeCore<V> {
         }
     }
 
-    /// Makes the step that was made ready, and gives its posts. It takes no memory. Other steps may have been made ready
-    /// since, and let go.
+    /// Commits a staged step, and returns its posts. It does not allocate. Other steps may have been staged since, and
+    /// dropped.
     pub fn commit(&mut self, ready: Ready<V>) -> Vec<Packet<V>>
         requires node { self.old.node ≡ ready.before.node }
         requires room { HasAtLeast ready.before self.old }
         ensures node { self.new.node ≡ ready.step.node }
         ensures posts { result.items ≡ ready.step.posts }
     {
-        let (plan, posts) = ready.into_plan();
-        self.record.change_by(plan.change);
-        self.proposer.propose(plan.proposal);
-        self.learner.learn(plan.lesson);
+        let (staged, posts) = ready.into_staged();
+        self.record.change_by(staged.change);
+        self.proposer.propose(staged.proposer);
+        self.learner.learn(staged.learner);
         posts
     }
 
-    /// Begins a ballot, and gives the posts. A refusal leaves the node as it was.
+    /// Begins a ballot, and returns the posts. After an error the node is unchanged.
     pub fn begin(&mut self) -> Result<Vec<Packet<V>>, Refusal>
         ensures makes { Makes self.old.node self.new.node (begun self.old.node) result }
         ensures posts { IfOk result (λ posts. AllByRecursion (IsPost (length self.old.node.weights)) posts.items) }
@@ -209,21 +209,29 @@ impl<V: Value> NodeCore<V> {
         }
     }
 
-    /// Nothing happens.
+    /// Stages a step that only posts.
+    pub(crate) fn ready_posts(&self, posts: Vec<Packet<V>>) -> Ready<V>
+        ensures { IsReadyFor self.now (answers self.now.node posts.items) result }
+    {
+        prove!(self.me < self.nodes());
+        let staged = StagedStep {
+            change: None,
+            proposer: None,
+            learner: None,
+        };
+        Ready::new(self, staged, posts)
+    }
+
+    /// Stages a step that does nothing.
     pub(crate) fn ready_nothing(&self) -> Ready<V>
         ensures { IsReadyFor self.now (unchanged self.now.node) result }
     {
-        let plan = Plan {
-            change: None,
-            proposal: None,
-            lesson: None,
-        };
-        Ready::new(self, plan, Vec::new(self.alloc))
+        self.ready_posts(Vec::new(self.alloc))
     }
 
-    /// Offers a value, and gives the posts. A refusal leaves the node as it was.
+    /// Offers a value, and returns the posts. After an error the node is unchanged.
     ///
-    /// Errors, of several the first: `TooLong`, `LogFull`, `Busy`, `Memory`.
+    /// Errors, the first that applies: `TooLong`, `LogFull`, `Busy`, `Memory`.
     pub fn offer(&mut self, value: V) -> Result<Vec<Packet<V>>, Refusal>
         ensures makes { Makes self.old.node self.new.node (offered V.bytes self.old.node value) result }
         ensures posts { IfOk result (λ posts. AllByRecursion (IsPost (length self.old.node.weights)) posts.items) }
@@ -234,7 +242,7 @@ impl<V: Value> NodeCore<V> {
         }
     }
 
-    /// Takes a packet, and gives the posts. Where it answers `Memory`, it is as if the packet were lost.
+    /// Takes a packet, and returns the posts. After `Memory` the node is unchanged, as if the packet were lost.
     ///
     /// Cost: the packet and the posts; a promise costs its reports.
     pub fn on_packet(&mut self, packet: &Packet<V>) -> Result<Vec<Packet<V>>, Refusal>
@@ -248,7 +256,7 @@ impl<V: Value> NodeCore<V> {
         }
     }
 
-    /// Entry `slot` of the log: what is learned there, where no gap is below.
+    /// Returns entry `slot` of the log: the value learned there, if no gap is below.
     pub fn entry(&self, slot: u32) -> Option<&Option<V>>
         ensures entry { MatchOption result (slice_get (log_of self.now.node) slot ≡ None) (λ entry. slice_get (log_of self.now.node) slot ≡ Some entry.now) }
         ensures below { IsSome result → slot < SLOTS }
@@ -260,9 +268,9 @@ impl<V: Value> NodeCore<V> {
         }
     }
 
-    /// The log: the learned entries of the slots from 0 to the first gap.
+    /// Returns the log: the learned entries of the slots from 0 to the first gap.
     ///
-    /// Cost: the log, each value copied once.
+    /// Cost: the log; each value is copied once.
     pub fn log(&self) -> Result<Vec<Option<V>>, AllocError>
         ensures { IfOk result (λ log. log.items ≡ log_of self.now.node) }
     {
@@ -277,7 +285,7 @@ impl<V: Value> NodeCore<V> {
         Ok(log)
     }
 
-    /// Makes the growths of a restart, or answers `Memory`: these are its posts, which ask for what may be missed.
+    /// Stages a restart, or returns `Memory`: the posts ask the others for missed entries.
     pub fn ready_restart(&self) -> Result<Vec<Packet<V>>, Refusal>
         ensures asks { IfOk result (λ posts. posts.items ≡ to_others self.now.node.me self.now.node.weights (Ask 0)) }
         ensures posts { IfOk result (λ posts. AllByRecursion (IsPost (length self.now.node.weights)) posts.items) }
@@ -289,7 +297,7 @@ impl<V: Value> NodeCore<V> {
         Ok(posts)
     }
 
-    /// Restarts, once that was made ready: the kept part stays, and all else is as at first. It takes no memory.
+    /// Commits a restart: the kept part stays, the rest is that of a new node. It does not allocate.
     pub fn commit_restart(&mut self)
         ensures { self.new.node ≡ (restarted self.old.node).node }
     {
@@ -297,7 +305,7 @@ impl<V: Value> NodeCore<V> {
         self.learner = Learner::new(self.alloc);
     }
 
-    /// The same with a loaded record as the kept part.
+    /// Commits a restart with a loaded record as the kept part. It does not allocate.
     pub fn commit_reload(&mut self, stored: Record<V>)
         ensures { self.new.node ≡ (reloaded self.old.node stored.kept).node }
     {
@@ -306,7 +314,7 @@ impl<V: Value> NodeCore<V> {
         self.commit_restart();
     }
 
-    /// Restarts: the kept part stays, and all else is as at first. The posts ask for what may be missed.
+    /// Restarts: the kept part stays, the rest is that of a new node. The posts ask the others for missed entries.
     pub fn restart(&mut self) -> Result<Vec<Packet<V>>, Refusal>
         ensures makes { Makes self.old.node self.new.node (Ok (restarted self.old.node)) result }
         ensures posts { IfOk result (λ posts. AllByRecursion (IsPost (length self.old.node.weights)) posts.items) }
@@ -326,18 +334,23 @@ impl<V: Value> NodeCore<V> {
         Ok(posts)
     }
 
-    /// The other nodes are asked for the first entry.
+    /// Returns the packets that ask all other nodes for the first entry.
     fn ask_all(&self) -> Result<Vec<Packet<V>>, AllocError>
         ensures asks { IfOk result (λ posts. posts.items ≡ to_others self.now.node.me self.now.node.weights (Ask 0)) }
         ensures posts { IfOk result (λ posts. AllByRecursion (IsPost (length self.now.node.weights)) posts.items) }
     {
         let mut posts = Vec::new(self.alloc);
-        post_to_others(&mut posts, self.me, &self.weights, &Said::Ask { slot: 0 })?;
+        post_broadcast(
+            &mut posts,
+            self.me,
+            &self.weights,
+            &Broadcast::Ask { slot: 0 },
+        )?;
         Ok(posts)
     }
 }
 
-/// The answer, where only a growth can be refused.
+/// Turns a failed allocation into `Memory`.
 fn or_memory<T>(answer: Result<T, AllocError>) -> Result<T, Refusal>
     ensures ok { (made : T) → answer ≡ Ok made → result ≡ Ok made }
     ensures err { (failed : AllocError) → answer ≡ Err failed → result ≡ Err Refusal.Memory }

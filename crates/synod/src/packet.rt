@@ -1,4 +1,4 @@
-//! What the nodes send one another.
+//! The packets that nodes send one another.
 ghost use Rattle.std.specs.Prelude.{◌≡◌, IfOk};
 
 use crate::ballot::Ballot;
@@ -6,13 +6,13 @@ use crate::value::{Value, copy_value};
 use std::alloc::{AllocError, Global};
 use std::marker::Model;
 
-/// The reports of a full page of a promise.
+/// The number of reports in a full page of a promise.
 pub const PAGE_REPORTS: usize = 256;
 
-/// The pages of one promise: as many as all slots fill.
+/// The most pages of one promise: enough to report every slot.
 pub const MOST_PAGES: u32 = 4096;
 
-/// What an acceptor had accepted at a slot. A value of `None` is the no-operation.
+/// The entry that an acceptor accepted at a slot; a value of `None` is the no-operation.
 #[derive(Drop)]
 pub struct SlotReport<V> {
     pub slot: u32,
@@ -20,7 +20,7 @@ pub struct SlotReport<V> {
     pub value: Option<V>,
 }
 
-/// The reports of one page, seen as their list.
+/// The reports of one page; contracts see the list.
 #[derive(Drop)]
 pub struct Reports<V> {
     all: Vec<SlotReport<V>>,
@@ -38,21 +38,21 @@ impl<V> Model for Reports<V> {
 impl<V> Reports<V> {
     ghost use Rattle.std.specs.Prelude.{◌≡◌};
 
-    /// The reports of a list. It takes no memory.
+    /// Wraps a list of reports. It does not allocate.
     pub fn new(all: Vec<SlotReport<V>>) -> Self
         ensures { result ≡ all.items }
     {
         Reports { all }
     }
 
-    /// The list once more. It takes no memory.
+    /// Returns the list. It does not allocate.
     pub fn into_vec(self) -> Vec<SlotReport<V>>
         ensures { result.items ≡ self }
     {
         self.all
     }
 
-    /// The reports, in order of slots.
+    /// Returns the reports, in order of slots.
     pub fn as_slice(&self) -> &[SlotReport<V>]
         ensures { result.now ≡ self.now }
     {
@@ -60,7 +60,7 @@ impl<V> Reports<V> {
     }
 }
 
-/// The same reports once more: each value is copied once.
+/// Returns a copy of the reports; each value is copied once.
 pub(crate) fn copy_reports<V: Value>(
     alloc: Global,
     reports: &Reports<V>,
@@ -79,13 +79,13 @@ pub(crate) fn copy_reports<V: Value>(
     Ok(Reports::new(all))
 }
 
-/// What a packet says.
+/// The message of a packet.
 ///
-/// Source: Lamport, Paxos Made Simple, 2.2 and 2.3. `Nack` tells a refused proposer of the promise, and
-/// `Ask` and `Told` hand on what is learned.
+/// Source: Lamport, Paxos Made Simple, 2.2 and 2.3. `Nack` tells a proposer of the promise that refused it;
+/// `Ask` and `Told` pass on learned values.
 #[derive(Drop)]
 pub enum Body<V> {
-    /// Phase 1(a), for all slots from `first` on.
+    /// Phase 1(a), for every slot from `first` on.
     Prepare {
         ballot: Ballot,
         first: u32,
@@ -109,23 +109,23 @@ pub enum Body<V> {
         slot: u32,
         value: Option<V>,
     },
-    /// The ballot that is refused, and the promise against it.
+    /// The refused ballot, and the promise that refused it.
     Nack {
         ballot: Ballot,
         promise: Ballot,
     },
-    /// A learner asks what was chosen at a slot.
+    /// A learner asks for the value chosen at a slot.
     Ask {
         slot: u32,
     },
-    /// What was chosen there.
+    /// The value chosen at the slot.
     Told {
         slot: u32,
         value: Option<V>,
     },
 }
 
-/// A packet, and whom it is from and for.
+/// A packet with its sender and its receiver.
 #[derive(Drop)]
 pub struct Packet<V> {
     pub from: u8,

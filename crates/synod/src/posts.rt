@@ -1,7 +1,7 @@
-//! Packets to several nodes, one after another.
+//! Packets to several nodes, in the order of the nodes.
 ghost use Rattle.std.specs.Prelude.{◌≡◌, ◌++◌, [], ◌∷◌, IfOk, OnOk};
-ghost use Rattle.synod.specs.Packets.{packet, to_all, to_others};
-ghost use Rattle.synod.specs.Said.{body_of, to_other};
+ghost use Rattle.synod.specs.Packets.{packet};
+ghost use Rattle.synod.specs.Broadcast.{body_of, is_ask, to_node, broadcast_posts};
 
 use crate::ballot::Ballot;
 use crate::packet::{Body, Packet};
@@ -9,9 +9,9 @@ use crate::value::{Value, copy_value};
 use crate::weights::Weights;
 use std::alloc::AllocError;
 
-/// What is said to several nodes. A value is copied once for each packet.
+/// A message to all nodes, the sender among them, or an Ask to all others. Each packet has its own copy of the value.
 #[derive(Drop)]
-pub enum Said<'a, V> {
+pub enum Broadcast<'a, V> {
     Prepare {
         ballot: Ballot,
         first: u32,
@@ -31,16 +31,28 @@ pub enum Said<'a, V> {
     },
 }
 
-/// The body of one packet that says it.
-fn make_body<V: Value>(said: &Said<V>) -> Result<Body<V>, AllocError>
-    ensures { IfOk result (λ body. body ≡ body_of said.now) }
+impl<V> Broadcast<'_, V> {
+    /// Returns whether it is an Ask, which the sender does not get.
+    fn is_ask(&self) -> bool
+        ensures { result ≡ is_ask self.now }
+    {
+        match self {
+            Broadcast::Ask { .. } => true,
+            _ => false,
+        }
+    }
+}
+
+/// Returns the body of one packet.
+fn make_body<V: Value>(message: &Broadcast<V>) -> Result<Body<V>, AllocError>
+    ensures { IfOk result (λ body. body ≡ body_of message.now) }
 {
-    match said {
-        Said::Prepare { ballot, first } => Ok(Body::Prepare {
+    match message {
+        Broadcast::Prepare { ballot, first } => Ok(Body::Prepare {
             ballot: *ballot,
             first: *first,
         }),
-        Said::Accept {
+        Broadcast::Accept {
             ballot,
             slot,
             value,
@@ -49,7 +61,7 @@ fn make_body<V: Value>(said: &Said<V>) -> Result<Body<V>, AllocError>
             slot: *slot,
             value: copy_value(value)?,
         }),
-        Said::Accepted {
+        Broadcast::Accepted {
             ballot,
             slot,
             value,
@@ -58,71 +70,58 @@ fn make_body<V: Value>(said: &Said<V>) -> Result<Body<V>, AllocError>
             slot: *slot,
             value: copy_value(value)?,
         }),
-        Said::Ask { slot } => Ok(Body::Ask { slot: *slot }),
+        Broadcast::Ask { slot } => Ok(Body::Ask { slot: *slot }),
     }
 }
 
-/// One packet.
-pub(crate) fn post<V: Value>(
+/// Appends one packet.
+fn post<V: Value>(
     posts: &mut Vec<Packet<V>>,
     from: u8,
     to: u8,
-    said: &Said<V>,
+    message: &Broadcast<V>,
 ) -> Result<(), AllocError>
-    ensures { OnOk result (posts.new.items ≡ posts.old.items ++ packet from to (body_of said.now) ∷ []) }
+    ensures { OnOk result (posts.new.items ≡ posts.old.items ++ packet from to (body_of message.now) ∷ []) }
 {
-    let body = make_body(said)?;
+    let body = make_body(message)?;
     posts.push(Packet { from, to, body })?;
     Ok(())
 }
 
-/// One packet, unless it were to its sender.
-fn post_to_other<V: Value>(
+/// Appends the packet for one node, unless the node would ask itself.
+fn post_to_node<V: Value>(
     posts: &mut Vec<Packet<V>>,
     from: u8,
     to: u8,
-    said: &Said<V>,
+    message: &Broadcast<V>,
 ) -> Result<(), AllocError>
-    ensures { OnOk result (posts.new.items ≡ posts.old.items ++ to_other from to (body_of said.now)) }
+    ensures { OnOk result (posts.new.items ≡ posts.old.items ++ to_node (is_ask message.now) from to (body_of message.now)) }
 {
+    if !message.is_ask() {
+        return post(posts, from, to, message);
+    }
     if to == from {
         Ok(())
     } else {
-        post(posts, from, to, said)
+        post(posts, from, to, message)
     }
 }
 
-/// One packet to each node, the sender among them.
-pub(crate) fn post_to_all<V: Value>(
+/// Appends the packets of a message, one for each node that it is for.
+///
+/// Cost: the packets.
+pub(crate) fn post_broadcast<V: Value>(
     posts: &mut Vec<Packet<V>>,
     me: u8,
     weights: &Weights,
-    said: &Said<V>,
+    message: &Broadcast<V>,
 ) -> Result<(), AllocError>
-    ensures { OnOk result (posts.new.items ≡ posts.old.items ++ to_all me weights.now (body_of said.now)) }
+    ensures { OnOk result (posts.new.items ≡ posts.old.items ++ broadcast_posts me weights.now message.now) }
 {
     let places = weights.as_slice();
     let mut to = 0u8;
     for _place in places {
-        post(posts, me, to, said)?;
-        to += 1;
-    }
-    Ok(())
-}
-
-/// One packet to each node but the sender.
-pub(crate) fn post_to_others<V: Value>(
-    posts: &mut Vec<Packet<V>>,
-    me: u8,
-    weights: &Weights,
-    said: &Said<V>,
-) -> Result<(), AllocError>
-    ensures { OnOk result (posts.new.items ≡ posts.old.items ++ to_others me weights.now (body_of said.now)) }
-{
-    let places = weights.as_slice();
-    let mut to = 0u8;
-    for _place in places {
-        post_to_other(posts, me, to, said)?;
+        post_to_node(posts, me, to, message)?;
         to += 1;
     }
     Ok(())

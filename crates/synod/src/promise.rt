@@ -1,4 +1,4 @@
-//! What a promise reports: the accepted entries from a slot on, in pages.
+//! The reports of a promise: the accepted entries from a slot on, in pages.
 ghost use Rattle.std.specs.Prelude.{◌≡◌, ◌≤◌, ◌<◌, IfOk, length};
 ghost use Rattle.slots.specs.declared.slots.TheConstants.{SLOTS};
 ghost use Rattle.synod.specs.declared.packet.TheConstants.{MOST_PAGES};
@@ -11,7 +11,7 @@ use crate::record::Record;
 use crate::value::{Value, copy_value};
 use std::alloc::{AllocError, Global};
 
-/// The reports of the entries from `first` on, in order of slots, cut into pages.
+/// Returns the reports of the entries from `first` on, in order of slots, cut into pages.
 fn report_pages<V: Value>(
     alloc: Global,
     stored: &Record<V>,
@@ -39,7 +39,7 @@ fn report_pages<V: Value>(
     Ok(pages)
 }
 
-/// The packets of a promise, a page each.
+/// Returns the packets of a promise, one for each page.
 fn post_pages<V: Value>(
     alloc: Global,
     me: u8,
@@ -69,7 +69,9 @@ fn post_pages<V: Value>(
     Ok(posts)
 }
 
-/// The packets of a promise: what was accepted from `first` on, in pages.
+/// Returns the packets of a promise: the entries accepted from `first` on, in pages.
+///
+/// Cost: the slots from `first` to the top of the record, and the reports.
 pub(crate) fn promise_posts<V: Value>(
     alloc: Global,
     stored: &Record<V>,

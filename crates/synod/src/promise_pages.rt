@@ -1,4 +1,4 @@
-//! The pages of promises that a proposer has, by node and then by page, from 0.
+//! The pages of promises that a proposer has received, by node and then by page, from 0.
 ghost use Rattle.std.specs.Prelude.{◌≡◌, ◌<◌, ◌≤◌, List, OnOk, IfOk, Some, None, MatchOption, length, slice_index_or};
 ghost use Rattle.slots.specs.declared.slots.TheConstants.{SLOTS};
 ghost use Rattle.slots.specs.FiniteMap.{entry_at, put_at, front_of};
@@ -13,7 +13,7 @@ use slots::Slots;
 use std::alloc::{AllocError, Global};
 use std::marker::Model;
 
-/// The pages had: a finite map for each node.
+/// The received pages: a finite map for each node.
 #[derive(Drop)]
 pub struct PagesHad<V> {
     by_node: Vec<Slots<Reports<V>>>,
@@ -32,7 +32,7 @@ impl<V> Model for PagesHad<V> {
 impl<V: Drop> PagesHad<V> {
     ghost use Rattle.std.specs.Prelude.{[]};
 
-    /// No pages, and no room for one. It takes no memory.
+    /// Creates a map for no node. It does not allocate.
     pub(crate) fn none(alloc: Global) -> Self
         ensures { result ≡ [] }
     {
@@ -41,7 +41,7 @@ impl<V: Drop> PagesHad<V> {
         }
     }
 
-    /// No page was had of any node.
+    /// Creates an empty map for each node.
     pub(crate) fn of_nodes(alloc: Global, weights: &Weights) -> Result<Self, AllocError>
         ensures { IfOk result (λ pages. entries_of pages ≡ no_pages weights.now) }
     {
@@ -52,7 +52,7 @@ impl<V: Drop> PagesHad<V> {
         Ok(PagesHad { by_node })
     }
 
-    /// Makes room for a page. The pages stay.
+    /// Reserves room for a page. The pages are unchanged.
     pub(crate) fn room(&mut self, node: u8, page: u32) -> Result<(), AllocError>
         requires node { node < length self.old }
         requires page { page < SLOTS }
@@ -64,7 +64,7 @@ impl<V: Drop> PagesHad<V> {
         pages.room(page)
     }
 
-    /// Puts a page. It takes no memory.
+    /// Adds a page. It does not allocate.
     pub(crate) fn put(&mut self, node: u8, page: u32, reports: Reports<V>)
         requires { page < slice_index_or (rooms_of self.old) node 0 }
         ensures { entries_of self.new ≡ put_page (entries_of self.old) node page reports }
@@ -73,7 +73,7 @@ impl<V: Drop> PagesHad<V> {
         pages.put(page, reports);
     }
 
-    /// The page of a node, where it was had.
+    /// Returns a page of a node, or `None` if it was not received.
     pub(crate) fn get(&self, node: u8, page: u32) -> Option<&Reports<V>>
         ensures { MatchOption result (page_of (entries_of self.now) node page ≡ None) (λ reports. page_of (entries_of self.now) node page ≡ Some reports.now) }
     {
@@ -83,7 +83,7 @@ impl<V: Drop> PagesHad<V> {
         }
     }
 
-    /// The first page of a node that was not had.
+    /// Returns the first page of a node that is missing.
     pub(crate) fn front(&self, node: u8) -> u32
         ensures { result ≡ front_of (pages_from (entries_of self.now) node) }
     {
@@ -93,14 +93,14 @@ impl<V: Drop> PagesHad<V> {
         }
     }
 
-    /// How many nodes it has pages for.
+    /// Returns the number of maps.
     pub(crate) fn nodes(&self) -> usize
         ensures { result ≡ length self.now }
     {
         self.by_node.len()
     }
 
-    /// The first page of a node that is not had once a page is put.
+    /// Returns the first page of a node that is missing once `page` is added.
     pub(crate) fn front_with(&self, node: u8, page: u32) -> u32
         requires node { node < length self.now }
         requires page { page < SLOTS }
@@ -111,7 +111,7 @@ impl<V: Drop> PagesHad<V> {
     }
 }
 
-/// The first page of a node that is not had once a page is kept there.
+/// Returns the first page of a node that is missing once `page` is received, perhaps again.
 pub(crate) fn front_after<V: Drop>(pages: &PagesHad<V>, node: u8, page: u32) -> u32
     requires node { node < length pages.now }
     requires page { page < SLOTS }
@@ -124,7 +124,7 @@ pub(crate) fn front_after<V: Drop>(pages: &PagesHad<V>, node: u8, page: u32) -> 
     }
 }
 
-/// The pages had, with the one just delivered.
+/// The received pages, with the one just delivered.
 #[derive(Drop)]
 pub struct PagesWith<'a, V> {
     pub pages: &'a PagesHad<V>,
@@ -136,7 +136,7 @@ pub struct PagesWith<'a, V> {
 impl<V: Drop> PagesWith<'_, V> {
     ghost use Rattle.synod.specs.Stored.PagesHad.{pages_with};
 
-    /// The page of a node, where it was had or is the one delivered.
+    /// Returns a page of a node, or `None` if it was neither received before nor just delivered.
     pub(crate) fn get(&self, node: u8, page: u32) -> Option<&Reports<V>>
         requires { self.now.node < length self.now.pages.now }
         ensures { MatchOption result (page_of (pages_with self.now) node page ≡ None) (λ reports. page_of (pages_with self.now) node page ≡ Some reports.now) }

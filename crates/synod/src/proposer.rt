@@ -1,4 +1,4 @@
-//! The proposer: its role, whom it has heard, and what waits.
+//! The proposer: its role, the promises that it has received, and the waiting values.
 ghost use Rattle.std.specs.Prelude.{◌≡◌, ◌<◌, ◌≤◌, ℕ, OnOk, IfOk, false, length, slice_index_or};
 
 use crate::ballot::Ballot;
@@ -8,7 +8,7 @@ use crate::weights::MOST_NODES;
 use std::alloc::{AllocError, Global};
 use std::marker::Model;
 
-/// The values that may wait at a node.
+/// The most values that may wait at a node.
 pub const MOST_WAITING: usize = 64;
 
 /// The role of a proposer.
@@ -16,18 +16,18 @@ pub const MOST_WAITING: usize = 64;
 /// Source: Lamport, Paxos Made Simple, 2.2 (its two phases) and 2.4 (a distinguished proposer).
 #[derive(Clone, Copy, PartialEq, Eq)]
 pub enum Role {
-    /// At no ballot.
+    /// It has no ballot.
     Idle,
-    /// Its prepare is out, for all slots from `first` on.
+    /// It has sent Prepare for every slot from `first` on.
     Preparing { ballot: Ballot, first: u32 },
-    /// A quorum promised its ballot: it proposes at slot `next`.
+    /// A quorum has promised its ballot; `next` is the slot of its next proposal.
     Leading { ballot: Ballot, next: u32 },
 }
 
 impl Role {
     ghost use Rattle.synod.specs.Proposer.{is_at};
 
-    /// Whether it prepares or leads at a ballot.
+    /// Returns whether it prepares or leads at `ballot`.
     pub fn is_at(self, ballot: Ballot) -> bool
         ensures { result ≡ is_at self ballot }
     {
@@ -40,50 +40,50 @@ impl Role {
     }
 }
 
-/// A node that is heard, with the count of its promise's pages.
+/// A node whose promise is complete, with the number of its pages.
 #[derive(Clone, Copy, PartialEq, Eq)]
 pub struct Heard {
     pub node: u8,
     pub count: u32,
 }
 
-/// What a step makes a proposer do.
+/// The change that a step makes of a proposer.
 #[derive(Drop)]
-pub enum Proposal<V> {
-    /// A value waits.
+pub enum ProposerUpdate<V> {
+    /// A value joins the waiting ones.
     Wait(V),
-    /// It proposes at the slot below `next`.
+    /// It proposed at the slot before `next`.
     Propose {
         ballot: Ballot,
         next: u32,
     },
-    /// It prepares a ballot.
+    /// It begins a ballot, with empty maps of pages.
     Begin {
         ballot: Ballot,
         first: u32,
         pages: PagesHad<V>,
     },
-    /// It keeps a page.
+    /// A page of a promise came.
     Page {
         node: u8,
         page: u32,
         reports: Reports<V>,
     },
-    /// It has heard a node, whose pages it has.
+    /// A promise is complete, whose pages it had.
     Hear(Heard),
-    /// It keeps the last page of a node, which it has heard with it.
-    HearPage {
+    /// The page that completes a promise came.
+    CompletePromise {
         heard: Heard,
         page: u32,
         reports: Reports<V>,
     },
-    /// It leads, and some that waited are proposed.
+    /// It leads, and has proposed the first `taken` waiting values.
     Lead {
         ballot: Ballot,
         next: u32,
         taken: usize,
     },
-    /// It gives its ballot up.
+    /// It gives up its ballot.
     Idle,
 }
 
@@ -117,10 +117,10 @@ impl<V: Drop> Proposer<V> {
     ghost use Rattle.synod.specs.declared.proposer.Role.TheVariants.{Idle};
     ghost use Rattle.slots.specs.declared.slots.TheConstants.{SLOTS};
     ghost use Rattle.synod.specs.Stored.PagesHad.{entries_of, rooms_of};
-    ghost use Rattle.synod.specs.Plans.{proposed, HasRoomToPropose};
+    ghost use Rattle.synod.specs.Updates.{proposer_after, CanUpdateProposer};
     ghost use Rattle.synod.specs.Rooms.{RoomsGrow};
 
-    /// At no ballot, with nothing heard and nothing waiting. It takes no memory.
+    /// Creates an idle proposer. It does not allocate.
     pub(crate) fn new(alloc: Global) -> Self
         ensures role { result.state.role ≡ Idle }
         ensures pages { result.state.pages ≡ [] }
@@ -136,28 +136,28 @@ impl<V: Drop> Proposer<V> {
         }
     }
 
-    /// Its role.
+    /// Returns the role.
     pub(crate) fn role(&self) -> Role
         ensures { result ≡ self.now.state.role }
     {
         self.role
     }
 
-    /// What waits, the first in first.
+    /// Returns the waiting values, the oldest first.
     pub(crate) fn waiting(&self) -> &[V]
         ensures { result.now ≡ self.now.state.waiting }
     {
         self.waiting.as_slice()
     }
 
-    /// The nodes heard, the first heard first.
+    /// Returns the nodes whose promises are complete, in the order in which they were.
     pub(crate) fn heard(&self) -> &[Heard]
         ensures { result.now ≡ self.now.state.heard }
     {
         self.heard.as_slice()
     }
 
-    /// The pages had.
+    /// Returns the received pages.
     pub(crate) fn pages(&self) -> &PagesHad<V>
         ensures pages { entries_of result.now ≡ self.now.state.pages }
         ensures rooms { rooms_of result.now ≡ self.now.page_rooms }
@@ -165,7 +165,7 @@ impl<V: Drop> Proposer<V> {
         &self.pages
     }
 
-    /// Makes room for a page.
+    /// Reserves room for a page.
     pub(crate) fn room_for_page(&mut self, node: u8, page: u32) -> Result<(), AllocError>
         requires node { node < length self.old.state.pages }
         requires page { page < SLOTS }
@@ -178,7 +178,7 @@ impl<V: Drop> Proposer<V> {
         self.pages.room(node, page)
     }
 
-    /// Makes room for a value that waits.
+    /// Reserves room for a waiting value.
     pub(crate) fn room_to_wait(&mut self) -> Result<(), AllocError>
         ensures ok { OnOk result (length self.new.state.waiting < self.new.waiting_room) }
         ensures state { self.new.state ≡ self.old.state }
@@ -189,7 +189,7 @@ impl<V: Drop> Proposer<V> {
         self.waiting.reserve(1)
     }
 
-    /// Makes room for a node that is heard.
+    /// Reserves room for a node whose promise is complete.
     pub(crate) fn room_to_hear(&mut self) -> Result<(), AllocError>
         ensures ok { OnOk result (length self.new.state.heard < self.new.heard_room) }
         ensures state { self.new.state ≡ self.old.state }
@@ -200,16 +200,19 @@ impl<V: Drop> Proposer<V> {
         self.heard.reserve(1)
     }
 
-    /// Does what is proposed, if anything is. It takes no memory.
-    pub(crate) fn propose(&mut self, proposal: Option<Proposal<V>>)
-        requires { HasRoomToPropose self.old proposal }
-        ensures { self.new.state ≡ proposed self.old.state proposal }
+    /// Applies an update, if there is one. It does not allocate.
+    pub(crate) fn propose(&mut self, update: Option<ProposerUpdate<V>>)
+        requires { CanUpdateProposer self.old update }
+        ensures { self.new.state ≡ proposer_after self.old.state update }
     {
-        match proposal {
-            Some(Proposal::Wait(value)) => self.waiting.push_reserved(value),
-            Some(Proposal::Propose { ballot, next }) => self.role = Role::Leading { ballot, next },
+        match update {
+            Some(ProposerUpdate::Wait(value)) => self.waiting.push_reserved(value),
+            Some(ProposerUpdate::Propose { ballot, next }) => self.role = Role::Leading {
+                ballot,
+                next,
+            },
             Some(
-                Proposal::Begin {
+                ProposerUpdate::Begin {
                     ballot,
                     first,
                     pages,
@@ -220,15 +223,15 @@ impl<V: Drop> Proposer<V> {
                 self.heard.clear();
             }
             Some(
-                Proposal::Page {
+                ProposerUpdate::Page {
                     node,
                     page,
                     reports,
                 },
             ) => self.pages.put(node, page, reports),
-            Some(Proposal::Hear(heard)) => self.heard.push_reserved(heard),
+            Some(ProposerUpdate::Hear(heard)) => self.heard.push_reserved(heard),
             Some(
-                Proposal::HearPage {
+                ProposerUpdate::CompletePromise {
                     heard,
                     page,
                     reports,
@@ -238,7 +241,7 @@ impl<V: Drop> Proposer<V> {
                 self.heard.push_reserved(heard);
             }
             Some(
-                Proposal::Lead {
+                ProposerUpdate::Lead {
                     ballot,
                     next,
                     taken,
@@ -249,7 +252,7 @@ impl<V: Drop> Proposer<V> {
                 self.heard.clear();
                 self.waiting.drain(..taken);
             }
-            Some(Proposal::Idle) => self.role = Role::Idle,
+            Some(ProposerUpdate::Idle) => self.role = Role::Idle,
             None => {}
         }
     }
@@ -257,7 +260,7 @@ impl<V: Drop> Proposer<V> {
 
 ghost use Rattle.synod.specs.Node.{is_heard};
 
-/// Whether a node is among those heard.
+/// Returns whether a node is among those heard.
 pub(crate) fn is_heard(heard: &[Heard], node: u8) -> bool
     ensures { result ≡ is_heard heard.now node }
 {
@@ -269,7 +272,7 @@ pub(crate) fn is_heard(heard: &[Heard], node: u8) -> bool
     false
 }
 
-/// A mark for each node that is heard.
+/// Returns a mark for each node: whether it is heard.
 pub(crate) fn marks_of(heard: &[Heard]) -> [bool; MOST_NODES]
     ensures { (k : ℕ) → k < MOST_NODES → slice_index_or result k false ≡ is_heard heard.now k }
 {

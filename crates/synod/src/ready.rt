@@ -1,23 +1,23 @@
-//! A step that is made ready: all its growths are made, and nothing is changed yet.
+//! A staged step: everything is allocated, and nothing is changed yet.
 ghost use Rattle.std.specs.Prelude.{◌≡◌, MatchOption, Some, None};
 ghost use Rattle.std.specs.Borrow.{ftrue};
 
 use crate::change::Change;
-use crate::learner::Lesson;
+use crate::learner::LearnerUpdate;
 use crate::node::NodeCore;
 use crate::packet::Packet;
-use crate::proposer::Proposal;
+use crate::proposer::ProposerUpdate;
 use std::marker::{Model, PhantomData};
 
-/// What a step does to the three parts of a node.
+/// The changes that a step makes of the three parts of a node.
 #[derive(Drop)]
-pub struct Plan<V> {
+pub struct StagedStep<V> {
     pub change: Option<Change<V>>,
-    pub proposal: Option<Proposal<V>>,
-    pub lesson: Option<Lesson<V>>,
+    pub proposer: Option<ProposerUpdate<V>>,
+    pub learner: Option<LearnerUpdate<V>>,
 }
 
-/// A value as contracts alone see it. It has no bytes.
+/// A value that only contracts see. It has no bytes.
 #[derive(Drop)]
 struct Past<T> {
     marker: PhantomData<T>,
@@ -42,68 +42,67 @@ impl<T> Past<T> {
     }
 }
 
-/// A step of a node, ready to be made. It is seen as the node that it was made by, in its state then,
-/// and as the step.
+/// A step of a node, ready to be committed. Contracts see the step, and the node that staged it as it was then.
 #[derive(Drop)]
 pub struct Ready<V> {
     before: Past<NodeCore<V>>,
-    plan: Plan<V>,
+    staged: StagedStep<V>,
     posts: Vec<Packet<V>>,
 }
 
 impl<V> Model for Ready<V> {
-    ghost use Rattle.synod.specs.Ready.{Made, planned, CanFollow};
+    ghost use Rattle.synod.specs.Ready.{Made, staged_node, CanCommit};
 
     ghost Value = { Made V };
 
     ghost view = { λ r. record {
       before = r.before.value;
-      step = record { node = planned r.before.value.node r.plan; change = r.plan.change; posts = r.posts.items };
+      step = record { node = staged_node r.before.value.node r.staged; change = r.staged.change; posts = r.posts.items };
     } };
 
-    ghost invariant = { λ r. CanFollow r.before.value r.plan };
+    ghost invariant = { λ r. CanCommit r.before.value r.staged };
 }
 
 impl<V: Drop> Ready<V> {
-    ghost use Rattle.synod.specs.Ready.{planned, CanFollow};
+    ghost use Rattle.synod.specs.Ready.{staged_node, CanCommit};
 
-    /// A step of a node by a plan.
-    pub(crate) fn new(node: &NodeCore<V>, plan: Plan<V>, posts: Vec<Packet<V>>) -> Self
-        requires { CanFollow node.now plan }
+    /// Stages a step of a node.
+    pub(crate) fn new(node: &NodeCore<V>, staged: StagedStep<V>, posts: Vec<Packet<V>>) -> Self
+        requires { CanCommit node.now staged }
         ensures before { result.before ≡ node.now }
-        ensures step { result.step ≡ record { node = planned node.now.node plan; change = plan.change; posts = posts.items } }
+        ensures step { result.step ≡ record { node = staged_node node.now.node staged; change = staged.change; posts = posts.items } }
     {
         Ready {
             before: Past::of(node),
-            plan,
+            staged,
             posts,
         }
     }
 
-    /// Its plan and its posts. It takes no memory.
-    pub(crate) fn into_plan(self) -> (Plan<V>, Vec<Packet<V>>)
-        ensures follows { CanFollow self.before result.0 }
-        ensures node { self.step.node ≡ planned self.before.node result.0 }
+    /// Returns the changes and the posts. It does not allocate.
+    pub(crate) fn into_staged(self) -> (StagedStep<V>, Vec<Packet<V>>)
+        ensures follows { CanCommit self.before result.0 }
+        ensures node { self.step.node ≡ staged_node self.before.node result.0 }
         ensures posts { result.1.items ≡ self.step.posts }
     {
-        (self.plan, self.posts)
+        (self.staged, self.posts)
     }
 
-    /// The change of the kept part that the step makes, if any.
+    /// Returns the change of the kept part that the step makes, if any.
     pub fn change(&self) -> Option<&Change<V>>
         ensures { MatchOption result (self.now.step.change ≡ None) (λ change. self.now.step.change ≡ Some change.now) }
     {
-        self.plan.change.as_ref()
+        self.staged.change.as_ref()
     }
 
-    /// The packets that the step posts, in order.
+    /// Returns the packets that the step posts, in order.
     pub fn posts(&self) -> &[Packet<V>]
         ensures { result.now ≡ self.now.step.posts }
     {
         self.posts.as_slice()
     }
 
-    /// The packets, given away. It takes no memory.
+    /// Returns the packets. It does not allocate.
     pub fn into_posts(self) -> Vec<Packet<V>>
         ensures { result.items ≡ self.step.posts }
     {

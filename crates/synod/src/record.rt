@@ -1,4 +1,4 @@
-//! The kept part of a node: what outlives a restart.
+//! The kept part of a node, which outlives a restart.
 ghost use Rattle.std.specs.Prelude.{◌≡◌, ◌<◌, ◌≤◌, OnOk, Some, None, MatchOption, length};
 ghost use Rattle.slots.specs.declared.slots.TheConstants.{SLOTS};
 ghost use Rattle.slots.specs.FiniteMap.{entry_at, top_of};
@@ -9,7 +9,7 @@ use slots::Slots;
 use std::alloc::{AllocError, Global};
 use std::marker::Model;
 
-/// Promise, round and accepted entries.
+/// The promise, the round and the accepted entries.
 ///
 /// Source: Lamport, Paxos Made Simple, 2.5, on stable storage.
 #[derive(Drop)]
@@ -37,7 +37,7 @@ impl<V> Model for Record<V> {
 impl<V: Drop> Record<V> {
     ghost use Rattle.synod.specs.Record.{new_kept, changed_by, HasRoomFor};
 
-    /// The record of a new node. It takes no memory.
+    /// Creates the record of a new node. It does not allocate.
     pub fn new(alloc: Global) -> Self
         ensures { result.kept ≡ new_kept }
     {
@@ -48,28 +48,28 @@ impl<V: Drop> Record<V> {
         }
     }
 
-    /// The ballot promised.
+    /// Returns the promised ballot.
     pub fn promise(&self) -> Ballot
         ensures { result ≡ self.now.kept.promise }
     {
         self.promise
     }
 
-    /// The round last begun.
+    /// Returns the round last begun.
     pub fn round(&self) -> u64
         ensures { result ≡ self.now.kept.round }
     {
         self.round
     }
 
-    /// What is accepted at a slot.
+    /// Returns the entry accepted at a slot.
     pub fn get(&self, slot: u32) -> Option<&Held<V>>
         ensures { MatchOption result (entry_at self.now.kept.accepted slot ≡ None) (λ held. entry_at self.now.kept.accepted slot ≡ Some held.now) }
     {
         self.accepted.get(slot)
     }
 
-    /// One above the greatest slot with an accepted entry, else 0.
+    /// Returns one above the greatest slot with an accepted entry, or 0.
     pub fn top(&self) -> u32
         ensures top { result ≡ top_of self.now.kept.accepted }
         ensures within { result ≤ SLOTS }
@@ -77,7 +77,7 @@ impl<V: Drop> Record<V> {
         self.accepted.top()
     }
 
-    /// Makes room for an entry at a slot. The kept part stays.
+    /// Reserves room for an entry at a slot. The kept part is unchanged.
     pub fn room(&mut self, slot: u32) -> Result<(), AllocError>
         requires { slot < SLOTS }
         ensures ok { OnOk result (slot < self.new.room) }
@@ -87,7 +87,7 @@ impl<V: Drop> Record<V> {
         self.accepted.room(slot)
     }
 
-    /// Makes a change, if there is one. It takes no memory.
+    /// Applies a change, if there is one. It does not allocate.
     pub fn change_by(&mut self, change: Option<Change<V>>)
         requires { HasRoomFor self.old.room change }
         ensures { self.new.kept ≡ changed_by self.old.kept change }

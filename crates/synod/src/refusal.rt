@@ -1,18 +1,18 @@
-//! Why a node does not take an event.
+//! Why a node refuses an event.
 
-/// Why a node did not take an event. Each leaves it as it was.
+/// Why a node refused an event. The node is unchanged.
 ///
-/// Of several the first in this order is answered: `TooLong`, `LogFull`, `RoundsSpent`, `Busy`, `Memory`.
+/// If several apply, the first in this order is returned: `TooLong`, `LogFull`, `RoundsSpent`, `Busy`, `Memory`.
 #[derive(Clone, Copy, PartialEq, Eq)]
 pub enum Refusal {
-    /// 64 values wait.
+    /// 64 values are waiting.
     Busy = 1,
-    /// Each slot is taken.
+    /// Every slot is taken.
     LogFull,
-    /// There is no round above.
+    /// No higher round exists.
     RoundsSpent,
-    /// The value is over the limit.
+    /// The value is longer than `MOST_BYTES`.
     TooLong,
-    /// A growth was refused.
+    /// An allocation failed.
     Memory,
 }

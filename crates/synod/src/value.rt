@@ -1,28 +1,28 @@
-//! What is agreed upon.
+//! The values that the nodes agree upon.
 ghost use Rattle.std.specs.Prelude.{◌≡◌, IfOk};
 
 use std::alloc::AllocError;
 
-/// The bytes of one value that may be offered.
+/// The largest value that may be offered, in bytes.
 pub const MOST_BYTES: u64 = 67_108_864;
 
-/// A value that is agreed upon.
+/// A value that the nodes agree upon.
 pub trait Value: Sized + Drop {
     ghost use Rattle.std.specs.Prelude.{ℕ};
 
-    /// Its size in bytes.
+    /// The size in bytes.
     ghost bytes: { Self → ℕ };
 
-    /// The same value once more.
+    /// Returns a copy of the value.
     fn copy(&self) -> Result<Self, AllocError>
         ensures { IfOk result (λ copy. copy ≡ self.now) };
 
-    /// Its size in bytes.
+    /// Returns the size in bytes.
     fn size(&self) -> u64
         ensures { result ≡ bytes self.now };
 }
 
-/// The value of an entry once more: `None` is the no-operation.
+/// Returns a copy of an entry; `None` is the no-operation.
 pub fn copy_value<V: Value>(value: &Option<V>) -> Result<Option<V>, AllocError>
     ensures { IfOk result (λ copy. copy ≡ value.now) }
 {

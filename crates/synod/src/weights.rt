@@ -4,15 +4,15 @@ ghost use Rattle.synod.specs.Weights.{IsWeights, is_quorum};
 
 use std::marker::Model;
 
-/// The nodes of a world, at most.
+/// The most nodes of a world.
 pub const MOST_NODES: usize = 9;
 
-/// The weight of one node, at most.
+/// The greatest weight of a node.
 pub const MOST_WEIGHT: u8 = 100;
 
-/// The weights of the nodes: 1 to 9 of them, each from 1 to 100. It holds no allocation.
+/// The weights of 1 to 9 nodes, each from 1 to 100. It holds no allocation.
 ///
-/// Source: a majority of Lamport, Paxos Made Simple, 2.2, is more than half of the weight of all.
+/// Source: Lamport, Paxos Made Simple, 2.2; a majority is more than half of the total weight.
 #[derive(Clone, Copy)]
 pub struct Weights {
     places: [u8; MOST_NODES],
@@ -35,9 +35,9 @@ impl Model for Weights {
 }
 
 impl Weights {
-    /// The weights of the nodes 0, 1, and so on.
+    /// Creates the weights of the nodes 0, 1, and so on. It does not allocate.
     ///
-    /// It is `None` where there are not 1 to 9 numbers, or one is not 1 to 100. It takes no memory.
+    /// Returns `None` unless there are 1 to 9 numbers, each from 1 to 100.
     pub fn new(numbers: &[u8]) -> Option<Self>
         ensures weights { IfSome result (λ weights. weights ≡ numbers.now) }
         ensures some { IsSome result ↔ IsWeights numbers.now }
@@ -58,7 +58,7 @@ impl Weights {
         })
     }
 
-    /// So many nodes, each of weight 1. It takes no memory.
+    /// Creates the weights of `nodes` nodes, each 1. It does not allocate.
     pub fn equal(nodes: u8) -> Self
         requires some { 1 ≤ nodes }
         requires few { nodes ≤ MOST_NODES }
@@ -74,7 +74,7 @@ impl Weights {
         }
     }
 
-    /// How many nodes there are.
+    /// Returns the number of nodes.
     pub fn count(&self) -> u8
         ensures count { result ≡ length self.now }
         ensures weights { IsWeights self.now }
@@ -82,7 +82,7 @@ impl Weights {
         self.count as u8
     }
 
-    /// The weights, node by node.
+    /// Returns the weights in the order of the nodes.
     pub fn as_slice(&self) -> &[u8]
         ensures weights { result.now ≡ self.now }
         ensures few { length self.now ≤ MOST_NODES }
@@ -90,7 +90,7 @@ impl Weights {
         &self.places[..self.count]
     }
 
-    /// Whether the nodes that are marked are a quorum.
+    /// Returns whether the marked nodes are a quorum.
     pub fn is_quorum(&self, marks: &[bool]) -> bool
         requires { length self.now ≤ length marks.now }
         ensures { result ≡ is_quorum self.now (λ k. slice_index_or marks.now k false) }
@@ -106,7 +106,7 @@ impl Weights {
     }
 }
 
-/// The weight of a node, where it is marked.
+/// Returns the weight of a marked node, or 0.
 fn weight_of(weight: u8, mark: bool) -> u32
     ensures { result ≡ (if mark then weight else 0) }
 {

@@ -13,10 +13,16 @@ use proof_code::{CodeFault, Items, Reader, is_compressed, normal};
 use std::alloc::{AllocError, Global};
 use subst::Findings;
 
+/// A checker keeps the room that proofs up to this size needed: 1 MB for as many symbols.
+const KEPT_SIZE: usize = 262_144;
+
 /// A verifier that keeps its buffers from proof to proof.
 #[derive(Drop)]
 pub struct Checker {
     alloc: Global,
+    /// The size of the largest proof since the last `shrink`: its weight, or the bytes of its tokens or the number of its
+    /// items, as they are given.
+    largest: usize,
     reader: Reader,
     table: Vec<LabelEntry>,
     mandatory: Vec<u32>,
@@ -24,10 +30,11 @@ pub struct Checker {
 }
 
 impl Checker {
-    /// A verifier with empty buffers. Takes no memory.
+    /// Returns a verifier with empty buffers. Does not allocate.
     pub fn new(alloc: Global) -> Checker {
         Checker {
             alloc,
+            largest: 0,
             reader: Reader::new(alloc),
             table: Vec::new(alloc),
             mandatory: Vec::new(alloc),
@@ -37,6 +44,33 @@ impl Checker {
                 results: Results::new(alloc),
             },
         }
+    }
+
+    /// Limits the buffer of results to so many symbols, at first `SYMBOLS_LIMIT`. A proof that would pass them gets
+    /// `AllocError` as its answer.
+    pub fn limit(&mut self, symbols: usize) {
+        self.buffers.results.limit(symbols);
+    }
+
+    /// Gives back the room that large proofs needed, and keeps that of ordinary ones. What is kept by the number of a
+    /// symbol stays, so that its cost does not recur.
+    ///
+    /// Does not allocate. Cost: a constant.
+    pub fn shrink(&mut self) {
+        self.note_size(0);
+        if self.largest > KEPT_SIZE {
+            self.largest = 0;
+            self.reader = Reader::new(self.alloc);
+            self.table = Vec::new(self.alloc);
+            self.mandatory = Vec::new(self.alloc);
+            self.buffers.results.release(self.alloc);
+        }
+    }
+
+    /// Notes the weight of the last proof, and the size of the next one.
+    fn note_size(&mut self, next: usize) {
+        let weight = self.buffers.results.weight();
+        self.largest = self.largest.max(weight).max(next);
     }
 
     /// Whether the items are a right proof of the `$p` at that position.
@@ -49,6 +83,7 @@ impl Checker {
         ensures { IfOk result (λ answer. Says answer (IsRight frames.now.statements at items.now)) }
     {
         let parts = items.parts();
+        self.note_size(parts.numbers.len());
         fill_table(frames, at, parts.labels, &mut self.table)?;
         run(frames, at, &self.table, parts.numbers, &mut self.buffers)
     }
@@ -66,6 +101,7 @@ impl Checker {
         requires { (s : Statement) × IsProvable frames.now.statements at s }
         ensures { IfOk result (λ answer. Says answer (Proves frames.now.statements at tokens.now)) }
     {
+        self.note_size(tokens.as_text().len());
         if !is_compressed(tokens) {
             return match normal(self.alloc, tokens) {
                 Ok(items) => self.check(frames, at, &items),

@@ -23,6 +23,8 @@ pub struct Results {
     stack: Vec<ExpressionPlace>,
     saved: Vec<ExpressionPlace>,
     weight: usize,
+    /// How many symbols the buffer may hold.
+    share: usize,
 }
 
 impl Model for Results {
@@ -46,7 +48,15 @@ impl Results {
             stack: Vec::new(alloc),
             saved: Vec::new(alloc),
             weight: 0,
+            share: SYMBOLS_LIMIT,
         }
+    }
+
+    /// Limits the buffer to so many symbols: what would pass them finds no memory.
+    pub fn limit(&mut self, share: usize)
+        ensures { self.new ≡ self.old }
+    {
+        self.share = share;
     }
 
     /// Takes all results and images away, and makes places for so many labels; the buffers stay.
@@ -72,6 +82,9 @@ impl Results {
             return Ok(false);
         }
         let start = self.symbols.len();
+        if expr.len() > self.share.saturating_sub(start) {
+            return Err(AllocError);
+        }
         self.symbols.extend(expr)?;
         self.weight += expr.len();
         let place = place_between(start, self.symbols.len());
@@ -194,14 +207,39 @@ impl Results {
     {
         let keep = self.stack.len() - r;
         let start = self.symbols.len();
-        let room = SYMBOLS_LIMIT - self.weight;
+        let light = SYMBOLS_LIMIT - self.weight;
+        let room = light.min(self.share.saturating_sub(start));
         if !self.symbols.add_applied(&self.images, expr, room)? {
-            return Ok(false);
+            return if room < light {
+                Err(AllocError)
+            } else {
+                Ok(false)
+            };
         }
         let place = place_between(start, self.symbols.len());
         self.weight += self.symbols.len() - start;
         put_behind(&mut self.stack, keep, place)?;
         Ok(true)
+    }
+
+    /// Takes all results and images away, and gives back the room of the results; that of images by number stays.
+    ///
+    /// Does not allocate.
+    pub fn release(&mut self, alloc: Global)
+        ensures { self.new.results ≡ record { stack = []; saved = []; weight = 0 } }
+    {
+        self.images.clear();
+        self.symbols = Buffer::new(alloc);
+        self.stack = Vec::new(alloc);
+        self.saved = Vec::new(alloc);
+        self.weight = 0;
+    }
+
+    /// Returns how many symbols the results had so far, each recall counted.
+    pub fn weight(&self) -> usize
+        ensures { result ≡ self.now.results.weight }
+    {
+        self.weight
     }
 
     /// How many results wait.

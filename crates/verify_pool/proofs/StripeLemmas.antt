@@ -1,5 +1,5 @@
 -- What the answers of the stripes say of all jobs.
-use Rattle.verify_pool.proofs.Words.{◌≡◌, ℕ, suc, ◌+◌, ◌*◌, ◌/◌, ◌%◌, ◌<◌, ◌≤◌, ◌⊎◌, inl, inr, Option, Some, None, IfSome, Result, Ok, Err, IfOk, arith, sym, subst, below_more, mod-lt, add-one, suc-mul, cases_lt, IsBefore, IsWrongAt, IsLeast, IsStripeRightBefore, IsLeastInStripe, IsNoLater}
+use Rattle.verify_pool.proofs.Words.{◌≡◌, ℕ, zero, suc, refl, List, [], ◌∷◌, same_Some, none-some, IsIn, IsFoundInStripe, IsSettled, ◌+◌, ◌*◌, ◌/◌, ◌%◌, ◌<◌, ◌≤◌, ◌⊎◌, inl, inr, Option, Some, None, IfSome, arith, sym, subst, below_more, mod-lt, add-one, suc-mul, cases_lt, IsBefore, IsWrongAt, IsStripeRightBefore, IsLeastInStripe, IsNoLater}
 use Rattle.std.proofs.lemmas.Nat.{mul-le, div-add-mod'}
 
 -- a turn before the next one is this one or before it
@@ -56,13 +56,78 @@ module _ (right : ℕ → Type 0) (count step : ℕ) where
       let place : k ≡ k % step + k / step * step = omega (arith, div-add-mod' k step) in
       subst right (sym place) (each (k % step) (mod-lt k positive) (k / step) (omega (arith, place, within)) (subst (λ n. IsBefore n answer) place below))
 
-module _ (right : ℕ → Type 0) (count : ℕ) where
-  -- the one stripe of a single worker
-  pub one_stripe_is_all : {E : Type 0} (r : Result (Option ℕ) E) → IfOk r (IsLeastInStripe right count 0 1) → IfOk r (IsLeast right count)
-  one_stripe_is_all (Ok answer) here = record {
-    before = λ k within below.
-        let place : k ≡ 0 + k * 1 = omega arith in
-        subst right (sym place) (here.before k (omega (arith, within)) (subst (λ n. IsBefore n answer) place below));
-    wrong = here.wrong;
+-- ---- jobs that are put off
+
+-- a number of a list is the first one, or one of the others
+in_cons : (k x : ℕ) (rest : List ℕ) → IsIn k (x ∷ rest) → (x ≡ k) ⊎ IsIn k rest
+in_cons k x rest (zero, e) = inl (same_Some x k e)
+in_cons k x rest (suc i, e) = inr (i, e)
+
+before_less : (k x : ℕ) (least : Option ℕ) → k < x → IsBefore x least → IsBefore k least
+before_less k x None less before = tt
+before_less k x (Some y) less before = omega (arith, less, before)
+
+module _ (right : ℕ → Type 0) (count first step : ℕ) where
+  -- one job more, which is right or put off
+  pub deferred_goes_on : (turn i : ℕ) (old new : List ℕ) → i ≡ first + turn * step → ((k : ℕ) → IsIn k old → IsIn k new) → right i ⊎ IsIn i new
+      → IsStripeRightBefore (λ k. right k ⊎ IsIn k old) count first step (Some i) → IsStripeRightBefore (λ k. right k ⊎ IsIn k new) count first step (Some (i + step))
+  deferred_goes_on turn i old new place kept here before =
+      stripe_goes_on (λ k. right k ⊎ IsIn k new) count step first turn i place here (deferred_more (Some i) old new kept before)
+    where
+      deferred_more : (answer : Option ℕ) (old new : List ℕ) → ((k : ℕ) → IsIn k old → IsIn k new)
+          → IsStripeRightBefore (λ k. right k ⊎ IsIn k old) count first step answer → IsStripeRightBefore (λ k. right k ⊎ IsIn k new) count first step answer
+      deferred_more answer old new kept before other within below =
+          elim (before other within below) [ inl r ↦ inl r | inr i ↦ inr (kept (first + other * step) i) ]
+
+  -- up to a job that is not right
+  pub deferred_stops : (i : ℕ) (old new : List ℕ) → ((k : ℕ) → IsIn k old → IsIn k new)
+      → IsStripeRightBefore (λ k. right k ⊎ IsIn k old) count first step (Some i) → IsStripeRightBefore (λ k. right k ⊎ IsIn k new) count first step (Some i)
+  deferred_stops i old new kept before other within below =
+      elim (before other within below) [ inl r ↦ inl r | inr i ↦ inr (kept (first + other * step) i) ]
+
+  -- where the first job that was put off is right if it is before the answer, the others are left
+  settle-skip : (x : ℕ) (rest : List ℕ) (least : Option ℕ) → (IsBefore x least → right x) → IsFoundInStripe right count first step least (x ∷ rest) → IsFoundInStripe right count first step least rest
+  settle-skip x rest least here found = record {
+    before = λ turn within below.
+        elim (found.before turn within below) [
+          | inl r ↦ inl r
+          | inr i ↦ elim (in_cons (first + turn * step) x rest i) [
+            | inl e ↦ inl (subst right e (here (subst (λ n. IsBefore n least) (sym e) below)))
+            | inr other ↦ inr other
+          ]
+        ];
+    within = λ k i. found.within k (suc i.0, i.1);
+    wrong = found.wrong;
   }
-  one_stripe_is_all (Err e) here = here
+
+  -- where it is before the answer and not right, it is the answer
+  settle-take : (x : ℕ) (rest : List ℕ) (least : Option ℕ) → IsBefore x least → (right x → ⊥) → IsFoundInStripe right count first step least (x ∷ rest) → IsFoundInStripe right count first step (Some x) rest
+  settle-take x rest least before wrong found = record {
+    before = λ turn within below.
+        elim (found.before turn within (before_less (first + turn * step) x least below before)) [
+          | inl r ↦ inl r
+          | inr i ↦ elim (in_cons (first + turn * step) x rest i) [
+            | inl e ↦ absurd (omega (arith, e, below))
+            | inr other ↦ inr other
+          ]
+        ];
+    within = λ k i. found.within k (suc i.0, i.1);
+    wrong = (found.within x (0, refl), wrong);
+  }
+
+  pub settle-more : (x : ℕ) (rest : List ℕ) (old new : Option ℕ) → IsSettled right x old new → IsFoundInStripe right count first step old (x ∷ rest) → IsFoundInStripe right count first step new rest
+  settle-more x rest old new settled found =
+      elim settled as (λ _. IsFoundInStripe right count first step new rest) [
+        | inl same ↦ subst (λ o. IsFoundInStripe right count first step o rest) (sym same.0) (settle-skip x rest old same.1 found)
+        | inr taken ↦ subst (λ o. IsFoundInStripe right count first step o rest) (sym taken.0) (settle-take x rest old taken.1 taken.2 found)
+      ]
+
+  -- where none is left, each job before the answer is right
+  pub settled-all : (least : Option ℕ) → IsFoundInStripe right count first step least [] → IsLeastInStripe right count first step least
+  settled-all least found = record {
+    before = λ turn within below. elim (found.before turn within below) [ inl r ↦ r | inr i ↦ absurd (none (first + turn * step) i) ];
+    wrong = found.wrong;
+  }
+    where
+      none : (k : ℕ) → IsIn k [] → ⊥
+      none k i = absurd (none-some k i.1)

@@ -1,7 +1,8 @@
 -- The jobs of one worker: of every `step` jobs one, from the job `first` on.
 -- This project's.
 -- The code goes from job to job by adding `step`; here the jobs are told by their turn, from 0.
-use Rattle.std.specs.Prelude.{ℕ, ◌+◌, ◌*◌, ◌<◌, Option, IfSome}
+use Rattle.std.specs.Prelude.{◌≡◌, ◌⊎◌, ℕ, ◌+◌, ◌*◌, ◌<◌, List, length, slice_get, slice_index_or, Option, Some, IfOk, IfSome}
+use Rattle.verify_pool.specs.declared.checkers.Worker.{Worker}
 use Rattle.verify_pool.specs.Least.{IsBefore, IsWrongAt}
 
 -- each job of the stripe before the answer is right
@@ -13,6 +14,27 @@ IsStripeRightBefore right count first step answer =
 pub record IsLeastInStripe (right : ℕ → Type 0) (count first step : ℕ) (answer : Option ℕ) : Type 0 where
   pub before : IsStripeRightBefore right count first step answer
   pub wrong : IfSome answer (IsWrongAt right count)
+
+-- the number is in the list
+abbrev pub IsIn : ℕ → List ℕ → Type 0
+IsIn n ns = (k : ℕ) × (slice_get ns k ≡ Some n)
+
+-- each job of the stripe before the answer is right or was put off
+pub record IsFoundInStripe (right : ℕ → Type 0) (count first step : ℕ) (answer : Option ℕ) (deferred : List ℕ) : Type 0 where
+  pub before : IsStripeRightBefore (λ k. right k ⊎ IsIn k deferred) count first step answer
+  pub within : (k : ℕ) → IsIn k deferred → k < count
+  pub wrong : IfSome answer (IsWrongAt right count)
+
+-- each worker has found of its stripe what there is, or ran out of memory
+abbrev pub AreFound : (ℕ → Type 0) → ℕ → List Worker → Type 0
+AreFound right count workers =
+    (i : ℕ) (d : Worker) → i < length workers
+    → IfOk (slice_index_or workers i d).least (λ least. IsFoundInStripe right count i (length workers) least (slice_index_or workers i d).deferred.items)
+
+-- the job of an index is taken as the answer where it is before the old one and is not right
+abbrev pub IsSettled : (ℕ → Type 0) → ℕ → Option ℕ → Option ℕ → Type 0
+IsSettled right index old new =
+    ((new ≡ old) × (IsBefore index old → right index)) ⊎ ((new ≡ Some index) × IsBefore index old × (¬ right index))
 
 -- what is before the first answer is before the second
 abbrev pub IsNoLater : Option ℕ → Option ℕ → Type 0

@@ -1,8 +1,10 @@
 //! Proofs whose items were made before.
 
 ghost use Rattle.std.specs.Prelude.{◌≡◌, IfOk};
-ghost use Rattle.{verify.specs.Right.Says, verify_pool.specs.Jobs.AreJobs, verify_pool.specs.Jobs.IsJob, verify_pool.specs.Jobs.IsRightAt, verify_pool.specs.Jobs.IsRightJob, verify_pool.specs.Jobs.LeastBad};
+ghost use Rattle.verify.specs.Right.{Says};
+ghost use Rattle.verify_pool.specs.Jobs.{AreJobs, IsJob, IsRightAt, IsRightJob, LeastBad};
 
+use crate::checkers::Checkers;
 use crate::gate::Gate;
 use crate::pool::judge_all;
 use crate::work::Work;
@@ -14,20 +16,21 @@ use std::marker::Model;
 use std::thread::Threads;
 use verify::{Answer, Checker};
 
-/// One proof to be checked.
+/// A proof to be checked.
 #[derive(Drop)]
 pub struct Job {
     /// The position of the `$p`.
     pub at: usize,
-    /// The items of its proof. None where its tokens write no items; such a job is not right.
+    /// The items of its proof; `None` where its tokens write no items: such a job is not right.
     pub code: Option<Items>,
 }
 
-/// The index, from 0, of the least job that is not right; none where each is right.
+/// Returns the index, from 0, of the least job that is not right; `None` where each is right.
 ///
 /// The jobs are dealt out to the workers in turn, each worker runs on a thread of its own where one can be made, and
 /// passes `Place::Job(index)` of the gate before the job of that index. A worker stops at its first job that is not right.
-/// Errors: a growth was refused. Cost: that of the proofs, over the workers.
+///
+/// Errors: an allocation fails. Cost: that of the proofs, over the workers.
 #[tactic(auto, using(crate::proofs::LeastLemmas::least_bad))]
 pub fn check_all<G: Gate + Sync, R: Threads + Sync>(
     rt: &R,
@@ -40,7 +43,8 @@ pub fn check_all<G: Gate + Sync, R: Threads + Sync>(
     requires jobs { AreJobs frames.now.statements jobs.now }
     ensures { IfOk result (λ least. LeastBad frames.now.statements jobs.now least) }
 {
-    judge_all(rt, alloc, &Jobs { frames, jobs }, workers, gate)
+    let mut checkers = Checkers::new(alloc);
+    judge_all(rt, &mut checkers, &Jobs { frames, jobs }, workers, gate)
 }
 
 /// Jobs with the frames that they are checked against.
@@ -77,7 +81,7 @@ impl<'a> Work for Jobs<'a> {
     }
 }
 
-/// Whether the job is right.
+/// Tells whether the job is right.
 fn check_job(frames: &Frames, job: &Job, checker: &mut Checker) -> Result<Answer, AllocError>
     requires { IsJob frames.now.statements job.now }
     ensures { IfOk result (λ answer. Says answer (IsRightJob frames.now.statements job.now)) }

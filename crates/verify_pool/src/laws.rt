@@ -1,4 +1,4 @@
-//! What holds of the answers, as contracts of calls that do nothing.
+//! Laws of the answers, as contracts of calls that do nothing.
 
 ghost use Rattle.verify_pool.specs.Laws.{OneAnswer};
 

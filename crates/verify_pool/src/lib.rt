@@ -1,13 +1,14 @@
-//! Many proofs judged side by side, with the answer of one thread.
+//! Judges many proofs in parallel, with the answer of one thread.
 //!
-//! The crate above uses one contract: `judge_all` answers the index of the least job that is not right, or none where
-//! each is right, whatever the number of workers; `judge_here` answers it on the calling thread. `check_all` is the same
+//! The crate above uses one contract: `judge_all` returns the index of the least job that is not right, or `None` where
+//! each is right, whatever the number of workers; `judge_here` returns it on the calling thread. `check_all` returns it
 //! for jobs whose items were made before.
 //!
-//! Reading order: `work` (jobs by index), `workers`, `gate` (what a thread passes before each job), `pool` (the jobs of
-//! one worker, and all of them), `job` (proofs with their items), `laws`.
+//! Reading order: `work` (jobs by index), `workers`, `gate` (what a thread passes before each job), `checkers` (kept from
+//! text to text), `pool` (the jobs of one worker, and all of them), `job` (proofs with their items), `laws`.
 #![tactic(auto)]
 
+mod checkers;
 mod gate;
 mod job;
 pub mod laws;
@@ -15,6 +16,7 @@ mod pool;
 mod work;
 mod workers;
 
+pub use checkers::Checkers;
 pub use gate::{Gate, OpenGate, Place};
 pub use job::{Job, check_all};
 pub use pool::{judge_all, judge_here};

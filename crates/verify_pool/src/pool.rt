@@ -1,50 +1,137 @@
-//! All jobs, side by side.
+//! All jobs, in parallel.
 
-ghost use Rattle.std.specs.Prelude.{◌≡◌, ◌+◌, ◌<◌, ◌≤◌, ◌⊎◌, IfOk};
-ghost use Rattle.{verify_pool.specs.Least.IsLeast, verify_pool.specs.Stripes.IsLeastInStripe, verify_pool.specs.Stripes.IsNoLater};
+ghost use Rattle.std.specs.Prelude.{◌≡◌, ◌+◌, ◌<◌, ◌≤◌, ◌⊎◌, ◌↔◌, ℕ, [], length, true, false, IfOk, IsTrue};
+ghost use Rattle.verify_pool.specs.Least.{IsBefore, IsLeast};
+ghost use Rattle.verify_pool.specs.Stripes.{AreFound, IsFoundInStripe, IsIn, IsLeastInStripe, IsNoLater, IsSettled};
 
+use crate::checkers::{Checkers, Worker};
 use crate::gate::{Gate, OpenGate, Place};
 use crate::work::Work;
 use crate::workers::Workers;
-use std::alloc::{AllocError, Global};
+use std::alloc::AllocError;
 use std::thread;
 use std::thread::Threads;
 use verify::{Answer, Checker};
 
-/// The index, from 0, of the least job that is not right; none where each is right.
+/// Returns the index, from 0, of the least job that is not right; `None` where each is right.
 ///
-/// The jobs are dealt out in turn to the workers, of whom no more take part than there are jobs. Each worker runs on a
-/// thread of its own where one can be made, and passes `Place::Job(index)` of the gate before the job of that index. A
-/// worker stops at its first job that is not right.
-/// Errors: a growth was refused. Cost: that of the jobs, over the workers.
+/// The jobs are dealt out in turn to the workers, of whom no more take part than there are jobs. Each worker has a checker
+/// of its own, runs on a thread of its own where one can be made, and passes `Place::Job(index)` of the gate before the job
+/// of that index. A worker stops at its first job that is not right, and puts off those that need more memory than it has:
+/// the calling thread judges these after all workers ended. Where this runs out of memory, the checkers of the workers
+/// are dropped, and the calling thread judges all jobs again.
+///
+/// Errors: an allocation fails for the calling thread too. Cost: that of the jobs, over the workers; where jobs are judged
+/// again, once more theirs.
 pub fn judge_all<W: Work + Sync, G: Gate + Sync, R: Threads + Sync>(
     rt: &R,
-    alloc: Global,
+    checkers: &mut Checkers,
     work: &W,
     workers: Workers,
     gate: &G,
 ) -> Result<Option<usize>, AllocError>
     ensures { IfOk result (IsLeast (W.right work.now) (W.count work.now)) }
 {
-    let workers = workers.count().min(work.count().max(1));
-    let judge = |first: usize| judge_stripe(alloc, work, first, workers, gate);
-    let answers = thread::map_indices(rt, alloc, workers, &judge)?;
+    let count = workers.count().min(work.count().max(1));
+    if count > 1 {
+        if let Ok(least) = judge_by_workers(rt, checkers, work, count, gate) {
+            return Ok(least);
+        }
+        checkers.drop_workers();
+    }
+    judge_alone(work, &mut checkers.calling, gate)
+}
+
+/// Returns the index of the least job that is not right, judged by so many workers.
+///
+/// Errors: an allocation fails. Cost: that of the jobs, over the workers.
+fn judge_by_workers<W: Work + Sync, G: Gate + Sync, R: Threads + Sync>(
+    rt: &R,
+    checkers: &mut Checkers,
+    work: &W,
+    count: usize,
+    gate: &G,
+) -> Result<Option<usize>, AllocError>
+    requires { (1 ≤ count) × (count ≤ 16) }
+    ensures { IfOk result (IsLeast (W.right work.now) (W.count work.now)) }
+{
+    checkers.add_workers(count)?;
+    let Checkers {
+        calling,
+        workers,
+        ..
+    } = checkers;
+    let workers = &mut workers[..count];
+    judge_stripes(rt, work, workers, gate);
+    least_of(work, workers, calling)
+}
+
+/// Judges the jobs by these workers, to whom they are dealt out in turn.
+///
+/// Cost: that of the jobs, over the workers.
+fn judge_stripes<W: Work + Sync, G: Gate + Sync, R: Threads + Sync>(
+    rt: &R,
+    work: &W,
+    workers: &mut [Worker],
+    gate: &G,
+)
+    requires { (1 ≤ length workers.old) × (length workers.old ≤ 16) }
+    ensures { AreFound (W.right work.now) (W.count work.now) workers.new }
+{
+    let step = workers.len();
+    let judge = |first: usize, worker: &mut Worker| judge_stripe(work, first, step, worker, gate);
+    thread::for_each_mut(rt, workers, step, &judge);
+}
+
+/// Returns the index of the least job that is not right, where the workers judged the jobs.
+///
+/// Errors: an allocation failed for a worker, or fails for the calling thread. Cost: that of the jobs that were put off.
+fn least_of<W: Work>(
+    work: &W,
+    workers: &[Worker],
+    calling: &mut Checker,
+) -> Result<Option<usize>, AllocError>
+    requires some { 1 ≤ length workers.now }
+    requires found { AreFound (W.right work.now) (W.count work.now) workers.now }
+    ensures { IfOk result (IsLeast (W.right work.now) (W.count work.now)) }
+{
     let mut least = None;
-    for answer in &answers {
-        least = earlier(least, (*answer)?);
+    for worker in workers {
+        let found = settle(work, worker.least?, &worker.deferred, calling)?;
+        least = earlier(least, found);
     }
     Ok(least)
 }
 
-/// The same on the calling thread.
-#[tactic(auto, using(crate::proofs::StripeLemmas::one_stripe_is_all))]
-pub fn judge_here<W: Work>(alloc: Global, work: &W) -> Result<Option<usize>, AllocError>
+/// Returns the index, from 0, of the least job that is not right, judged on the calling thread; `None` where each is right.
+///
+/// Errors: an allocation fails. Cost: that of the jobs.
+pub fn judge_here<W: Work>(checkers: &mut Checkers, work: &W) -> Result<Option<usize>, AllocError>
     ensures { IfOk result (IsLeast (W.right work.now) (W.count work.now)) }
 {
-    judge_stripe(alloc, work, 0, 1, &OpenGate)
+    judge_alone(work, &mut checkers.calling, &OpenGate)
 }
 
-/// The earlier of two indexes, where there are any.
+/// Returns the index of the least job that is not right, judged with one checker.
+///
+/// Errors: an allocation fails. Cost: that of the jobs up to the first that is not right.
+fn judge_alone<W: Work, G: Gate>(
+    work: &W,
+    checker: &mut Checker,
+    gate: &G,
+) -> Result<Option<usize>, AllocError>
+    ensures { IfOk result (IsLeast (W.right work.now) (W.count work.now)) }
+{
+    for index in 0..work.count() {
+        gate.pass(Place::Job(index));
+        if work.judge(index, checker)? == Answer::Wrong {
+            return Ok(Some(index));
+        }
+    }
+    Ok(None)
+}
+
+/// Returns the earlier of two indexes, where there are any.
 fn earlier(a: Option<usize>, b: Option<usize>) -> Option<usize>
     ensures first { IsNoLater result a }
     ensures second { IsNoLater result b }
@@ -56,27 +143,117 @@ fn earlier(a: Option<usize>, b: Option<usize>) -> Option<usize>
     }
 }
 
-/// The least job that is not right of the jobs `first`, `first + step` and so on. The buffers serve one job after another.
+/// Judges the jobs `first`, `first + step` and so on, up to the first that is not right.
 fn judge_stripe<W: Work, G: Gate>(
-    alloc: Global,
     work: &W,
     first: usize,
     step: usize,
+    worker: &mut Worker,
+    gate: &G,
+)
+    requires step { (1 ≤ step) × (step ≤ 16) }
+    requires first { first < step }
+    ensures { IfOk worker.new.least (λ least. IsFoundInStripe (W.right work.now) (W.count work.now) first step least worker.new.deferred.items) }
+{
+    worker.deferred.clear();
+    worker.least = least_in_stripe(work, first, step, worker, gate);
+}
+
+/// Returns the least job that is found not to be right of the jobs `first`, `first + step` and so on.
+///
+/// Errors: a job can neither be judged nor be put off. Cost: that of these jobs up to the first that is not right.
+fn least_in_stripe<W: Work, G: Gate>(
+    work: &W,
+    first: usize,
+    step: usize,
+    worker: &mut Worker,
     gate: &G,
 ) -> Result<Option<usize>, AllocError>
     requires step { (1 ≤ step) × (step ≤ 16) }
     requires first { first < step }
-    ensures { IfOk result (λ least. IsLeastInStripe (W.right work.now) (W.count work.now) first step least) }
+    requires none { worker.old.deferred.items ≡ [] }
+    ensures { IfOk result (λ least. IsFoundInStripe (W.right work.now) (W.count work.now) first step least worker.new.deferred.items) }
 {
-    let mut checker = Checker::new(alloc);
     let count = work.count();
     let mut index = first;
     while index < count {
         gate.pass(Place::Job(index));
-        if work.judge(index, &mut checker)? == Answer::Wrong {
+        if is_wrong(work, index, &mut worker.checker, &mut worker.deferred)? {
             return Ok(Some(index));
         }
         index += step;
     }
     Ok(None)
+}
+
+/// Tells whether a job is found not to be right. A job that needs more memory than there is is put off.
+///
+/// Errors: it cannot be put off either. Cost: that of the job.
+fn is_wrong<W: Work>(
+    work: &W,
+    index: usize,
+    checker: &mut Checker,
+    deferred: &mut Vec<usize>,
+) -> Result<bool, AllocError>
+    requires { index < W.count work.now }
+    ensures wrong { IfOk result (λ wrong. wrong ≡ true → ¬ W.right work.now index) }
+    ensures right { IfOk result (λ wrong. wrong ≡ false → W.right work.now index ⊎ IsIn index deferred.new.items) }
+    ensures kept { (k : ℕ) → IsIn k deferred.old.items → IsIn k deferred.new.items }
+    ensures more { (k : ℕ) → IsIn k deferred.new.items → IsIn k deferred.old.items ⊎ (k ≡ index) }
+{
+    match work.judge(index, checker) {
+        Ok(answer) => Ok(answer == Answer::Wrong),
+        Err(AllocError) => {
+            deferred.push(index)?;
+            Ok(false)
+        }
+    }
+}
+
+/// Judges the jobs that a worker put off, and returns the least job of its stripe that is not right.
+///
+/// Errors: an allocation fails. Cost: that of these jobs.
+fn settle<W: Work>(
+    work: &W,
+    least: Option<usize>,
+    deferred: &[usize],
+    checker: &mut Checker,
+) -> Result<Option<usize>, AllocError>
+    requires { (first : ℕ) × ((step : ℕ) × IsFoundInStripe (W.right work.now) (W.count work.now) first step least deferred.now) }
+    ensures { (first step : ℕ) → IsFoundInStripe (W.right work.now) (W.count work.now) first step least deferred.now
+        → IfOk result (λ least. IsLeastInStripe (W.right work.now) (W.count work.now) first step least) }
+{
+    let mut least = least;
+    for index in deferred {
+        least = settle_one(work, *index, least, checker)?;
+    }
+    Ok(least)
+}
+
+/// Judges a job that was put off, where it is before the least one that is not right, and returns which is the least then.
+///
+/// Errors: an allocation fails. Cost: that of the job.
+fn settle_one<W: Work>(
+    work: &W,
+    index: usize,
+    least: Option<usize>,
+    checker: &mut Checker,
+) -> Result<Option<usize>, AllocError>
+    requires { index < W.count work.now }
+    ensures { IfOk result (IsSettled (W.right work.now) index least) }
+{
+    if is_before(index, least) && work.judge(index, checker)? == Answer::Wrong {
+        return Ok(Some(index));
+    }
+    Ok(least)
+}
+
+/// Tells whether an index is before another one, if there is another one.
+fn is_before(index: usize, other: Option<usize>) -> bool
+    ensures { IsTrue result ↔ IsBefore index other }
+{
+    match other {
+        Some(other) => index < other,
+        None => true,
+    }
 }

@@ -1,4 +1,4 @@
-//! What workers share.
+//! Jobs that workers share.
 
 ghost use Rattle.std.specs.Prelude.{◌≡◌, ◌<◌, ◌^◌, ℕ, IfOk};
 ghost use Rattle.verify.specs.Right.{Says};
@@ -8,20 +8,20 @@ use verify::{Answer, Checker};
 
 /// Jobs by index, each of which is right or not.
 pub trait Work {
-    /// How many jobs there are.
+    /// The number of jobs.
     ghost count: { Self → ℕ };
 
     /// The job of this index is right.
     ghost right: { Self → ℕ → Type 0 };
 
-    /// How many jobs there are.
+    /// Returns the number of jobs.
     fn count(&self) -> usize
         ensures count { result ≡ count self.now }
         ensures few { result < 2 ^ 63 };
 
-    /// Whether the job of that index, from 0, is right.
+    /// Tells whether the job of that index, from 0, is right.
     ///
-    /// Errors: a growth was refused.
+    /// Errors: an allocation fails.
     fn judge(&self, index: usize, checker: &mut Checker) -> Result<Answer, AllocError>
         requires { index < count self.now }
         ensures { IfOk result (λ answer. Says answer (right self.now index)) };

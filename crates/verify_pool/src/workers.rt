@@ -1,4 +1,4 @@
-//! How many threads judge side by side.
+//! How many threads judge in parallel.
 
 ghost use Rattle.std.specs.Prelude.{◌≡◌, ℕ, ◌≤◌};
 ghost use Rattle.verify_pool.specs.declared.workers.TheConstants.{MOST_WORKERS};
@@ -7,10 +7,10 @@ use std::marker::Model;
 use std::thread;
 use std::thread::Threads;
 
-/// The most workers that there may be.
+/// The largest number of workers.
 pub const MOST_WORKERS: usize = 16;
 
-/// How many threads check the proofs of one text: 1 to 16. Contracts see that number.
+/// The number of threads that check the proofs of one text, 1 to 16. Contracts see that number.
 #[derive(Clone, Copy, Debug)]
 pub struct Workers {
     count: usize,
@@ -27,7 +27,7 @@ impl Model for Workers {
 }
 
 impl Workers {
-    /// So many workers, of which a caller knows that they are 1 to 16.
+    /// Returns `count` workers, where the caller knows that `count` is 1 to 16.
     pub fn of(count: usize) -> Workers
         requires { (1 ≤ count) × (count ≤ MOST_WORKERS) }
         ensures { result ≡ count }
@@ -35,8 +35,8 @@ impl Workers {
         Workers { count }
     }
 
-    /// Twice as many as the machine offers threads, 16 at most, so that what a slower processor leaves is taken by the others;
-    /// one where it offers one or does not tell.
+    /// Returns twice as many workers as the machine offers threads, 16 at most, so that faster processors take over what a
+    /// slower one leaves; one worker where the machine offers one thread or does not tell.
     pub fn offered<R: Threads>(rt: &R) -> Workers {
         let threads = thread::available_parallelism(rt).map_or(1, |threads| threads.get());
         if threads < 2 {
@@ -46,7 +46,7 @@ impl Workers {
         Workers { count }
     }
 
-    /// How many.
+    /// Returns the number of workers.
     pub fn count(self) -> usize
         ensures value { result ≡ self }
         ensures some { 1 ≤ result }

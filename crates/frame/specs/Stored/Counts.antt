@@ -8,6 +8,7 @@ use Rattle.frame.specs.declared.storage.Stock.{Stock}
 use Rattle.frame.specs.Below.{AreBelow}
 use Rattle.frame.specs.Stored.Labels.{is_label_kind}
 use Rattle.frame.specs.Stored.EntryMeanings.{stmt_of, names_in, declared_by, with_last}
+use Rattle.frame.specs.Stored.Stacks.{KeepsUntil}
 
 -- ---- numbers that stand for names
 
@@ -87,6 +88,8 @@ pub record Grown (old new : Stock) : Type 0 where
   pub replaced : new.replaced ≡ old.replaced
   pub ends : new.ends ≡ old.ends
   pub entries : new.entries ≡ old.entries
+  pub disjoints : new.disjoints ≡ old.disjoints
+  pub variables : new.variables ≡ old.variables
   pub links : new.links ≡ old.links
 
 -- the storage with more names and positions behind those that were there: cut back it is as before
@@ -97,4 +100,6 @@ pub record IsBehind (old new : Stock) : Type 0 where
   pub replaced : Extends old.replaced.items new.replaced.items
   pub ends : Extends old.ends.items new.ends.items
   pub entries : new.entries ≡ old.entries
+  pub disjoints : KeepsUntil (length old.entries) old.disjoints new.disjoints
+  pub variables : KeepsUntil (length old.entries) old.variables new.variables
   pub links : new.links ≡ old.links

@@ -1,15 +1,17 @@
 -- The storage of a database. The code's own form: no public clause cites it.
 use Rattle.std.specs.Prelude.{◌≡◌, ℕ, ◌<◌, ◌^◌, true, List, length, map, take, slice_get, Some}
-use Rattle.frame.specs.Words.{Name, Stmt, stays_open, symbols_of, labels_of, Links, Assertion, Entry}
+use Rattle.frame.specs.Words.{Name, Stmt, stays_open, symbols_of, labels_of, Links, Assertion, Entry, Kind}
 use Rattle.entries.specs.declared.head.Head.{Head}
 use Rattle.frame.specs.declared.storage.Symbol.{Symbol}
 use Rattle.frame.specs.declared.storage.Stock.{Stock}
-use Rattle.frame.specs.Links.{links_of}
+use Rattle.frame.specs.Links.{is_disj, is_var, links_of}
 use Rattle.frame.specs.Stored.EntryMeanings.{stmt_of, names_in, labels_in, statements_of, positions_from, AreAllLegal, symbol_of, replaced_of}
 use Rattle.frame.specs.Stored.Counts.{AreNumbered, KeepsCounts, kind_of}
 use Rattle.frame.specs.Stored.Naming.{naming_of}
 use Rattle.frame.specs.Stored.AssertionParts.{IsKeptAs, has_parts}
+use Rattle.entries.specs.Histories.{StackVersion}
 use Rattle.frame.specs.Stored.Ends.{AreEnds}
+use Rattle.frame.specs.Stored.Stacks.{AreStacks, kind_test}
 
 -- the storage of a database
 pub record AreKept (names labels : List Name) (positions : List ℕ) (symbols : List Symbol) (replaced : List ℕ) (entries : List Entry) (links : Links) : Type 0 where
@@ -32,6 +34,16 @@ pub record AreStored (k : Stock) : Type 0 where
   pub kept : AreKept (names_in k) (labels_in k) k.positions.items k.symbols.items k.replaced.items k.entries k.links
   pub numbered : k.numbering ≡ naming_of (statements_of k)
   pub ended : AreEnds k.ends.items (statements_of k)
+  pub disjoints : AreStacks is_disj k.disjoints k.entries (statements_of k)
+  pub variables : AreStacks is_var k.variables k.entries (statements_of k)
+
+-- the stacks of a kind are those of a storage with these entries, behind which this is active
+pub record IsWalked (of : Kind) (entries : List Entry) (links : Links) (hs : List (List StackVersion)) : Type 0 where
+  pub storage : Stock
+  pub stored : AreStored storage
+  pub entries_are : entries ≡ storage.entries
+  pub links_are : links ≡ storage.links
+  pub stacks : AreStacks (kind_test of) hs entries (statements_of storage)
 
 -- what is noted of the statement that comes next
 pub record IsHead (k : Stock) (s : Stmt) (h : Head) : Type 0 where

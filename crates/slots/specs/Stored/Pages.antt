@@ -1,12 +1,20 @@
 -- Slots in pages of 256.
--- Source: this project's own way of keeping them.
--- The code keeps a list of pages. Contracts see one list of slots.
-use Rattle.std.specs.Prelude.{◌≡◌, ◌≤◌, ℕ, List, [], ◌∷◌, ◌++◌, Option, length}
+-- Source: this project's representation.
+-- The code has a list of pages. Contracts see one list of slots.
+use Rattle.std.specs.Prelude.{◌≡◌, ◌≤◌, ◌-◌, ℕ, List, [], ◌∷◌, ◌++◌, Option, None, length, replicate}
 use Rattle.slots.specs.declared.page.TheConstants.{PAGE_SLOTS}
 use Rattle.slots.specs.declared.slots.TheConstants.{SLOTS}
 use Rattle.slots.specs.FiniteMap.{front_of, top_of, trimmed}
 
--- the pages, one behind the other
+-- the slots of a page, of which only the first are stored
+abbrev pub padded : {T : Type 0} → List (Option T) → List (Option T)
+padded stored = stored ++ replicate (PAGE_SLOTS - length stored) None
+
+pub record IsPage {T : Type 0} (stored : List (Option T)) (capacity : ℕ) : Type 0 where
+  pub within : length stored ≤ PAGE_SLOTS
+  pub room : PAGE_SLOTS ≤ capacity
+
+-- the slots of all pages
 abbrev pub joined : {T : Type 0} → List (List T) → List T
 joined [] = []
 joined (page ∷ pages) = page ++ joined pages
@@ -16,7 +24,7 @@ abbrev pub AreWhole : {T : Type 0} → List (List T) → Type 0
 AreWhole [] = Unit {0}
 AreWhole (page ∷ pages) = (length page ≡ PAGE_SLOTS) × AreWhole pages
 
--- what is known of slots: they are below the limit, and their front and top are at hand
+-- the invariant of slots: they are below the limit, and front and top are stored
 pub record AreSlots {T : Type 0} (slots : List (Option T)) (front top : ℕ) : Type 0 where
   pub within : length slots ≤ SLOTS
   pub front_is : front ≡ front_of slots

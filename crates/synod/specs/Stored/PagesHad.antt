@@ -1,9 +1,7 @@
--- The pages had, as the maps that keep them.
--- Source: this project's own way of keeping them.
--- The code keeps a map of pages for each node, with its room.
-use Rattle.std.specs.Prelude.{ℕ, List, Option, map, slice_set}
-use Rattle.slots.specs.FiniteMap.{SlotsView, put_at}
-use Rattle.synod.specs.declared.packet.SlotReport.{SlotReport}
+-- The received pages, as the maps that store them.
+-- Source: this project's representation.
+-- The code has a map of pages for each node, with its room.
+use Rattle.synod.specs.Words.{ℕ, List, Option, map, slice_set, SlotsView, put_at, SlotReport}
 use Rattle.synod.specs.declared.promise_pages.PagesWith.{PagesWith}
 use Rattle.synod.specs.Node.{pages_from, with_page}
 
@@ -18,6 +16,6 @@ rooms_of maps = map (λ m. m.room) maps
 abbrev pub put_page : {V : Type 0} → List (List (Option (List (SlotReport V)))) → ℕ → ℕ → List (SlotReport V) → List (List (Option (List (SlotReport V))))
 put_page pages k i reports = slice_set pages k (put_at (pages_from pages k) i reports)
 
--- the pages had, with the one just delivered
+-- the received pages, with the one just delivered
 abbrev pub pages_with : {V : Type 0} → PagesWith V → List (List (Option (List (SlotReport V))))
 pages_with w = with_page (entries_of w.pages.now) w.node w.page w.reports.now

@@ -1,8 +1,7 @@
--- The nine places in which the weights are kept.
--- Source: this project's own way of keeping them.
--- The places behind the last weight are 0, so that the list gives its places back.
-use Rattle.std.specs.Prelude.{◌≡◌, ◌≤◌, ◌-◌, ℕ, List, ◌++◌, length, take, replicate}
-use Rattle.synod.specs.declared.weights.TheConstants.{MOST_NODES}
+-- The nine places that store the weights.
+-- Source: this project's representation.
+-- The places after the last weight are 0, so the list determines them.
+use Rattle.synod.specs.Words.{◌≡◌, ◌≤◌, ◌-◌, ℕ, List, ◌++◌, length, take, replicate, MOST_NODES}
 use Rattle.synod.specs.Weights.{IsWeights}
 
 abbrev pub padded : List ℕ → List ℕ

@@ -1,4 +1,4 @@
-//! The steps of an acceptor, made ready.
+//! Stages the steps of an acceptor.
 ghost use Rattle.std.specs.Prelude.{◌≡◌, ◌<◌, IfOk, length};
 ghost use Rattle.slots.specs.declared.slots.TheConstants.{SLOTS};
 
@@ -6,9 +6,9 @@ use crate::ballot::Ballot;
 use crate::change::{Change, Held};
 use crate::node::NodeCore;
 use crate::packet::{Body, Packet};
-use crate::posts::{Said, post_to_all};
+use crate::posts::{Broadcast, post_broadcast};
 use crate::promise::promise_posts;
-use crate::ready::{Plan, Ready};
+use crate::ready::{Ready, StagedStep};
 use crate::value::{Value, copy_value};
 use std::alloc::AllocError;
 
@@ -18,7 +18,7 @@ impl<V: Value> NodeCore<V> {
     ghost use Rattle.synod.specs.Rooms.{HasAtLeast};
     ghost use Rattle.synod.specs.Ready.{IsReadyFor};
 
-    /// A proposer is told of the promise that stands against its ballot.
+    /// Tells a proposer of the promise that refuses its ballot.
     fn ready_refusal(&self, from: u8, ballot: Ballot) -> Result<Ready<V>, AllocError>
         ensures { IfOk result (IsReadyFor self.now (refuses self.now.node from ballot)) }
     {
@@ -31,15 +31,10 @@ impl<V: Value> NodeCore<V> {
                 promise: self.record.promise(),
             },
         })?;
-        let plan = Plan {
-            change: None,
-            proposal: None,
-            lesson: None,
-        };
-        Ok(Ready::new(self, plan, posts))
+        Ok(self.ready_posts(posts))
     }
 
-    /// A Prepare came.
+    /// Stages the step of a Prepare.
     pub(crate) fn ready_prepare(
         &mut self,
         from: u8,
@@ -55,15 +50,15 @@ impl<V: Value> NodeCore<V> {
             return self.ready_refusal(from, ballot);
         }
         let posts = promise_posts(self.alloc, &self.record, self.me, from, ballot, first)?;
-        let plan = Plan {
+        let staged = StagedStep {
             change: Some(Change::Promise(ballot)),
-            proposal: None,
-            lesson: None,
+            proposer: None,
+            learner: None,
         };
-        Ok(Ready::new(self, plan, posts))
+        Ok(Ready::new(self, staged, posts))
     }
 
-    /// An Accept came.
+    /// Stages the step of an Accept.
     pub(crate) fn ready_accept(
         &mut self,
         from: u8,
@@ -82,21 +77,21 @@ impl<V: Value> NodeCore<V> {
         }
         self.record.room(slot)?;
         let mut posts = Vec::new(self.alloc);
-        let said = Said::Accepted {
+        let message = Broadcast::Accepted {
             ballot,
             slot,
             value,
         };
-        post_to_all(&mut posts, self.me, &self.weights, &said)?;
+        post_broadcast(&mut posts, self.me, &self.weights, &message)?;
         let held = Held {
             ballot,
             value: copy_value(value)?,
         };
-        let plan = Plan {
+        let staged = StagedStep {
             change: Some(Change::Entry { slot, held }),
-            proposal: None,
-            lesson: None,
+            proposer: None,
+            learner: None,
         };
-        Ok(Ready::new(self, plan, posts))
+        Ok(Ready::new(self, staged, posts))
     }
 }

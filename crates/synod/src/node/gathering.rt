@@ -1,4 +1,4 @@
-//! The pages of promises, as they come.
+//! Stages the steps of a proposer that gathers the pages of promises.
 ghost use Rattle.std.specs.Prelude.{◌≡◌, ◌<◌, ◌≤◌, ◌++◌, ◌∷◌, [], IfOk, Some, List, length};
 ghost use Rattle.std.specs.List.{AllByRecursion};
 ghost use Rattle.slots.specs.declared.slots.TheConstants.{SLOTS};
@@ -8,7 +8,7 @@ use crate::leading::lead_posts;
 use crate::node::NodeCore;
 use crate::packet::{Reports, copy_reports};
 use crate::promise_pages::{PagesWith, front_after};
-use crate::proposer::{Heard, Proposal, Role, is_heard, marks_of};
+use crate::proposer::{Heard, ProposerUpdate, Role, is_heard, marks_of};
 use crate::ready::Ready;
 use crate::value::Value;
 use std::alloc::AllocError;
@@ -22,7 +22,7 @@ impl<V: Value> NodeCore<V> {
     ghost use Rattle.synod.specs.Rooms.{HasAtLeast};
     ghost use Rattle.synod.specs.Ready.{IsReadyFor};
 
-    /// A page is kept, unless it was had before.
+    /// Keeps a page, unless it was received before.
     fn ready_to_keep(
         &mut self,
         node: u8,
@@ -41,15 +41,15 @@ impl<V: Value> NodeCore<V> {
         }
         self.proposer.room_for_page(node, page)?;
         let reports = copy_reports(self.alloc, reports)?;
-        let proposal = Proposal::Page {
+        let update = ProposerUpdate::Page {
             node,
             page,
             reports,
         };
-        Ok(self.ready_proposal(proposal, Vec::new(self.alloc)))
+        Ok(self.ready_proposer(update, Vec::new(self.alloc)))
     }
 
-    /// A node is heard with its last page, and there is no quorum yet.
+    /// Keeps the page that completes a promise, without a quorum.
     fn ready_to_hear(
         &mut self,
         heard: Heard,
@@ -65,21 +65,21 @@ impl<V: Value> NodeCore<V> {
     {
         if self.proposer.pages().get(heard.node, page).is_some() {
             self.proposer.room_to_hear()?;
-            let proposal = Proposal::Hear(heard);
-            return Ok(self.ready_proposal(proposal, Vec::new(self.alloc)));
+            let update = ProposerUpdate::Hear(heard);
+            return Ok(self.ready_proposer(update, Vec::new(self.alloc)));
         }
         self.proposer.room_for_page(heard.node, page)?;
         self.proposer.room_to_hear()?;
         let reports = copy_reports(self.alloc, reports)?;
-        let proposal = Proposal::HearPage {
+        let update = ProposerUpdate::CompletePromise {
             heard,
             page,
             reports,
         };
-        Ok(self.ready_proposal(proposal, Vec::new(self.alloc)))
+        Ok(self.ready_proposer(update, Vec::new(self.alloc)))
     }
 
-    /// Whether the nodes heard are a quorum.
+    /// Returns whether the nodes heard are a quorum.
     fn has_heard_quorum(&self, heard: &[Heard]) -> bool
         ensures { result ≡ is_quorum self.now.node.weights (is_heard heard.now) }
     {
@@ -87,7 +87,7 @@ impl<V: Value> NodeCore<V> {
         self.weights.is_quorum(&marks)
     }
 
-    /// A page that was asked for, of a node that is not heard yet.
+    /// Stages the step of a page at the ballot in preparation, of a node that is not heard yet.
     fn ready_page(
         &mut self,
         ballot: Ballot,
@@ -117,7 +117,7 @@ impl<V: Value> NodeCore<V> {
         }
     }
 
-    /// The nodes heard, with one more.
+    /// Returns the nodes heard, with one more.
     fn heard_with(&self, heard: Heard) -> Result<Vec<Heard>, AllocError>
         ensures { IfOk result (λ nodes. nodes.items ≡ self.now.node.heard ++ heard ∷ []) }
     {
@@ -126,7 +126,7 @@ impl<V: Value> NodeCore<V> {
         Ok(nodes)
     }
 
-    /// A quorum is heard: the node leads.
+    /// Leads, since a quorum is heard.
     fn ready_to_lead(
         &self,
         ballot: Ballot,
@@ -159,15 +159,15 @@ impl<V: Value> NodeCore<V> {
             heard,
             waiting,
         )?;
-        let proposal = Proposal::Lead {
+        let update = ProposerUpdate::Lead {
             ballot,
             next: lead.next,
             taken: lead.taken,
         };
-        Ok(self.ready_proposal(proposal, lead.posts))
+        Ok(self.ready_proposer(update, lead.posts))
     }
 
-    /// A page of a Promise came.
+    /// Stages the step of a page of a Promise.
     pub(crate) fn ready_promise(
         &mut self,
         from: u8,

@@ -1,30 +1,29 @@
-//! The steps of a learner, made ready.
+//! Stages the steps of a learner.
 ghost use Rattle.std.specs.Prelude.{◌≡◌, ◌<◌, IfOk, length};
 ghost use Rattle.slots.specs.declared.slots.TheConstants.{SLOTS};
 
 use crate::ballot::Ballot;
-use crate::learner::{Lesson, Tallies};
+use crate::learner::LearnerUpdate;
 use crate::node::NodeCore;
 use crate::packet::{Body, Packet};
-use crate::posts::{Said, post_to_others};
-use crate::ready::{Plan, Ready};
+use crate::posts::{Broadcast, post_broadcast};
+use crate::ready::{Ready, StagedStep};
 use crate::value::{Value, copy_value};
 use slots::SLOTS;
 use std::alloc::AllocError;
 
 impl<V: Value> NodeCore<V> {
-    ghost use Rattle.synod.specs.Learner.{counted_in, tallies_at, voted_in, on_accepted, on_ask, on_told, asks_below, asks_for};
+    ghost use Rattle.synod.specs.Learner.{has_voter, counted, on_accepted, on_ask, on_told, asks_below, asks_for};
     ghost use Rattle.std.specs.Prelude.{Some};
-    ghost use Rattle.slots.specs.FiniteMap.{entry_at};
     ghost use Rattle.synod.specs.declared.weights.TheConstants.{MOST_NODES};
     ghost use Rattle.synod.specs.Weights.{is_quorum};
     ghost use Rattle.synod.specs.Node.{answers};
-    ghost use Rattle.synod.specs.Plans.{HasRoomToLearn};
+    ghost use Rattle.synod.specs.Updates.{CanUpdateLearner};
     ghost use Rattle.synod.specs.Step.{Keeps, IsNode};
     ghost use Rattle.synod.specs.Rooms.{HasAtLeast};
-    ghost use Rattle.synod.specs.Ready.{IsReadyFor, learner_of, taught_node};
+    ghost use Rattle.synod.specs.Ready.{IsReadyFor, learner_of, with_learner_update};
 
-    /// An Ask came.
+    /// Stages the step of an Ask.
     pub(crate) fn ready_ask(&self, from: u8, slot: u32) -> Result<Ready<V>, AllocError>
         ensures { IfOk result (IsReadyFor self.now (on_ask self.now.node from slot)) }
     {
@@ -39,15 +38,10 @@ impl<V: Value> NodeCore<V> {
                 },
             })?;
         }
-        let plan = Plan {
-            change: None,
-            proposal: None,
-            lesson: None,
-        };
-        Ok(Ready::new(self, plan, posts))
+        Ok(self.ready_posts(posts))
     }
 
-    /// A Told came.
+    /// Stages the step of a Told.
     pub(crate) fn ready_told(
         &mut self,
         from: u8,
@@ -65,18 +59,11 @@ impl<V: Value> NodeCore<V> {
         }
         self.learner.room(slot)?;
         let posts = self.ask_next(from, self.learner.front_with(slot))?;
-        let plan = Plan {
-            change: None,
-            proposal: None,
-            lesson: Some(Lesson::Learn {
-                slot,
-                value: copy_value(value)?,
-            }),
-        };
-        Ok(Ready::new(self, plan, posts))
+        let value = copy_value(value)?;
+        Ok(self.ready_learner(LearnerUpdate::Learn { slot, value }, posts))
     }
 
-    /// An Accepted came.
+    /// Stages the step of an Accepted.
     pub(crate) fn ready_accepted(
         &mut self,
         from: u8,
@@ -94,69 +81,62 @@ impl<V: Value> NodeCore<V> {
         if self.learner.learned(slot).is_some() {
             return Ok(self.ready_nothing());
         }
-        let tallies = self.tallied(slot, ballot, from)?;
         self.learner.room(slot)?;
-        if self.is_chosen(&tallies, ballot) {
+        if self.is_chosen(slot, ballot, from) {
             let posts = self.ask_below(slot, self.learner.front_with(slot))?;
-            let value = copy_value(value)?;
-            let lesson = Lesson::Choose {
+            let update = LearnerUpdate::Choose {
                 slot,
-                tallies,
-                value,
+                ballot,
+                node: from,
+                value: copy_value(value)?,
             };
-            Ok(self.ready_lesson(lesson, posts))
+            Ok(self.ready_learner(update, posts))
         } else {
-            let lesson = Lesson::Count { slot, tallies };
-            Ok(self.ready_lesson(lesson, Vec::new(self.alloc)))
+            let update = LearnerUpdate::Count {
+                slot,
+                ballot,
+                node: from,
+            };
+            Ok(self.ready_learner(update, Vec::new(self.alloc)))
         }
     }
 
-    /// A slot's tallies once a node is counted there under a ballot.
-    fn tallied(&self, slot: u32, ballot: Ballot, node: u8) -> Result<Tallies, AllocError>
+    /// Returns whether a quorum has accepted at a slot under a ballot once `node` is counted.
+    fn is_chosen(&self, slot: u32, ballot: Ballot, node: u8) -> bool
         requires { node < MOST_NODES }
-        ensures { IfOk result (λ tallies. tallies ≡ counted_in (tallies_at (entry_at self.now.node.tallies slot)) ballot node) }
+        ensures { result ≡ is_quorum self.now.node.weights (has_voter (counted self.now.node.tallies slot ballot node) slot ballot) }
     {
-        match self.learner.tallies(slot) {
-            Some(tallies) => tallies.counted(self.alloc, ballot, node),
-            None => Ok(Tallies::one(self.alloc, ballot, node)),
-        }
-    }
-
-    /// Whether a quorum is counted under a ballot.
-    fn is_chosen(&self, tallies: &Tallies, ballot: Ballot) -> bool
-        ensures { result ≡ is_quorum self.now.node.weights (voted_in tallies.now ballot) }
-    {
-        let voters = tallies.voters(ballot);
+        let voters = self.learner.voters_with(slot, ballot, node);
         self.weights.is_quorum(&voters)
     }
 
-    /// Where a gap is left below, the others are asked.
+    /// Returns the Asks for the first gap, if it is below a slot.
     fn ask_below(&self, slot: u32, gap: u32) -> Result<Vec<Packet<V>>, AllocError>
         ensures { IfOk result (λ posts. posts.items ≡ asks_below self.now.node slot gap) }
     {
         let mut posts = Vec::new(self.alloc);
         if gap < slot {
-            let said = Said::Ask { slot: gap };
-            post_to_others(&mut posts, self.me, &self.weights, &said)?;
+            let message = Broadcast::Ask { slot: gap };
+            post_broadcast(&mut posts, self.me, &self.weights, &message)?;
         }
         Ok(posts)
     }
 
-    /// The learner alone changes.
-    fn ready_lesson(&self, lesson: Lesson<V>, posts: Vec<Packet<V>>) -> Ready<V>
-        requires room { HasRoomToLearn (learner_of self.now) (Some lesson) }
-        requires node { IsNode (taught_node self.now.node lesson) }
-        ensures { IsReadyFor self.now (answers (taught_node self.now.node lesson) posts.items) result }
+    /// Stages a step that changes only the learner.
+    fn ready_learner(&self, update: LearnerUpdate<V>, posts: Vec<Packet<V>>) -> Ready<V>
+        requires room { CanUpdateLearner (learner_of self.now) (Some update) }
+        requires node { IsNode (with_learner_update self.now.node update) }
+        ensures { IsReadyFor self.now (answers (with_learner_update self.now.node update) posts.items) result }
     {
-        let plan = Plan {
+        let staged = StagedStep {
             change: None,
-            proposal: None,
-            lesson: Some(lesson),
+            proposer: None,
+            learner: Some(update),
         };
-        Ready::new(self, plan, posts)
+        Ready::new(self, staged, posts)
     }
 
-    /// The next gap is asked for, while there is one.
+    /// Returns the Ask for the next gap, if there is one.
     fn ask_next(&self, from: u8, gap: u32) -> Result<Vec<Packet<V>>, AllocError>
         ensures { IfOk result (λ posts. posts.items ≡ asks_for self.now.node from gap) }
     {

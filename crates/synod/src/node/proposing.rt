@@ -1,4 +1,4 @@
-//! The steps of a proposer, made ready.
+//! Stages the steps of a proposer.
 ghost use Rattle.std.specs.Prelude.{◌≡◌, ◌<◌, ◌≤◌, IfOk, Some, length};
 ghost use Rattle.slots.specs.declared.slots.TheConstants.{SLOTS};
 
@@ -6,36 +6,40 @@ use crate::ballot::Ballot;
 use crate::change::Change;
 use crate::node::NodeCore;
 use crate::packet::Packet;
-use crate::posts::{Said, post_to_all};
+use crate::posts::{Broadcast, post_broadcast};
 use crate::promise_pages::PagesHad;
-use crate::proposer::Proposal;
-use crate::ready::{Plan, Ready};
+use crate::proposer::ProposerUpdate;
+use crate::ready::{Ready, StagedStep};
 use crate::value::Value;
 use std::alloc::AllocError;
 
 impl<V: Value> NodeCore<V> {
     ghost use Rattle.synod.specs.Node.{answers};
     ghost use Rattle.synod.specs.Proposer.{begins, next_ballot, waits, takes_slot, on_nack};
-    ghost use Rattle.synod.specs.Plans.{HasRoomToPropose};
+    ghost use Rattle.synod.specs.Updates.{CanUpdateProposer};
     ghost use Rattle.synod.specs.Step.{Keeps, IsNode};
     ghost use Rattle.synod.specs.Rooms.{HasAtLeast};
-    ghost use Rattle.synod.specs.Ready.{IsReadyFor, proposer_of, proposed_node};
+    ghost use Rattle.synod.specs.Ready.{IsReadyFor, proposer_of, with_proposer_update};
 
-    /// The proposer alone changes.
-    pub(crate) fn ready_proposal(&self, proposal: Proposal<V>, posts: Vec<Packet<V>>) -> Ready<V>
-        requires room { HasRoomToPropose (proposer_of self.now) (Some proposal) }
-        requires node { IsNode (proposed_node self.now.node proposal) }
-        ensures { IsReadyFor self.now (answers (proposed_node self.now.node proposal) posts.items) result }
+    /// Stages a step that changes only the proposer.
+    pub(crate) fn ready_proposer(
+        &self,
+        update: ProposerUpdate<V>,
+        posts: Vec<Packet<V>>,
+    ) -> Ready<V>
+        requires room { CanUpdateProposer (proposer_of self.now) (Some update) }
+        requires node { IsNode (with_proposer_update self.now.node update) }
+        ensures { IsReadyFor self.now (answers (with_proposer_update self.now.node update) posts.items) result }
     {
-        let plan = Plan {
+        let staged = StagedStep {
             change: None,
-            proposal: Some(proposal),
-            lesson: None,
+            proposer: Some(update),
+            learner: None,
         };
-        Ready::new(self, plan, posts)
+        Ready::new(self, staged, posts)
     }
 
-    /// A value waits.
+    /// Stages a value that waits.
     pub(crate) fn ready_waiting(&mut self, value: V) -> Result<Ready<V>, AllocError>
         requires keeps { Keeps (length self.old.node.weights) (waits self.old.node value) }
         ensures ready { IfOk result (IsReadyFor self.new (waits self.old.node value)) }
@@ -43,10 +47,10 @@ impl<V: Value> NodeCore<V> {
         ensures room { HasAtLeast self.old self.new }
     {
         self.proposer.room_to_wait()?;
-        Ok(self.ready_proposal(Proposal::Wait(value), Vec::new(self.alloc)))
+        Ok(self.ready_proposer(ProposerUpdate::Wait(value), Vec::new(self.alloc)))
     }
 
-    /// A value takes the next slot.
+    /// Stages a value that takes the next slot.
     pub(crate) fn ready_slot(
         &mut self,
         ballot: Ballot,
@@ -61,17 +65,17 @@ impl<V: Value> NodeCore<V> {
     {
         let value = Some(value);
         let mut posts = Vec::new(self.alloc);
-        let said = Said::Accept {
+        let message = Broadcast::Accept {
             ballot,
             slot,
             value: &value,
         };
-        post_to_all(&mut posts, self.me, &self.weights, &said)?;
+        post_broadcast(&mut posts, self.me, &self.weights, &message)?;
         let next = slot + 1;
-        Ok(self.ready_proposal(Proposal::Propose { ballot, next }, posts))
+        Ok(self.ready_proposer(ProposerUpdate::Propose { ballot, next }, posts))
     }
 
-    /// A ballot is begun.
+    /// Stages the begin of a ballot.
     pub(crate) fn ready_ballot(&mut self, ballot: Ballot) -> Result<Ready<V>, AllocError>
         requires keeps { Keeps (length self.old.node.weights) (begins self.old.node) }
         requires ballot { ballot ≡ next_ballot self.old.node }
@@ -82,27 +86,27 @@ impl<V: Value> NodeCore<V> {
         let first = self.learner.front();
         let pages = PagesHad::of_nodes(self.alloc, &self.weights)?;
         let mut posts = Vec::new(self.alloc);
-        let said = Said::Prepare { ballot, first };
-        post_to_all(&mut posts, self.me, &self.weights, &said)?;
-        let plan = Plan {
+        let message = Broadcast::Prepare { ballot, first };
+        post_broadcast(&mut posts, self.me, &self.weights, &message)?;
+        let staged = StagedStep {
             change: Some(Change::Round(ballot.round)),
-            proposal: Some(Proposal::Begin {
+            proposer: Some(ProposerUpdate::Begin {
                 ballot,
                 first,
                 pages,
             }),
-            lesson: None,
+            learner: None,
         };
-        Ok(Ready::new(self, plan, posts))
+        Ok(Ready::new(self, staged, posts))
     }
 
-    /// A Nack came.
+    /// Stages the step of a Nack.
     pub(crate) fn ready_nack(&self, ballot: Ballot, promise: Ballot) -> Ready<V>
         requires { Keeps (length self.now.node.weights) (on_nack self.now.node ballot promise) }
         ensures { IsReadyFor self.now (on_nack self.now.node ballot promise) result }
     {
         if self.proposer.role().is_at(ballot) && ballot.is_under(promise) {
-            self.ready_proposal(Proposal::Idle, Vec::new(self.alloc))
+            self.ready_proposer(ProposerUpdate::Idle, Vec::new(self.alloc))
         } else {
             self.ready_nothing()
         }

@@ -1,5 +1,5 @@
 use Rattle.std.proofs.Common.{sym, ◌∙◌}
-use Rattle.library.proofs.AskedLemmas.{named, no-label}
+use Rattle.library.proofs.QueriesLemmas.{named, no-label}
 use Rattle.extract.proofs.wanted.wrong.Goals as goal
 use Rattle.scope.proofs.StatementPlaces.{stands-within}
 

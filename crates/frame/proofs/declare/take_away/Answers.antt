@@ -73,6 +73,7 @@ loop-stock-preserved c =
       ends_count = ap length c.note_end.ensures ∙ (length-with e.kind e.links.block 0 here.ends.items ∙ i.ends_count);
       count = c.restore.ensures.count ∙ i.count;
       names = i.names;
+      stacks = i.stacks;
       links = i.links;
     })
 
@@ -88,5 +89,6 @@ loop-stock-init c =
       ends_count = refl;
       count = refl;
       names = (refl, refl);
+      stacks = (refl, refl);
       links = refl;
     }

@@ -11,6 +11,7 @@ invariant-loop-stock l = record {
   ends_count : length l.stock.ends.items ≡ length l.fn.stock.ends.items;
   count : length l.stock.symbols.items ≡ length l.fn.stock.symbols.items;
   names : (l.stock.numbering ≡ l.fn.stock.numbering) × (l.stock.positions ≡ l.fn.stock.positions);
+  stacks : (l.stock.disjoints ≡ l.fn.stock.disjoints) × (l.stock.variables ≡ l.fn.stock.variables);
   links : l.stock.links ≡ l.fn.stock.links;
 }
 

@@ -1,7 +1,11 @@
-use Rattle.frame.proofs.Words.{Extends, IsBehind, Result, Ok, Err, OnErr, append-nil, ◌≡◌, ◌∙◌, ap, sym, subst, arith, refl, length, ◌+◌, ◌++◌, ◌∷◌, [], true, bare, may-declare, AreBelow, has_parts, statements_of, ReadsAs, IsKeptOf}
+use Rattle.frame.proofs.Words.{Extends, IsBehind, Result, Ok, Err, OnErr, append-nil, ◌≡◌, ◌∙◌, ap, sym, subst, arith, refl, length, ◌+◌, ◌++◌, ◌∷◌, [], true, bare, made, may-declare, AreBelow, has_parts, statements_of, ReadsAs, IsKeptOf}
 use Rattle.frame.proofs.EndLemmas.{block-within, ends-next}
 use Rattle.frame.proofs.EnterLemmas.{IsEntered, IsExtended, added-numbers, entered-below, kept-pushed, numbered-pushed, pushed-statements}
 use Rattle.frame.proofs.NamingLemmas.{stored-naming}
+use Rattle.frame.proofs.BackLemmas.{walked-disj, walked-var}
+use Rattle.frame.proofs.StackLemmas.{disjoints-next, variables-next}
+use Rattle.frame.specs.declared.stacks.NextStatement.{NextStatement}
+use Rattle.entries.specs.Histories.{history, kept_until}
 use Rattle.entries.specs.declared.head.Head.{Head}
 use Rattle.frame.proofs.extend.extend.Goals as goal
 use Rattle.frame.proofs.extend.extend.Goals.{In-Some}
@@ -33,6 +37,16 @@ pub note_replaced-requires : goal.note_replaced-requires
 note_replaced-requires c =
     subst (λ xs. AreBelow (length xs) c.declared-declared.result.now) (sym c.deref.ensures.value) (c.declared-declared.ensures.below _ (below (goal.at.note_replaced-requires c).In-Some))
 
+pub note_active-requires-clause-disjoints : goal.note_active-requires-clause-disjoints
+note_active-requires-clause-disjoints c =
+    let g = c.in_ok-declare_next.ensures.grown in
+    walked-disj c.args.stock.now c.declare_next.new.stock.entries c.declare_next.new.stock.links c.declare_next.new.stock.disjoints c.requires.stored g.entries g.links g.disjoints
+
+pub note_active-requires-clause-variables : goal.note_active-requires-clause-variables
+note_active-requires-clause-variables c =
+    let g = c.in_ok-declare_next.ensures.grown in
+    walked-var c.args.stock.now c.declare_next.new.stock.entries c.declare_next.new.stock.links c.declare_next.new.stock.variables c.requires.stored g.entries g.links g.variables
+
 pub declare-requires : goal.declare-requires
 declare-requires c = c.declared-declared.ensures.below _ (below (goal.at.declare-requires c).In-Some)
 
@@ -57,6 +71,8 @@ returns-in_err-push-clause-behind c =
       replaced = subst (λ v. Extends v.items c.note_replaced.new.replaced.items) g.replaced c.note_replaced.ensures.behind;
       ends = ([], c.in_err-push.ensures.items ∙ (ap (λ v. v.items) g.ends ∙ sym (append-nil _)));
       entries = g.entries;
+      disjoints = λ d. ap (λ hs. kept_until (length c.args.stock.now.entries) (history hs d)) g.disjoints;
+      variables = λ d. ap (λ hs. kept_until (length c.args.stock.now.entries) (history hs d)) g.variables;
       links = g.links;
     })
 
@@ -85,12 +101,17 @@ returns c =
       linked = c.links_after-links.ensures s (sym c.kind-kind.ensures);
     } in
     let statements = pushed-statements e c.in-Some.ensures.numbers extended in
+    let x : NextStatement = record { kind = c.kind-kind.result; codes = c.in-Some.codes; at = c.in_ok-place-2.field-0; links = new.links } in
+    let place : x.at ≡ length k.entries + 1 = omega (arith, c.in_ok-place-2.ensures, c.len-at.ensures.len) in
+    let entries : c.push-2.new.self ≡ k.entries ++ made h codes a ∷ [] = extended.pushed ∙ ap (λ q. q ++ made h codes a ∷ []) told.grown.entries in
     record {
       stored = record {
         kept = kept-pushed e c.in-Some.ensures.numbers extended;
         numbered = numbered-pushed k new c.args.stmt.now _ c.requires.stored told.numbering statements;
         ended = ends-next k s _ c.kind-kind.result new.links.block (c.len-at.result + 1) c.push.new.self.items c.note_end.new.ends.items c.requires.stored c.kind-kind.ensures (ap (λ l. l.block) told.grown.links)
             (omega (arith, c.len-at.ensures.len)) (c.in_ok-push.ensures.items ∙ ap (λ v. v.items ++ 0 ∷ []) told.grown.ends) c.note_end.ensures statements;
+        disjoints = disjoints-next k s (made h codes a) x c.requires.stored place refl c.kind-kind.ensures told.grown.links new.disjoints c.note_active.new.disjoints c.push-2.new.self _ entries statements told.grown.disjoints c.in_ok-note_active.ensures.disjoints;
+        variables = variables-next k s (made h codes a) x c.requires.stored place refl c.kind-kind.ensures told.grown.links new.variables c.note_active.new.variables c.push-2.new.self _ entries statements told.grown.variables c.in_ok-note_active.ensures.variables;
       };
       added = statements;
       numbers = added-numbers e c.in-Some.ensures.numbers extended;

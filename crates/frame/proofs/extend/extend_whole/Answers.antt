@@ -16,5 +16,7 @@ returns-then-is_err-clause-stored c =
       replaced_cut = cut.replaced ∙ ap (λ n. take n mid.replaced.items) (omega (arith, c.len-replaced.ensures, old.replaced.ok.0));
       ends_cut = cut.ends;
       entries_cut = cut.entries;
+      disjoints_cut = cut.disjoints;
+      variables_cut = cut.variables;
       links_cut = cut.links;
     })

@@ -1,6 +1,4 @@
-use Rattle.std.proofs.Common.{◌≡◌, take}
-use Rattle.net.specs.Taken.{nodes_of}
-use Rattle.net.specs.World.{nodes_from}
+use Rattle.net.proofs.Words.{◌≡◌, take, nodes_of, nodes_from}
 use Rattle.net.proofs.net.new_nodes.Given as goal
 
 abbrev pub invariant-loop-k : goal.invariant-loop-k

@@ -1,5 +1,4 @@
-use Rattle.std.proofs.Common.{◌≡◌, ◌∙◌, ◌++◌, ◌*◌, ◌+◌, ap, arith, ℕ, length, replicate, List, Option, None}
-use Rattle.std.proofs.lemmas.List.{length-replicate, replicate-append-replicate}
+use Rattle.slots.proofs.Words.{◌≡◌, ◌∙◌, ◌++◌, ◌*◌, ◌+◌, ap, arith, ℕ, length, replicate, List, Option, None, length-replicate, replicate-append-replicate}
 use Rattle.slots.proofs.PagesLemmas.{joined-push, whole-push}
 use Rattle.slots.proofs.pages.empty_pages.Goals as goal
 

@@ -1,5 +1,4 @@
-use Rattle.std.proofs.Common.{◌≡◌, ◌*◌, None, replicate}
-use Rattle.slots.specs.Stored.Pages.{joined, AreWhole}
+use Rattle.slots.proofs.Words.{◌≡◌, ◌*◌, None, replicate, joined, AreWhole}
 use Rattle.slots.proofs.pages.empty_pages.Given as goal
 
 abbrev pub invariant-loop-page : goal.invariant-loop-page

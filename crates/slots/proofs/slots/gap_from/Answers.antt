@@ -1,6 +1,4 @@
-use Rattle.std.proofs.Common.{◌≡◌, ◌∙◌, ◌+◌, ℕ, suc, sym, ap, arith, add-one, drop, true, false, List, Option, Some, None, MatchOption, Bor}
-use Rattle.std.specs.Option.{is_some}
-use Rattle.slots.specs.FiniteMap.{entry_at, front_of}
+use Rattle.slots.proofs.Words.{◌≡◌, ◌∙◌, ◌+◌, ℕ, suc, sym, ap, arith, add-one, drop, true, false, List, Option, Some, None, MatchOption, Bor, is_some, entry_at, front_of}
 use Rattle.slots.proofs.FiniteMapLemmas.{front_of-drop-Some, front_of-drop-None}
 use Rattle.slots.proofs.slots.gap_from.Goals as goal
 

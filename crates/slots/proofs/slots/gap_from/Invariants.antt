@@ -1,5 +1,4 @@
-use Rattle.std.proofs.Common.{◌≡◌, ◌≤◌, ◌-◌, ◌+◌, drop, length}
-use Rattle.slots.specs.FiniteMap.{front_of}
+use Rattle.slots.proofs.Words.{◌≡◌, ◌≤◌, ◌-◌, ◌+◌, drop, length, front_of}
 use Rattle.slots.proofs.slots.gap_from.Given as goal
 
 abbrev pub invariant-loop-slot : goal.invariant-loop-slot

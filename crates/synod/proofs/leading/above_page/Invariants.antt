@@ -1,7 +1,4 @@
-use Rattle.std.proofs.Common.{◌≡◌, max, drop}
-use Rattle.std.specs.List.{AllByRecursion}
-use Rattle.synod.specs.Packets.{IsReport}
-use Rattle.synod.specs.Proposer.{above_all}
+use Rattle.synod.proofs.Words.{◌≡◌, max, drop, AllByRecursion, IsReport, above_all}
 use Rattle.synod.proofs.leading.above_page.Given as goal
 
 abbrev pub invariant-loop-report : goal.invariant-loop-report

@@ -1,9 +1,4 @@
-use Rattle.std.proofs.Common.{◌≡◌, ℕ, suc, ◌+◌, ◌-◌, ◌++◌, List, Option, Some, drop, ap, sym, ◌∙◌, arith}
-use Rattle.synod.specs.declared.packet.SlotReport.{SlotReport}
-use Rattle.synod.specs.PromisePages.{joined_pages}
-use Rattle.synod.specs.Node.{pages_from}
-use Rattle.synod.specs.Stored.PagesHad.{pages_with}
-use Rattle.synod.specs.Heights.{all_of}
+use Rattle.synod.proofs.Words.{◌≡◌, ℕ, suc, ◌+◌, ◌-◌, ◌++◌, List, Option, Some, drop, ap, sym, ◌∙◌, arith, SlotReport, joined_pages, pages_from, pages_with, all_of}
 use Rattle.synod.proofs.HeightsLemmas.{joined-gap, add_next}
 use Rattle.synod.proofs.leading.add_pages.Goals as goal
 use Rattle.synod.proofs.leading.add_pages.Goals.{in-Some+in_ok-push, in_default}

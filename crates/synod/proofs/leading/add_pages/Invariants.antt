@@ -1,8 +1,4 @@
-use Rattle.std.proofs.Common.{◌≡◌, ◌-◌, ◌++◌, drop}
-use Rattle.synod.specs.PromisePages.{joined_pages}
-use Rattle.synod.specs.Node.{pages_from}
-use Rattle.synod.specs.Stored.PagesHad.{pages_with}
-use Rattle.synod.specs.Heights.{all_of}
+use Rattle.synod.proofs.Words.{◌≡◌, ◌-◌, ◌++◌, drop, joined_pages, pages_from, pages_with, all_of}
 use Rattle.synod.proofs.leading.add_pages.Given as goal
 
 abbrev pub invariant-loop-page : goal.invariant-loop-page

@@ -1,5 +1,4 @@
-use Rattle.std.proofs.Common.{ℕ, ◌+◌, ◌-◌, length, ◌∙◌, arith}
-use Rattle.synod.specs.Heights.{all_of, AreHighest}
+use Rattle.synod.proofs.Words.{ℕ, ◌+◌, ◌-◌, length, ◌∙◌, arith, all_of, AreHighest}
 use Rattle.synod.proofs.HeightsLemmas.{fill_next, value_at}
 use Rattle.synod.proofs.leading.fill_posts.Goals as goal
 
@@ -12,6 +11,6 @@ loop-highest-preserved g c =
     let slot = c.loop-highest.invariant.slot in
     record {
       slot = omega (arith, slot);
-      posted = fill_next c.args.me c.args.weights.now c.args.ballot c.loop-highest.slot (length items - i) (length items - (i + 1)) (all_of c.args.pages.now) c.in_ok-value.value c.loop-highest.posts.items c.post_to_all.new.posts.items
-          c.in_ok-post_to_all.ensures value (omega arith) ∙ c.loop-highest.invariant.posted;
+      posted = fill_next c.args.me c.args.weights.now c.args.ballot c.loop-highest.slot (length items - i) (length items - (i + 1)) (all_of c.args.pages.now) c.in_ok-value.value c.loop-highest.posts.items c.post_broadcast.new.posts.items
+          c.in_ok-post_broadcast.ensures value (omega arith) ∙ c.loop-highest.invariant.posted;
     }

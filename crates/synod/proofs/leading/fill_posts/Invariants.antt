@@ -1,7 +1,4 @@
-use Rattle.std.proofs.Common.{◌≡◌, ◌+◌, ◌-◌, ◌++◌, length}
-use Rattle.synod.specs.Packets.{accepts}
-use Rattle.synod.specs.Proposer.{fills}
-use Rattle.synod.specs.Heights.{all_of}
+use Rattle.synod.proofs.Words.{◌≡◌, ◌+◌, ◌-◌, ◌++◌, length, accepts, fills, all_of}
 use Rattle.synod.proofs.leading.fill_posts.Given as goal
 
 abbrev pub invariant-loop-highest : goal.invariant-loop-highest

@@ -1,7 +1,4 @@
-use Rattle.std.proofs.Common.{◌≡◌, ◌++◌, drop}
-use Rattle.synod.specs.Stored.PagesHad.{pages_with}
-use Rattle.synod.specs.Proposer.{all_reports}
-use Rattle.synod.specs.Heights.{all_of}
+use Rattle.synod.proofs.Words.{◌≡◌, ◌++◌, drop, pages_with, all_reports, all_of}
 use Rattle.synod.proofs.leading.heard_pages.Given as goal
 
 abbrev pub invariant-loop-node : goal.invariant-loop-node

@@ -1,8 +1,4 @@
-use Rattle.std.proofs.Common.{ℕ, List, take, ap, sym, ◌∙◌, subst, arith}
-use Rattle.std.specs.Borrow.{Bor}
-use Rattle.std.proofs.lemmas.List.{take_all}
-use Rattle.synod.specs.declared.packet.SlotReport.{SlotReport}
-use Rattle.synod.specs.Heights.{all_of, AreHighest}
+use Rattle.synod.proofs.Words.{ℕ, List, take, ap, sym, ◌∙◌, subst, arith, Bor, take_all, SlotReport, all_of, AreHighest}
 use Rattle.synod.proofs.HeightsLemmas.{take_next, all_of-push, highest_of_none}
 use Rattle.synod.proofs.leading.highest_reports.Goals as goal
 

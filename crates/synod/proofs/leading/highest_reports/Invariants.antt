@@ -1,5 +1,4 @@
-use Rattle.std.proofs.Common.{◌≡◌, ◌≤◌, ◌+◌, ◌-◌, ℕ, length, take, slice_index_or, None}
-use Rattle.synod.specs.Heights.{all_of, AreHighest}
+use Rattle.synod.proofs.Words.{◌≡◌, ◌≤◌, ◌+◌, ◌-◌, ℕ, length, take, slice_index_or, None, all_of, AreHighest}
 use Rattle.synod.proofs.leading.highest_reports.Given as goal
 
 abbrev pub invariant-loop-slot : goal.invariant-loop-slot

@@ -1,7 +1,4 @@
-use Rattle.std.proofs.Common.{ℕ, List, [], ◌∷◌, ◌++◌, take, ap, sym, ◌∙◌, subst, arith, append_assoc}
-use Rattle.std.proofs.lemmas.List.{take_all}
-use Rattle.synod.specs.declared.packet.SlotReport.{SlotReport}
-use Rattle.synod.specs.Heights.{AreHighest}
+use Rattle.synod.proofs.Words.{ℕ, List, [], ◌∷◌, ◌++◌, take, ap, sym, ◌∙◌, subst, arith, append_assoc, take_all, SlotReport, AreHighest}
 use Rattle.synod.proofs.HeightsLemmas.{take_next}
 use Rattle.synod.proofs.leading.keep_page.Goals as goal
 

@@ -1,6 +1,4 @@
-use Rattle.std.proofs.Common.{◌≡◌, ◌++◌, List, length, take}
-use Rattle.synod.specs.declared.packet.SlotReport.{SlotReport}
-use Rattle.synod.specs.Heights.{AreHighest}
+use Rattle.synod.proofs.Words.{◌≡◌, ◌++◌, List, length, take, SlotReport, AreHighest}
 use Rattle.synod.proofs.leading.keep_page.Given as goal
 
 abbrev pub invariant-loop-report : goal.invariant-loop-report

@@ -1,5 +1,4 @@
-use Rattle.std.proofs.Common.{◌≡◌, ℕ, ◌-◌, true, false, Some, None, refl, sym, ◌∙◌, arith, slice_index_or}
-use Rattle.std.specs.Option.{option_copied}
+use Rattle.synod.proofs.Words.{◌≡◌, ℕ, ◌-◌, true, false, Some, None, refl, sym, ◌∙◌, arith, slice_index_or, option_copied}
 use Rattle.synod.proofs.HeightsLemmas.{joined_with, highest_kept, highest_set, table_at, joined-under, joined-upto}
 use Rattle.synod.proofs.leading.keep_report.Goals as goal
 use Rattle.synod.proofs.leading.keep_report.Goals.{in-Some, in-None}

@@ -1,8 +1,4 @@
-use Rattle.std.proofs.Common.{◌-◌, List, length, ap, ◌∙◌, arith}
-use Rattle.synod.specs.declared.packet.SlotReport.{SlotReport}
-use Rattle.synod.specs.Proposer.{top_reported, all_reports}
-use Rattle.synod.specs.Stored.PagesHad.{pages_with}
-use Rattle.synod.specs.Heights.{all_of}
+use Rattle.synod.proofs.Words.{◌-◌, List, length, ap, ◌∙◌, arith, SlotReport, top_reported, all_reports, pages_with, all_of}
 use Rattle.synod.proofs.PageKeeps.{top_low}
 use Rattle.synod.proofs.HeightsLemmas.{take_min, is_lead}
 use Rattle.synod.proofs.leading.lead_posts.Goals as goal

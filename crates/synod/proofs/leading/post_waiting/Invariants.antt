@@ -1,6 +1,4 @@
-use Rattle.std.proofs.Common.{◌≡◌, ◌+◌, ◌++◌, drop}
-use Rattle.synod.specs.Packets.{accepts}
-use Rattle.synod.specs.Heights.{some_of}
+use Rattle.synod.proofs.Words.{◌≡◌, ◌+◌, ◌++◌, drop, accepts, some_of}
 use Rattle.synod.proofs.leading.post_waiting.Given as goal
 
 abbrev pub invariant-loop-value : goal.invariant-loop-value

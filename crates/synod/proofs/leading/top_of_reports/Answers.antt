@@ -1,9 +1,4 @@
-use Rattle.std.proofs.Common.{◌+◌, List, drop, ap, ◌∙◌, subst, arith}
-use Rattle.std.specs.List.{AllByRecursion}
-use Rattle.synod.specs.declared.packet.SlotReport.{SlotReport}
-use Rattle.synod.specs.Packets.{IsReport}
-use Rattle.synod.specs.Proposer.{above_all}
-use Rattle.synod.specs.Heights.{all_of}
+use Rattle.synod.proofs.Words.{◌+◌, List, drop, ap, ◌∙◌, subst, arith, AllByRecursion, SlotReport, IsReport, above_all, all_of}
 use Rattle.synod.proofs.HeightsLemmas.{pages_next, all_left, all_right, above_all-append}
 use Rattle.synod.proofs.leading.top_of_reports.Goals as goal
 

@@ -1,8 +1,4 @@
-use Rattle.std.proofs.Common.{◌≡◌, max, drop}
-use Rattle.std.specs.List.{AllByRecursion}
-use Rattle.synod.specs.Packets.{IsReport}
-use Rattle.synod.specs.Proposer.{above_all}
-use Rattle.synod.specs.Heights.{all_of}
+use Rattle.synod.proofs.Words.{◌≡◌, max, drop, AllByRecursion, IsReport, above_all, all_of}
 use Rattle.synod.proofs.leading.top_of_reports.Given as goal
 
 abbrev pub invariant-loop-reports : goal.invariant-loop-reports

@@ -1,5 +1,4 @@
-use Rattle.std.proofs.Common.{◌≡◌, ◌+◌, length}
-use Rattle.synod.specs.Acceptor.{promise_pages}
+use Rattle.synod.proofs.Words.{◌≡◌, ◌+◌, length, promise_pages}
 use Rattle.synod.proofs.promise.post_pages.Given as goal
 
 -- a packet was posted for each page so far

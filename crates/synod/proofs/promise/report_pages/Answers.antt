@@ -1,6 +1,4 @@
-use Rattle.std.proofs.Common.{◌≡◌, refl, arith}
-use Rattle.synod.specs.PromisePages.{pages_of}
-use Rattle.synod.specs.Acceptor.{reports_from}
+use Rattle.synod.proofs.Words.{◌≡◌, refl, arith, pages_of, reports_from}
 use Rattle.synod.proofs.ReportPages.{gathers-first, gathers-gap, gathers-add, gathers-new, gathers-last, pages-within}
 use Rattle.synod.proofs.promise.report_pages.Goals as goal
 use Rattle.synod.proofs.promise.report_pages.Goals.{in-Some+in_ok-copy_value+in_ok-push-2, then-len-eq-PAGE_REPORTS+in_ok-push, else-len-eq-PAGE_REPORTS, in_default}

@@ -1,9 +1,4 @@
-use Rattle.std.proofs.Common.{◌∙◌, ap, sym, arith, List, Option}
-use Rattle.std.proofs.lemmas.List.{length-map}
-use Rattle.slots.specs.FiniteMap.{SlotsView, front_of}
-use Rattle.synod.specs.declared.packet.SlotReport.{SlotReport}
-use Rattle.synod.specs.Node.{page_of, pages_from}
-use Rattle.synod.specs.Stored.PagesHad.{entries_of}
+use Rattle.synod.proofs.Words.{◌∙◌, ap, sym, arith, List, Option, length-map, SlotsView, front_of, SlotReport, page_of, pages_from, entries_of}
 use Rattle.synod.proofs.AcceptedLemmas.{none_is}
 use Rattle.synod.proofs.PagesWithLemmas.{with_had, pages_new, some_is}
 use Rattle.synod.proofs.promise_pages.front_after.Goals as goal

@@ -1,5 +1,4 @@
-use Rattle.std.proofs.Common.{◌≡◌, drop}
-use Rattle.synod.specs.Node.{is_heard}
+use Rattle.synod.proofs.Words.{◌≡◌, drop, is_heard}
 use Rattle.synod.proofs.proposer.is_heard.Given as goal
 
 abbrev pub invariant-loop-one : goal.invariant-loop-one

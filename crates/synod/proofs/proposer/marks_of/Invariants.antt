@@ -1,5 +1,4 @@
-use Rattle.std.proofs.Common.{◌≡◌, ◌<◌, ℕ, get_or, length, false}
-use Rattle.synod.specs.Node.{is_heard}
+use Rattle.synod.proofs.Words.{◌≡◌, ◌<◌, ℕ, get_or, length, false, is_heard}
 use Rattle.synod.proofs.proposer.marks_of.Given as goal
 
 abbrev pub invariant-loop-node : goal.invariant-loop-node

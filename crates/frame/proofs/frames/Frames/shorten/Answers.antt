@@ -1,4 +1,6 @@
-use Rattle.frame.proofs.Words.{◌≡◌, ◌∙◌, ap, sym, subst, arith, length, take, ◌<◌, AreStored, Extends, length-take-le, take-length, slice_get_within, names_in, labels_in, statements_of, ReadsAs, replaced_of, symbol_of, declared_symbols, declared_labels, naming_of, seen}
+use Rattle.frame.proofs.Words.{◌≡◌, ◌∙◌, ap, sym, subst, arith, length, take, ◌<◌, ◌≤◌, is_disj, is_var, AreStored, Extends, length-take-le, take-length, slice_get_within, names_in, labels_in, statements_of, ReadsAs, replaced_of, symbol_of, declared_symbols, declared_labels, naming_of, seen}
+use Rattle.entries.specs.Histories.{AreKeptUntil}
+use Rattle.frame.proofs.StackLemmas.{stacks-front}
 use Rattle.frame.proofs.EndLemmas.{ends-front, stored-blocks}
 use Rattle.frame.proofs.CutStorage.{IsCut, kept-cut, cut-statements, names-front, front-naming, numbering-front}
 use Rattle.frame.proofs.frames.Frames.shorten.Goals as goal
@@ -36,12 +38,17 @@ left c =
     let fewer-than : n < length S = omega (arith, slice_get_within k.entries n e c.entry-first.ensures.1, (stored-blocks k c.self.invariant).count) in
     let long : length c.take_away.new.stock.entries ≡ n = ap length away.entries ∙ length-take-le n k.entries (omega (arith, fewer-than, (stored-blocks k c.self.invariant).count)) in
     let ends : new.ends.items ≡ take n c.take_away.new.stock.ends.items = back.ends ∙ ap (λ m. take m c.take_away.new.stock.ends.items) long in
-    let statements = cut-statements c.self.invariant.kept cut in (
+    let statements = cut-statements c.self.invariant.kept cut in
+    let low : n ≤ length k.entries = omega (arith, slice_get_within k.entries n e c.entry-first.ensures.1) in
+    let kept_disjoints : AreKeptUntil (length c.take_away.new.stock.entries) c.take_away.new.stock.disjoints new.disjoints → AreKeptUntil n k.disjoints new.disjoints = λ h. rw (← long, ← away.stacks.0) h in
+    let kept_variables : AreKeptUntil (length c.take_away.new.stock.entries) c.take_away.new.stock.variables new.variables → AreKeptUntil n k.variables new.variables = λ h. rw (← long, ← away.stacks.1) h in (
       record {
         kept = kept-cut c.self.invariant.kept cut;
         numbered = numbering ∙ ap naming_of (sym statements);
         ended = rw (statements, ends)
             (ends-front c.take_away.new.stock.ends.items S n (omega (arith, fewer-than)) (away.count_ends ∙ c.self.invariant.ended.count) away.ends);
+        disjoints = rw (statements, back.entries ∙ away.entries) (stacks-front is_disj k.disjoints new.disjoints k.entries S n c.self.invariant.disjoints low (kept_disjoints back.disjoints));
+        variables = rw (statements, back.entries ∙ away.entries) (stacks-front is_var k.variables new.variables k.entries S n c.self.invariant.variables low (kept_variables back.variables));
       },
       statements,
       names-front c.self.invariant.kept cut,

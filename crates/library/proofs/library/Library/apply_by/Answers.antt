@@ -1,4 +1,5 @@
 use Rattle.library.proofs.Words.{◌≡◌, ℕ, ◌+◌, ◌*◌, ◌≤◌, List, length, Option, Some, None, refl, subst, ap, sym, ◌∙◌, arith, Database, Submission, Text, Cause, TooLong, BadText, Shape, NotChartered, IsAllowed, IsFault, IsCause, IsReading, Extends, Decides, Replica, status, decided_with}
+use Rattle.library.specs.Added.{count_of}
 use Rattle.library.specs.LibraryOf.{author_of, serial_of}
 use Rattle.library.specs.LibraryState.{IsWithinText, IsWithinEntry, verdict_of, decided_of}
 use Rattle.library.proofs.CausesLemmas.{one-reading}
@@ -21,9 +22,9 @@ text-decided old L T submission None allowed e = (T, allowed, e.0, ap (λ S. rec
 text-decided old L T submission (Some cause) allowed e =
     (fault-cause old.statements T old.charter submission cause allowed e.0, ap (λ S. record old { statements = S; decided = decided_with old (Text submission) (verdict_of (Some cause)) }) e.1)
 
-within-read : (charter : Option (List ℕ)) (submission : Submission) (T : Database) (before after : ℕ) → IsAllowed charter submission T → after ≤ before + 3 * length T → IsWithinText submission before after
+within-read : (charter : Option (List ℕ)) (submission : Submission) (T : Database) (before after : ℕ) → IsAllowed charter submission T → after ≤ before + 2 * length T → IsWithinText submission before after
 within-read charter submission T before after allowed h =
-    record { read = λ U reads. subst (λ V. after ≤ before + 3 * length V) (one-reading submission.text T U allowed.readable.read reads) h; unread = λ none. absurd (none T allowed.readable.read) }
+    record { read = λ U reads. subst (λ V. after ≤ before + 3 * length V) (one-reading submission.text T U allowed.readable.read reads) (omega (arith, h)); unread = λ none. absurd (none T allowed.readable.read) }
 
 pub returns-in_err-cause-in-Ok-clause-counted : goal.returns-in_err-cause-in-Ok-clause-counted
 returns-in_err-cause-in-Ok-clause-counted g c =
@@ -33,9 +34,9 @@ returns-in_err-cause-in-Ok-clause-counted g c =
 
 -- what was made of the entry, whichever it was
 settled : (g : Rattle.library.proofs.library.Library.apply_by.Given.Over) (c : goal.After-verdict_of g) → let V = c.self.inside in
-    let old : Replica = record { statements = V.base; decided = decided_of V.decided.entries; charter = V.charter } in let entry = c.in-Some.entry.now in let verdict = verdict_of c.match-entry.cause in
-    Decides old entry verdict (record { statements = c.match-entry.self-inside.base; decided = decided_with old entry verdict; charter = c.match-entry.self-inside.charter })
-    × (c.match-entry.self-inside.decided.entries ≡ V.decided.entries) × IsWithinEntry c.in-Some.entry.now V.steps.count c.match-entry.self-inside.steps.count
+    let old : Replica = record { statements = V.database; decided = decided_of V.decided.entries; charter = V.charter } in let entry = c.in-Some.entry.now in let verdict = verdict_of c.match-entry.cause in
+    Decides old entry verdict (record { statements = c.match-entry.self-inside.database; decided = decided_with old entry verdict; charter = c.match-entry.self-inside.charter })
+    × (c.match-entry.self-inside.decided.entries ≡ V.decided.entries) × IsWithinEntry c.in-Some.entry.now (count_of V.steps) (count_of c.match-entry.self-inside.steps) × (count_of V.steps ≤ count_of c.match-entry.self-inside.steps)
 settled g c =
     let V = c.self.inside in
     elim c.match-entry.branch [
@@ -44,16 +45,18 @@ settled g c =
             text-decided _ _ w.in-Ok.statements.items w.in-Text.submission _ allowed w.in_ok-cause-in-Ok.ensures.judged,
             c.in_ok-reserve.ensures.entries,
             within-read V.charter w.in-Text.submission w.in-Ok.statements.items _ _ allowed w.extend.ensures.counted,
+            w.extend.ensures.rises,
           ))
       | in-Text+in_ok-statements-in-Text+in-Err w ↦ rw (w.cause-is, w.self-inside-is, w.in-Text.is) (
-        (subst (IsReading V.charter w.in-Text.submission) w.in-Err.is w.in_ok-statements-in-Text.ensures V.base, refl),
+        (subst (IsReading V.charter w.in-Text.submission) w.in-Err.is w.in_ok-statements-in-Text.ensures V.database, refl),
         c.in_ok-reserve.ensures.entries,
         record { read = λ T reads. omega arith; unread = λ none. refl },
+        omega arith,
       )
       | in-Charter+then-not-may_declare w ↦ rw (w.cause-is, w.self-inside-is, w.in-Charter.is)
-          ((sym w.may_declare.ensures ∙ w.if-not-may_declare.true, refl, refl), c.in_ok-reserve.ensures.entries, refl)
+          ((sym w.may_declare.ensures ∙ w.if-not-may_declare.true, refl, refl), c.in_ok-reserve.ensures.entries, refl, omega arith)
       | in-Charter+else-not-may_declare+in_ok-copy-in-Charter w ↦ rw (w.cause-is, w.self-inside-is, w.in_ok-copy-in-Charter.ensures, w.in-Charter.is)
-          ((sym w.may_declare.ensures ∙ w.if-not-may_declare.false, refl), c.in_ok-reserve.ensures.entries, refl)
+          ((sym w.may_declare.ensures ∙ w.if-not-may_declare.false, refl), c.in_ok-reserve.ensures.entries, refl, omega arith)
     ]
 
 pub returns-clause-step : goal.returns-clause-step
@@ -67,3 +70,6 @@ pub returns-clause-counted : goal.returns-clause-counted
 returns-clause-counted g c =
     let new : status c.args.self.now.replica.decided (author_of c.in-Some.entry.now) (serial_of c.in-Some.entry.now) ≡ None = sym (rw (c.author.ensures, c.serial.ensures) at c.in-None.ensures.first) in
     rw (c.in-Some.is, new, ← c.self.view_is) (settled g c).2
+
+pub returns-clause-rises : goal.returns-clause-rises
+returns-clause-rises g c = rw (← c.self.view_is) (settled g c).3

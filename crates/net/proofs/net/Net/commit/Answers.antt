@@ -1,9 +1,6 @@
-use Rattle.std.proofs.Common.{◌++◌, [], ◌∷◌, List, length, ap, refl, ◌∙◌, arith}
-use Rattle.synod.specs.declared.packet.Packet.{Packet}
-use Rattle.net.specs.declared.event.Event.{Event}
-use Rattle.net.specs.Due.{NetView, Work, posts_of, work_of}
+use Rattle.net.proofs.Words.{◌++◌, [], ◌∷◌, List, length, ap, refl, ◌∙◌, arith, Packet, Event, NetView, StagedWork, posts_of, work_of}
 use Rattle.net.proofs.TakenLemmas.{packets_shown}
-use Rattle.net.proofs.DueTaken.{taken_in, commit_world, commit_taken}
+use Rattle.net.proofs.StagedTaken.{taken_in, commit_world, commit_taken}
 use Rattle.net.proofs.net.Net.commit.Goals as goal
 
 pub invariant_of-self : goal.invariant_of-self
@@ -12,7 +9,7 @@ invariant_of-self g c =
     let packets = ap (λ (n : View). length n.packets) c.self.view_is in
     let room = ap (λ (n : View). n.packet_room) c.self.view_is in
     let count = ap (λ (ps : List (Packet g.row.V.Denot)). length ps) c.commit_at-posts.ensures.posts in
-    let posts = ap (λ (w : Work g.row.V.Denot). length (posts_of w)) c.into_parts-at.ensures.work in
+    let posts = ap (λ (w : StagedWork g.row.V.Denot). length (posts_of w)) c.into_parts-at.ensures.work in
     let fits = c.append-added.ensures.succeeds (omega (arith, packets, room, count, posts, c.requires.room.for_packets, c.self.inside.packets.ok.0, c.commit_at-posts.result.ok.0)) in
     let added = taken_in c.append-added.result c.self.inside.packets.items c.commit_at-posts.result.items c.append-added.new.self.items fits c.append-added.ensures.items ∙ ap (λ (ps : List (Packet g.row.V.Denot)). c.self.inside.packets.items ++ ps) c.commit_at-posts.ensures.posts in
     let pushed = c.push_reserved.ensures.items ∙ ap (λ (e : Event g.row.V.Denot). c.self.inside.events.items ++ e ∷ []) c.into_parts-at.ensures.event in
@@ -25,7 +22,7 @@ returns-clause-taken g c =
     let packets = ap (λ (n : View). length n.packets) c.self.view_is in
     let room = ap (λ (n : View). n.packet_room) c.self.view_is in
     let count = ap (λ (ps : List (Packet g.row.V.Denot)). length ps) c.commit_at-posts.ensures.posts in
-    let posts = ap (λ (w : Work g.row.V.Denot). length (posts_of w)) c.into_parts-at.ensures.work in
+    let posts = ap (λ (w : StagedWork g.row.V.Denot). length (posts_of w)) c.into_parts-at.ensures.work in
     let fits = c.append-added.ensures.succeeds (omega (arith, packets, room, count, posts, c.requires.room.for_packets, c.self.inside.packets.ok.0, c.commit_at-posts.result.ok.0)) in
     let added = taken_in c.append-added.result c.self.inside.packets.items c.commit_at-posts.result.items c.append-added.new.self.items fits c.append-added.ensures.items ∙ ap (λ (ps : List (Packet g.row.V.Denot)). c.self.inside.packets.items ++ ps) c.commit_at-posts.ensures.posts in
     let pushed = c.push_reserved.ensures.items ∙ ap (λ (e : Event g.row.V.Denot). c.self.inside.events.items ++ e ∷ []) c.into_parts-at.ensures.event in
@@ -38,7 +35,7 @@ returns-clause-posted g c =
     let packets = ap (λ (n : View). length n.packets) c.self.view_is in
     let room = ap (λ (n : View). n.packet_room) c.self.view_is in
     let count = ap (λ (ps : List (Packet g.row.V.Denot)). length ps) c.commit_at-posts.ensures.posts in
-    let posts = ap (λ (w : Work g.row.V.Denot). length (posts_of w)) c.into_parts-at.ensures.work in
+    let posts = ap (λ (w : StagedWork g.row.V.Denot). length (posts_of w)) c.into_parts-at.ensures.work in
     let fits = c.append-added.ensures.succeeds (omega (arith, packets, room, count, posts, c.requires.room.for_packets, c.self.inside.packets.ok.0, c.commit_at-posts.result.ok.0)) in
     let added = taken_in c.append-added.result c.self.inside.packets.items c.commit_at-posts.result.items c.append-added.new.self.items fits c.append-added.ensures.items ∙ ap (λ (ps : List (Packet g.row.V.Denot)). c.self.inside.packets.items ++ ps) c.commit_at-posts.ensures.posts in
     let pushed = c.push_reserved.ensures.items ∙ ap (λ (e : Event g.row.V.Denot). c.self.inside.events.items ++ e ∷ []) c.into_parts-at.ensures.event in

@@ -1,7 +1,4 @@
-use Rattle.std.proofs.Common.{◌≡◌, List, Option, Some, None, length, get_or, slice_get, ap, sym, subst, ◌∙◌, arith, MatchOption}
-use Rattle.std.specs.Borrow.{Bor}
-use Rattle.synod.specs.Core.{Core}
-use Rattle.net.specs.Due.{NetView}
+use Rattle.net.proofs.Words.{◌≡◌, List, Option, Some, None, length, get_or, slice_get, ap, sym, subst, ◌∙◌, arith, MatchOption, Bor, Core, NetView}
 use Rattle.net.proofs.TakenLemmas.{count_shown, log_shown}
 use Rattle.net.proofs.net.Net.entry.Goals as goal
 

@@ -1,6 +1,4 @@
-use Rattle.std.proofs.Common.{ap, subst}
-use Rattle.net.specs.Due.{NetView}
-use Rattle.net.specs.History.{Agreement}
+use Rattle.net.proofs.Words.{ap, subst, NetView, Agreement}
 use Rattle.net.proofs.TakenLemmas.{events_within}
 use Rattle.net.proofs.HistoryLemmas.{agreement_of}
 use Rattle.net.proofs.net.Net.history.Goals as goal

@@ -1,6 +1,4 @@
-use Rattle.std.proofs.Common.{List, length, get_or, ap, sym, ◌∙◌, arith}
-use Rattle.synod.specs.Core.{Core}
-use Rattle.net.specs.Due.{NetView}
+use Rattle.net.proofs.Words.{List, length, get_or, ap, sym, ◌∙◌, arith, Core, NetView}
 use Rattle.net.proofs.TakenLemmas.{count_shown, log_shown}
 use Rattle.net.proofs.net.Net.log.Goals as goal
 

@@ -1,13 +1,9 @@
-use Rattle.std.proofs.Common.{◌≡◌, Err, length, ap, refl, sym, subst, arith}
-use Rattle.std.specs.Prelude.{Result, IfErr, OnOk}
-use Rattle.net.specs.declared.fault.StepFault.{StepFault}
-use Rattle.net.specs.declared.fault.StepFault.TheVariants.{EventsSpent, Memory}
-use Rattle.net.specs.World.{World}
-use Rattle.net.specs.Due.{Due, NetView}
+use Rattle.net.proofs.Words.{◌≡◌, Err, length, ap, refl, sym, subst, arith, IfErr, OnOk, StepFault, EventsSpent, Memory, World, StagedEvent, NetView}
+use Rattle.std.specs.Prelude.{Result}
 use Rattle.net.proofs.TakenLemmas.{events_within, spent_met}
-use Rattle.net.proofs.EventsDue.{due_still}
-use Rattle.net.proofs.DueTaken.{gives_due}
-use Rattle.net.proofs.StepsDue.{not_moved, still_more}
+use Rattle.net.proofs.EventsStaged.{due_still}
+use Rattle.net.proofs.StagedTaken.{gives_due}
+use Rattle.net.proofs.StepsStaged.{not_moved, still_more}
 use Rattle.net.proofs.net.Net.ready.Goals as goal
 
 pub ready_at_node-requires : goal.ready_at_node-requires
@@ -19,7 +15,7 @@ ready_at_node-requires g c =
 pub returns-then-len-eq-MOST_EVENTS-clause-refused : goal.returns-then-len-eq-MOST_EVENTS-clause-refused
 returns-then-len-eq-MOST_EVENTS-clause-refused g c =
     let met = spent_met g.V.Value.bytes _ _ _ _ c.self.invariant (ap (λ (n : NetView g.row.V.Denot). n.taken) c.self.view_is) c.args.event (omega (arith, c.len.ensures, c.if-len-eq-MOST_EVENTS.true)) in
-    subst (λ (r : Result (World g.row.V.Denot) StepFault). IfErr r (λ fault. let answered : Result (Due g.row.V.Denot) StepFault = Err EventsSpent in answered ≡ Err fault)) (sym met) refl
+    subst (λ (r : Result (World g.row.V.Denot) StepFault). IfErr r (λ fault. let answered : Result (StagedEvent g.row.V.Denot) StepFault = Err EventsSpent in answered ≡ Err fault)) (sym met) refl
 
 pub returns-then-len-eq-MOST_EVENTS-clause-only_memory : goal.returns-then-len-eq-MOST_EVENTS-clause-only_memory
 returns-then-len-eq-MOST_EVENTS-clause-only_memory g c =

@@ -1,10 +1,5 @@
-use Rattle.std.proofs.Common.{List, length, ap, refl, sym, subst, ◌∙◌}
-use Rattle.std.specs.List.{AllByRecursion}
-use Rattle.synod.specs.declared.packet.Packet.{Packet}
-use Rattle.synod.specs.Packets.{IsPost}
-use Rattle.net.specs.KeptPart.{addressed}
-use Rattle.net.specs.Due.{NetView, ReadiesEvent}
-use Rattle.net.proofs.StepsDue.{gives_event_here, gives_no_node, gives_no_packet, posts_at, still_here, of_world_here, not_moved}
+use Rattle.net.proofs.Words.{List, length, ap, refl, sym, subst, ◌∙◌, AllByRecursion, Packet, IsPost, addressed, NetView, ReadiesEvent}
+use Rattle.net.proofs.StepsStaged.{gives_event_here, gives_no_node, gives_no_packet, posts_at, still_here, of_world_here, not_moved}
 use Rattle.net.proofs.net.Net.ready_at_node.Goals as goal
 
 pub returns-in_default-clause-gives : goal.returns-in_default-clause-gives

@@ -1,5 +1,5 @@
 use Rattle.std.proofs.Common.{refl, arith}
-use Rattle.net.proofs.StepsDue.{still_room}
+use Rattle.net.proofs.StepsStaged.{still_room}
 use Rattle.net.proofs.net.Net.room.Goals as goal
 
 pub returns-in_err-reserve-clause-still : goal.returns-in_err-reserve-clause-still

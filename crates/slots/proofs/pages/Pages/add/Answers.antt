@@ -1,5 +1,4 @@
-use Rattle.std.proofs.Common.{◌∙◌, ◌++◌, ◌*◌, ap, replicate, List, Option, None}
-use Rattle.slots.specs.Stored.Pages.{joined}
+use Rattle.slots.proofs.Words.{◌∙◌, ◌++◌, ◌*◌, ap, replicate, List, Option, None, joined}
 use Rattle.slots.proofs.PagesLemmas.{joined-append, whole-append}
 use Rattle.slots.proofs.pages.Pages.add.Goals as goal
 

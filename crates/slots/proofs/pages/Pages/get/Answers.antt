@@ -1,5 +1,4 @@
-use Rattle.std.proofs.Common.{◌≡◌, ◌∙◌, ◌/◌, ◌%◌, sym, ap, arith, length, List, Option}
-use Rattle.slots.specs.FiniteMap.{entry_at}
+use Rattle.slots.proofs.Words.{◌≡◌, ◌∙◌, ◌/◌, ◌%◌, sym, ap, arith, length, List, Option, entry_at}
 use Rattle.slots.proofs.PagesLemmas.{length-joined, entry_at-joined}
 use Rattle.slots.proofs.pages.Pages.get.Goals as goal
 

@@ -1,7 +1,4 @@
-use Rattle.std.proofs.Common.{◌∙◌, ◌/◌, ◌%◌, sym, ap, arith, length, set, List, Option, Some}
-use Rattle.std.proofs.lemmas.List.{length-set}
-use Rattle.slots.specs.FiniteMap.{entry_at}
-use Rattle.slots.specs.Stored.Pages.{joined}
+use Rattle.slots.proofs.Words.{◌∙◌, ◌/◌, ◌%◌, sym, ap, arith, length, set, List, Option, Some, length-set, entry_at, joined}
 use Rattle.slots.proofs.PagesLemmas.{length-joined, entry_at-joined, set-joined, whole-set, whole-at}
 use Rattle.slots.proofs.pages.Pages.put.Goals as goal
 

@@ -1,5 +1,4 @@
-use Rattle.std.proofs.Common.{◌∙◌, sym, ap, arith}
-use Rattle.slots.specs.FiniteMap.{SlotsView, front_of}
+use Rattle.slots.proofs.Words.{◌∙◌, sym, ap, arith, SlotsView, front_of}
 use Rattle.slots.proofs.FiniteMapLemmas.{front_of-trimmed, front_of-le}
 use Rattle.slots.proofs.slots.Slots.front.Goals as goal
 

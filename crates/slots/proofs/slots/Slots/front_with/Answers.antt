@@ -1,7 +1,4 @@
-use Rattle.std.proofs.Common.{◌≡◌, ◌∙◌, ◌+◌, ◌<◌, ◌≤◌, ◌↔◌, ℕ, suc, Bool, true, false, IsTrue, sym, ap, arith, add-one, drop, length}
-use Rattle.std.proofs.lemmas.Grind.{common_steps}
-use Rattle.std.proofs.lemmas.List.{length-drop}
-use Rattle.slots.specs.FiniteMap.{SlotsView, put_at, front_of}
+use Rattle.slots.proofs.Words.{◌≡◌, ◌∙◌, ◌+◌, ◌<◌, ◌≤◌, ◌↔◌, ℕ, suc, Bool, true, false, IsTrue, sym, ap, arith, add-one, drop, length, common_steps, length-drop, SlotsView, put_at, front_of}
 use Rattle.slots.proofs.FiniteMapLemmas.{front_of-le, front_of-trimmed, front_of-put_at-other, front_of-put_at-trimmed, front_of-drop-None, entry_at-past}
 use Rattle.slots.proofs.slots.Slots.front_with.Goals as goal
 

@@ -1,6 +1,4 @@
-use Rattle.std.proofs.Common.{◌≡◌, ◌∙◌, sym, ap, arith, length, Bool, false, IsTrue, ◌↔◌, ◌<◌, ◌≤◌, ℕ}
-use Rattle.std.proofs.lemmas.Grind.{common_steps}
-use Rattle.slots.specs.FiniteMap.{SlotsView, entry_at}
+use Rattle.slots.proofs.Words.{◌≡◌, ◌∙◌, sym, ap, arith, length, Bool, false, IsTrue, ◌↔◌, ◌<◌, ◌≤◌, ℕ, common_steps, SlotsView, entry_at}
 use Rattle.slots.proofs.FiniteMapLemmas.{entry_at-trimmed, entry_at-past}
 use Rattle.slots.proofs.slots.Slots.get.Goals as goal
 

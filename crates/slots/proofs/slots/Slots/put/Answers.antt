@@ -1,6 +1,4 @@
-use Rattle.std.proofs.Common.{◌∙◌, ◌+◌, ℕ, max, drop, sym, ap, arith, List, Option, Some, length}
-use Rattle.std.proofs.lemmas.List.{length-set}
-use Rattle.slots.specs.FiniteMap.{SlotsView, entry_at, put_at, trimmed, front_of, top_of}
+use Rattle.slots.proofs.Words.{◌∙◌, ◌+◌, ℕ, max, drop, sym, ap, arith, List, Option, Some, length, length-set, SlotsView, entry_at, put_at, trimmed, front_of, top_of}
 use Rattle.slots.proofs.FiniteMapLemmas.{trimmed-set, top_of-put_at, front_of-le, front_of-set, entry_at-trimmed, top_of-trimmed-le}
 use Rattle.slots.proofs.slots.Slots.put.Goals as goal
 

@@ -1,6 +1,4 @@
-use Rattle.std.proofs.Common.{◌≡◌, ◌∙◌, ◌*◌, ◌-◌, ◌/◌, ◌+◌, sym, ap, arith, replicate, length, length-append, List, Option, None}
-use Rattle.std.proofs.lemmas.List.{length-replicate}
-use Rattle.slots.specs.FiniteMap.{trimmed, front_of, top_of}
+use Rattle.slots.proofs.Words.{◌≡◌, ◌∙◌, ◌*◌, ◌-◌, ◌/◌, ◌+◌, sym, ap, arith, replicate, length, length-append, List, Option, None, length-replicate, trimmed, front_of, top_of}
 use Rattle.slots.proofs.FiniteMapLemmas.{trimmed-append-gaps, front_of-trimmed}
 use Rattle.slots.proofs.slots.Slots.room.Goals as goal
 

@@ -1,4 +1,4 @@
-use Rattle.switch.proofs.Words.{Option, None, refl, ap, sym, subst, ◌∙◌, arith, Change, changed_by, Restart, Due, IsDue, IsTaken, loads_due, StoreState}
+use Rattle.switch.proofs.Words.{Option, None, refl, ap, sym, subst, ◌∙◌, arith, Change, changed_by, Restart, StagedEvent, IsStaged, IsTaken, with_record, StoreState}
 use Rattle.switch.proofs.SwitchLemmas.{still_switch}
 use Rattle.switch.proofs.CallLemmas.{still_view, ready_fails}
 use Rattle.switch.proofs.DispatchLemmas.{in_stores, kept_is, call_failed, call_played}
@@ -28,21 +28,21 @@ returns-in_err-record g c = up_err g.V.Value.bytes _ _ _ _ (answers c.from_resid
 
 pub commit-requires-clause-due : goal.commit-requires-clause-due
 commit-requires-clause-due g c =
-    let due : IsDue g.V.Value.bytes c.ready.new.self (loads_due c.in_ok-due.due c.in_ok-record.record.kept) = loaded_due g.V.Value.bytes _ c.in_ok-due.due c.in_ok-due.ensures.due c.args.k c.in_ok-record.record.kept c.in_ok-due.ensures.kind (c.in_ok-record.ensures.loaded ∙ kept_is g.V.Value.bytes _ _ c.ready.ensures.still c.self.inside.stores.items c.self.invariant _ c.self.view_is c.in_ok-due.due c.in_ok-due.ensures.due c.at-at.result c.at-at.ensures (Restart c.args.k) c.in_ok-due.ensures.event c.in_ok-due.ensures.few c.index_mut.result.now c.index_mut.ensures.value (λ x d. c.requires)) in
-    subst (λ (x : Due g.row.V.Denot). IsDue g.V.Value.bytes c.ready.new.self x) (sym c.load-2.ensures) due
+    let due : IsStaged g.V.Value.bytes c.ready.new.self (with_record c.in_ok-due.due c.in_ok-record.record.kept) = loaded_due g.V.Value.bytes _ c.in_ok-due.due c.in_ok-due.ensures.due c.args.k c.in_ok-record.record.kept c.in_ok-due.ensures.kind (c.in_ok-record.ensures.loaded ∙ kept_is g.V.Value.bytes _ _ c.ready.ensures.still c.self.inside.stores.items c.self.invariant _ c.self.view_is c.in_ok-due.due c.in_ok-due.ensures.due c.at-at.result c.at-at.ensures (Restart c.args.k) c.in_ok-due.ensures.event c.in_ok-due.ensures.few c.index_mut.result.now c.index_mut.ensures.value (λ x d. c.requires)) in
+    subst (λ (x : StagedEvent g.row.V.Denot). IsStaged g.V.Value.bytes c.ready.new.self x) (sym c.load-2.ensures) due
 
 pub invariant_of-self-2 : goal.invariant_of-self-2
 invariant_of-self-2 g c =
-    (let due : IsDue g.V.Value.bytes c.ready.new.self (loads_due c.in_ok-due.due c.in_ok-record.record.kept) = loaded_due g.V.Value.bytes _ c.in_ok-due.due c.in_ok-due.ensures.due c.args.k c.in_ok-record.record.kept c.in_ok-due.ensures.kind (c.in_ok-record.ensures.loaded ∙ kept_is g.V.Value.bytes _ _ c.ready.ensures.still c.self.inside.stores.items c.self.invariant _ c.self.view_is c.in_ok-due.due c.in_ok-due.ensures.due c.at-at.result c.at-at.ensures (Restart c.args.k) c.in_ok-due.ensures.event c.in_ok-due.ensures.few c.index_mut.result.now c.index_mut.ensures.value (λ x d. c.requires)) in
+    (let due : IsStaged g.V.Value.bytes c.ready.new.self (with_record c.in_ok-due.due c.in_ok-record.record.kept) = loaded_due g.V.Value.bytes _ c.in_ok-due.due c.in_ok-due.ensures.due c.args.k c.in_ok-record.record.kept c.in_ok-due.ensures.kind (c.in_ok-record.ensures.loaded ∙ kept_is g.V.Value.bytes _ _ c.ready.ensures.still c.self.inside.stores.items c.self.invariant _ c.self.view_is c.in_ok-due.due c.in_ok-due.ensures.due c.at-at.result c.at-at.ensures (Restart c.args.k) c.in_ok-due.ensures.event c.in_ok-due.ensures.few c.index_mut.result.now c.index_mut.ensures.value (λ x d. c.requires)) in
     let store = c.index_mut.result.now in
     let stored = c.in_ok-record.ensures.same ∙ ap (λ (x : Option (Change g.row.V.Denot)). let s : StoreState g.row.V.Denot = record { kept = changed_by store.kept x; failures = store.failures; standing = store.standing } in s) (sym (loaded_change c.args.k c.in_ok-due.due.work c.in_ok-record.record.kept c.in_ok-due.ensures.kind)) in
-    call_played g.V.Value.bytes _ _ c.ready.ensures.still c.self.inside.stores.items c.self.invariant _ c.self.view_is (loads_due c.in_ok-due.due c.in_ok-record.record.kept) due c.at-at.result c.at-at.ensures (Restart c.args.k) c.in_ok-due.ensures.event c.in_ok-due.ensures.few c.index_mut.result.now c.index_mut.ensures.value (λ x d. c.requires)
-    c.load.new.self stored c.commit.new.self (subst (λ (x : Due g.row.V.Denot). IsTaken c.ready.new.self c.commit.new.self x) c.load-2.ensures c.commit.ensures.taken) c.commit.result c.commit.ensures.posted).0
+    call_played g.V.Value.bytes _ _ c.ready.ensures.still c.self.inside.stores.items c.self.invariant _ c.self.view_is (with_record c.in_ok-due.due c.in_ok-record.record.kept) due c.at-at.result c.at-at.ensures (Restart c.args.k) c.in_ok-due.ensures.event c.in_ok-due.ensures.few c.index_mut.result.now c.index_mut.ensures.value (λ x d. c.requires)
+    c.load.new.self stored c.commit.new.self (subst (λ (x : StagedEvent g.row.V.Denot). IsTaken c.ready.new.self c.commit.new.self x) c.load-2.ensures c.commit.ensures.taken) c.commit.result c.commit.ensures.posted).0
 
 pub returns : goal.returns
 returns g c =
-    (let due : IsDue g.V.Value.bytes c.ready.new.self (loads_due c.in_ok-due.due c.in_ok-record.record.kept) = loaded_due g.V.Value.bytes _ c.in_ok-due.due c.in_ok-due.ensures.due c.args.k c.in_ok-record.record.kept c.in_ok-due.ensures.kind (c.in_ok-record.ensures.loaded ∙ kept_is g.V.Value.bytes _ _ c.ready.ensures.still c.self.inside.stores.items c.self.invariant _ c.self.view_is c.in_ok-due.due c.in_ok-due.ensures.due c.at-at.result c.at-at.ensures (Restart c.args.k) c.in_ok-due.ensures.event c.in_ok-due.ensures.few c.index_mut.result.now c.index_mut.ensures.value (λ x d. c.requires)) in
+    (let due : IsStaged g.V.Value.bytes c.ready.new.self (with_record c.in_ok-due.due c.in_ok-record.record.kept) = loaded_due g.V.Value.bytes _ c.in_ok-due.due c.in_ok-due.ensures.due c.args.k c.in_ok-record.record.kept c.in_ok-due.ensures.kind (c.in_ok-record.ensures.loaded ∙ kept_is g.V.Value.bytes _ _ c.ready.ensures.still c.self.inside.stores.items c.self.invariant _ c.self.view_is c.in_ok-due.due c.in_ok-due.ensures.due c.at-at.result c.at-at.ensures (Restart c.args.k) c.in_ok-due.ensures.event c.in_ok-due.ensures.few c.index_mut.result.now c.index_mut.ensures.value (λ x d. c.requires)) in
     let store = c.index_mut.result.now in
     let stored = c.in_ok-record.ensures.same ∙ ap (λ (x : Option (Change g.row.V.Denot)). let s : StoreState g.row.V.Denot = record { kept = changed_by store.kept x; failures = store.failures; standing = store.standing } in s) (sym (loaded_change c.args.k c.in_ok-due.due.work c.in_ok-record.record.kept c.in_ok-due.ensures.kind)) in
-    call_played g.V.Value.bytes _ _ c.ready.ensures.still c.self.inside.stores.items c.self.invariant _ c.self.view_is (loads_due c.in_ok-due.due c.in_ok-record.record.kept) due c.at-at.result c.at-at.ensures (Restart c.args.k) c.in_ok-due.ensures.event c.in_ok-due.ensures.few c.index_mut.result.now c.index_mut.ensures.value (λ x d. c.requires)
-    c.load.new.self stored c.commit.new.self (subst (λ (x : Due g.row.V.Denot). IsTaken c.ready.new.self c.commit.new.self x) c.load-2.ensures c.commit.ensures.taken) c.commit.result c.commit.ensures.posted).1
+    call_played g.V.Value.bytes _ _ c.ready.ensures.still c.self.inside.stores.items c.self.invariant _ c.self.view_is (with_record c.in_ok-due.due c.in_ok-record.record.kept) due c.at-at.result c.at-at.ensures (Restart c.args.k) c.in_ok-due.ensures.event c.in_ok-due.ensures.few c.index_mut.result.now c.index_mut.ensures.value (λ x d. c.requires)
+    c.load.new.self stored c.commit.new.self (subst (λ (x : StagedEvent g.row.V.Denot). IsTaken c.ready.new.self c.commit.new.self x) c.load-2.ensures c.commit.ensures.taken) c.commit.result c.commit.ensures.posted).1

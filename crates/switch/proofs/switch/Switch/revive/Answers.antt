@@ -1,4 +1,4 @@
-use Rattle.switch.proofs.Words.{◌≡◌, ◌+◌, ℕ, List, length, ap, refl, sym, subst, ◌∙◌, arith, Event, Taken, Packet, Due, HasRoom, IsDue, IsTaken, posts_of, StoreState, owed_in, posts_owed, due_still, still_more}
+use Rattle.switch.proofs.Words.{◌≡◌, ◌+◌, ℕ, List, length, ap, refl, sym, subst, ◌∙◌, arith, Event, Taken, Packet, StagedEvent, HasRoom, IsStaged, IsTaken, posts_of, StoreState, owed_in, posts_owed, due_still, still_more}
 use Rattle.switch.proofs.StoresLemmas.{same_at}
 use Rattle.switch.proofs.SwitchLemmas.{still_switch}
 use Rattle.switch.proofs.CallLemmas.{still_view}
@@ -65,7 +65,7 @@ take_owed-requires g c =
 
 pub commit-requires-clause-due : goal.commit-requires-clause-due
 commit-requires-clause-due g c =
-    subst (λ (x : Due g.row.V.Denot). IsDue g.V.Value.bytes c.take_owed.new.net x) (sym c.load.ensures) (due_m g.V.Value.bytes c.room.new.self c.self.inside.stores.items (still_switch g.V.Value.bytes _ _ c.self.invariant c.room.new.self (still_more _ _ _ c.ready.ensures.still c.room.ensures.still)) _ (still_view _ _ c.self.inside.stores.items (still_more _ _ _ c.ready.ensures.still c.room.ensures.still) ∙ c.self.view_is) c.in_ok-due.due (due_still g.V.Value.bytes _ _ c.in_ok-due.due c.room.ensures.still c.in_ok-due.ensures.due) c.args.k c.in_ok-due.ensures.event c.in_ok-due.ensures.kind c.at-at.result c.at-at.ensures c.index_mut.result.now c.index_mut.ensures.value (in_stores g.V.Value.bytes _ _ c.ready.ensures.still c.self.inside.stores.items c.self.invariant _ c.self.view_is c.in_ok-due.due c.in_ok-due.ensures.due c.at-at.result c.at-at.ensures) c.requires (let same = ap (λ (t : Taken g.row.V.Denot). length t.events) c.ready.ensures.still.taken in let more = ap (λ (t : Taken g.row.V.Denot). length t.events) c.room.ensures.still.taken in let few = ap (λ (es : List (Event g.row.V.Denot)). length es) c.history.ensures.events in omega (arith, same, more, few, c.if-history-gt-MOST_EVENTS.false)) c.repair.new.self c.in_ok-owed.ensures.up c.take_owed.new.net c.in_ok-owed.owed c.in_ok-owed.ensures.owed c.take_owed.ensures c.in_ok-owed.record.kept c.in_ok-owed.ensures.loaded)
+    subst (λ (x : StagedEvent g.row.V.Denot). IsStaged g.V.Value.bytes c.take_owed.new.net x) (sym c.load.ensures) (due_m g.V.Value.bytes c.room.new.self c.self.inside.stores.items (still_switch g.V.Value.bytes _ _ c.self.invariant c.room.new.self (still_more _ _ _ c.ready.ensures.still c.room.ensures.still)) _ (still_view _ _ c.self.inside.stores.items (still_more _ _ _ c.ready.ensures.still c.room.ensures.still) ∙ c.self.view_is) c.in_ok-due.due (due_still g.V.Value.bytes _ _ c.in_ok-due.due c.room.ensures.still c.in_ok-due.ensures.due) c.args.k c.in_ok-due.ensures.event c.in_ok-due.ensures.kind c.at-at.result c.at-at.ensures c.index_mut.result.now c.index_mut.ensures.value (in_stores g.V.Value.bytes _ _ c.ready.ensures.still c.self.inside.stores.items c.self.invariant _ c.self.view_is c.in_ok-due.due c.in_ok-due.ensures.due c.at-at.result c.at-at.ensures) c.requires (let same = ap (λ (t : Taken g.row.V.Denot). length t.events) c.ready.ensures.still.taken in let more = ap (λ (t : Taken g.row.V.Denot). length t.events) c.room.ensures.still.taken in let few = ap (λ (es : List (Event g.row.V.Denot)). length es) c.history.ensures.events in omega (arith, same, more, few, c.if-history-gt-MOST_EVENTS.false)) c.repair.new.self c.in_ok-owed.ensures.up c.take_owed.new.net c.in_ok-owed.owed c.in_ok-owed.ensures.owed c.take_owed.ensures c.in_ok-owed.record.kept c.in_ok-owed.ensures.loaded)
 
 pub commit-requires-clause-room : goal.commit-requires-clause-room
 commit-requires-clause-room g c =
@@ -75,7 +75,7 @@ commit-requires-clause-room g c =
     let all : length c.posts.result.now ≡ length (posts_of c.in_ok-due.due.work) = ap (λ (ps : List (Packet g.row.V.Denot)). length ps) c.posts.ensures in
     let sum : c.in-Some.room ≡ c.count_owed.result + length c.posts.result.now = c.in-Some.ensures.1 in
     let room = subst (λ (i : ℕ). HasRoom c.room.new.self i 2) sum c.in_ok-room.ensures.room in
-    subst (λ (x : Due g.row.V.Denot). HasRoom c.take_owed.new.net (length (posts_of x.work)) 1) (sym c.load.ensures) (room_m g.V.Value.bytes c.room.new.self c.self.inside.stores.items (still_switch g.V.Value.bytes _ _ c.self.invariant c.room.new.self (still_more _ _ _ c.ready.ensures.still c.room.ensures.still)) _ (still_view _ _ c.self.inside.stores.items (still_more _ _ _ c.ready.ensures.still c.room.ensures.still) ∙ c.self.view_is) c.in_ok-due.due (due_still g.V.Value.bytes _ _ c.in_ok-due.due c.room.ensures.still c.in_ok-due.ensures.due) c.args.k c.in_ok-due.ensures.event c.in_ok-due.ensures.kind c.at-at.result c.at-at.ensures c.index_mut.result.now c.index_mut.ensures.value (in_stores g.V.Value.bytes _ _ c.ready.ensures.still c.self.inside.stores.items c.self.invariant _ c.self.view_is c.in_ok-due.due c.in_ok-due.ensures.due c.at-at.result c.at-at.ensures) c.requires (let same = ap (λ (t : Taken g.row.V.Denot). length t.events) c.ready.ensures.still.taken in let more = ap (λ (t : Taken g.row.V.Denot). length t.events) c.room.ensures.still.taken in let few = ap (λ (es : List (Event g.row.V.Denot)). length es) c.history.ensures.events in omega (arith, same, more, few, c.if-history-gt-MOST_EVENTS.false)) c.repair.new.self c.in_ok-owed.ensures.up c.take_owed.new.net c.in_ok-owed.owed c.in_ok-owed.ensures.owed c.take_owed.ensures c.in_ok-owed.record.kept c.in_ok-owed.ensures.loaded _ _ count all room)
+    subst (λ (x : StagedEvent g.row.V.Denot). HasRoom c.take_owed.new.net (length (posts_of x.work)) 1) (sym c.load.ensures) (room_m g.V.Value.bytes c.room.new.self c.self.inside.stores.items (still_switch g.V.Value.bytes _ _ c.self.invariant c.room.new.self (still_more _ _ _ c.ready.ensures.still c.room.ensures.still)) _ (still_view _ _ c.self.inside.stores.items (still_more _ _ _ c.ready.ensures.still c.room.ensures.still) ∙ c.self.view_is) c.in_ok-due.due (due_still g.V.Value.bytes _ _ c.in_ok-due.due c.room.ensures.still c.in_ok-due.ensures.due) c.args.k c.in_ok-due.ensures.event c.in_ok-due.ensures.kind c.at-at.result c.at-at.ensures c.index_mut.result.now c.index_mut.ensures.value (in_stores g.V.Value.bytes _ _ c.ready.ensures.still c.self.inside.stores.items c.self.invariant _ c.self.view_is c.in_ok-due.due c.in_ok-due.ensures.due c.at-at.result c.at-at.ensures) c.requires (let same = ap (λ (t : Taken g.row.V.Denot). length t.events) c.ready.ensures.still.taken in let more = ap (λ (t : Taken g.row.V.Denot). length t.events) c.room.ensures.still.taken in let few = ap (λ (es : List (Event g.row.V.Denot)). length es) c.history.ensures.events in omega (arith, same, more, few, c.if-history-gt-MOST_EVENTS.false)) c.repair.new.self c.in_ok-owed.ensures.up c.take_owed.new.net c.in_ok-owed.owed c.in_ok-owed.ensures.owed c.take_owed.ensures c.in_ok-owed.record.kept c.in_ok-owed.ensures.loaded _ _ count all room)
 
 pub commit-requires-clause-few : goal.commit-requires-clause-few
 commit-requires-clause-few g c =
@@ -83,8 +83,8 @@ commit-requires-clause-few g c =
 
 pub invariant_of-self-2 : goal.invariant_of-self-2
 invariant_of-self-2 g c =
-    revived g.V.Value.bytes c.room.new.self c.self.inside.stores.items (still_switch g.V.Value.bytes _ _ c.self.invariant c.room.new.self (still_more _ _ _ c.ready.ensures.still c.room.ensures.still)) _ (still_view _ _ c.self.inside.stores.items (still_more _ _ _ c.ready.ensures.still c.room.ensures.still) ∙ c.self.view_is) c.in_ok-due.due (due_still g.V.Value.bytes _ _ c.in_ok-due.due c.room.ensures.still c.in_ok-due.ensures.due) c.args.k c.in_ok-due.ensures.event c.in_ok-due.ensures.kind c.at-at.result c.at-at.ensures c.index_mut.result.now c.index_mut.ensures.value (in_stores g.V.Value.bytes _ _ c.ready.ensures.still c.self.inside.stores.items c.self.invariant _ c.self.view_is c.in_ok-due.due c.in_ok-due.ensures.due c.at-at.result c.at-at.ensures) c.requires (let same = ap (λ (t : Taken g.row.V.Denot). length t.events) c.ready.ensures.still.taken in let more = ap (λ (t : Taken g.row.V.Denot). length t.events) c.room.ensures.still.taken in let few = ap (λ (es : List (Event g.row.V.Denot)). length es) c.history.ensures.events in omega (arith, same, more, few, c.if-history-gt-MOST_EVENTS.false)) c.repair.new.self c.in_ok-owed.ensures.up c.take_owed.new.net c.in_ok-owed.owed c.in_ok-owed.ensures.owed c.take_owed.ensures c.in_ok-owed.record.kept c.in_ok-owed.ensures.loaded c.commit.new.self (subst (λ (x : Due g.row.V.Denot). IsTaken c.take_owed.new.net c.commit.new.self x) c.load.ensures c.commit.ensures.taken)
+    revived g.V.Value.bytes c.room.new.self c.self.inside.stores.items (still_switch g.V.Value.bytes _ _ c.self.invariant c.room.new.self (still_more _ _ _ c.ready.ensures.still c.room.ensures.still)) _ (still_view _ _ c.self.inside.stores.items (still_more _ _ _ c.ready.ensures.still c.room.ensures.still) ∙ c.self.view_is) c.in_ok-due.due (due_still g.V.Value.bytes _ _ c.in_ok-due.due c.room.ensures.still c.in_ok-due.ensures.due) c.args.k c.in_ok-due.ensures.event c.in_ok-due.ensures.kind c.at-at.result c.at-at.ensures c.index_mut.result.now c.index_mut.ensures.value (in_stores g.V.Value.bytes _ _ c.ready.ensures.still c.self.inside.stores.items c.self.invariant _ c.self.view_is c.in_ok-due.due c.in_ok-due.ensures.due c.at-at.result c.at-at.ensures) c.requires (let same = ap (λ (t : Taken g.row.V.Denot). length t.events) c.ready.ensures.still.taken in let more = ap (λ (t : Taken g.row.V.Denot). length t.events) c.room.ensures.still.taken in let few = ap (λ (es : List (Event g.row.V.Denot)). length es) c.history.ensures.events in omega (arith, same, more, few, c.if-history-gt-MOST_EVENTS.false)) c.repair.new.self c.in_ok-owed.ensures.up c.take_owed.new.net c.in_ok-owed.owed c.in_ok-owed.ensures.owed c.take_owed.ensures c.in_ok-owed.record.kept c.in_ok-owed.ensures.loaded c.commit.new.self (subst (λ (x : StagedEvent g.row.V.Denot). IsTaken c.take_owed.new.net c.commit.new.self x) c.load.ensures c.commit.ensures.taken)
 
 pub returns : goal.returns
 returns g c =
-    revived_acts g.V.Value.bytes c.room.new.self c.self.inside.stores.items (still_switch g.V.Value.bytes _ _ c.self.invariant c.room.new.self (still_more _ _ _ c.ready.ensures.still c.room.ensures.still)) _ (still_view _ _ c.self.inside.stores.items (still_more _ _ _ c.ready.ensures.still c.room.ensures.still) ∙ c.self.view_is) c.in_ok-due.due (due_still g.V.Value.bytes _ _ c.in_ok-due.due c.room.ensures.still c.in_ok-due.ensures.due) c.args.k c.in_ok-due.ensures.event c.in_ok-due.ensures.kind c.at-at.result c.at-at.ensures c.index_mut.result.now c.index_mut.ensures.value (in_stores g.V.Value.bytes _ _ c.ready.ensures.still c.self.inside.stores.items c.self.invariant _ c.self.view_is c.in_ok-due.due c.in_ok-due.ensures.due c.at-at.result c.at-at.ensures) c.requires (let same = ap (λ (t : Taken g.row.V.Denot). length t.events) c.ready.ensures.still.taken in let more = ap (λ (t : Taken g.row.V.Denot). length t.events) c.room.ensures.still.taken in let few = ap (λ (es : List (Event g.row.V.Denot)). length es) c.history.ensures.events in omega (arith, same, more, few, c.if-history-gt-MOST_EVENTS.false)) c.repair.new.self c.in_ok-owed.ensures.up c.take_owed.new.net c.in_ok-owed.owed c.in_ok-owed.ensures.owed c.take_owed.ensures c.in_ok-owed.record.kept c.in_ok-owed.ensures.loaded c.commit.new.self (subst (λ (x : Due g.row.V.Denot). IsTaken c.take_owed.new.net c.commit.new.self x) c.load.ensures c.commit.ensures.taken) c.commit.result c.commit.ensures.posted
+    revived_acts g.V.Value.bytes c.room.new.self c.self.inside.stores.items (still_switch g.V.Value.bytes _ _ c.self.invariant c.room.new.self (still_more _ _ _ c.ready.ensures.still c.room.ensures.still)) _ (still_view _ _ c.self.inside.stores.items (still_more _ _ _ c.ready.ensures.still c.room.ensures.still) ∙ c.self.view_is) c.in_ok-due.due (due_still g.V.Value.bytes _ _ c.in_ok-due.due c.room.ensures.still c.in_ok-due.ensures.due) c.args.k c.in_ok-due.ensures.event c.in_ok-due.ensures.kind c.at-at.result c.at-at.ensures c.index_mut.result.now c.index_mut.ensures.value (in_stores g.V.Value.bytes _ _ c.ready.ensures.still c.self.inside.stores.items c.self.invariant _ c.self.view_is c.in_ok-due.due c.in_ok-due.ensures.due c.at-at.result c.at-at.ensures) c.requires (let same = ap (λ (t : Taken g.row.V.Denot). length t.events) c.ready.ensures.still.taken in let more = ap (λ (t : Taken g.row.V.Denot). length t.events) c.room.ensures.still.taken in let few = ap (λ (es : List (Event g.row.V.Denot)). length es) c.history.ensures.events in omega (arith, same, more, few, c.if-history-gt-MOST_EVENTS.false)) c.repair.new.self c.in_ok-owed.ensures.up c.take_owed.new.net c.in_ok-owed.owed c.in_ok-owed.ensures.owed c.take_owed.ensures c.in_ok-owed.record.kept c.in_ok-owed.ensures.loaded c.commit.new.self (subst (λ (x : StagedEvent g.row.V.Denot). IsTaken c.take_owed.new.net c.commit.new.self x) c.load.ensures c.commit.ensures.taken) c.commit.result c.commit.ensures.posted

@@ -1,4 +1,4 @@
-use Rattle.switch.proofs.Words.{Option, Some, refl, ap, sym, subst, ◌∙◌, arith, Event, Due, IsTaken}
+use Rattle.switch.proofs.Words.{Option, Some, refl, ap, sym, subst, ◌∙◌, arith, Event, StagedEvent, IsTaken}
 use Rattle.switch.proofs.SwitchLemmas.{still_switch}
 use Rattle.switch.proofs.CallLemmas.{still_view, ready_fails}
 use Rattle.switch.proofs.DispatchLemmas.{in_stores, call_failed, call_played}
@@ -28,8 +28,8 @@ returns-in_err-due-2 g c = up_err g.V.Value.bytes _ _ _ _ (answers c.from_residu
 
 pub invariant_of-self-2 : goal.invariant_of-self-2
 invariant_of-self-2 g c = (call_played g.V.Value.bytes _ _ c.ready.ensures.still c.self.inside.stores.items c.self.invariant _ c.self.view_is c.in_ok-due.due c.in_ok-due.ensures.due c.at-at.result c.at-at.ensures c.args.event c.in_ok-due.ensures.event c.in_ok-due.ensures.few c.index_mut.result.now c.index_mut.ensures.value c.requires.up
-    c.store.new.self c.in_ok-due-2.ensures.stored c.commit.new.self (subst (λ (x : Due g.row.V.Denot). IsTaken c.ready.new.self c.commit.new.self x) c.in_ok-due-2.ensures.due c.commit.ensures.taken) c.commit.result c.commit.ensures.posted).0
+    c.store.new.self c.in_ok-due-2.ensures.stored c.commit.new.self (subst (λ (x : StagedEvent g.row.V.Denot). IsTaken c.ready.new.self c.commit.new.self x) c.in_ok-due-2.ensures.due c.commit.ensures.taken) c.commit.result c.commit.ensures.posted).0
 
 pub returns : goal.returns
 returns g c = ((call_played g.V.Value.bytes _ _ c.ready.ensures.still c.self.inside.stores.items c.self.invariant _ c.self.view_is c.in_ok-due.due c.in_ok-due.ensures.due c.at-at.result c.at-at.ensures c.args.event c.in_ok-due.ensures.event c.in_ok-due.ensures.few c.index_mut.result.now c.index_mut.ensures.value c.requires.up
-    c.store.new.self c.in_ok-due-2.ensures.stored c.commit.new.self (subst (λ (x : Due g.row.V.Denot). IsTaken c.ready.new.self c.commit.new.self x) c.in_ok-due-2.ensures.due c.commit.ensures.taken) c.commit.result c.commit.ensures.posted).1)
+    c.store.new.self c.in_ok-due-2.ensures.stored c.commit.new.self (subst (λ (x : StagedEvent g.row.V.Denot). IsTaken c.ready.new.self c.commit.new.self x) c.in_ok-due-2.ensures.due c.commit.ensures.taken) c.commit.result c.commit.ensures.posted).1)

@@ -1,10 +1,4 @@
-use Rattle.std.proofs.Common.{◌∙◌, ◌++◌, ap, sym, subst, List, length}
-use Rattle.std.specs.List.{AllByRecursion}
-use Rattle.synod.specs.declared.packet.Packet.{Packet}
-use Rattle.synod.specs.declared.packet.Body.TheVariants.{Ask}
-use Rattle.synod.specs.Packets.{IsPost, to_others}
-use Rattle.synod.specs.Core.{Core}
-use Rattle.synod.specs.Step.{IsNode}
+use Rattle.synod.proofs.Words.{◌∙◌, ◌++◌, ap, sym, subst, List, length, AllByRecursion, Packet, Ask, IsPost, to_others, Core, IsNode}
 use Rattle.synod.proofs.NodeLemmas.{node_of_parts, asks_all}
 use Rattle.synod.proofs.node.NodeCore.ask_all.Goals as goal
 
@@ -14,5 +8,5 @@ returns-clause-posts g c =
     let is : IsNode c.args.self.now.node = node_of_parts c.self.inside.me c.self.inside.weights c.self.inside.record c.self.inside.proposer c.self.inside.learner c.args.self.now c.self.view_is c.self.invariant in
     let asks = to_others {V = g.row.V.Denot} c.self.inside.me c.self.inside.weights (Ask 0) in
     subst (λ (posts : Posts). AllByRecursion (IsPost (length c.args.self.now.node.weights)) posts)
-    (sym (c.in_ok-post_to_others.ensures ∙ ap (λ (posts : Posts). posts ++ asks) c.new-posts.ensures.items
+    (sym (c.in_ok-post_broadcast.ensures ∙ ap (λ (posts : Posts). posts ++ asks) c.new-posts.ensures.items
     ∙ ap (λ (core : Core g.row.V.Denot). to_others core.node.me core.node.weights (Ask 0)) c.self.view_is)) (asks_all c.args.self.now.node is)

@@ -1,9 +1,4 @@
-use Rattle.std.proofs.Common.{◌≡◌, ◌∙◌, ap, sym, arith}
-use Rattle.std.specs.List.{slice_get}
-use Rattle.std.proofs.lemmas.Option.{slice_get_past}
-use Rattle.slots.specs.FiniteMap.{entry_at, entries_to_gap}
-use Rattle.synod.specs.Core.{Core}
-use Rattle.synod.specs.Log.{log_of}
+use Rattle.synod.proofs.Words.{◌≡◌, ◌∙◌, ap, sym, arith, slice_get, slice_get_past, entry_at, entries_to_gap, Core, log_of}
 use Rattle.synod.proofs.LogLemmas.{gap_entry}
 use Rattle.synod.proofs.node.NodeCore.entry.Goals as goal
 

@@ -1,7 +1,4 @@
-use Rattle.std.proofs.Common.{◌∙◌, ap, arith, false, get_or}
-use Rattle.synod.specs.Core.{Core}
-use Rattle.synod.specs.Weights.{is_quorum}
-use Rattle.synod.specs.Node.{is_heard}
+use Rattle.synod.proofs.Words.{◌∙◌, ap, arith, false, get_or, Core, is_quorum, is_heard}
 use Rattle.synod.proofs.WeighLemmas.{is_quorum-same}
 use Rattle.synod.proofs.node.NodeCore.has_heard_quorum.Goals as goal
 

@@ -1,8 +1,4 @@
-use Rattle.std.proofs.Common.{◌≡◌, ◌∙◌, ◌≤◌, ◌++◌, ◌∷◌, [], ap, sym, arith, List, Option, Some}
-use Rattle.std.proofs.lemmas.List.{take_all}
-use Rattle.slots.specs.FiniteMap.{entry_at, front_of}
-use Rattle.synod.specs.Core.{Core}
-use Rattle.synod.specs.Log.{log_of, log_length}
+use Rattle.synod.proofs.Words.{◌≡◌, ◌∙◌, ◌≤◌, ◌++◌, ◌∷◌, [], ap, sym, arith, List, Option, Some, take_all, entry_at, front_of, Core, log_of, log_length}
 use Rattle.synod.proofs.LogLemmas.{log_next, no_gap}
 use Rattle.synod.proofs.node.NodeCore.log.Goals as goal
 use Rattle.synod.proofs.node.NodeCore.log.Goals.{else-loop-slot-test, then-loop-slot-test+in_default}

@@ -1,5 +1,4 @@
-use Rattle.std.proofs.Common.{◌≡◌, take}
-use Rattle.synod.specs.Log.{log_of}
+use Rattle.synod.proofs.Words.{◌≡◌, take, log_of}
 use Rattle.synod.proofs.node.NodeCore.log.Given as goal
 
 abbrev pub invariant-loop-slot : goal.invariant-loop-slot

@@ -1,8 +1,4 @@
-use Rattle.std.proofs.Common.{◌<◌, ◌^◌, ap, arith, length}
-use Rattle.std.proofs.lemmas.Grind.{common_steps}
-use Rattle.synod.specs.Core.{Core}
-use Rattle.synod.specs.Step.{IsNode}
-use Rattle.synod.specs.Proposer.{begins, next_round}
+use Rattle.synod.proofs.Words.{◌<◌, ◌^◌, ap, arith, length, common_steps, Core, IsNode, begins, next_round}
 use Rattle.synod.proofs.NodeLemmas.{node_of_parts, begins_keeps, memory_posts}
 use Rattle.synod.proofs.node.NodeCore.ready_begin.Goals as goal
 

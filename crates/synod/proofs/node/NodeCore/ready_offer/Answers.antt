@@ -1,10 +1,4 @@
-use Rattle.std.proofs.Common.{◌∙◌, ◌<◌, sym, subst, arith, length}
-use Rattle.std.proofs.lemmas.Grind.{common_steps}
-use Rattle.slots.specs.declared.slots.TheConstants.{SLOTS}
-use Rattle.synod.specs.declared.proposer.Role.{Role}
-use Rattle.synod.specs.declared.proposer.Role.TheVariants.{Leading}
-use Rattle.synod.specs.Step.{IsNode, IsRole}
-use Rattle.synod.specs.Proposer.{takes_slot}
+use Rattle.synod.proofs.Words.{◌∙◌, ◌<◌, sym, subst, arith, length, common_steps, SLOTS, Role, Leading, IsNode, IsRole, takes_slot}
 use Rattle.synod.proofs.NodeKeeps.{slot_is_taken}
 use Rattle.synod.proofs.NodeLemmas.{node_of_parts, memory_posts}
 use Rattle.synod.proofs.node.NodeCore.ready_offer.Goals as goal

@@ -1,6 +1,4 @@
-use Rattle.std.proofs.Common.{length}
-use Rattle.synod.specs.Step.{IsNode}
-use Rattle.synod.specs.Proposer.{waits}
+use Rattle.synod.proofs.Words.{length, IsNode, waits}
 use Rattle.synod.proofs.NodeKeeps.{value_waits}
 use Rattle.synod.proofs.NodeLemmas.{node_of_parts, memory_posts}
 use Rattle.synod.proofs.node.NodeCore.ready_offer_waiting.Goals as goal

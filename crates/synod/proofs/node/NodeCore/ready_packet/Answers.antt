@@ -1,5 +1,4 @@
-use Rattle.std.proofs.Common.{length}
-use Rattle.synod.specs.Step.{on_packet}
+use Rattle.synod.proofs.Words.{length, on_packet}
 use Rattle.synod.proofs.StepKeeps.{keeps_packet}
 use Rattle.synod.proofs.NodeLemmas.{memory_posts}
 use Rattle.synod.proofs.node.NodeCore.ready_packet.Goals as goal

@@ -1,10 +1,4 @@
-use Rattle.std.proofs.Common.{◌≡◌, ◌∙◌, ap, sym, arith, length, false, List, Option}
-use Rattle.std.proofs.lemmas.List.{length-map}
-use Rattle.slots.specs.FiniteMap.{SlotsView}
-use Rattle.synod.specs.declared.packet.SlotReport.{SlotReport}
-use Rattle.synod.specs.declared.proposer.Heard.{Heard}
-use Rattle.synod.specs.Core.{Core}
-use Rattle.synod.specs.Node.{is_heard}
+use Rattle.synod.proofs.Words.{◌≡◌, ◌∙◌, ap, sym, arith, length, false, List, Option, length-map, SlotsView, SlotReport, Heard, Core, is_heard}
 use Rattle.synod.proofs.GatheredPages.{promise_of_none}
 use Rattle.synod.proofs.node.NodeCore.ready_promise.Goals as goal
 

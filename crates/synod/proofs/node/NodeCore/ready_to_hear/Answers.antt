@@ -1,17 +1,11 @@
-use Rattle.std.proofs.Common.{◌≡◌, ◌∙◌, ℕ, arith, ap, sym, subst, None, List, Option}
-use Rattle.synod.specs.declared.packet.SlotReport.{SlotReport}
-use Rattle.synod.specs.Node.{Stepped, page_of}
-use Rattle.synod.specs.Core.{Core, assembled}
-use Rattle.synod.specs.Stored.PagesHad.{entries_of}
-use Rattle.synod.specs.Step.{IsNode}
+use Rattle.synod.proofs.Words.{◌≡◌, ◌∙◌, ℕ, arith, ap, sym, subst, None, List, Option, SlotReport, Stepped, page_of, Core, assembled, entries_of, IsNode, RoomsGrow}
 use Rattle.synod.proofs.AcceptedLemmas.{none_is}
 use Rattle.synod.proofs.GatheredPages.{hear_step}
-use Rattle.synod.specs.Rooms.{RoomsGrow}
 use Rattle.synod.proofs.RoomLemmas.{proposer_room}
 use Rattle.synod.proofs.node.NodeCore.ready_to_hear.Goals as goal
 
-pub ready_proposal-requires-2-clause-node : goal.ready_proposal-requires-2-clause-node
-ready_proposal-requires-2-clause-node g c =
+pub ready_proposer-requires-2-clause-node : goal.ready_proposer-requires-2-clause-node
+ready_proposer-requires-2-clause-node g c =
     let same = ap (λ (core : Core g.row.V.Denot). core.node) c.self.view_is in
     let none : page_of c.self.inside.proposer.state.pages c.args.heard.node c.args.page ≡ None =
     ap (λ (ps : List (List (Option (List (SlotReport g.row.V.Denot))))). page_of ps c.args.heard.node c.args.page) (sym c.pages.ensures.pages)
@@ -26,7 +20,7 @@ returns-clause-ready g c =
     let none : page_of c.self.inside.proposer.state.pages c.args.heard.node c.args.page ≡ None =
     ap (λ (ps : List (List (Option (List (SlotReport g.row.V.Denot))))). page_of ps c.args.heard.node c.args.page) (sym c.pages.ensures.pages)
     ∙ none_is c.get.result (page_of (entries_of c.pages.result.now) c.args.heard.node c.args.page) _ c.is_some.result c.get.ensures c.is_some.ensures c.if-is_some.false in
-    (c.ready_proposal-2.ensures.0, c.ready_proposal-2.ensures.1 ∙ sym (hear_step (assembled c.self.inside.me c.self.inside.weights c.self.inside.record.kept c.self.inside.proposer.state c.self.inside.learner.state) c.args.self.now.node same c.room_to_hear-2.new.self.state (c.room_to_hear-2.ensures.state ∙ c.room_for_page.ensures.state) c.args.page c.args.reports.now c.in_ok-reports.reports c.in_ok-reports.ensures c.new-2.result.items c.new-2.ensures.items c.args.heard none))
+    (c.ready_proposer-2.ensures.0, c.ready_proposer-2.ensures.1 ∙ sym (hear_step (assembled c.self.inside.me c.self.inside.weights c.self.inside.record.kept c.self.inside.proposer.state c.self.inside.learner.state) c.args.self.now.node same c.room_to_hear-2.new.self.state (c.room_to_hear-2.ensures.state ∙ c.room_for_page.ensures.state) c.args.page c.args.reports.now c.in_ok-reports.reports c.in_ok-reports.ensures c.new-2.result.items c.new-2.ensures.items c.args.heard none))
 
 pub returns-clause-room : goal.returns-clause-room
 returns-clause-room g c =

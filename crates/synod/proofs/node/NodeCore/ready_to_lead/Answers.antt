@@ -1,10 +1,4 @@
-use Rattle.std.proofs.Common.{◌∙◌, ap, sym, subst, arith, length, List, Option}
-use Rattle.std.specs.List.{AllByRecursion}
-use Rattle.synod.specs.declared.packet.SlotReport.{SlotReport}
-use Rattle.synod.specs.Node.{Stepped}
-use Rattle.synod.specs.Core.{Core, assembled}
-use Rattle.synod.specs.Stored.PagesHad.{entries_of}
-use Rattle.synod.specs.Step.{IsNode, ArePages}
+use Rattle.synod.proofs.Words.{◌∙◌, ap, sym, subst, arith, length, List, Option, AllByRecursion, SlotReport, Stepped, Core, assembled, entries_of, IsNode, ArePages}
 use Rattle.synod.proofs.PageKeeps.{reports_with_page}
 use Rattle.synod.proofs.LeadLemmas.{lead_step}
 use Rattle.synod.proofs.node.NodeCore.ready_to_lead.Goals as goal
@@ -14,17 +8,17 @@ lead_posts-requires-clause-reports g c =
     reports_with_page (entries_of c.pages.result.now) c.args.node c.args.page c.args.reports.now c.args.heard.now
     (subst (λ (ps : List (List (Option (List (SlotReport g.row.V.Denot))))). AllByRecursion (AllByRecursion ArePages) ps) (sym c.pages.ensures.pages) c.self.invariant.pages) c.requires.each
 
-pub ready_proposal-requires-clause-node : goal.ready_proposal-requires-clause-node
-ready_proposal-requires-clause-node g c =
+pub ready_proposer-requires-clause-node : goal.ready_proposer-requires-clause-node
+ready_proposer-requires-clause-node g c =
     subst (λ (step : Stepped g.row.V.Denot). IsNode step.node)
     (lead_step (assembled c.self.inside.me c.self.inside.weights c.self.inside.record.kept c.self.inside.proposer.state c.self.inside.learner.state) c.args.self.now.node (ap (λ (core : Core g.row.V.Denot). core.node) c.self.view_is) (entries_of c.pages.result.now) c.pages.ensures.pages c.waiting-waiting.result.now c.waiting-waiting.ensures c.args.ballot c.args.first c.args.node c.args.page c.args.reports.now c.args.heard.now c.in_ok-lead.lead.posts.items c.in_ok-lead.lead.next c.in_ok-lead.lead.taken c.in_ok-lead.ensures)
     c.requires.keeps.node
 
-pub ready_proposal-requires-clause-room : goal.ready_proposal-requires-clause-room
-ready_proposal-requires-clause-room g c =
+pub ready_proposer-requires-clause-room : goal.ready_proposer-requires-clause-room
+ready_proposer-requires-clause-room g c =
     let listed = ap (λ (vs : List g.row.V.Denot). length vs) c.waiting-waiting.ensures in
     let seen = ap (λ (core : Core g.row.V.Denot). length core.node.waiting) c.self.view_is in
     omega (arith, listed, seen, c.in_ok-lead.ensures.within)
 
 pub returns : goal.returns
-returns g c = (c.ready_proposal.ensures.0, c.ready_proposal.ensures.1 ∙ sym (lead_step (assembled c.self.inside.me c.self.inside.weights c.self.inside.record.kept c.self.inside.proposer.state c.self.inside.learner.state) c.args.self.now.node (ap (λ (core : Core g.row.V.Denot). core.node) c.self.view_is) (entries_of c.pages.result.now) c.pages.ensures.pages c.waiting-waiting.result.now c.waiting-waiting.ensures c.args.ballot c.args.first c.args.node c.args.page c.args.reports.now c.args.heard.now c.in_ok-lead.lead.posts.items c.in_ok-lead.lead.next c.in_ok-lead.lead.taken c.in_ok-lead.ensures))
+returns g c = (c.ready_proposer.ensures.0, c.ready_proposer.ensures.1 ∙ sym (lead_step (assembled c.self.inside.me c.self.inside.weights c.self.inside.record.kept c.self.inside.proposer.state c.self.inside.learner.state) c.args.self.now.node (ap (λ (core : Core g.row.V.Denot). core.node) c.self.view_is) (entries_of c.pages.result.now) c.pages.ensures.pages c.waiting-waiting.result.now c.waiting-waiting.ensures c.args.ballot c.args.first c.args.node c.args.page c.args.reports.now c.args.heard.now c.in_ok-lead.lead.posts.items c.in_ok-lead.lead.next c.in_ok-lead.lead.taken c.in_ok-lead.ensures))

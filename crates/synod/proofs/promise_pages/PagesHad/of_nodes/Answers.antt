@@ -1,9 +1,4 @@
-use Rattle.std.proofs.Common.{◌∙◌, ◌++◌, ◌∷◌, [], ℕ, List, Option, ap, sym, get_or, take}
-use Rattle.std.proofs.lemmas.List.{map-append, take_more}
-use Rattle.slots.specs.FiniteMap.{SlotsView}
-use Rattle.synod.specs.declared.packet.SlotReport.{SlotReport}
-use Rattle.synod.specs.Node.{no_pages}
-use Rattle.synod.specs.Stored.PagesHad.{entries_of}
+use Rattle.synod.proofs.Words.{◌∙◌, ◌++◌, ◌∷◌, [], ℕ, List, Option, ap, sym, get_or, take, map-append, take_more, SlotsView, SlotReport, no_pages, entries_of}
 use Rattle.synod.proofs.promise_pages.PagesHad.of_nodes.Goals as goal
 
 pub loop-weight-preserved : goal.loop-weight-preserved

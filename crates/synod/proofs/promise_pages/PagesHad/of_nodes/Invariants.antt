@@ -1,6 +1,4 @@
-use Rattle.std.proofs.Common.{◌≡◌, take}
-use Rattle.synod.specs.Node.{no_pages}
-use Rattle.synod.specs.Stored.PagesHad.{entries_of}
+use Rattle.synod.proofs.Words.{◌≡◌, take, no_pages, entries_of}
 use Rattle.synod.proofs.promise_pages.PagesHad.of_nodes.Given as goal
 
 abbrev pub invariant-loop-weight : goal.invariant-loop-weight

@@ -1,7 +1,4 @@
-use Rattle.std.proofs.Common.{◌∙◌, ap, List}
-use Rattle.slots.specs.FiniteMap.{SlotsView}
-use Rattle.synod.specs.declared.packet.SlotReport.{SlotReport}
-use Rattle.synod.specs.Stored.PagesHad.{entries_of, put_page}
+use Rattle.synod.proofs.Words.{◌∙◌, ap, List, SlotsView, SlotReport, entries_of, put_page}
 use Rattle.synod.proofs.PagesHadLemmas.{entries-put, room-within}
 use Rattle.synod.proofs.promise_pages.PagesHad.put.Goals as goal
 

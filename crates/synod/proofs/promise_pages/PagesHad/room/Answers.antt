@@ -1,8 +1,4 @@
-use Rattle.std.proofs.Common.{◌∙◌, ap, subst, set, length, List, arith}
-use Rattle.slots.specs.FiniteMap.{SlotsView}
-use Rattle.synod.specs.declared.packet.SlotReport.{SlotReport}
-use Rattle.synod.specs.Stored.PagesHad.{entries_of, rooms_of}
-use Rattle.synod.specs.Rooms.{RoomsGrow}
+use Rattle.synod.proofs.Words.{◌∙◌, ap, subst, set, length, List, arith, SlotsView, SlotReport, entries_of, rooms_of, RoomsGrow}
 use Rattle.synod.proofs.RoomLemmas.{rooms_grow}
 use Rattle.synod.proofs.PagesHadLemmas.{entries-same, room-after, ok-room}
 use Rattle.synod.proofs.promise_pages.PagesHad.room.Goals as goal

@@ -1,9 +1,4 @@
-use Rattle.std.proofs.Common.{◌∙◌, sym, inl, inr, arith, List}
-use Rattle.std.proofs.lemmas.List.{length-map}
-use Rattle.slots.specs.FiniteMap.{SlotsView}
-use Rattle.synod.specs.declared.packet.SlotReport.{SlotReport}
-use Rattle.synod.specs.Node.{page_of}
-use Rattle.synod.specs.Stored.PagesHad.{entries_of, pages_with}
+use Rattle.synod.proofs.Words.{◌∙◌, sym, inl, inr, arith, List, length-map, SlotsView, SlotReport, page_of, entries_of, pages_with}
 use Rattle.synod.proofs.AcceptedLemmas.{none_is}
 use Rattle.synod.proofs.PagesWithLemmas.{page_new, page_other, match_stays}
 use Rattle.synod.proofs.promise_pages.PagesWith.get.Goals as goal

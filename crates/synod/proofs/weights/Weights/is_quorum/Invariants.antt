@@ -1,5 +1,4 @@
-use Rattle.std.proofs.Common.{◌≡◌, ◌≤◌, ◌+◌, ◌*◌, drop, true, false, get_or}
-use Rattle.synod.specs.Weights.{weigh}
+use Rattle.synod.proofs.Words.{◌≡◌, ◌≤◌, ◌+◌, ◌*◌, drop, true, false, get_or, weigh}
 use Rattle.synod.proofs.WeighLemmas.{weigh_from}
 use Rattle.synod.proofs.weights.Weights.is_quorum.Given as goal
 

@@ -1,5 +1,4 @@
-use Rattle.std.proofs.Common.{◌≡◌, ◌≤◌, ◌-◌, ◌++◌, take, replicate}
-use Rattle.std.specs.List.{All}
+use Rattle.synod.proofs.Words.{◌≡◌, ◌≤◌, ◌-◌, ◌++◌, take, replicate, All}
 use Rattle.synod.proofs.weights.Weights.new.Given as goal
 
 abbrev pub invariant-loop-i : goal.invariant-loop-i

@@ -1,4 +1,4 @@
-use Rattle.verify.proofs.Words.{◌≡◌, ℕ, ◌+◌, ◌-◌, ◌≤◌, ◌++◌, Bool, true, false, List, length, refl, arith, ap, ◌∙◌, length-append, weight_limit}
+use Rattle.verify.proofs.Words.{◌≡◌, ℕ, ◌+◌, ◌-◌, ◌≤◌, ◌++◌, Bool, true, false, List, length, arith, ap, ◌∙◌, length-append, weight_limit}
 use Rattle.subst.specs.Stored.Written.{Appends}
 use Rattle.verify.proofs.ResultPlaceLemmas.{apply-kept, apply-seen, apply-cut}
 use Rattle.verify.proofs.results.Results.apply.Goals as goal
@@ -12,7 +12,7 @@ grown : (xs ys zs : List ℕ) (start end : ℕ) → zs ≡ xs ++ ys → start �
 grown xs ys zs start end e low high = omega (arith, low, high, ap length e, length-append xs ys)
 
 -- within the limit, behind what was added
-end_light : (w room start end n : ℕ) → room ≡ weight_limit - w → w ≤ weight_limit → end - start ≡ n → n ≤ room → w + (end - start) ≤ weight_limit
+end_light : (w room start end n : ℕ) → room ≤ weight_limit - w → w ≤ weight_limit → end - start ≡ n → n ≤ room → w + (end - start) ≤ weight_limit
 end_light w room start end n a b e h = omega (arith, a, b, e, h)
 
 pub invariant_of-self-in_err-put_behind : goal.invariant_of-self-in_err-put_behind
@@ -21,7 +21,7 @@ invariant_of-self-in_err-put_behind c =
     let more = grown c.self.inside.symbols _ _ c.len-start.result c.len-3.result g.0 c.len-start.ensures.len c.len-3.ensures.len in
     apply-cut c.self.inside.symbols _ _ c.self.inside.images c.self.inside.stack.items c.self.inside.saved.items _ c.self.inside.weight _ (c.len.result - c.args.r) c.self.invariant g.0
     c.in_err-put_behind.ensures.err
-    (ap (λ n. c.self.inside.weight + n) more) (end_light c.self.inside.weight _ c.len-start.result c.len-3.result _ refl c.self.invariant.light more g.1)
+    (ap (λ n. c.self.inside.weight + n) more) (end_light c.self.inside.weight _ c.len-start.result c.len-3.result _ (omega (arith, c.min-room.ensures)) c.self.invariant.light more g.1)
 
 pub invariant_of-self-2 : goal.invariant_of-self-2
 invariant_of-self-2 c =
@@ -29,7 +29,7 @@ invariant_of-self-2 c =
     let more = grown c.self.inside.symbols _ _ c.len-start.result c.len-3.result g.0 c.len-start.ensures.len c.len-3.ensures.len in
     apply-kept c.self.inside.symbols _ _ c.self.inside.images c.self.inside.stack.items c.self.inside.saved.items _ c.self.inside.weight _ (c.len.result - c.args.r) c.place_between-place.result c.self.invariant g.0
     (c.place_between-place.ensures.0 ∙ c.len-start.ensures.len) (c.place_between-place.ensures.1 ∙ c.len-2.ensures.len) c.in_ok-put_behind.ensures.ok
-    (ap (λ n. c.self.inside.weight + n) more) (end_light c.self.inside.weight _ c.len-start.result c.len-3.result _ refl c.self.invariant.light more g.1)
+    (ap (λ n. c.self.inside.weight + n) more) (end_light c.self.inside.weight _ c.len-start.result c.len-3.result _ (omega (arith, c.min-room.ensures)) c.self.invariant.light more g.1)
 
 pub returns : goal.returns
 returns c =

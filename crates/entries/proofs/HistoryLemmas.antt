@@ -1,0 +1,91 @@
+-- The stack at a position, where the versions are more or fewer.
+use Rattle.std.proofs.Common.{◌≡◌, ℕ, zero, suc, ◌+◌, ◌<◌, ◌≤◌, Bool, true, false, nat_eq, nat_lt, nat_le, cond, List, [], ◌∷◌, ◌++◌, refl, ◌∙◌, ap, sym, arith, append-nil, le-leb, lt-ltb}
+use Rattle.std.proofs.lemmas.Bool.{le-ltb, leb-false}
+use Rattle.entries.specs.Histories.{StackVersion, stack_from, stack_at, is_changed, changed, kept_until, IsUntil}
+use Rattle.entries.proofs.LogLemmas.{kept-front, until-later}
+
+stack-from-append : (found : List ℕ) (xs ys : List StackVersion) (at : ℕ) → stack_from found (xs ++ ys) at ≡ stack_from (stack_from found xs at) ys at
+stack-from-append found [] ys at = refl
+stack-from-append found (x ∷ xs) ys at = stack-from-append (cond (nat_lt x.since at) x.stack found) xs ys at
+
+pub stack-push : (vs : List StackVersion) (v : StackVersion) (at : ℕ) → stack_at (vs ++ v ∷ []) at ≡ cond (nat_lt v.since at) v.stack (stack_at vs at)
+stack-push vs v at = stack-from-append [] vs (v ∷ []) at
+
+-- behind all versions it is the same everywhere
+pub stack-later : (vs : List StackVersion) (n at later : ℕ) → IsUntil n vs → n < at → n < later → stack_at vs at ≡ stack_at vs later
+stack-later vs n at later until lt l = from [] vs until
+  where
+    from : (found : List ℕ) (us : List StackVersion) → IsUntil n us → stack_from found us at ≡ stack_from found us later
+    from found [] u = refl
+    from found (v ∷ us) u =
+        let low = u.0 in
+        let a : nat_lt v.since at ≡ true = lt-ltb v.since at (omega (arith, low, lt)) in
+        let b : nat_lt v.since later ≡ true = lt-ltb v.since later (omega (arith, low, l)) in
+        ap (λ t. stack_from (cond t v.stack found) us at) a ∙ (from v.stack us u.1 ∙ sym (ap (λ t. stack_from (cond t v.stack found) us later) b))
+
+-- versions of later positions do not matter
+pub stack-kept : (vs : List StackVersion) (last at : ℕ) → at ≤ last + 1 → stack_at (kept_until last vs) at ≡ stack_at vs at
+stack-kept vs last at le = from [] vs
+  where
+    by : (found : List ℕ) (v : StackVersion) (us : List StackVersion) (b : Bool) → nat_le v.since last ≡ b → ((f : List ℕ) → stack_from f (kept_until last us) at ≡ stack_from f us at)
+        → stack_from found (cond b (v ∷ kept_until last us) (kept_until last us)) at ≡ stack_from (cond (nat_lt v.since at) v.stack found) us at
+    by found v us true e same = same (cond (nat_lt v.since at) v.stack found)
+    by found v us false e same =
+        let late : nat_lt v.since at ≡ false = le-ltb v.since at (let m = leb-false v.since last e in omega (arith, m, le)) in
+        same found ∙ sym (ap (λ t. stack_from (cond t v.stack found) us at) late)
+
+    from : (found : List ℕ) (us : List StackVersion) → stack_from found (kept_until last us) at ≡ stack_from found us at
+    from found [] = refl
+    from found (v ∷ us) = by found v us (nat_le v.since last) refl (λ f. from f us)
+
+-- ---- a change
+
+pub unchanged : (vs : List StackVersion) (n at : ℕ) → IsUntil n vs → n < at → is_changed at vs ≡ false
+unchanged [] n at until lt = refl
+unchanged (v ∷ []) n at until lt = let low = until.0 in grind (arith, low, lt)
+unchanged (v ∷ w ∷ vs) n at until lt = unchanged (w ∷ vs) n at until.1 lt
+
+changed-push : (vs : List StackVersion) (v : StackVersion) → is_changed v.since (vs ++ v ∷ []) ≡ true
+changed-push [] v = grind arith
+changed-push (u ∷ []) v = grind arith
+changed-push (u ∷ w ∷ vs) v = changed-push (w ∷ vs) v
+
+module _ (at : ℕ) (stack : List ℕ) (vs : List StackVersion) where
+  abbrev v : StackVersion
+  v = record { since = at; stack = stack }
+
+  is : (b : Bool) → is_changed at vs ≡ b → changed at stack vs ≡ cond b vs (vs ++ v ∷ [])
+  is b e = ap (λ t. cond t vs (vs ++ v ∷ [])) e
+
+  pub changed-twice : (other : List ℕ) → changed at other (changed at stack vs) ≡ changed at stack vs
+  changed-twice other = by (is_changed at vs) refl
+    where
+      now : (b : Bool) → is_changed at vs ≡ b → is_changed at (cond b vs (vs ++ v ∷ [])) ≡ true
+      now true e = e
+      now false e = changed-push vs v
+
+      by : (b : Bool) → is_changed at vs ≡ b → changed at other (changed at stack vs) ≡ changed at stack vs
+      by b e = ap (λ t. cond t (changed at stack vs) (changed at stack vs ++ record { since = at; stack = other } ∷ [])) (ap (is_changed at) (is b e) ∙ now b e)
+
+  pub until-changed : IsUntil at vs → IsUntil at (changed at stack vs)
+  until-changed until = by (is_changed at vs)
+    where
+      push : (us : List StackVersion) → IsUntil at us → IsUntil at (us ++ v ∷ [])
+      push [] u = (omega arith, tt)
+      push (x ∷ us) u = (u.0, push us u.1)
+
+      by : (b : Bool) → IsUntil at (cond b vs (vs ++ v ∷ []))
+      by true = until
+      by false = push vs until
+
+  pub kept-changed : (n : ℕ) → n < at → kept_until n (changed at stack vs) ≡ kept_until n vs
+  kept-changed n lt = by (is_changed at vs)
+    where
+      by : (b : Bool) → kept_until n (cond b vs (vs ++ v ∷ [])) ≡ kept_until n vs
+      by true = refl
+      by false = kept-front n vs v lt
+
+  pub stack-changed : (n : ℕ) → IsUntil n vs → n < at → stack_at (changed at stack vs) (at + 1) ≡ stack
+  stack-changed n until lt =
+      ap (λ us. stack_at us (at + 1)) (is false (unchanged vs n at until lt))
+      ∙ (stack-push vs v (at + 1) ∙ ap (λ t. cond t stack (stack_at vs (at + 1))) (lt-ltb at (at + 1) (omega arith)))

@@ -1,0 +1,21 @@
+use Rattle.std.proofs.Common.{◌∙◌, ap, sym, subst}
+use Rattle.entries.specs.Histories.{is_changed, pushed}
+use Rattle.entries.specs.Stored.Versions.{AreVersions}
+use Rattle.entries.proofs.VersionLemmas.{versions-more, changed-more}
+use Rattle.entries.proofs.history.History.push.Goals as goal
+
+pub invariant_of-self-2 : goal.invariant_of-self-2
+invariant_of-self-2 c =
+    let vs = c.self.inside.versions.items in
+    let v = c.in_ok-version.version in
+    let told = rw c.deref.ensures.value at c.in_ok-version.ensures.height in
+    subst AreVersions (sym c.in_ok-push.ensures.items) (versions-more vs v c.self.invariant told (rw (c.in_ok-version.ensures.since, c.self.view_is) c.requires))
+
+pub returns-clause-pushed : goal.returns-clause-pushed
+returns-clause-pushed c =
+    let vs = c.self.inside.versions.items in
+    let v = c.in_ok-version.version in
+    let told = rw c.deref.ensures.value at c.in_ok-version.ensures.stack in
+    changed-more vs c.push.new.self.items c.args.at _ v c.in_ok-push.ensures.items
+    (ap (is_changed c.args.at) c.self.view_is ∙ (sym c.is_changed.ensures ∙ c.if-is_changed.false)) c.in_ok-version.ensures.since told
+    ∙ ap (pushed c.args.at) c.self.view_is

@@ -1,0 +1,29 @@
+use Rattle.std.proofs.Common.{sym, subst, [], ◌+◌, ◌/◌, length, take, drop, arith}
+use Rattle.std.specs.Prelude.{IfOk}
+use Rattle.std.proofs.lemmas.List.{take-append-drop, take_rest}
+use Rattle.std.proofs.lemmas.Bool.Decides.{nat_tests}
+use Rattle.std.proofs.lemmas.Grind.{common_steps}
+use Rattle.entries.specs.PositionSets.{Ascends, IsSet}
+use Rattle.entries.proofs.PositionSetLemmas.{ascends-front, ascends-back}
+use Rattle.entries.proofs.JoinedSetLemmas.{extended-set, halves-joined}
+use Rattle.entries.proofs.position_sets.PositionSets.+halve.Goals as goal
+
+pub halve-requires : goal.halve-requires
+halve-requires t c =
+    let ps = c.args.positions.now in let m = length ps / 2 in
+    (grind (arith, common_steps), (c.requires.empty, ascends-front (take m ps) (drop m ps) (subst Ascends (sym (take-append-drop m ps)) c.requires.ascends)))
+
+pub halve-requires-2 : goal.halve-requires-2
+halve-requires-2 t c =
+    let ps = c.args.positions.now in let m = length ps / 2 + 1 in
+    (grind (arith, common_steps), (extended-set c.args.self.now c.halve.new.self [] 0 c.in_ok-left.ensures.more c.requires.empty, subst Ascends (sym (take_rest ps m)) (ascends-back (take m ps) (drop m ps) (subst Ascends (sym (take-append-drop m ps)) c.requires.ascends))))
+
+pub join-requires-clause-ascends : goal.join-requires-clause-ascends
+join-requires-clause-ascends t c =
+    let ps = c.args.positions.now in
+    subst Ascends (sym (halves-joined c.halve.new.self c.halve-2.new.self ps (length ps / 2) c.in_ok-left.left c.in_ok-right.right (grind (arith, nat_tests)) c.in_ok-right.ensures.more c.in_ok-left.ensures.made c.in_ok-right.ensures.made)) c.requires.ascends
+
+pub returns-clause-made : goal.returns-clause-made
+returns-clause-made t c =
+    let ps = c.args.positions.now in
+    subst (λ s. IfOk c.join.result (IsSet c.join.new.self s)) (halves-joined c.halve.new.self c.halve-2.new.self ps (length ps / 2) c.in_ok-left.left c.in_ok-right.right (grind (arith, nat_tests)) c.in_ok-right.ensures.more c.in_ok-left.ensures.made c.in_ok-right.ensures.made) c.join.ensures.made

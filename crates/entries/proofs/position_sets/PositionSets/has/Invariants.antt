@@ -1,0 +1,10 @@
+use Rattle.std.proofs.Common.{◌≡◌}
+use Rattle.entries.specs.PositionSets.{set_at, has_position}
+use Rattle.entries.proofs.position_sets.PositionSets.has.Given as goal
+
+abbrev pub invariant-loop-top : goal.invariant-loop-top
+invariant-loop-top l =
+    has_position l.position (set_at l.self l.part) ≡ has_position l.position (set_at l.self l.set)
+
+abbrev pub decreases-loop-top : goal.decreases-loop-top
+decreases-loop-top l = l.part

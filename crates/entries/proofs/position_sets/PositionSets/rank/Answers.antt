@@ -1,0 +1,28 @@
+use Rattle.std.proofs.Common.{ℕ, ◌≡◌, ◌<◌, ◌+◌, ◌^◌, inl, inr, arith}
+use Rattle.std.proofs.Math.Nat.{eq-zero-or-pos}
+use Rattle.entries.proofs.JoinedSetLemmas.{below-left, below-right}
+use Rattle.entries.proofs.position_sets.PositionSets.rank.Goals as goal
+
+-- what was counted and what is left are few, since a part that is not the whole set has been
+still-few : (below part left right : ℕ) → (0 < below → below + part < 2 ^ 32) → part < 2 ^ 32 → part ≡ left + 1 + right → below + (left + 1) + right < 2 ^ 32
+still-few below part left right room few long =
+    elim (eq-zero-or-pos below) [
+      | inl none ↦ omega arith
+      | inr some ↦ let within = room some in omega arith
+    ]
+
+pub loop-top-preserved-then-position-top : goal.loop-top-preserved-then-position-top
+loop-top-preserved-then-position-top c =
+    let top = c.in-Some.ensures.some in
+    let both = below-left c.args.self.now c.loop-top.part c.args.position c.in-Some.top top (omega arith) in
+    let count = both.0 in let long = both.1 in
+    let before = c.loop-top.invariant in
+    (omega arith, λ some. let room = before.1 some in omega arith)
+
+pub loop-top-preserved : goal.loop-top-preserved
+loop-top-preserved c =
+    let top = c.in-Some.ensures.some in
+    let both = below-right c.args.self.now c.loop-top.part c.args.position c.in-Some.top top (omega arith) in
+    let count = both.0 in let long = both.1 in
+    let before = c.loop-top.invariant in
+    (omega arith, λ _. let few = top.few in let left = c.len.ensures.len in still-few c.loop-top.below _ c.len.result _ before.1 few (omega arith))

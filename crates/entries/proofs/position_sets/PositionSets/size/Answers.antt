@@ -1,0 +1,13 @@
+use Rattle.std.proofs.Common.{ap, subst, length, arith, [], ◌∷◌}
+use Rattle.entries.proofs.SetNodeLemmas.{all-ascend, empty, sets-length}
+use Rattle.entries.specs.PositionSets.{Ascends, IsSet, set_at}
+use Rattle.entries.proofs.position_sets.PositionSets.size.Goals as goal
+
+pub returns-clause-size : goal.returns-clause-size
+returns-clause-size c = let view = ap length c.self.view_is in let l = sets-length ([] ∷ []) c.self.inside.nodes.items in omega arith
+
+pub returns-clause-empty : goal.returns-clause-empty
+returns-clause-empty c = subst (λ sets. IsSet sets [] 0) c.self.view_is (empty c.self.inside.nodes.items)
+
+pub returns-clause-ascend : goal.returns-clause-ascend
+returns-clause-ascend c = λ set. subst (λ sets. Ascends (set_at sets set)) c.self.view_is (all-ascend c.self.inside.nodes.items c.self.invariant set)

@@ -1,0 +1,62 @@
+-- Stacks of positions whose earlier versions can be asked for.
+-- Driscoll, Sarnak, Sleator and Tarjan, Making data structures persistent (1989): a stack that is fully persistent.
+-- The code keeps of each version its top, and where the version below it stands.
+use Rattle.std.specs.Prelude.{◌≡◌, ℕ, ◌≤◌, ◌==◌, Bool, false, nat_lt, nat_le, if◌then◌else◌, List, [], ◌∷◌, ◌++◌, filter, get_or}
+
+-- a stack, from the last position back, and the position since which it is so
+pub record StackVersion : Type 0 where
+  pub since : ℕ
+  pub stack : List ℕ
+
+-- the stack of the last version that is so since before `at`
+abbrev pub stack_from : List ℕ → List StackVersion → ℕ → List ℕ
+stack_from found [] at = found
+stack_from found (v ∷ vs) at = stack_from (if nat_lt v.since at then v.stack else found) vs at
+
+abbrev pub stack_at : List StackVersion → ℕ → List ℕ
+stack_at vs at = stack_from [] vs at
+
+-- the last version is so since `at`
+abbrev pub is_changed : ℕ → List StackVersion → Bool
+is_changed at [] = false
+is_changed at (v ∷ []) = v.since == at
+is_changed at (v ∷ w ∷ vs) = is_changed at (w ∷ vs)
+
+-- the versions with one more since `at`, unless there is one
+abbrev pub changed : ℕ → List ℕ → List StackVersion → List StackVersion
+changed at stack vs = if is_changed at vs then vs else vs ++ record { since = at; stack = stack } ∷ []
+
+-- `at` is put on top
+abbrev pub pushed : ℕ → List StackVersion → List StackVersion
+pushed at vs = changed at (at ∷ stack_at vs at) vs
+
+-- the stack is again the one that it was at `before`
+abbrev pub gone_back : ℕ → ℕ → List StackVersion → List StackVersion
+gone_back at before vs = changed at (stack_at vs before) vs
+
+-- the versions that are so since `last` at the latest
+abbrev pub kept_until : ℕ → List StackVersion → List StackVersion
+kept_until last vs = filter (λ v. nat_le v.since last) vs
+
+-- none is so since a later position
+abbrev pub IsUntil : ℕ → List StackVersion → Type 0
+IsUntil at [] = Unit {0}
+IsUntil at (v ∷ vs) = (v.since ≤ at) × IsUntil at vs
+
+-- the versions of the stack of a number
+abbrev pub history : List (List StackVersion) → ℕ → List StackVersion
+history hs c = get_or hs c []
+
+abbrev pub AreUntil : ℕ → List (List StackVersion) → Type 0
+AreUntil at hs = (c : ℕ) → IsUntil at (history hs c)
+
+-- the number c has these versions, and each other number those that it had
+abbrev pub AreWith : List (List StackVersion) → ℕ → List StackVersion → List (List StackVersion) → Type 0
+AreWith old c vs new = (d : ℕ) → history new d ≡ (if d == c then vs else history old d)
+
+abbrev pub AreSame : List (List StackVersion) → List (List StackVersion) → Type 0
+AreSame old new = (d : ℕ) → history new d ≡ history old d
+
+-- of each number the versions until `last`
+abbrev pub AreKeptUntil : ℕ → List (List StackVersion) → List (List StackVersion) → Type 0
+AreKeptUntil last old new = (d : ℕ) → history new d ≡ kept_until last (history old d)

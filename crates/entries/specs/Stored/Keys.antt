@@ -1,0 +1,41 @@
+-- The symbols of an expression with their indexes, each two as one number. The code's own form: no public clause cites it.
+-- In ascending order, the keys of one symbol are next to each other, and their indexes are in order too.
+use Rattle.std.specs.Prelude.{◌≡◌, ◌≢◌, ℕ, ◌+◌, ◌*◌, ◌/◌, ◌%◌, ◌<◌, ◌≤◌, List, [], ◌∷◌, length, slice_get, slice_index, Some}
+use Rattle.std.specs.List.{Contains}
+use Rattle.std.specs.List.Sorted.{IsStrictlyIncreasing}
+use Rattle.entries.specs.declared.buffer_part.BufferPart.{BufferPart}
+use Rattle.entries.specs.declared.symbol_places.TheConstants.{INDEXES}
+
+abbrev pub key_of : ℕ → ℕ → ℕ
+key_of symbol index = symbol * INDEXES + index
+
+abbrev pub symbol_of : ℕ → ℕ
+symbol_of key = key / INDEXES
+
+abbrev pub index_of : ℕ → ℕ
+index_of key = key % INDEXES
+
+-- the key of each symbol, in the order of the expression
+pub record AreKeys (expr keys : List ℕ) : Type 0 where
+  pub few : length expr < INDEXES
+  pub count : length keys ≡ length expr
+  pub each : (j : ℕ) → j < length expr → slice_index keys j ≡ key_of (slice_index expr j) j
+
+-- the same in ascending order
+pub record AreKeysOf (expr keys : List ℕ) : Type 0 where
+  pub few : length expr < INDEXES
+  pub rises : IsStrictlyIncreasing keys
+  pub only : (j : ℕ) → j < length keys → slice_get expr (index_of (slice_index keys j)) ≡ Some (symbol_of (slice_index keys j))
+  pub all : (i x : ℕ) → slice_get expr i ≡ Some x → Contains keys (key_of x i)
+
+-- all keys of one symbol, as they stand behind the keys before `from`
+pub record IsRun (keys : List ℕ) (from to : ℕ) : Type 0 where
+  pub some : from < to
+  pub end : to ≤ length keys
+  pub same : (j : ℕ) → from ≤ j → j < to → symbol_of (slice_index keys j) ≡ symbol_of (slice_index keys from)
+  pub last : to < length keys → symbol_of (slice_index keys from) ≢ symbol_of (slice_index keys to)
+
+-- the parts are the runs from one place up to another
+abbrev pub AreRuns : List ℕ → ℕ → ℕ → List BufferPart → Type 0
+AreRuns keys from to [] = from ≡ to
+AreRuns keys from to (s ∷ runs) = (s.from ≡ from) × IsRun keys s.from s.to × AreRuns keys s.to to runs

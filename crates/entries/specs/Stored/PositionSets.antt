@@ -1,0 +1,48 @@
+-- Sets of positions as trees: a set is its middle position, between those of two earlier sets.
+-- The code's own form: no public clause cites it.
+-- So more sets change none that were there, and the last ones can be cut off.
+use Rattle.std.specs.Prelude.{◌≡◌, ℕ, ◌+◌, ◌<◌, ◌≤◌, ◌^◌, List, [], ◌∷◌, ◌++◌, length}
+use Rattle.entries.specs.declared.position_sets.Node.{Node}
+use Rattle.entries.specs.PositionSets.{set_at, Ascends}
+
+-- the positions of a set, a position, and those of another set
+abbrev pub joined : List (List ℕ) → ℕ → ℕ → ℕ → List ℕ
+joined sets left position right = set_at sets left ++ position ∷ set_at sets right
+
+abbrev pub set_of : List (List ℕ) → Node → List ℕ
+set_of sets n = joined sets n.left n.position n.right
+
+-- the sets there were, and that of each node
+abbrev pub sets_from : List (List ℕ) → List Node → List (List ℕ)
+sets_from sets [] = sets
+sets_from sets (n ∷ ns) = sets_from (sets ++ set_of sets n ∷ []) ns
+
+-- the first is the empty set
+abbrev pub sets_of : List Node → List (List ℕ)
+sets_of ns = sets_from ([] ∷ []) ns
+
+-- a node's parts are earlier sets, one below its position and one above, and it tells how many positions there are
+pub record IsNode (sets : List (List ℕ)) (n : Node) : Type 0 where
+  pub left : n.left < length sets
+  pub right : n.right < length sets
+  pub count : n.count ≡ length (set_of sets n)
+  pub few : n.count < 2 ^ 32
+  pub ascends : Ascends (set_of sets n)
+
+abbrev pub AreNodes : List (List ℕ) → List Node → Type 0
+AreNodes sets [] = Unit {0}
+AreNodes sets (n ∷ ns) = IsNode sets n × AreNodes (sets ++ set_of sets n ∷ []) ns
+
+pub record AreSets (ns : List Node) : Type 0 where
+  pub nodes : AreNodes ([] ∷ []) ns
+  pub few : length ns + 2 ≤ 2 ^ 32
+
+-- the node of a set, as it is read
+pub record IsTop (sets : List (List ℕ)) (set : ℕ) (n : Node) : Type 0 where
+  pub within : set < length sets
+  pub left : n.left < set
+  pub right : n.right < set
+  pub is : set_at sets set ≡ set_of sets n
+  pub few : length (set_at sets set) < 2 ^ 32
+  pub count : n.count ≡ length (set_at sets set)
+  pub ascends : Ascends (set_at sets set)

@@ -1,0 +1,62 @@
+-- Versions of a stack as they are kept, and the log of those of all numbers. The code's own form: no public clause cites it.
+-- A version tells where the version below its top stands, among the earlier ones: so a stack is found in one pass over them.
+use Rattle.std.specs.Prelude.{◌≡◌, ℕ, zero, suc, ◌<◌, ◌==◌, List, [], ◌∷◌, ◌++◌, length, map, filter, get_or, Option, Some, None}
+use Rattle.std.specs.List.Sorted.{IsNonDecreasingBy}
+use Rattle.entries.specs.declared.history.Version.{Version}
+use Rattle.entries.specs.Histories.{StackVersion, stack_at, history}
+
+abbrev pub no_version : StackVersion
+no_version = record { since = 0; stack = [] }
+
+-- a stack so high, with this top above that stack
+abbrev pub stacked : ℕ → ℕ → List ℕ → List ℕ
+stacked zero top below = []
+stacked (suc zero) top below = top ∷ []
+stacked (suc (suc n)) top below = top ∷ below
+
+-- the stack of a version behind these
+abbrev pub stack_of : List StackVersion → Version → List ℕ
+stack_of done v = stacked v.height v.top (get_or done v.below no_version).stack
+
+abbrev pub version_of : List StackVersion → Version → StackVersion
+version_of done v = record { since = v.since; stack = stack_of done v }
+
+-- the versions behind these
+abbrev pub versions_behind : List StackVersion → List Version → List StackVersion
+versions_behind done [] = []
+versions_behind done (v ∷ vs) = version_of done v ∷ versions_behind (done ++ version_of done v ∷ []) vs
+
+abbrev pub versions_of : List Version → List StackVersion
+versions_of vs = versions_behind [] vs
+
+-- each tells how high its stack is, and they stand in the order of their positions
+pub record AreVersions (vs : List Version) : Type 0 where
+  pub heights : map (λ v. v.height) vs ≡ map (λ v. length v.stack) (versions_of vs)
+  pub ordered : IsNonDecreasingBy (λ v. v.since) vs
+
+-- a version that can be read, with those before it
+pub record IsReadable (before : List Version) (v : Version) : Type 0 where
+  pub versions : AreVersions before
+  pub height : v.height ≡ length (stack_of (versions_of before) v)
+
+-- the version at the index found is the last one that is so since before `at`
+abbrev pub IsFound : List Version → ℕ → Option ℕ → Type 0
+IsFound vs at (Some i) = (i < length vs) × (stack_at (versions_of vs) at ≡ (get_or (versions_of vs) i no_version).stack)
+IsFound vs at None = stack_at (versions_of vs) at ≡ []
+
+-- ---- those of all numbers
+
+-- a version of a number was added
+pub record Change : Type 0 where
+  pub number : ℕ
+  pub since : ℕ
+
+abbrev pub sinces_of : ℕ → List Change → List ℕ
+sinces_of c changes = map (λ x. x.since) (filter (λ x. x.number == c) changes)
+
+-- the log has the number of each version, in the order of their positions
+pub record AreLogged (log : List ℕ) (hs : List (List StackVersion)) : Type 0 where
+  pub changes : List Change
+  pub listed : log ≡ map (λ x. x.number) changes
+  pub each : (c : ℕ) → map (λ v. v.since) (history hs c) ≡ sinces_of c changes
+  pub ordered : IsNonDecreasingBy (λ (x : Change). x.since) changes

@@ -1,0 +1,121 @@
+//! Stacks of positions by number, with their earlier versions.
+ghost use Rattle.std.specs.Prelude.{◌≡◌, ◌<◌, length, [], OnOk, OnErr};
+ghost use Rattle.{entries.specs.Histories.AreKeptUntil, entries.specs.Histories.AreSame, entries.specs.Histories.AreUntil, entries.specs.Histories.AreWith, entries.specs.Histories.gone_back, entries.specs.Histories.history, entries.specs.Histories.pushed, entries.specs.Histories.stack_at};
+
+use crate::history::History;
+use crate::position_stack::PositionStack;
+use std::alloc::{AllocError, Global};
+use std::marker::Model;
+
+/// A stack of positions for each number, with its earlier versions.
+///
+/// Contracts see the list of these by number, each the list of its versions. A number beyond the list has none.
+/// Source: Driscoll, Sarnak, Sleator and Tarjan, *Making data structures persistent* (1989).
+#[derive(Drop)]
+pub struct Histories {
+    alloc: Global,
+    histories: Vec<History>,
+    /// The number of each version, in the order in which they were added.
+    log: Vec<u32>,
+}
+
+impl Model for Histories {
+    ghost use Rattle.std.specs.Prelude.{List};
+    ghost use Rattle.{entries.specs.Histories.StackVersion, entries.specs.Stored.Versions.AreLogged};
+
+    ghost Value = { List (List StackVersion) };
+
+    ghost view = { λ a. a.histories.items };
+
+    ghost invariant = { λ a. AreLogged a.log.items a.histories.items };
+}
+
+impl Histories {
+    /// Makes empty stacks without earlier versions.
+    pub fn new(alloc: Global) -> Histories
+        ensures { result ≡ [] }
+    {
+        Histories {
+            alloc,
+            histories: Vec::new(alloc),
+            log: Vec::new(alloc),
+        }
+    }
+
+    /// Puts `at` on top of the stack of a number, unless that changed at `at` already.
+    ///
+    /// Errors: an allocation fails; everything is then as before. Cost: constant, but for growing tables.
+    pub fn push(&mut self, number: u32, at: u32) -> Result<(), AllocError>
+        requires { AreUntil at self.old }
+        ensures pushed { OnOk result (AreWith self.old number (pushed at (history self.old number)) self.new) }
+        ensures same { OnErr result (AreSame self.old self.new) }
+    {
+        widen(self.alloc, &mut self.histories, number as usize)?;
+        if self.histories[number as usize].is_changed(at) {
+            return Ok(());
+        }
+        self.log.push(number)?;
+        let pushed = self.histories[number as usize].push(at);
+        if pushed.is_err() {
+            let _ = self.log.pop();
+        }
+        pushed
+    }
+
+    /// Makes the stack of a number the one that it was at `before`, unless that changed at `at` already.
+    ///
+    /// Errors: an allocation fails; everything is then as before. Cost: a binary search.
+    pub fn go_back(&mut self, number: u32, at: u32, before: u32) -> Result<(), AllocError>
+        requires { AreUntil at self.old }
+        ensures gone_back { OnOk result (AreWith self.old number (gone_back at before (history self.old number)) self.new) }
+        ensures same { OnErr result (AreSame self.old self.new) }
+    {
+        widen(self.alloc, &mut self.histories, number as usize)?;
+        if self.histories[number as usize].is_changed(at) {
+            return Ok(());
+        }
+        self.log.push(number)?;
+        let gone_back = self.histories[number as usize].go_back(at, before);
+        if gone_back.is_err() {
+            let _ = self.log.pop();
+        }
+        gone_back
+    }
+
+    /// Takes away what changed after `last`.
+    ///
+    /// Cost: how many versions go. Does not allocate.
+    pub fn truncate(&mut self, last: u32)
+        ensures { AreKeptUntil last self.old self.new }
+    {
+        while let Some(number) = self.log.last().copied() {
+            if !self.histories[number as usize].pop_after(last) {
+                return;
+            }
+            self.log.truncate(self.log.len() - 1);
+        }
+    }
+
+    /// Returns the stack of a number as it was at `at`.
+    ///
+    /// Cost: a binary search.
+    pub fn stack(&self, number: u32, at: usize) -> PositionStack<'_>
+        ensures { result ≡ stack_at (history self.now number) at }
+    {
+        match self.histories.get(number as usize) {
+            Some(history) => history.stack(at),
+            None => PositionStack::empty(),
+        }
+    }
+}
+
+/// Makes room for a number.
+fn widen(alloc: Global, histories: &mut Vec<History>, number: usize) -> Result<(), AllocError>
+    ensures same { AreSame histories.old.items histories.new.items }
+    ensures within { OnOk result (number < length histories.new.items) }
+{
+    while histories.len() <= number {
+        histories.push(History::new(alloc))?;
+    }
+    Ok(())
+}

@@ -1,0 +1,181 @@
+//! The versions of one stack of positions.
+ghost use Rattle.std.specs.Prelude.{◌≡◌, ◌∷◌, ◌++◌, [], length, false, nat_lt, if◌then◌else◌, OnOk, OnErr, IfOk, List};
+ghost use Rattle.std.specs.List.Sorted.{IsNonDecreasingBy};
+ghost use Rattle.{entries.specs.Histories.StackVersion, entries.specs.Histories.IsUntil, entries.specs.Histories.is_changed, entries.specs.Histories.pushed, entries.specs.Histories.gone_back, entries.specs.Histories.stack_at, entries.specs.Stored.Versions.IsFound, entries.specs.Stored.Versions.AreVersions, entries.specs.Stored.Versions.stack_of, entries.specs.Stored.Versions.versions_of};
+
+use crate::buffer_part::{item, place};
+use crate::position_stack::PositionStack;
+use std::alloc::{AllocError, Global};
+use std::marker::Model;
+
+/// A version of a stack: the stack as it was from a position on.
+#[derive(Clone, Copy, Drop)]
+pub struct Version {
+    /// The position since which the stack is so.
+    pub since: u32,
+    /// The position on top, or 0 where there is none.
+    pub top: u32,
+    /// The index of the version that is this one without its top.
+    pub below: u32,
+    /// How many positions there are.
+    pub height: u32,
+}
+
+/// The version without positions, since a position.
+pub fn no_positions(since: u32) -> Version
+    ensures { (result.since ≡ since) × (result.height ≡ 0) }
+{
+    Version {
+        since,
+        top: 0,
+        below: 0,
+        height: 0,
+    }
+}
+
+/// A stack of positions with its earlier versions, in the order of the positions since which they are so.
+///
+/// Contracts see the list of the versions, each with its stack.
+#[derive(Drop)]
+pub struct History {
+    versions: Vec<Version>,
+}
+
+impl Model for History {
+    ghost use Rattle.std.specs.Prelude.{List};
+    ghost use Rattle.{entries.specs.Histories.StackVersion, entries.specs.Stored.Versions.versions_of, entries.specs.Stored.Versions.AreVersions};
+
+    ghost Value = { List StackVersion };
+
+    ghost view = { λ a. versions_of a.versions.items };
+
+    ghost invariant = { λ a. AreVersions a.versions.items };
+}
+
+impl History {
+    /// Makes a history without versions.
+    pub fn new(alloc: Global) -> History
+        ensures { result ≡ [] }
+    {
+        History {
+            versions: Vec::new(alloc),
+        }
+    }
+
+    /// Returns whether the last version is so since `at`.
+    pub fn is_changed(&self, at: u32) -> bool
+        ensures { result ≡ is_changed at self.now }
+    {
+        match self.versions.last() {
+            Some(version) => version.since == at,
+            None => false,
+        }
+    }
+
+    /// Puts `at` on top, unless the last version is so since `at`.
+    pub fn push(&mut self, at: u32) -> Result<(), AllocError>
+        requires { IsUntil at self.old }
+        ensures pushed { OnOk result (self.new ≡ pushed at self.old) }
+        ensures same { OnErr result (self.new ≡ self.old) }
+    {
+        if self.is_changed(at) {
+            return Ok(());
+        }
+        let version = above(&self.versions, at)?;
+        self.versions.push(version)?;
+        Ok(())
+    }
+
+    /// Makes the stack the one that it was at `before`, unless the last version is so since `at`.
+    pub fn go_back(&mut self, at: u32, before: u32) -> Result<(), AllocError>
+        requires { IsUntil at self.old }
+        ensures gone_back { OnOk result (self.new ≡ gone_back at before self.old) }
+        ensures same { OnErr result (self.new ≡ self.old) }
+    {
+        if self.is_changed(at) {
+            return Ok(());
+        }
+        let version = again(&self.versions, at, before);
+        self.versions.push(version)?;
+        Ok(())
+    }
+
+    /// Takes the last version away, if it is so since a position after `last`. Returns whether it was.
+    pub fn pop_after(&mut self, last: u32) -> bool
+        ensures { (front : List StackVersion) → (v : StackVersion) → self.old ≡ front ++ v ∷ [] → (result ≡ nat_lt last v.since) × (self.new ≡ (if nat_lt last v.since then front else self.old)) }
+    {
+        let Some(version) = self.versions.last() else {
+            return false;
+        };
+        if version.since <= last {
+            return false;
+        }
+        self.versions.truncate(self.versions.len() - 1);
+        true
+    }
+
+    /// Returns the stack that was valid at `at`.
+    ///
+    /// Cost: a binary search.
+    pub fn stack(&self, at: usize) -> PositionStack<'_>
+        ensures { result ≡ stack_at self.now at }
+    {
+        let versions = self.versions.as_slice();
+        match version_before(versions, at) {
+            Some(index) => PositionStack::new(&versions[..index], item(versions, index)),
+            None => PositionStack::empty(),
+        }
+    }
+}
+
+/// Returns the version since `at` that is the last one with `at` on top.
+fn above(versions: &[Version], at: u32) -> Result<Version, AllocError>
+    requires versions { AreVersions versions.now }
+    requires until { IsUntil at (versions_of versions.now) }
+    requires unchanged { is_changed at (versions_of versions.now) ≡ false }
+    ensures since { IfOk result (λ v. v.since ≡ at) }
+    ensures stack { IfOk result (λ v. stack_of (versions_of versions.now) v ≡ at ∷ stack_at (versions_of versions.now) at) }
+    ensures height { IfOk result (λ v. v.height ≡ length (stack_of (versions_of versions.now) v)) }
+{
+    if versions.is_empty() {
+        return Ok(Version {
+            since: at,
+            top: at,
+            below: 0,
+            height: 1,
+        });
+    }
+    let below = versions.len() - 1;
+    let last = item(versions, below);
+    Ok(Version {
+        since: at,
+        top: at,
+        below: place(below)?,
+        height: place(last.height as usize + 1)?,
+    })
+}
+
+/// Returns the version since `at` that is the one valid at `before` once more.
+fn again(versions: &[Version], at: u32, before: u32) -> Version
+    requires versions { AreVersions versions.now }
+    ensures since { result.since ≡ at }
+    ensures stack { stack_of (versions_of versions.now) result ≡ stack_at (versions_of versions.now) before }
+    ensures height { result.height ≡ length (stack_of (versions_of versions.now) result) }
+{
+    match version_before(versions, before as usize) {
+        Some(index) => Version {
+            since: at,
+            ..versions[index]
+        },
+        None => no_positions(at),
+    }
+}
+
+/// Returns the index of the last version that is so since before `at`.
+fn version_before(versions: &[Version], at: usize) -> Option<usize>
+    requires { IsNonDecreasingBy (λ v. v.since) versions.now }
+    ensures { IsFound versions.now at result }
+{
+    let count = versions.partition_point(|version| (version.since as usize) < at);
+    count.checked_sub(1)
+}

@@ -1,0 +1,86 @@
+//! Where the symbols of long expressions stand, by the index of their statement.
+ghost use Rattle.std.specs.Prelude.{◌≡◌, ◌<◌, ◌++◌, ◌∷◌, [], ℕ, List, nat_eq, nat_lt, Some, None, IfSome, IfNone, OnOk, OnErr};
+ghost use Rattle.std.specs.{List.All, List.filter, Map.lookup};
+ghost use Rattle.entries.specs.SymbolPlaces.{ArePlacesOf};
+
+use crate::symbol_places::SymbolPlaces;
+use std::alloc::{AllocError, Global};
+use std::marker::Model;
+
+/// The places of the symbols of long expressions, by the index of their statement. Contracts see the list of the indexes,
+/// in ascending order, each with the groups of its expression.
+#[derive(Drop)]
+pub struct LongExpressions {
+    alloc: Global,
+    indexes: Vec<usize>,
+    places: Vec<SymbolPlaces>,
+}
+
+impl Model for LongExpressions {
+    ghost use Rattle.std.specs.Prelude.{ℕ, List, length, ◌≡◌};
+    ghost use Rattle.std.specs.{List.zip, List.Sorted.IsStrictlyIncreasing};
+
+    ghost Value = { List (ℕ × List (List ℕ)) };
+
+    ghost view = { λ a. zip a.indexes.items a.places.items };
+
+    ghost invariant = { λ a. IsStrictlyIncreasing a.indexes.items × (length a.places.items ≡ length a.indexes.items) };
+}
+
+impl LongExpressions {
+    /// Makes an empty list. Does not allocate.
+    pub fn new(alloc: Global) -> LongExpressions
+        ensures { result ≡ [] }
+    {
+        LongExpressions {
+            alloc,
+            indexes: Vec::new(alloc),
+            places: Vec::new(alloc),
+        }
+    }
+
+    /// Returns the places of the symbols of the expression at an index, or `None` where they are not kept.
+    ///
+    /// Cost: log n for n expressions.
+    pub fn get(&self, index: usize) -> Option<&SymbolPlaces>
+        ensures some { IfSome result (λ places. lookup (nat_eq index) self.now ≡ Some places.now) }
+        ensures none { IfNone result (lookup (nat_eq index) self.now ≡ None) }
+    {
+        match self.indexes.binary_search(&index) {
+            Ok(at) => Some(&self.places[at]),
+            Err(_) => None,
+        }
+    }
+
+    /// Keeps the places of the symbols of the expression at an index, which is greater than those before.
+    ///
+    /// Errors: an allocation fails, or the expression has 2^32 symbols or more; the list is as before.
+    /// Cost: n log n for n symbols.
+    pub fn push(&mut self, index: usize, expr: &[u32]) -> Result<(), AllocError>
+        requires { All (λ e. e.0 < index) self.old }
+        ensures added { OnOk result ((groups : List (List ℕ)) × ArePlacesOf expr.now groups × (self.new ≡ self.old ++ (index, groups) ∷ [])) }
+        ensures same { OnErr result (self.new ≡ self.old) }
+    {
+        let places = SymbolPlaces::of(self.alloc, expr)?;
+        self.places.push(places)?;
+        match self.indexes.push(index) {
+            Ok(()) => Ok(()),
+            Err(_) => {
+                self.places.truncate(self.indexes.len());
+                Err(AllocError)
+            }
+        }
+    }
+
+    /// Keeps the expressions of statements with a lower index than `len`. Does not allocate.
+    pub fn truncate(&mut self, len: usize)
+        ensures { self.new ≡ filter (λ e. nat_lt e.0 len) self.old }
+    {
+        let kept = match self.indexes.binary_search(&len) {
+            Ok(at) => at,
+            Err(at) => at,
+        };
+        self.indexes.truncate(kept);
+        self.places.truncate(kept);
+    }
+}

@@ -1,0 +1,333 @@
+//! Sets of positions, each made from an earlier one.
+ghost use Rattle.std.specs.Prelude.{◌≡◌, ℕ, ◌<◌, ◌+◌, ◌^◌, ◌++◌, ◌∷◌, [], length, take, max, slice_get, OnOk, OnErr, IfOk, IfSome, IfNone, Ok, true};
+ghost use Rattle.entries.specs.PositionSets.{Ascends, IsSet, count_below, has_position, set_at, with_position};
+ghost use Rattle.entries.specs.Stored.PositionSets.{IsTop, joined, set_of};
+ghost use Rattle.entries.specs.Stored.Spans.{Extends};
+
+use crate::buffer_part::{item, place};
+use std::alloc::{AllocError, Global};
+use std::cmp::Ordering;
+use std::marker::Model;
+
+/// How many nodes there are at most: sets have numbers of 32 bits.
+const MOST_NODES: usize = 0xffff_fffe;
+
+/// How many times as heavy as the other one side may be. A side weighs one more than it has positions.
+const HEAVIER: usize = 3;
+
+/// How many times as heavy as its outer part the inner part of a side is where one rotation does not do.
+const INNER: usize = 2;
+
+/// A set that is not empty: a position, and two earlier sets on either side of it.
+#[derive(Clone, Copy, Drop)]
+struct Node {
+    /// The set of the positions below.
+    left: u32,
+    /// The set of the positions above.
+    right: u32,
+    position: u32,
+    /// How many positions there are in all.
+    count: u32,
+}
+
+/// Sets of positions, each made from an earlier one; they share what they have in common.
+///
+/// A set is known by its number; 0 is the empty set, and so is a number that no set has. Contracts see the list
+/// of the sets by number, each as the list of its positions in ascending order.
+///
+/// Inside, a set is a tree balanced by weight: its height is at most two and a half times the binary logarithm of
+/// its size, whatever positions are put in, and in whatever order.
+/// Source: Y. Hirai and K. Yamamoto, "Balancing weight-balanced trees", Journal of Functional Programming 21, 2011.
+#[derive(Drop)]
+pub struct PositionSets {
+    nodes: Vec<Node>,
+}
+
+impl Model for PositionSets {
+    ghost use Rattle.std.specs.Prelude.{ℕ, List};
+    ghost use Rattle.entries.specs.Stored.PositionSets.{AreSets, sets_of};
+
+    ghost Value = { List (List ℕ) };
+
+    ghost view = { λ a. sets_of a.nodes.items };
+
+    ghost invariant = { λ a. AreSets a.nodes.items };
+}
+
+impl PositionSets {
+    /// Makes the empty set alone. Does not allocate.
+    pub fn new(alloc: Global) -> PositionSets
+        ensures { result ≡ [] ∷ [] }
+    {
+        PositionSets {
+            nodes: Vec::new(alloc),
+        }
+    }
+
+    /// Returns how many sets there are.
+    pub fn size(&self) -> usize
+        ensures size { result ≡ length self.now }
+        ensures few { result < 2 ^ 32 }
+        ensures empty { IsSet self.now [] 0 }
+        ensures ascend { (set : ℕ) → Ascends (set_at self.now set) }
+    {
+        self.nodes.len() + 1
+    }
+
+    /// Returns how many positions a set has.
+    pub fn len(&self, set: u32) -> usize
+        ensures len { result ≡ length (set_at self.now set) }
+        ensures few { result < 2 ^ 32 }
+        ensures ascends { Ascends (set_at self.now set) }
+    {
+        match self.top(set) {
+            Some(top) => top.count as usize,
+            None => 0,
+        }
+    }
+
+    /// Returns the position at an index, from 0, in ascending order.
+    ///
+    /// Cost: the logarithm of the set's size.
+    pub fn get(&self, set: u32, index: usize) -> Option<u32>
+        ensures { result ≡ slice_get (set_at self.now set) index }
+    {
+        let mut part = set;
+        let mut at = index;
+        while let Some(top) = self.top(part) {
+            let below = self.len(top.left);
+            match at.cmp(&below) {
+                Ordering::Less => part = top.left,
+                Ordering::Equal => return Some(top.position),
+                Ordering::Greater => {
+                    part = top.right;
+                    at -= below + 1;
+                }
+            }
+        }
+        None
+    }
+
+    /// Returns whether a set has a position.
+    ///
+    /// Cost: the logarithm of the set's size.
+    pub fn has(&self, set: u32, position: u32) -> bool
+        ensures { result ≡ has_position position (set_at self.now set) }
+    {
+        let mut part = set;
+        while let Some(top) = self.top(part) {
+            part = match position.cmp(&top.position) {
+                Ordering::Less => top.left,
+                Ordering::Equal => return true,
+                Ordering::Greater => top.right,
+            };
+        }
+        false
+    }
+
+    /// Returns how many positions of a set are below a position: where the set has it, its index.
+    ///
+    /// Cost: the logarithm of the set's size.
+    pub fn rank(&self, set: u32, position: u32) -> usize
+        ensures { result ≡ count_below position (set_at self.now set) }
+    {
+        let mut part = set;
+        let mut below = 0;
+        while let Some(top) = self.top(part) {
+            if position <= top.position {
+                part = top.left;
+            } else {
+                part = top.right;
+                below += self.len(top.left) + 1;
+            }
+        }
+        below
+    }
+
+    /// Makes the set with a position in its place, and returns its number; it is the set itself if it has the position.
+    ///
+    /// Errors: an allocation fails, or there would be 2^32 sets; all sets are then as before.
+    /// Cost: the logarithm of the set's size, in time and in memory.
+    pub fn insert(&mut self, set: u32, position: u32) -> Result<u32, AllocError>
+        ensures inserted { IfOk result (IsSet self.new (with_position position (set_at self.old set))) }
+        ensures more { Extends self.old self.new }
+        ensures has { has_position position (set_at self.old set) ≡ true → result ≡ Ok set }
+        ensures stay { has_position position (set_at self.old set) ≡ true → self.new ≡ self.old }
+        ensures same { OnErr result (self.new ≡ self.old) }
+    {
+        let size = self.size();
+        if self.has(set, position) {
+            return Ok(set);
+        }
+        let made = self.put_in(set, position);
+        if made.is_err() {
+            self.truncate(size);
+        }
+        made
+    }
+
+    /// Makes the set of these positions, and returns its number.
+    ///
+    /// Errors: an allocation fails, or there would be 2^32 sets; all sets are then as before.
+    /// Cost: the number of positions, in time and in memory.
+    pub fn of_ascending(&mut self, positions: &[u32]) -> Result<u32, AllocError>
+        requires { Ascends positions.now }
+        ensures made { IfOk result (IsSet self.new positions.now) }
+        ensures more { Extends self.old self.new }
+        ensures size { OnOk result (length self.new ≡ length self.old + length positions.now) }
+        ensures same { OnErr result (self.new ≡ self.old) }
+    {
+        let size = self.size();
+        let made = self.halve(positions);
+        if made.is_err() {
+            self.truncate(size);
+        }
+        made
+    }
+
+    /// Keeps the first `size` sets; the empty set always stays. Does not allocate.
+    pub fn truncate(&mut self, size: usize)
+        ensures { self.new ≡ take (max 1 size) self.old }
+    {
+        self.nodes.truncate(size.saturating_sub(1));
+    }
+
+    /// Returns the node of a set that is not empty.
+    fn top(&self, set: u32) -> Option<Node>
+        ensures some { IfSome result (IsTop self.now set) }
+        ensures none { IfNone result (set_at self.now set ≡ []) }
+        ensures empty { IsSet self.now [] 0 }
+    {
+        let nodes = self.nodes.as_slice();
+        if set == 0 || nodes.len() < set as usize {
+            return None;
+        }
+        Some(item(nodes, set as usize - 1))
+    }
+
+    /// Makes the set with a position in its place, with copies of the nodes on the way to it.
+    fn put_in(&mut self, set: u32, position: u32) -> Result<u32, AllocError>
+        ensures made { IfOk result (IsSet self.new (with_position position (set_at self.old set))) }
+        ensures more { Extends self.old self.new }
+    {
+        let Some(top) = self.top(set) else {
+            return self.join(0, position, 0);
+        };
+        match position.cmp(&top.position) {
+            Ordering::Less => {
+                let left = self.put_in(top.left, position)?;
+                self.balance(left, top.position, top.right)
+            }
+            Ordering::Equal => Ok(set),
+            Ordering::Greater => {
+                let right = self.put_in(top.right, position)?;
+                self.balance(top.left, top.position, right)
+            }
+        }
+    }
+
+    /// Makes the set of these positions by halves.
+    fn halve(&mut self, positions: &[u32]) -> Result<u32, AllocError>
+        requires empty { IsSet self.old [] 0 }
+        requires ascends { Ascends positions.now }
+        ensures made { IfOk result (IsSet self.new positions.now) }
+        ensures more { Extends self.old self.new }
+        ensures size { OnOk result (length self.new ≡ length self.old + length positions.now) }
+    {
+        if positions.is_empty() {
+            return Ok(0);
+        }
+        let middle = positions.len() / 2;
+        let left = self.halve(&positions[..middle])?;
+        let right = self.halve(&positions[middle + 1..])?;
+        self.join(left, positions[middle], right)
+    }
+
+    /// Makes the set of both and a position between, where one side may have become too heavy by one position.
+    fn balance(&mut self, left: u32, position: u32, right: u32) -> Result<u32, AllocError>
+        requires left { left < length self.old }
+        requires right { right < length self.old }
+        requires ascends { Ascends (joined self.old left position right) }
+        ensures made { IfOk result (IsSet self.new (joined self.old left position right)) }
+        ensures more { Extends self.old self.new }
+    {
+        let below = self.len(left) + 1;
+        let above = self.len(right) + 1;
+        if above > HEAVIER * below
+            && let Some(right) = self.top(right)
+        {
+            return self.rotate_left(left, position, right);
+        }
+        if below > HEAVIER * above
+            && let Some(left) = self.top(left)
+        {
+            return self.rotate_right(left, position, right);
+        }
+        self.join(left, position, right)
+    }
+
+    /// Makes the set of both and a position between by a rotation to the left, or two.
+    fn rotate_left(&mut self, left: u32, position: u32, right: Node) -> Result<u32, AllocError>
+        requires left { left < length self.old }
+        requires inner { right.left < length self.old }
+        requires outer { right.right < length self.old }
+        requires ascends { Ascends (set_at self.old left ++ position ∷ set_of self.old right) }
+        ensures made { IfOk result (IsSet self.new (set_at self.old left ++ position ∷ set_of self.old right)) }
+        ensures more { Extends self.old self.new }
+    {
+        let outer = self.len(right.right) + 1;
+        if self.len(right.left) + 1 >= INNER * outer
+            && let Some(inner) = self.top(right.left)
+        {
+            let below = self.join(left, position, inner.left)?;
+            let above = self.join(inner.right, right.position, right.right)?;
+            return self.join(below, inner.position, above);
+        }
+        let below = self.join(left, position, right.left)?;
+        self.join(below, right.position, right.right)
+    }
+
+    /// Makes the set of both and a position between by a rotation to the right, or two.
+    fn rotate_right(&mut self, left: Node, position: u32, right: u32) -> Result<u32, AllocError>
+        requires outer { left.left < length self.old }
+        requires inner { left.right < length self.old }
+        requires right { right < length self.old }
+        requires ascends { Ascends (set_of self.old left ++ position ∷ set_at self.old right) }
+        ensures made { IfOk result (IsSet self.new (set_of self.old left ++ position ∷ set_at self.old right)) }
+        ensures more { Extends self.old self.new }
+    {
+        let outer = self.len(left.left) + 1;
+        if self.len(left.right) + 1 >= INNER * outer
+            && let Some(inner) = self.top(left.right)
+        {
+            let below = self.join(left.left, left.position, inner.left)?;
+            let above = self.join(inner.right, position, right)?;
+            return self.join(below, inner.position, above);
+        }
+        let above = self.join(left.right, position, right)?;
+        self.join(left.left, left.position, above)
+    }
+
+    /// Makes the set of both and a position between, as one node.
+    fn join(&mut self, left: u32, position: u32, right: u32) -> Result<u32, AllocError>
+        requires left { left < length self.old }
+        requires right { right < length self.old }
+        requires ascends { Ascends (joined self.old left position right) }
+        ensures made { IfOk result (IsSet self.new (joined self.old left position right)) }
+        ensures more { Extends self.old self.new }
+        ensures size { OnOk result (length self.new ≡ length self.old + 1) }
+    {
+        let count = place(self.len(left) + 1 + self.len(right))?;
+        let size = self.size();
+        if size > MOST_NODES {
+            return Err(AllocError);
+        }
+        self.nodes.push(Node {
+            left,
+            right,
+            position,
+            count,
+        })?;
+        Ok(size as u32)
+    }
+}

@@ -1,0 +1,116 @@
+//! Where each symbol of an expression stands.
+ghost use Rattle.std.specs.Prelude.{◌≡◌, ◌≢◌, ◌+◌, ◌<◌, true, false, length, map, slice_index, IfOk};
+ghost use Rattle.entries.specs.{SymbolPlaces.ArePlacesOf, Stored.Keys.symbol_of, Stored.Keys.index_of, Stored.Keys.AreKeys, Stored.Keys.AreKeysOf, Stored.Keys.AreRuns};
+
+use crate::buffer_part::{BufferPart, between};
+use crate::groups::Groups;
+use std::alloc::{AllocError, Global};
+use std::marker::Model;
+
+/// How many indexes there can be: a key is a symbol times this, plus its index.
+const INDEXES: u64 = 4_294_967_296;
+
+/// The indexes of an expression's symbols, grouped by symbol, the least symbol first. Contracts see the list of the groups,
+/// each the ascending list of the indexes at which one symbol stands.
+///
+/// Cost: four bytes for each symbol of the expression, and eight for each distinct one.
+#[derive(Drop)]
+pub struct SymbolPlaces {
+    indexes: Vec<u32>,
+    groups: Vec<BufferPart>,
+}
+
+impl Model for SymbolPlaces {
+    ghost use Rattle.std.specs.Prelude.{ℕ, List, length};
+    ghost use Rattle.entries.specs.Stored.Spans.{cut, AreSpansIn};
+
+    ghost Value = { List (List ℕ) };
+
+    ghost view = { λ a. cut a.indexes.items a.groups.items };
+
+    ghost invariant = { λ a. AreSpansIn (length a.indexes.items) a.groups.items };
+}
+
+impl SymbolPlaces {
+    /// Groups the indexes of an expression's symbols.
+    ///
+    /// Errors: an allocation fails, or the expression has 2^32 symbols or more.
+    /// Cost: n log n for n symbols.
+    pub fn of(alloc: Global, expr: &[u32]) -> Result<SymbolPlaces, AllocError>
+        ensures { IfOk result (ArePlacesOf expr.now) }
+    {
+        let keys = ordered_keys(alloc, expr)?;
+        let groups = runs_of(alloc, &keys)?;
+        let indexes = indexes_of(alloc, &keys)?;
+        Ok(SymbolPlaces { indexes, groups })
+    }
+
+    /// Returns the groups.
+    pub fn groups(&self) -> Groups<'_>
+        ensures { result ≡ self.now }
+    {
+        Groups::new(&self.groups, &self.indexes)
+    }
+}
+
+/// Lists the key of each symbol, in the order of the expression.
+fn keys_of(alloc: Global, expr: &[u32]) -> Result<Vec<u64>, AllocError>
+    ensures { IfOk result (λ keys. AreKeys expr.now keys.items) }
+{
+    if expr.len() >= INDEXES as usize {
+        return Err(AllocError);
+    }
+    let mut keys = Vec::with_capacity(alloc, expr.len())?;
+    for index in 0..expr.len() {
+        keys.push(expr[index] as u64 * INDEXES + index as u64)?;
+    }
+    Ok(keys)
+}
+
+/// Lists the keys in ascending order. No two are the same, so `dedup` removes none: by its contract each is below the next.
+fn ordered_keys(alloc: Global, expr: &[u32]) -> Result<Vec<u64>, AllocError>
+    ensures { IfOk result (λ keys. AreKeysOf expr.now keys.items) }
+{
+    let mut keys = keys_of(alloc, expr)?;
+    keys.sort_unstable();
+    keys.dedup();
+    Ok(keys)
+}
+
+/// Returns whether the key at an index is the last one of its symbol.
+fn is_last(keys: &[u64], at: usize) -> bool
+    requires { at < length keys.now }
+    ensures yes { result ≡ true → at + 1 < length keys.now → symbol_of (slice_index keys.now at) ≢ symbol_of (slice_index keys.now (at + 1)) }
+    ensures no { result ≡ false → (at + 1 < length keys.now) × (symbol_of (slice_index keys.now at) ≡ symbol_of (slice_index keys.now (at + 1))) }
+{
+    match keys.get(at + 1) {
+        Some(next) => keys[at] / INDEXES != *next / INDEXES,
+        None => true,
+    }
+}
+
+/// Lists the runs of keys of one symbol, in order.
+fn runs_of(alloc: Global, keys: &[u64]) -> Result<Vec<BufferPart>, AllocError>
+    ensures { IfOk result (λ runs. AreRuns keys.now 0 (length keys.now) runs.items) }
+{
+    let mut runs = Vec::new(alloc);
+    let mut from = 0;
+    for at in 0..keys.len() {
+        if is_last(keys, at) {
+            runs.push(between(from, at + 1)?)?;
+            from = at + 1;
+        }
+    }
+    Ok(runs)
+}
+
+/// Lists the index of each key.
+fn indexes_of(alloc: Global, keys: &[u64]) -> Result<Vec<u32>, AllocError>
+    ensures { IfOk result (λ indexes. indexes.items ≡ map index_of keys.now) }
+{
+    let mut indexes = Vec::with_capacity(alloc, keys.len())?;
+    for key in keys {
+        indexes.push((*key % INDEXES) as u32)?;
+    }
+    Ok(indexes)
+}

@@ -1,0 +1,12 @@
+use Rattle.frame.proofs.Words.{◌≡◌, length, list_any, is_disj, statements_of}
+use Rattle.frame.specs.Stored.Stacks.{AreOfKind, has_code}
+use Rattle.frame.proofs.pairs.any_has.Given as goal
+
+abbrev pub invariant-loop-at : goal.invariant-loop-at
+invariant-loop-at l = record {
+  are : AreOfKind is_disj (statements_of l.stock) l.stack;
+  same : list_any (has_code l.stock.entries l.code) l.stack ≡ list_any (has_code l.stock.entries l.code) l.initial.stack;
+}
+
+abbrev pub decreases-loop-at : goal.decreases-loop-at
+decreases-loop-at l = length l.stack

@@ -1,0 +1,7 @@
+use Rattle.frame.proofs.Words.{take}
+use Rattle.entries.specs.Histories.{pushed}
+use Rattle.frame.specs.Stored.Stacks.{AreChangedBy}
+use Rattle.frame.proofs.stacks.push_each.Given as goal
+
+abbrev pub invariant-loop-code : goal.invariant-loop-code
+invariant-loop-code l = AreChangedBy (pushed l.at) (take l.code-index l.codes) l.fn.histories l.histories

@@ -1,0 +1,77 @@
+-- The active `$d` and `$v` that have a symbol, kept by its number. The code's own form: no public clause cites it.
+-- Metamath, 4.2.8: behind a `$}` the statements that were active before its `${` are active.
+use Rattle.std.specs.Prelude.{◌≡◌, ℕ, zero, suc, ◌+◌, ◌-◌, ◌≤◌, ◌==◌, Bool, true, if◌then◌else◌, List, [], ◌∷◌, length, take, slice_get, Some}
+use Rattle.std.specs.List.{list_any}
+use Rattle.entries.specs.Histories.{StackVersion, AreUntil, history, kept_until, stack_at}
+use Rattle.frame.specs.Words.{Stmt, Database, Entry, Links, Kind, Close, Disj, Var}
+use Rattle.frame.specs.declared.stacks.NextStatement.{NextStatement}
+use Rattle.frame.specs.Links.{actives, is_disj, is_var}
+use Rattle.frame.specs.Stored.AssertionParts.{symbols_at}
+
+-- the statement at a position has the symbol c
+abbrev pub has_code : List Entry → ℕ → ℕ → Bool
+has_code es c p = list_any (λ x. c == x) (symbols_at es p)
+
+abbrev pub having_behind : List ℕ → List Entry → ℕ → List (ℕ × Stmt) → List ℕ
+having_behind found es c [] = found
+having_behind found es c (p ∷ ps) = having_behind (if has_code es c p.0 then p.0 ∷ found else found) es c ps
+
+-- the positions of those that have the symbol c, from the last one back
+abbrev pub having : List Entry → ℕ → List (ℕ × Stmt) → List ℕ
+having es c ps = having_behind [] es c ps
+
+-- the stack of each symbol, at each position, are the active statements of the kind that have it
+pub record AreStacks (kind : Stmt → Bool) (hs : List (List StackVersion)) (es : List Entry) (S : Database) : Type 0 where
+  pub until : AreUntil (length es) hs
+  pub each : (c at : ℕ) → 1 ≤ at → at ≤ length es + 1 → stack_at (history hs c) at ≡ having es c (actives kind (take (at - 1) S))
+
+-- a statement of the kind stands at the position
+pub record IsOfKind (kind : Stmt → Bool) (S : Database) (p : ℕ) : Type 0 where
+  pub one : 1 ≤ p
+  pub statement : Stmt
+  pub stands : slice_get S (p - 1) ≡ Some statement
+  pub of_kind : kind statement ≡ true
+
+abbrev pub AreOfKind : (Stmt → Bool) → Database → List ℕ → Type 0
+AreOfKind kind S [] = Unit {0}
+AreOfKind kind S (p ∷ ps) = IsOfKind kind S p × AreOfKind kind S ps
+
+-- ---- what the next statement changes
+
+-- of the two kinds that have stacks: which statements are of it, and which link leads to the last active one
+abbrev pub kind_test : Kind → Stmt → Bool
+kind_test Disj s = is_disj s
+kind_test kind s = is_var s
+
+abbrev pub link_by : Kind → Links → ℕ
+link_by Disj l = l.disjoint
+link_by kind l = l.variable
+
+-- a `$}` goes back to where its block opened
+abbrev pub opening : ℕ → ℕ
+opening zero = 1
+opening (suc b) = suc b
+
+abbrev pub with_top : List ℕ → ℕ → List (List StackVersion) → ℕ → List ℕ
+with_top codes at hs c = if list_any (λ x. c == x) codes then at ∷ stack_at (history hs c) at else stack_at (history hs c) at
+
+-- the stack of each symbol behind the next statement
+abbrev pub latest_of : Kind → Kind → NextStatement → List (List StackVersion) → ℕ → List ℕ
+latest_of Disj Disj x hs c = with_top x.codes.now x.at hs c
+latest_of Var Var x hs c = with_top x.codes.now x.at hs c
+latest_of of Close x hs c = stack_at (history hs c) (opening x.links.block)
+latest_of of kind x hs c = stack_at (history hs c) x.at
+
+-- of each number the versions until n are those that there were
+abbrev pub KeepsUntil : ℕ → List (List StackVersion) → List (List StackVersion) → Type 0
+KeepsUntil n old new = (c : ℕ) → kept_until n (history new c) ≡ kept_until n (history old c)
+
+-- of each of these symbols the versions were changed
+abbrev pub AreChangedBy : (List StackVersion → List StackVersion) → List ℕ → List (List StackVersion) → List (List StackVersion) → Type 0
+AreChangedBy f codes old new = (d : ℕ) → history new d ≡ (if list_any (λ x. d == x) codes then f (history old d) else history old d)
+
+-- the stacks behind the statement at `at` are these, and the earlier ones are as they were
+pub record IsNext (at : ℕ) (behind : ℕ → List ℕ) (old new : List (List StackVersion)) : Type 0 where
+  pub latest : (c : ℕ) → stack_at (history new c) (at + 1) ≡ behind c
+  pub until : AreUntil at new
+  pub kept : KeepsUntil (at - 1) old new

@@ -1,0 +1,112 @@
+//! The active `$d` and `$v` that have a symbol, as stacks by number.
+ghost use Rattle.std.specs.Prelude.{◌≡◌, ◌+◌, ◌-◌, ◌<◌, ℕ, length, OnOk};
+ghost use Rattle.entries.specs.Histories.{AreUntil, gone_back, history, pushed, stack_at};
+ghost use Rattle.entries.specs.declared.kind.Kind.TheVariants.{Disj, Var};
+ghost use Rattle.frame.specs.Stored.Stacks.{AreChangedBy, IsNext, KeepsUntil, latest_of, link_by, opening};
+ghost use Rattle.frame.specs.Stored.Whole.{IsWalked};
+
+use entries::{Entries, Histories, Kind, Links};
+use std::alloc::AllocError;
+
+/// The statement that comes next, as far as it changes what is active.
+#[derive(Clone, Copy, Drop)]
+pub struct NextStatement<'a> {
+    pub kind: Kind,
+    /// The numbers of its symbols.
+    pub codes: &'a [u32],
+    /// Its position.
+    pub at: u32,
+    /// The last statements that are active before it.
+    pub links: Links,
+}
+
+/// Notes what the next statement makes active, or what is active again behind a `$}`.
+///
+/// Cost: the symbols of a `$d` or `$v`; of a `$}` those of the `$d` and `$v` that it makes inactive, and for each of
+/// these symbols a binary search.
+pub fn note_active(
+    disjoints: &mut Histories,
+    variables: &mut Histories,
+    entries: &Entries,
+    next: &NextStatement<'_>,
+) -> Result<(), AllocError>
+    requires place { next.now.at ≡ length entries.now + 1 }
+    requires disjoints { IsWalked Disj entries.now next.now.links disjoints.old }
+    requires variables { IsWalked Var entries.now next.now.links variables.old }
+    ensures disjoints { OnOk result (IsNext next.now.at (latest_of Disj next.now.kind next.now disjoints.old) disjoints.old disjoints.new) }
+    ensures variables { OnOk result (IsNext next.now.at (latest_of Var next.now.kind next.now variables.old) variables.old variables.new) }
+    ensures kept_disjoints { KeepsUntil (next.now.at - 1) disjoints.old disjoints.new }
+    ensures kept_variables { KeepsUntil (next.now.at - 1) variables.old variables.new }
+{
+    match next.kind {
+        Kind::Disj => push_each(disjoints, next.codes, next.at),
+        Kind::Var => push_each(variables, next.codes, next.at),
+        Kind::Close => {
+            go_back_all(disjoints, entries, next, Kind::Disj)?;
+            go_back_all(variables, entries, next, Kind::Var)
+        }
+        _ => Ok(()),
+    }
+}
+
+/// Puts `at` on top of the stack of each of the symbols.
+fn push_each(histories: &mut Histories, codes: &[u32], at: u32) -> Result<(), AllocError>
+    requires { AreUntil at histories.old }
+    ensures changed { OnOk result (AreChangedBy (pushed at) codes.now histories.old histories.new) }
+    ensures kept { (n : ℕ) → n < at → KeepsUntil n histories.old histories.new }
+{
+    for code in codes {
+        histories.push(*code, at)?;
+    }
+    Ok(())
+}
+
+/// Makes the stack of each symbol of the active statements of a kind that stand in the last block the one that it was
+/// where that block opened.
+fn go_back_all(
+    histories: &mut Histories,
+    entries: &Entries,
+    next: &NextStatement<'_>,
+    of: Kind,
+) -> Result<(), AllocError>
+    requires place { next.now.at ≡ length entries.now + 1 }
+    requires walked { IsWalked of entries.now next.now.links histories.old }
+    ensures next { OnOk result (IsNext next.now.at (λ c. stack_at (history histories.old c) (opening next.now.links.block)) histories.old histories.new) }
+    ensures kept { KeepsUntil (next.now.at - 1) histories.old histories.new }
+{
+    let before = next.links.block.max(1);
+    let mut last = link(next.links, of);
+    while last > next.links.block {
+        let entry = entries.entry(last as usize - 1);
+        go_back_each(histories, entry.symbols, next.at, before)?;
+        last = link(entry.before.links, of);
+    }
+    Ok(())
+}
+
+/// Makes the stack of each of the symbols the one that it was at `before`.
+fn go_back_each(
+    histories: &mut Histories,
+    codes: &[u32],
+    at: u32,
+    before: u32,
+) -> Result<(), AllocError>
+    requires { AreUntil at histories.old }
+    ensures changed { OnOk result (AreChangedBy (gone_back at before) codes.now histories.old histories.new) }
+    ensures kept { (n : ℕ) → n < at → KeepsUntil n histories.old histories.new }
+{
+    for code in codes {
+        histories.go_back(*code, at, before)?;
+    }
+    Ok(())
+}
+
+/// The last active statement of a kind, by position, or 0.
+fn link(links: Links, of: Kind) -> u32
+    ensures { result ≡ link_by of links }
+{
+    match of {
+        Kind::Disj => links.disjoint,
+        _ => links.variable,
+    }
+}

@@ -1,0 +1,21 @@
+-- Statements that were added while the proofs of the first ones were judged.
+use Rattle.library.proofs.Words.{ℕ, ◌≤◌, length, take, arith, length-take-le, Database}
+use Rattle.library.specs.Added.{AreProvedTo, IsAdded}
+use Rattle.library.specs.declared.adding.Added.{Added}
+use Rattle.library.specs.declared.adding.Tables.{Tables}
+use Rattle.library.proofs.UnprovedLemmas.{known-alone, to-later}
+
+-- what is proved of the first statements of a library is known of all
+pub added-ahead : {old new : Tables} (S : Database) (count known : ℕ) (a : Added) → count ≤ length S → length old.frames.statements ≤ 0
+    → known ≤ length (take count S) → AreProvedTo (take count S) known → IsAdded old new S a → IsAdded old new S (record { broken = a.broken; known = known })
+added-ahead S count known a within alone low proved e =
+    let cut = length-take-le count S within in
+    record {
+      found = e.found;
+      rules_are = e.rules_are;
+      frames_are = e.frames_are;
+      closed = e.closed;
+      begins = e.begins;
+      marked = e.marked;
+      known = λ L same. known-alone S known (omega (arith, low, within, cut)) (to-later S count known low proved) L (omega (arith, same, alone));
+    }

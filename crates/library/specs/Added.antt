@@ -1,0 +1,53 @@
+-- What adding statements leaves, on one thread or with proofs judged ahead.
+-- Source: this project's profile; Metamath, 4.2 and appendix B.
+-- The code judges the proofs of first statements while all are added, since a `$p` stays proved when others follow.
+use Rattle.std.specs.Prelude.{◌≡◌, ℕ, ◌+◌, ◌*◌, ◌≤◌, ◌++◌, length, take, drop, IsTrue, None, Ok, IfOk}
+use Rattle.std.specs.Borrow.{Bor, MutBor}
+use Rattle.verify_pool.specs.declared.checkers.Checkers.{Checkers}
+use Rattle.library.specs.Words.{Database, AreShaped, bares, is_closed, first_broken}
+use Rattle.library.specs.declared.adding.Added.{Added}
+use Rattle.library.specs.declared.adding.StepCounts.{StepCounts}
+use Rattle.library.specs.declared.adding.Tables.{Tables}
+use Rattle.library.specs.Judging.{Begins, IsKnown, StandsProved}
+
+-- all steps that were taken
+abbrev pub count_of : StepCounts → ℕ
+count_of steps = steps.calling.count + steps.ahead.count
+
+-- each `$p` up to this position is proved
+abbrev pub AreProvedTo : Database → ℕ → Type 0
+AreProvedTo S end = (at : ℕ) → at ≤ end → StandsProved S at
+
+-- the tables took the statements T, or this rule is broken
+pub record IsAdded (old new : Tables) (T : Database) (a : Added) : Type 0 where
+  pub found : IfOk a.broken (λ broken. broken ≡ first_broken 1 old.rules.statements T)
+  pub rules_are : a.broken ≡ Ok None → new.rules.statements ≡ old.rules.statements ++ bares T
+  pub frames_are : a.broken ≡ Ok None → new.frames.statements ≡ old.frames.statements ++ bares T
+  pub closed : a.broken ≡ Ok None → IsTrue (is_closed new.rules.statements)
+  pub begins : Begins old.frames.statements new.frames.statements
+  pub marked : new.rules.marked ≡ old.rules.marked
+  pub known : (L : Database) → length L ≡ length old.frames.statements → IsKnown (L ++ T) (length L) a.known
+
+-- adding the statements T took no step back, and two steps each at most
+abbrev pub IsCounted : StepCounts → StepCounts → Database → Type 0
+IsCounted old new T = (count_of old ≤ count_of new) × (count_of new ≤ count_of old + 2 * length T)
+
+-- what may be called so adds statements to tables whose rules and frames are of the same ones
+abbrev pub Adds : (Bor Database → MutBor Tables → MutBor StepCounts → MutBor Checkers → Type 0)
+    → (Bor Database → MutBor Tables → MutBor StepCounts → MutBor Checkers → Added → MutBor Tables → MutBor StepCounts → MutBor Checkers → Type 0) → Type 0
+Adds pre post =
+    ((T : Bor Database) (tables : MutBor Tables) (steps : MutBor StepCounts) (checkers : MutBor Checkers)
+    → tables.now.frames.statements ≡ tables.now.rules.statements → AreShaped T.now → pre T tables steps checkers)
+    × ((T : Bor Database) (tables : MutBor Tables) (steps : MutBor StepCounts) (checkers : MutBor Checkers)
+    (a : Added) (tables' : MutBor Tables) (steps' : MutBor StepCounts) (checkers' : MutBor Checkers)
+    → post T tables steps checkers a tables' steps' checkers' → IsAdded tables.now tables'.now T.now a × IsCounted steps.now steps'.now T.now)
+
+-- the tables are those of the statements S, after those that follow the first ones were added, or this rule is broken
+pub record IsAddedAfter (S : Database) (front : ℕ) (tables : Tables) (a : Added) : Type 0 where
+  pub found : IfOk a.broken (λ broken. broken ≡ first_broken 1 (take front S) (drop front S))
+  pub rules_are : a.broken ≡ Ok None → tables.rules.statements ≡ bares S
+  pub frames_are : a.broken ≡ Ok None → tables.frames.statements ≡ bares S
+  pub closed : a.broken ≡ Ok None → IsTrue (is_closed tables.rules.statements)
+  pub begins : Begins (bares (take front S)) tables.frames.statements
+  pub marked : tables.rules.marked ≡ bares (take front S)
+  pub known : IsKnown S front a.known

@@ -1,0 +1,182 @@
+//! Adds the statements of a text after those that are there: rules and frames take them, up to the first that breaks a
+//! rule; with several workers, the proofs of the first ones are judged meanwhile.
+ghost use Rattle.std.specs.Prelude.{◌≡◌, ◌+◌, ◌*◌, ◌≤◌, length};
+ghost use Rattle.std.specs.Thread.{IsSync};
+ghost use Rattle.mm_read.specs.Statements.{AreShaped};
+ghost use Rattle.library.specs.Added.{AreProvedTo, IsAdded, count_of};
+
+use crate::unproved::{Proofs, least_unproved};
+use frame::Frames;
+use mm_read::Stmt;
+use scope::{Rule, Rules, Steps};
+use std::alloc::{AllocError, Global};
+use std::thread::{Threads, join_mut};
+use verify_pool::{Checkers, Gate, Workers, judge_all};
+
+/// A text with this many statements has proofs judged ahead.
+const MANY: usize = 8_192;
+
+/// Tables that judge the next statement: the state of the rules, and the frames of the statements.
+#[derive(Drop)]
+pub(crate) struct Tables {
+    pub rules: Rules,
+    pub frames: Frames,
+}
+
+/// Steps that a library took: those of the calling thread, and those of threads that judge proofs ahead.
+#[derive(Drop)]
+pub(crate) struct StepCounts {
+    pub calling: Steps,
+    pub ahead: Steps,
+}
+
+/// Workers, with the gate that each of them passes before each proof.
+#[derive(Drop)]
+pub(crate) struct Parallel<'a, G: Gate + Sync, R: Threads + Sync> {
+    pub rt: &'a R,
+    pub alloc: Global,
+    pub workers: Workers,
+    pub gate: &'a G,
+}
+
+/// The outcome of adding statements.
+#[derive(Drop)]
+pub(crate) struct Added {
+    /// The number of the first statement that breaks a rule, counted from 1, and its least rule. A block that is open at the
+    /// end breaks G10 one above the last statement. An error where an allocation failed.
+    pub broken: Result<Option<(usize, Rule)>, AllocError>,
+    /// A position up to which each new `$p` is known to be proved.
+    pub known: usize,
+}
+
+/// Adds the statements to the frames and the rules, up to the first that breaks a rule. Room for labels of half as many
+/// is made first, if allocation succeeds.
+///
+/// Cost: that of the statements, one step each.
+pub(crate) fn add_all(statements: &[Stmt], tables: &mut Tables, steps: &mut Steps) -> Added
+    requires shaped { AreShaped statements.now }
+    requires same { tables.old.frames.statements ≡ tables.old.rules.statements }
+    ensures added { IsAdded tables.old tables.new statements.now result }
+    ensures rises { steps.old.count ≤ steps.new.count }
+    ensures counted { steps.new.count ≤ steps.old.count + length statements.now }
+{
+    let known = tables.frames.len();
+    tables.frames.reserve(statements.len() / 2);
+    for (index, statement) in statements.iter().enumerate() {
+        if let Err(rule) = tables.frames.add(&mut tables.rules, statement, steps) {
+            let broken = if rule == Rule::Memory {
+                Err(AllocError)
+            } else {
+                Ok(Some((index + 1, rule)))
+            };
+            return Added { broken, known };
+        }
+    }
+    let broken = match tables.rules.close_at_end() {
+        Ok(()) => Ok(None),
+        Err(rule) => Ok(Some((statements.len() + 1, rule))),
+    };
+    Added { broken, known }
+}
+
+/// Adds the statements as `add_all` does. Where they are the first of a library and many, a thread of its own adds a first
+/// part of them to tables of its own, and half of the workers but one, two workers at least, judge the proofs of this part
+/// meanwhile: these leave a processor to the calling thread.
+///
+/// Cost: that of `add_all`, and one step more for each statement of the first part.
+pub(crate) fn add_all_verifying<G: Gate + Sync, R: Threads + Sync>(
+    parallel: &Parallel<'_, G, R>,
+    statements: &[Stmt],
+    tables: &mut Tables,
+    steps: &mut StepCounts,
+    checkers: &mut Checkers,
+) -> Added
+    requires shaped { AreShaped statements.now }
+    requires same { tables.old.frames.statements ≡ tables.old.rules.statements }
+    ensures added { IsAdded tables.old tables.new statements.now result }
+    ensures rises { count_of steps.old ≤ count_of steps.new }
+    ensures counted { count_of steps.new ≤ count_of steps.old + 2 * length statements.now }
+{
+    let count = count_ahead(statements);
+    let workers = parallel.workers.count();
+    if count == 0 || tables.frames.len() > 0 || workers < 2 {
+        return add_all(statements, tables, &mut steps.calling);
+    }
+    let StepCounts { calling, ahead } = steps;
+    let (rt, gate, alloc) = (parallel.rt, parallel.gate, parallel.alloc);
+    let first = &statements[..count];
+    let few = (workers / 2).max(2) - 1;
+    let mut verify = || -> usize
+        requires { IsSync G.row × IsSync R.row × (1 ≤ few) × (few ≤ 16) × AreShaped first.now }
+        ensures { (result ≤ length first.entry.now) × AreProvedTo first.entry.now result × (ahead.entry.now.count ≤ ahead.exit.now.count) × (ahead.exit.now.count ≤ ahead.entry.now.count + length first.entry.now) }
+    {
+        let workers = Workers::of(few);
+        let parallel = Parallel {
+            rt,
+            alloc,
+            workers,
+            gate,
+        };
+        verify_ahead(&parallel, first, ahead, checkers)
+    };
+    let mut add = || -> Added
+        requires { AreShaped statements.now × (tables.now.frames.statements ≡ tables.now.rules.statements) }
+        ensures { IsAdded tables.entry.now tables.exit.now statements.entry.now result × (calling.entry.now.count ≤ calling.exit.now.count) × (calling.exit.now.count ≤ calling.entry.now.count + length statements.entry.now) }
+    { add_all(statements, tables, calling) };
+    let (known, mut added) = join_mut(rt, &mut verify, &mut add);
+    added.known = known;
+    added
+}
+
+/// Returns how many of the first statements are judged ahead: five sixteenths of many, up to where no block is open.
+fn count_ahead(statements: &[Stmt]) -> usize
+    ensures { result ≤ length statements.now }
+{
+    let near = (statements.len() / 16 * 5).max(MANY);
+    let mut open = 0usize;
+    for (index, statement) in statements.iter().enumerate() {
+        match statement {
+            Stmt::Open => open = open.saturating_add(1),
+            Stmt::Close => open = open.saturating_sub(1),
+            _ => {}
+        }
+        if index >= near && open == 0 {
+            return index + 1;
+        }
+    }
+    0
+}
+
+/// Adds the statements to tables of their own and judges their proofs, and returns up to which position each `$p` is found
+/// to be proved: the last one, or 0.
+///
+/// Cost: that of `add_all`, one step for each statement, and of the proofs.
+fn verify_ahead<G: Gate + Sync, R: Threads + Sync>(
+    parallel: &Parallel<'_, G, R>,
+    statements: &[Stmt],
+    steps: &mut Steps,
+    checkers: &mut Checkers,
+) -> usize
+    requires shaped { AreShaped statements.now }
+    ensures proved { (result ≤ length statements.now) × AreProvedTo statements.now result }
+    ensures rises { steps.old.count ≤ steps.new.count }
+    ensures counted { steps.new.count ≤ steps.old.count + length statements.now }
+{
+    let (rt, gate, alloc) = (parallel.rt, parallel.gate, parallel.alloc);
+    let workers = parallel.workers;
+    let mut tables = Tables {
+        rules: Rules::new(alloc),
+        frames: Frames::new(alloc),
+    };
+    let added = add_all(statements, &mut tables, steps);
+    let Ok(None) = added.broken else {
+        return 0;
+    };
+    let least = |proofs: &Proofs<'_>, checkers: &mut Checkers| {
+        judge_all(rt, checkers, proofs, workers, gate)
+    };
+    match least_unproved(&least, &tables.frames, statements, 0, checkers) {
+        Ok(None) => statements.len(),
+        _ => 0,
+    }
+}

@@ -1,0 +1,203 @@
+//! Good statements, with the tables that judge those that follow.
+ghost use Rattle.std.specs.Prelude.{◌≡◌, ◌+◌, ◌-◌, ◌*◌, ◌≤◌, ◌++◌, [], length, take, drop, Ok, Some, None, IfOk, OnOk, OnErr};
+ghost use Rattle.frame.specs.AtPosition.{HasLabelsOnce};
+ghost use Rattle.library.specs.Added.{Adds, IsAddedAfter, count_of};
+ghost use Rattle.library.specs.Good.{Good};
+ghost use Rattle.library.specs.Judging.{Extends, IsChecked, IsJudged, IsKnown};
+ghost use Rattle.library.specs.Unproved.{FindsLeast};
+ghost use Rattle.mm_read.specs.Statements.{AreShaped};
+ghost use Rattle.scope.specs.Active.{bares, stmt_at};
+ghost use Rattle.scope.specs.Legal.{first_broken};
+
+use crate::adding::{Added, StepCounts, Tables};
+use crate::unproved::{Proofs, least_unproved};
+use crate::verdict::Cause;
+use frame::Frames;
+use mm_read::Stmt;
+use proof_code::is_unfinished;
+use scope::Rules;
+use std::alloc::{AllocError, Global};
+use std::marker::Model;
+use verify_pool::Checkers;
+
+/// Good statements as they were read, with the tables that take the next one and the checkers of proofs, which serve one
+/// text after another. Contracts see the list of statements.
+#[derive(Drop)]
+pub(crate) struct CheckedDatabase {
+    statements: Vec<Stmt>,
+    tables: Tables,
+    checkers: Checkers,
+}
+
+impl Model for CheckedDatabase {
+    ghost use Rattle.library.specs.Judging.{IsChecked};
+    ghost use Rattle.mm_read.specs.Statements.{Database};
+
+    ghost Value = { Database };
+
+    ghost view = { λ a. a.statements.items };
+
+    ghost invariant = { λ a. IsChecked a.statements.items a.tables };
+}
+
+impl CheckedDatabase {
+    /// Returns a database without statements. Does not allocate.
+    pub(crate) fn new(alloc: Global) -> CheckedDatabase
+        ensures { result ≡ [] }
+    {
+        CheckedDatabase {
+            statements: Vec::new(alloc),
+            tables: Tables {
+                rules: Rules::new(alloc),
+                frames: Frames::new(alloc),
+            },
+            checkers: Checkers::new(alloc),
+        }
+    }
+
+    /// Returns the statements.
+    pub(crate) fn statements(&self) -> &[Stmt]
+        ensures statements { result.now ≡ self.now }
+        ensures good { Good self.now }
+        ensures shaped { AreShaped self.now }
+    {
+        self.statements.as_slice()
+    }
+
+    /// Returns the statement at a position.
+    #[tactic(auto, using(crate::proofs::FrontLemmas::stands_index))]
+    pub(crate) fn statement(&self, at: usize) -> &Stmt
+        requires { (1 ≤ at) × (at ≤ length self.now) }
+        ensures stands { stmt_at self.now at ≡ Some result.now }
+        ensures good { Good self.now }
+    {
+        &self.statements[at - 1]
+    }
+
+    /// Returns the frames of the statements, no two of which carry one label.
+    pub(crate) fn frames(&self) -> &Frames
+        ensures same { result.now.statements ≡ bares self.now }
+        ensures once { HasLabelsOnce result.now.statements }
+        ensures good { Good self.now }
+    {
+        &self.tables.frames
+    }
+
+    /// Returns the allocator of all that is kept and returned.
+    pub(crate) fn alloc(&self) -> Global {
+        self.checkers.alloc()
+    }
+
+    /// Adds the statements whole, where they are good after those that are there; else returns why they are not.
+    ///
+    /// Errors: an allocation fails; nothing is added then. Cost: that of the statements added, two steps each at most. To
+    /// mark the statements that are there, and to go back to them, does not allocate.
+    pub(crate) fn extend<
+        E: Fn(&[Stmt], &mut Tables, &mut StepCounts, &mut Checkers) -> Added,
+        F: Fn(&Proofs<'_>, &mut Checkers) -> Result<Option<usize>, AllocError>,
+    >(
+        &mut self,
+        more: Vec<Stmt>,
+        steps: &mut StepCounts,
+        add: &E,
+        least: &F,
+    ) -> Result<Option<Cause>, AllocError>
+        requires shaped { AreShaped more.items }
+        requires adds { Adds (E.pre add.now) (E.post add.now) }
+        requires finds { FindsLeast (F.pre least.now) (F.post least.now) }
+        ensures judged { IfOk result (λ found. Extends self.old more.items found self.new) }
+        ensures same { OnErr result (self.new ≡ self.old) }
+        ensures rises { count_of steps.old ≤ count_of steps.new }
+        ensures counted { count_of steps.new ≤ count_of steps.old + 2 * length more.items }
+    {
+        let front = self.statements.len();
+        append_all(&mut self.statements, more)?;
+        let statements = self.statements.as_slice();
+        let tables = &mut self.tables;
+        let checkers = &mut self.checkers;
+        let added = add_after(statements, front, tables, steps, checkers, add);
+        let found = judge(added, &tables.frames, statements, front, checkers, least);
+        checkers.shrink();
+        if let Ok(None) = found {
+            tables.rules.mark();
+            return Ok(None);
+        }
+        tables.rules.back();
+        tables.frames.shorten(front);
+        self.statements.truncate(front);
+        found
+    }
+}
+
+/// Appends more statements; where there are none yet, takes the list as it is.
+///
+/// Errors: an allocation fails; nothing is added then. Cost: that of the statements added.
+fn append_all(statements: &mut Vec<Stmt>, mut more: Vec<Stmt>) -> Result<(), AllocError>
+    ensures added { OnOk result (statements.new.items ≡ statements.old.items ++ more.items) }
+    ensures same { OnErr result (statements.new.items ≡ statements.old.items) }
+{
+    if statements.is_empty() {
+        *statements = more;
+    } else {
+        statements.append(&mut more)?;
+    }
+    Ok(())
+}
+
+/// Adds the statements after the first `front` to the tables, which are those of these first ones.
+///
+/// Cost: that of `add`.
+fn add_after<E: Fn(&[Stmt], &mut Tables, &mut StepCounts, &mut Checkers) -> Added>(
+    statements: &[Stmt],
+    front: usize,
+    tables: &mut Tables,
+    steps: &mut StepCounts,
+    checkers: &mut Checkers,
+    add: &E,
+) -> Added
+    requires adds { Adds (E.pre add.now) (E.post add.now) }
+    requires within { front ≤ length statements.now }
+    requires checked { IsChecked (take front statements.now) tables.old }
+    requires shaped { AreShaped (drop front statements.now) }
+    ensures added { IsAddedAfter statements.now front tables.new result }
+    ensures rises { count_of steps.old ≤ count_of steps.new }
+    ensures counted { count_of steps.new ≤ count_of steps.old + 2 * (length statements.now - front) }
+{
+    add(&statements[front..], tables, steps, checkers)
+}
+
+/// Returns why the statements after the first `front` may not stand there, where adding them had this outcome; `None`
+/// where they may.
+///
+/// Errors: an allocation fails. Cost: that of the proofs, and one look at each of these statements.
+fn judge<F: Fn(&Proofs<'_>, &mut Checkers) -> Result<Option<usize>, AllocError>>(
+    added: Added,
+    frames: &Frames,
+    statements: &[Stmt],
+    front: usize,
+    checkers: &mut Checkers,
+    least: &F,
+) -> Result<Option<Cause>, AllocError>
+    requires finds { FindsLeast (F.pre least.now) (F.post least.now) }
+    requires broken { IfOk added.broken (λ broken. broken ≡ first_broken 1 (take front statements.now) (drop front statements.now)) }
+    requires frames { added.broken ≡ Ok None → frames.now.statements ≡ bares statements.now }
+    requires known { IsKnown statements.now front added.known }
+    ensures judged { IfOk result (IsJudged (take front statements.now) (drop front statements.now)) }
+    ensures added { result ≡ Ok None → added.broken ≡ Ok None }
+{
+    if let Some((statement, rule)) = added.broken? {
+        return Ok(Some(Cause::Rule { statement, rule }));
+    }
+    let Some(at) = least_unproved(least, frames, statements, added.known, checkers)? else {
+        return Ok(None);
+    };
+    let statement = at - front;
+    let Stmt::Prove { proof, .. } = &statements[at - 1] else {
+        unreachable!();
+    };
+    if is_unfinished(proof) {
+        Ok(Some(Cause::Unfinished { statement }))
+    } else {
+        Ok(Some(Cause::Proof { statement }))
+    }
+}

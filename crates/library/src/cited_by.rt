@@ -1,0 +1,173 @@
+//! The theorems that use a statement: the `$p` that cite it, and those that cite one which rests on it.
+ghost use Rattle.std.specs.Prelude.{◌≡◌, ◌≤◌, ◌↔◌, ◌++◌, List, true, false, Some, length, map, take, IfOk};
+ghost use Rattle.frame.specs.AtPosition.{HasLabelsOnce};
+ghost use Rattle.library.specs.UseMarks.{is_marked, AreWanted, ItemsMeet, ProofMeets, ListsNone, ListsSome};
+ghost use Rattle.library.specs.Uses.{IsUser, AreLabelsOf};
+ghost use Rattle.mm_lex.specs.Alphabet.{Name};
+ghost use Rattle.mm_read.specs.declared.stmt.Stmt.{Stmt as Statement};
+ghost use Rattle.proof_code.specs.ItemNumbers.{items_of};
+ghost use Rattle.scope.specs.Active.{proof_of};
+ghost use Rattle.std.specs.List.{list_any};
+ghost use Rattle.verify.specs.Right.{IsProvable};
+
+use crate::checked_database::CheckedDatabase;
+use frame::Frames;
+use mm_lex::{Word, Words};
+use mm_read::Stmt;
+use proof_code::{Heading, Reader, is_compressed};
+use std::alloc::AllocError;
+
+/// Returns the labels of the `$p` that cite the statement at a position, each once, in order; with `all` also of those that
+/// cite one of them, and so on.
+///
+/// Errors: an allocation fails. Cost: that of the proofs after the position, each read once, and once more where it lists what is
+/// sought, and a byte a statement.
+pub(crate) fn citing_labels(
+    database: &CheckedDatabase,
+    at: usize,
+    all: bool,
+) -> Result<Vec<Word>, AllocError>
+    requires { (1 ≤ at) × (at ≤ length database.now) }
+    ensures { IfOk result (λ labels. AreLabelsOf database.now (IsUser database.now all at) labels.items) }
+{
+    let statements = database.statements();
+    let alloc = database.alloc();
+    let mut sought = vec![in alloc; false; statements.len()]?;
+    sought[at - 1] = true;
+    let mut labels = Vec::new(alloc);
+    let mut search = Search {
+        reader: Reader::new(alloc),
+        mandatory: Vec::new(alloc),
+        wanted: Vec::new(alloc),
+    };
+    for index in at..statements.len() {
+        if let Stmt::Prove { label, proof, .. } = database.statement(index + 1) {
+            if search.meets(database, index + 1, proof, &sought)? {
+                labels.push(label.copy(alloc)?)?;
+                sought[index] = all;
+            }
+        }
+    }
+    Ok(labels)
+}
+
+/// Reads proofs, one after another, for what they cite, and keeps its buffers.
+#[derive(Drop)]
+struct Search {
+    reader: Reader,
+    /// The positions of a proof's mandatory hypotheses.
+    mandatory: Vec<u32>,
+    /// For each label of a proof, the mandatory ones first, whether what it names is marked.
+    wanted: Vec<bool>,
+}
+
+impl Search {
+    /// Tells whether the proof of the `$p` at a position, whose tokens these are, cites a statement that is marked. A normal proof
+    /// cites what it lists. Of a compressed one, where no mandatory hypothesis is marked and it lists none that is, the
+    /// letters need not be read.
+    fn meets(
+        &mut self,
+        database: &CheckedDatabase,
+        at: usize,
+        tokens: &Words,
+        marks: &[bool],
+    ) -> Result<bool, AllocError>
+        requires { (s : Statement) × IsProvable database.now at s × (proof_of s ≡ tokens.now) }
+        ensures { IfOk result (λ found. found ≡ true ↔ ProofMeets database.now at marks.now) }
+    {
+        let frames = database.frames();
+        if !is_compressed(tokens) {
+            return Ok(lists_marked(frames, tokens, marks));
+        }
+        self.mandatory.clear();
+        frames.mandatory(at, &mut self.mandatory)?;
+        if !has_marked(&self.mandatory, marks) {
+            if !lists_marked(frames, tokens, marks) {
+                return Ok(false);
+            }
+        }
+        let count = self.mandatory.as_slice().len();
+        let Some(heading) = self.reader.read(tokens, count)? else {
+            return Ok(false);
+        };
+        listed_meet(
+            frames,
+            heading,
+            self.reader.numbers(),
+            &self.mandatory,
+            marks,
+            &mut self.wanted,
+        )
+    }
+}
+
+/// Tells whether one of the numbers cites a marked statement, by a list with a test of each mandatory hypothesis and then of
+/// each listed label. The first of them that is marked is mostly cited, so the numbers are tried there once before the end.
+fn listed_meet(
+    frames: &Frames,
+    heading: Heading<'_>,
+    numbers: &[u32],
+    mandatory: &[u32],
+    marks: &[bool],
+    wanted: &mut Vec<bool>,
+) -> Result<bool, AllocError>
+    requires once { HasLabelsOnce frames.now.statements }
+    requires listed { heading.count ≤ length heading.words }
+    ensures { IfOk result (λ found. (front : List Name) → AreWanted frames.now.statements front marks.now (map (λ position. is_marked marks.now (Some position)) mandatory.now)
+        → found ≡ true ↔ ItemsMeet frames.now.statements (items_of (front ++ take heading.entry.count heading.entry.words) numbers.now) marks.now) }
+{
+    wanted.clear();
+    for position in mandatory {
+        wanted.push(is_marked(marks, Some(*position as usize)))?;
+    }
+    let mut words = heading.words;
+    let mut tried = false;
+    for _ in 0..heading.count {
+        let Some(label) = words.next() else {
+            unreachable!();
+        };
+        let marked = is_marked(marks, frames.position(label));
+        wanted.push(marked)?;
+        if marked && !tried {
+            if has_marked(numbers, wanted) {
+                return Ok(true);
+            }
+            tried = true;
+        }
+    }
+    Ok(has_marked(numbers, wanted))
+}
+
+/// Tells whether one of the positions is marked; or one of the numbers of a proof, by the tests of its labels.
+fn has_marked(positions: &[u32], marks: &[bool]) -> bool
+    ensures { result ≡ list_any (λ position. is_marked marks.now (Some position)) positions.now }
+{
+    positions
+        .iter()
+        .any(|position| is_marked(marks, Some(*position as usize)))
+}
+
+/// Tells whether a token before `)` is the label of a marked statement.
+fn lists_marked(frames: &Frames, tokens: &Words, marks: &[bool]) -> bool
+    requires once { HasLabelsOnce frames.now.statements }
+    ensures none { result ≡ false → ListsNone frames.now.statements tokens.now marks.now }
+    ensures some { result ≡ true → ListsSome frames.now.statements tokens.now marks.now }
+{
+    let mut left = tokens.iter();
+    while let Some(token) = left.next() {
+        if token == b")".as_slice() {
+            return false;
+        }
+        if is_marked(marks, frames.position(token)) {
+            return true;
+        }
+    }
+    false
+}
+
+/// Tells whether the position is marked.
+fn is_marked(marks: &[bool], position: Option<usize>) -> bool
+    ensures { result ≡ is_marked marks.now position }
+{
+    position.is_some_and(|position| position > 0 && position <= marks.len() && marks[position - 1])
+}

@@ -1,0 +1,71 @@
+-- The words in which this crate is proved, passed on from one place.
+pub use Rattle.net.specs.Agree.{Agree, ChosenAgree, IsAfter, IsBeginningOf, IsProposed, LogsAgree}
+pub use Rattle.net.specs.Chosen.{IsChosen, IsChosenAt, Vote, vote}
+pub use Rattle.net.specs.History.{Agreement, IsMetOrMemory, IsMoment, StopsAt}
+pub use Rattle.net.specs.KeptPart.{AreOfOthers, addressed, change_answered, change_at, change_delivered, change_of, kept_part, node_of}
+pub use Rattle.net.specs.Laws.{BallotsHaveOneValue, ChosenValuesAgree, KeptPartSurvives, LaterBallotsKeepChosen, LogEntriesAreChosen, LogEntriesWereOffered, LogsOfNodesAgree, LogsOnlyGrow, RestartEmptiesLog}
+pub use Rattle.net.specs.Staged.{AreStill, ComesTo, Gives, IsOfEvent, IsReadyAt, IsStaged, IsStagedAt, IsStill, IsTaken, NetView, Readies, ReadiesEvent, StagedEvent, StagedWork, posts_of, restarts, step_of, steps, work_of}
+pub use Rattle.net.specs.Taken.{AreOfWorld, Taken, nodes_of, with_event, world_of}
+pub use Rattle.net.specs.World.{World, after, all_happen, answered, at_node, delivered, happens, happens_at, log, log_after, log_at, nodes_from, offers_of, packets_after, start, stepped, votes_after}
+pub use Rattle.net.specs.declared.event.Event.{Event}
+pub use Rattle.net.specs.declared.event.Event.TheVariants.{Begin, Deliver, Offer, Restart}
+pub use Rattle.net.specs.declared.event.TheConstants.{MOST_EVENTS}
+pub use Rattle.net.specs.declared.fault.StepFault.{StepFault}
+pub use Rattle.net.specs.declared.fault.StepFault.TheVariants.{EventsSpent, Memory, NoNode, NoPacket}
+pub use Rattle.slots.proofs.Lists.{Contains-in, In, In-append, In-append_left, In-append_right, In-contains}
+pub use Rattle.slots.proofs.MapReads.{before_gap, put_either, put_same}
+pub use Rattle.slots.specs.FiniteMap.{entries_to_gap, entry_at, front_of, put_at}
+pub use Rattle.slots.specs.declared.slots.TheConstants.{SLOTS}
+pub use Rattle.std.proofs.Common.{Bool, Err, List, MatchOption, None, Ok, Option, Result, Some, [], add-one, ap, append-nil, append_assoc, arith, drop, eqb-true, false, get_or, if◌then◌else◌, inl, inr, le_of_suc-le-suc, length, length-append, map, nat_lt, not, refl, set, slice_get, subst, suc, sym, take, true, zero, ℕ, ◌&&◌, ◌++◌, ◌+◌, ◌-◌, ◌<◌, ◌==◌, ◌^◌, ◌||◌, ◌∙◌, ◌∷◌, ◌≡◌, ◌≢◌, ◌≤◌, ◌⊎◌}
+pub use Rattle.std.proofs.Math.Seq.{take-append_seam}
+pub use Rattle.std.proofs.lemmas.Bool.{and_parts, not-true}
+pub use Rattle.std.proofs.lemmas.Bool.Decides.{nat_tests}
+pub use Rattle.std.proofs.lemmas.List.{length-map, length-set}
+pub use Rattle.std.proofs.lemmas.Option.{slice_get_read, slice_get_within}
+pub use Rattle.std.specs.Borrow.{Bor}
+pub use Rattle.std.specs.Iterator.{Yields}
+pub use Rattle.std.specs.List.{AllByRecursion}
+pub use Rattle.std.specs.Option.{option_map}
+pub use Rattle.std.specs.Prelude.{IfErr, IfOk, IsOk, OnOk, is_ok}
+pub use Rattle.std.specs.Vec.Iter.{into_iter_items, into_iter_steps}
+pub use Rattle.std.specs.declared.alloc.AllocError.{AllocError}
+pub use Rattle.std.specs.declared.vec.IntoIter.{IntoIter}
+pub use Rattle.synod.proofs.BallotsLemmas.{Under, Upto, not_both, same_true, total, under_false, under_is_upto, under_true, upto_self, upto_splits, upto_under, upto_upto}
+pub use Rattle.synod.proofs.KeptPartLemmas.{ChangesKeptOnOk, begun_kept, body_kept, offered_kept, restarted_kept}
+pub use Rattle.synod.proofs.KnownVoteLemmas.{counted_either, other_pages, page_either}
+pub use Rattle.synod.proofs.NodeKeeps.{all_append}
+pub use Rattle.synod.proofs.PageKeeps.{length-fills}
+pub use Rattle.synod.proofs.PromisePages.{all_had-front, joined-all, pages-all}
+pub use Rattle.synod.proofs.QuorumLemmas.{quorums_meet}
+pub use Rattle.synod.proofs.ReportsLemmas.{HighestHolds, IsHighest, below_top, first_to_top, held-reported, highest_holds, reports-held}
+pub use Rattle.synod.proofs.RoomLemmas.{same_room}
+pub use Rattle.synod.specs.Acceptor.{held, on_accept, on_prepare, promise_pages, promises, refuses, reports_from, takes_value}
+pub use Rattle.synod.specs.Ballots.{is_same, is_under}
+pub use Rattle.synod.specs.Core.{Core}
+pub use Rattle.synod.specs.Learner.{chooses, counted, has_voter, learns, on_accepted, on_accepted_at, on_ask, on_ask_at, on_told, on_told_at}
+pub use Rattle.synod.specs.Log.{log_length, log_of}
+pub use Rattle.synod.specs.Node.{Node, Stepped, is_heard, kept_of, new_node, no_pages, page_of, pages_from, unchanged, with_page}
+pub use Rattle.synod.specs.Packets.{IsPost, accepts, packet, to_all, to_all_from, to_others, to_others_from}
+pub use Rattle.synod.specs.PromisePages.{all_had, joined_pages, pages_of}
+pub use Rattle.synod.specs.Proposer.{all_reports, begins, begun, fills, gathers, hears, highest_at, idles, is_at, keeps_page, keeps_promise, leads, next_ballot, next_round, offer_as, offer_waits, offered, on_nack, on_promise, on_promise_as, reported_value, takes_slot, top_reported, waits}
+pub use Rattle.synod.specs.Ready.{Made}
+pub use Rattle.synod.specs.Record.{Kept, changed_by}
+pub use Rattle.synod.specs.Rooms.{HasAtLeast}
+pub use Rattle.synod.specs.Step.{on_body, on_packet, restarted}
+pub use Rattle.synod.specs.Weights.{IsWeights, is_quorum}
+pub use Rattle.synod.specs.declared.ballot.Ballot.{Ballot}
+pub use Rattle.synod.specs.declared.change.Change.{Change}
+pub use Rattle.synod.specs.declared.change.Change.TheVariants.{Entry, Round}
+pub use Rattle.synod.specs.declared.change.Held.{Held}
+pub use Rattle.synod.specs.declared.packet.Body.{Body}
+pub use Rattle.synod.specs.declared.packet.Body.TheVariants.{Accept, Accepted, Ask, Nack, Prepare, Promise, Told}
+pub use Rattle.synod.specs.declared.packet.Packet.{Packet}
+pub use Rattle.synod.specs.declared.packet.SlotReport.{SlotReport}
+pub use Rattle.synod.specs.declared.proposer.Heard.{Heard}
+pub use Rattle.synod.specs.declared.proposer.Role.{Role}
+pub use Rattle.synod.specs.declared.proposer.Role.TheVariants.{Idle, Leading, Preparing}
+pub use Rattle.synod.specs.declared.proposer.TheConstants.{MOST_WAITING}
+pub use Rattle.synod.specs.declared.refusal.Refusal.{Refusal}
+pub use Rattle.synod.specs.declared.refusal.Refusal.TheVariants.{Busy, LogFull, RoundsSpent, TooLong}
+pub use Rattle.synod.specs.declared.tally.Tally.{Tally}
+pub use Rattle.synod.specs.declared.value.TheConstants.{MOST_BYTES}

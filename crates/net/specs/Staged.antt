@@ -1,0 +1,159 @@
+-- A staged event: the work of its node, with everything allocated and nothing changed yet.
+-- Source: this project stores a change before its effects are visible.
+-- The code keeps the step that the node staged; for a restart, its posts and, once it is loaded, the record.
+use Rattle.net.specs.Words.{◌≡◌, ◌≤◌, ◌+◌, ℕ, List, [], ◌∷◌, ◌++◌, Option, Some, None, Result, Ok, Err, length, slice_get, slice_set, AllByRecursion, Packet, Ask, Change, Refusal, IsPost, to_others, Kept, RecordView, Node, Stepped, kept_of, Core, HasAtLeast, Made, offered, begun, on_packet, reloaded, restarted, Event, Offer, Begin, Deliver, Restart, StepFault, Memory}
+use Rattle.net.specs.declared.staged.StagedWork.{StagedWork as RustWork}
+use Rattle.net.specs.declared.staged.StagedWork.TheVariants.{Step, Restart as RestartWork}
+use Rattle.net.specs.World.{World, fault_of, answered, happens_at}
+use Rattle.net.specs.KeptPart.{node_of, change_of, change_answered}
+use Rattle.net.specs.Taken.{Taken, with_event}
+
+-- a step; or a restart: its posts, and the record that was loaded, if one was
+pub data StagedWork (V : Type 0) : Type 0 where
+  steps : Made V → StagedWork V
+  restarts : List (Packet V) → Option (Kept V) → StagedWork V
+
+pub record StagedEvent (V : Type 0) : Type 0 where
+  pub at : ℕ  -- the node
+  pub event : Event V
+  pub work : StagedWork V
+
+abbrev loaded_of : {V : Type 0} → Option (RecordView V) → Option (Kept V)
+loaded_of None = None
+loaded_of (Some r) = Some r.kept
+
+abbrev pub work_of : {V : Type 0} → RustWork V → StagedWork V
+work_of (Step ready) = steps ready
+work_of (RestartWork posts loaded) = restarts posts.items (loaded_of loaded)
+
+abbrev pub posts_of : {V : Type 0} → StagedWork V → List (Packet V)
+posts_of (steps made) = made.step.posts
+posts_of (restarts posts loaded) = posts
+
+abbrev pub change_in : {V : Type 0} → StagedWork V → Option (Change V)
+change_in (steps made) = made.step.change
+change_in (restarts posts loaded) = None
+
+-- a restart with a loaded record
+abbrev pub loads : {V : Type 0} → StagedWork V → Kept V → StagedWork V
+loads (steps made) kept = steps made
+loads (restarts posts loaded) kept = restarts posts (Some kept)
+
+abbrev pub with_record : {V : Type 0} → StagedEvent V → Kept V → StagedEvent V
+with_record d kept = record { at = d.at; event = d.event; work = loads d.work kept }
+
+-- the step that the work is at a node in that state
+abbrev pub step_of : {V : Type 0} → StagedWork V → Node V → Stepped V
+step_of (steps made) n = made.step
+step_of (restarts posts None) n = restarted n
+step_of (restarts posts (Some kept)) n = reloaded n kept
+
+-- the node can commit it: it is the one that staged it, with at least the room; a loaded record is its own
+abbrev pub IsReadyAt : {V : Type 0} → Core V → StagedWork V → Type 0
+IsReadyAt c (steps made) = (c.node ≡ made.before.node) × HasAtLeast made.before c
+IsReadyAt c (restarts posts None) = posts ≡ to_others c.node.me c.node.weights (Ask 0)
+IsReadyAt c (restarts posts (Some kept)) = (posts ≡ to_others c.node.me c.node.weights (Ask 0)) × (kept ≡ kept_of c.node)
+
+-- a restart is staged as one, without a record yet, and every other event as a step
+abbrev pub IsOfEvent : {V : Type 0} → Event V → StagedWork V → Type 0
+IsOfEvent (Offer k v) (steps made) = Unit {0}
+IsOfEvent (Begin k) (steps made) = Unit {0}
+IsOfEvent (Deliver number) (steps made) = Unit {0}
+IsOfEvent (Restart k) (steps made) = ⊥
+IsOfEvent (Offer k v) (restarts posts loaded) = ⊥
+IsOfEvent (Begin k) (restarts posts loaded) = ⊥
+IsOfEvent (Deliver number) (restarts posts loaded) = ⊥
+IsOfEvent (Restart k) (restarts posts loaded) = loaded ≡ None
+
+-- The result of an event at its node.
+
+-- in the world w the event has the result r at node k
+pub record IsEventAt {V : Type 0} (size : V → ℕ) (w : World V) (k : ℕ) (e : Event V) (r : Result (Stepped V) Refusal) : Type 0 where
+  pub happens : happens_at size w e ≡ answered w k r
+  pub change : change_of size w e ≡ change_answered r
+  pub node : node_of w e ≡ Some k
+
+-- in every world with at least these packets in which node k has that state
+abbrev pub ComesTo : {V : Type 0} → (V → ℕ) → List (Packet V) → ℕ → Node V → Event V → Result (Stepped V) Refusal → Type 0
+ComesTo {V} size packets k n e r = (w : World V) (more : List (Packet V)) → w.packets ≡ packets ++ more → slice_get w.nodes k ≡ Some n → IsEventAt size w k e r
+
+-- Staging an event at its node.
+
+pub record IsStagedAt {V : Type 0} (old new : Core V) (k : ℕ) (e : Event V) (step : Stepped V) (due : StagedEvent V) : Type 0 where
+  pub at : due.at ≡ k
+  pub event : due.event ≡ e
+  pub ready : IsReadyAt new due.work
+  pub is_step : step_of due.work old.node ≡ step
+  pub kind : IsOfEvent e due.work
+  pub posts : AllByRecursion (IsPost (length old.node.weights)) (posts_of due.work)
+
+-- it is staged; or its refusal is returned, or Memory if it meets none
+abbrev pub Readies : {V : Type 0} → Core V → Core V → ℕ → Event V → Result (Stepped V) Refusal → Result (StagedEvent V) StepFault → Type 0
+Readies old new k e (Ok step) (Ok due) = IsStagedAt old new k e step due
+Readies old new k e (Ok step) (Err fault) = fault ≡ Memory
+Readies old new k e (Err met) (Ok due) = ⊥
+Readies old new k e (Err met) (Err fault) = fault ≡ fault_of met
+
+-- an event is staged, by its result at the node
+abbrev pub ReadiesEvent : {V : Type 0} → (V → ℕ) → List (Packet V) → Core V → Core V → ℕ → Event V → Result (StagedEvent V) StepFault → Type 0
+ReadiesEvent size packets old new k (Offer j v) result = Readies old new k (Offer j v) (offered size old.node v) result
+ReadiesEvent size packets old new k (Begin j) result = Readies old new k (Begin j) (begun old.node) result
+ReadiesEvent {V} size packets old new k (Deliver number) result = (p : Packet V) → slice_get packets number ≡ Some p → Readies old new k (Deliver number) (Ok (on_packet old.node p)) result
+ReadiesEvent size packets old new k (Restart j) result = Readies old new k (Restart j) (Ok (restarted old.node)) result
+
+-- The net.
+
+-- a net as contracts see it: the events taken, the nodes with their room, the packets, and the room for packets and events
+pub record NetView (V : Type 0) : Type 0 where
+  pub taken : Taken V
+  pub cores : List (Core V)
+  pub packets : List (Packet V)
+  pub packet_room : ℕ
+  pub event_room : ℕ
+
+-- each node is unchanged, with at least the room
+abbrev pub AreStill : {V : Type 0} → List (Core V) → List (Core V) → Type 0
+AreStill [] [] = Unit {0}
+AreStill (c ∷ cs) (d ∷ ds) = (d.node ≡ c.node) × HasAtLeast c d × AreStill cs ds
+AreStill [] (d ∷ ds) = ⊥
+AreStill (c ∷ cs) [] = ⊥
+
+-- nothing but the reserved room has changed
+pub record IsStill {V : Type 0} (old new : NetView V) : Type 0 where
+  pub taken : new.taken ≡ old.taken
+  pub cores : AreStill old.cores new.cores
+  pub packets : new.packets ≡ old.packets
+  pub packet_room : old.packet_room ≤ new.packet_room
+  pub event_room : old.event_room ≤ new.event_room
+
+-- the event is staged at its node
+pub record IsStaged {V : Type 0} (size : V → ℕ) (net : NetView V) (due : StagedEvent V) : Type 0 where
+  pub core : Core V
+  pub at : slice_get net.cores due.at ≡ Some core
+  pub ready : IsReadyAt core due.work
+  pub comes : ComesTo size net.packets due.at core.node due.event (Ok (step_of due.work core.node))
+  pub posts : AllByRecursion (IsPost (length net.taken.weights)) (posts_of due.work)
+
+-- the event is staged; or its fault is returned, or Memory if it meets none
+abbrev pub Gives : {V : Type 0} → (V → ℕ) → NetView V → Event V → Result (World V) StepFault → Result (StagedEvent V) StepFault → Type 0
+Gives size net e (Ok w) (Ok due) = IsStaged size net due × (due.event ≡ e) × IsOfEvent e due.work
+Gives size net e (Ok w) (Err fault) = fault ≡ Memory
+Gives size net e (Err met) (Ok due) = ⊥
+Gives size net e (Err met) (Err fault) = fault ≡ met
+
+-- there is room for so many more packets and events
+pub record HasRoom {V : Type 0} (net : NetView V) (packets events : ℕ) : Type 0 where
+  pub for_packets : length net.packets + packets ≤ net.packet_room
+  pub for_events : length net.taken.events + events ≤ net.event_room
+
+-- the staged event was taken
+pub record IsTaken {V : Type 0} (old new : NetView V) (due : StagedEvent V) : Type 0 where
+  pub was : Core V
+  pub at : slice_get old.cores due.at ≡ Some was
+  pub core : Core V
+  pub node : core.node ≡ (step_of due.work was.node).node
+  pub cores : new.cores ≡ slice_set old.cores due.at core
+  pub taken : new.taken ≡ with_event old.taken due.event
+  pub packets : new.packets ≡ old.packets ++ posts_of due.work
+  pub packet_room : old.packet_room ≤ new.packet_room
+  pub event_room : old.event_room ≤ new.event_room

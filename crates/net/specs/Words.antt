@@ -1,0 +1,26 @@
+-- The words in which this crate is specified, passed on from one place.
+pub use Rattle.net.specs.declared.event.Event.{Event}
+pub use Rattle.net.specs.declared.event.Event.TheVariants.{Begin, Deliver, Offer, Restart}
+pub use Rattle.net.specs.declared.event.TheConstants.{MOST_EVENTS}
+pub use Rattle.net.specs.declared.fault.StepFault.{StepFault}
+pub use Rattle.net.specs.declared.fault.StepFault.TheVariants.{Busy, EventsSpent, LogFull, Memory, NoNode, NoPacket, RoundsSpent, TooLong}
+pub use Rattle.std.specs.List.{AllByRecursion}
+pub use Rattle.std.specs.Option.{option_map}
+pub use Rattle.std.specs.Prelude.{Bool, Contains, Err, IsOk, List, None, Ok, Option, Result, Some, [], if◌then◌else◌, length, slice_get, slice_set, suc, take, true, ℕ, ◌++◌, ◌+◌, ◌<◌, ◌==◌, ◌∷◌, ◌≡◌, ◌≢◌, ◌≤◌, ◌⊎◌}
+pub use Rattle.synod.specs.Ballots.{is_under}
+pub use Rattle.synod.specs.Core.{Core}
+pub use Rattle.synod.specs.Log.{log_of}
+pub use Rattle.synod.specs.Node.{Node, Stepped, kept_of, new_node}
+pub use Rattle.synod.specs.Packets.{IsPost, to_others}
+pub use Rattle.synod.specs.Proposer.{begun, offered}
+pub use Rattle.synod.specs.Ready.{Made}
+pub use Rattle.synod.specs.Record.{Kept, RecordView, changed_by}
+pub use Rattle.synod.specs.Rooms.{HasAtLeast}
+pub use Rattle.synod.specs.Step.{on_packet, reloaded, restarted}
+pub use Rattle.synod.specs.Weights.{IsWeights, is_quorum}
+pub use Rattle.synod.specs.declared.ballot.Ballot.{Ballot}
+pub use Rattle.synod.specs.declared.change.Change.{Change}
+pub use Rattle.synod.specs.declared.change.Change.TheVariants.{Entry, Promise, Round}
+pub use Rattle.synod.specs.declared.packet.Body.TheVariants.{Accept, Ask}
+pub use Rattle.synod.specs.declared.packet.Packet.{Packet}
+pub use Rattle.synod.specs.declared.refusal.Refusal.{Refusal}

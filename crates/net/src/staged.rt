@@ -1,0 +1,137 @@
+//! A staged event: everything is allocated, and nothing is changed yet.
+ghost use Rattle.std.specs.Prelude.{◌≡◌, Some, None, MatchOption, length};
+ghost use Rattle.std.specs.List.{AllByRecursion};
+ghost use Rattle.synod.specs.Packets.{IsPost};
+ghost use Rattle.synod.specs.Rooms.{HasAtLeast};
+ghost use Rattle.net.specs.KeptPart.{addressed};
+ghost use Rattle.net.specs.Staged.{IsReadyAt, ReadiesEvent, posts_of, step_of, work_of};
+
+use crate::event::Event;
+use crate::fault::StepFault;
+use std::marker::Model;
+use synod::{Change, NodeCore, Packet, Ready, Record, Value};
+
+/// The staged work of a node.
+#[derive(Drop)]
+pub(crate) enum StagedWork<V> {
+    Step(Ready<V>),
+    /// A restart: its posts, and the record that it starts from, if one was loaded.
+    Restart(Vec<Packet<V>>, Option<Record<V>>),
+}
+
+/// An event of one node, ready to be taken.
+#[derive(Drop)]
+pub struct StagedEvent<V> {
+    at: u8,
+    event: Event<V>,
+    work: StagedWork<V>,
+}
+
+impl<V> Model for StagedEvent<V> {
+    ghost use Rattle.net.specs.Staged.{StagedEvent, work_of};
+
+    ghost Value = { StagedEvent V };
+
+    ghost view = { λ d. record { at = d.at; event = d.event; work = work_of d.work } };
+}
+
+impl<V: Value> StagedEvent<V> {
+    ghost use Rattle.net.specs.Staged.{change_in, with_record};
+
+    /// Returns the node of the event.
+    pub fn at(&self) -> u8
+        ensures { result ≡ self.now.at }
+    {
+        self.at
+    }
+
+    /// Returns the change that it makes of the kept part of its node, if any.
+    pub fn change(&self) -> Option<&Change<V>>
+        ensures { MatchOption result (change_in self.now.work ≡ None) (λ change. change_in self.now.work ≡ Some change.now) }
+    {
+        match &self.work {
+            StagedWork::Step(ready) => ready.change(),
+            StagedWork::Restart(_, _) => None,
+        }
+    }
+
+    /// Returns the packets that it posts, in order.
+    pub fn posts(&self) -> &[Packet<V>]
+        ensures { result.now ≡ posts_of self.now.work }
+    {
+        match &self.work {
+            StagedWork::Step(ready) => ready.posts(),
+            StagedWork::Restart(posts, _) => posts.as_slice(),
+        }
+    }
+
+    /// Makes a restart start from `stored`; other events are unchanged.
+    pub fn load(&mut self, stored: Record<V>)
+        ensures { self.new ≡ with_record self.old stored.kept }
+    {
+        if let StagedWork::Restart(_, loaded) = &mut self.work {
+            *loaded = Some(stored);
+        }
+    }
+
+    /// Returns the parts. It does not allocate.
+    pub(crate) fn into_parts(self) -> (u8, Event<V>, StagedWork<V>)
+        ensures at { result.0 ≡ self.at }
+        ensures event { result.1 ≡ self.event }
+        ensures work { work_of result.2 ≡ self.work }
+    {
+        (self.at, self.event, self.work)
+    }
+}
+
+/// Stages an event at its node.
+///
+/// Cost: that of the step; an offer copies its value once, for the history.
+pub(crate) fn ready_event<V: Value>(
+    node: &mut NodeCore<V>,
+    k: u8,
+    event: Event<V>,
+    packets: &[Packet<V>],
+) -> Result<StagedEvent<V>, StepFault>
+    requires posts { AllByRecursion (IsPost (length node.old.node.weights)) packets.now }
+    requires at { addressed packets.now event ≡ Some k }
+    ensures ready { ReadiesEvent V.bytes packets.now node.old node.new k event result }
+    ensures node { node.new.node ≡ node.old.node }
+    ensures room { HasAtLeast node.old node.new }
+{
+    let (event, work) = match event {
+        Event::Offer(at, value) => {
+            let copy = value.copy();
+            let ready = node.ready_offer(value)?;
+            (Event::Offer(at, copy?), StagedWork::Step(ready))
+        }
+        Event::Begin(at) => (Event::Begin(at), StagedWork::Step(node.ready_begin()?)),
+        Event::Deliver(number) => {
+            let ready = node.ready_packet(&packets[number as usize])?;
+            (Event::Deliver(number), StagedWork::Step(ready))
+        }
+        Event::Restart(at) => (
+            Event::Restart(at),
+            StagedWork::Restart(node.ready_restart()?, None),
+        ),
+    };
+    Ok(StagedEvent { at: k, event, work })
+}
+
+/// Commits staged work, and returns its posts. It does not allocate.
+pub(crate) fn commit_at<V: Value>(node: &mut NodeCore<V>, work: StagedWork<V>) -> Vec<Packet<V>>
+    requires { IsReadyAt node.old (work_of work) }
+    ensures node { node.new.node ≡ (step_of (work_of work) node.old.node).node }
+    ensures posts { result.items ≡ posts_of (work_of work) }
+{
+    match work {
+        StagedWork::Step(ready) => node.commit(ready),
+        StagedWork::Restart(posts, loaded) => {
+            match loaded {
+                Some(stored) => node.commit_reload(stored),
+                None => node.commit_restart(),
+            }
+            posts
+        }
+    }
+}

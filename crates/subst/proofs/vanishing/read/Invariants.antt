@@ -1,0 +1,6 @@
+use Rattle.std.proofs.Common.{◌≡◌, slice_get, take}
+use Rattle.std.specs.List.{filter_map}
+use Rattle.subst.proofs.vanishing.read.Given as goal
+
+abbrev pub invariant-loop-index : goal.invariant-loop-index
+invariant-loop-index l = l.symbols.items ≡ filter_map (slice_get l.expr) (take l.index-index l.indexes)

@@ -1,0 +1,141 @@
+//! An expression without the symbols whose images are empty.
+ghost use Rattle.std.specs.Prelude.{◌≡◌, slice_get, IfOk, IfSome, IsTrue, OnOk};
+ghost use Rattle.std.specs.List.{filter_map, flat_map};
+ghost use Rattle.entries.specs.SymbolPlaces.{ArePlacesOf};
+ghost use Rattle.frame.specs.Stored.Hypotheses.{In, AreThose};
+ghost use Rattle.subst.specs.Vanishing.{is_left, first_symbol, is_group_left, group_left, remaining, HaveSameResult};
+
+use crate::image_places::{ImagePlaces, ImageTable};
+use entries::{Groups, SymbolPlaces};
+use std::alloc::{AllocError, Global};
+
+/// If more than one in this many symbols is left, the whole expression costs about as much.
+const PART: usize = 4;
+
+/// Buffers for the symbols that are left of an expression.
+#[derive(Drop)]
+pub struct Remaining {
+    indexes: Vec<u32>,
+    symbols: Vec<u32>,
+}
+
+impl Remaining {
+    /// Makes empty buffers. Does not allocate.
+    pub fn new(alloc: Global) -> Remaining {
+        Remaining {
+            indexes: Vec::new(alloc),
+            symbols: Vec::new(alloc),
+        }
+    }
+
+    /// Returns the symbols of an expression whose images are not empty, in order, or `None` if they are more than a quarter of
+    /// the expression.
+    ///
+    /// With the images put in, these symbols give the same result as the whole expression. `None` is allowed always: the
+    /// caller then goes over the whole expression, which only costs more.
+    ///
+    /// Errors: an allocation fails.
+    /// Cost: one step for each distinct symbol of the expression, and t log t for the t symbols that are returned.
+    /// Source: Metamath, 4.2.6: the image of a variable may be the empty sequence of symbols.
+    pub fn of<'a>(
+        &'a mut self,
+        images: &ImagePlaces,
+        expr: &[u32],
+        places: &SymbolPlaces,
+    ) -> Result<Option<&'a [u32]>, AllocError>
+        requires { ArePlacesOf expr.now places.now }
+        ensures left { IfOk result (λ found. IfSome found (λ left. left.now ≡ remaining images.now expr.now)) }
+        ensures same { IfOk result (λ found. IfSome found (λ left. HaveSameResult images.now left.now expr.now)) }
+    {
+        let few = collect(&mut self.indexes, &images.table(), expr, &places.groups())?;
+        if !few {
+            return Ok(None);
+        }
+        order(&mut self.indexes);
+        read(&mut self.symbols, expr, &self.indexes)?;
+        Ok(Some(&self.symbols))
+    }
+}
+
+/// Returns whether the image of a symbol is not empty.
+fn is_kept(images: &ImageTable<'_>, symbol: u32) -> bool
+    ensures { result ≡ is_left images.now symbol }
+{
+    match images.get(symbol) {
+        Some(place) => place.start < place.end,
+        None => true,
+    }
+}
+
+/// Returns the symbol at an index, if there is one.
+fn symbol_at(expr: &[u32], index: u32) -> Option<u32>
+    ensures { result ≡ slice_get expr.now index }
+{
+    expr.get(index as usize).copied()
+}
+
+/// Returns the symbol at the first index of a group.
+fn symbol_of_group(expr: &[u32], group: &[u32]) -> Option<u32>
+    ensures { result ≡ first_symbol expr.now group.now }
+{
+    match group {
+        [first, ..] => symbol_at(expr, *first),
+        [] => None,
+    }
+}
+
+/// Returns whether the image of the symbol at the indexes of a group is not empty.
+fn is_group_kept(images: &ImageTable<'_>, expr: &[u32], group: &[u32]) -> bool
+    ensures { result ≡ is_group_left images.now expr.now group.now }
+{
+    match symbol_of_group(expr, group) {
+        Some(symbol) => is_kept(images, symbol),
+        None => false,
+    }
+}
+
+/// Collects the indexes of the symbols whose images are not empty, group by group, or returns `false` if they are more than a
+/// quarter of the expression.
+fn collect(
+    indexes: &mut Vec<u32>,
+    images: &ImageTable<'_>,
+    expr: &[u32],
+    groups: &Groups<'_>,
+) -> Result<bool, AllocError>
+    ensures { IfOk result (λ few. IsTrue few → indexes.new.items ≡ flat_map (group_left images.now expr.now) groups.now) }
+{
+    indexes.clear();
+    let most = expr.len() / PART;
+    for at in 0..groups.len() {
+        let group = groups.get(at);
+        if is_group_kept(images, expr, group) {
+            if group.len() > most - indexes.len() {
+                return Ok(false);
+            }
+            indexes.extend_from_slice(group)?;
+        }
+    }
+    Ok(true)
+}
+
+/// Puts indexes in ascending order, each once.
+fn order(indexes: &mut Vec<u32>)
+    ensures { AreThose (λ i. In i indexes.old.items) indexes.new.items }
+{
+    indexes.sort_unstable();
+    indexes.dedup();
+}
+
+/// Reads the symbols at these indexes.
+fn read(symbols: &mut Vec<u32>, expr: &[u32], indexes: &[u32]) -> Result<(), AllocError>
+    ensures { OnOk result (symbols.new.items ≡ filter_map (slice_get expr.now) indexes.now) }
+{
+    symbols.clear();
+    for index in indexes {
+        match symbol_at(expr, *index) {
+            Some(symbol) => symbols.push(symbol)?,
+            None => {}
+        }
+    }
+    Ok(())
+}

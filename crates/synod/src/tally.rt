@@ -1,0 +1,48 @@
+//! The votes at one slot under one ballot.
+ghost use Rattle.std.specs.Prelude.{◌≡◌, ◌<◌};
+ghost use Rattle.synod.specs.Learner.{with_voter, no_voters};
+
+use crate::ballot::Ballot;
+use crate::weights::MOST_NODES;
+
+/// The nodes that accepted at a slot under a ballot: a mark for each node.
+#[derive(Clone, Copy)]
+pub struct Tally {
+    pub ballot: Ballot,
+    pub voters: [bool; MOST_NODES],
+}
+
+impl Tally {
+    /// Creates the tally of one vote.
+    pub(crate) fn one(ballot: Ballot, node: u8) -> Self
+        requires { node < MOST_NODES }
+        ensures ballot { result.ballot ≡ ballot }
+        ensures voters { result.voters ≡ with_voter no_voters node }
+    {
+        Tally {
+            ballot,
+            voters: with_mark([false; MOST_NODES], node),
+        }
+    }
+
+    /// Returns the tally with one more vote.
+    pub(crate) fn with(self, node: u8) -> Self
+        requires { node < MOST_NODES }
+        ensures ballot { result.ballot ≡ self.ballot }
+        ensures voters { result.voters ≡ with_voter self.voters node }
+    {
+        Tally {
+            ballot: self.ballot,
+            voters: with_mark(self.voters, node),
+        }
+    }
+}
+
+/// Returns the marks with one more node.
+pub(crate) fn with_mark(mut voters: [bool; MOST_NODES], node: u8) -> [bool; MOST_NODES]
+    requires { node < MOST_NODES }
+    ensures { result ≡ with_voter voters node }
+{
+    voters[node as usize] = true;
+    voters
+}

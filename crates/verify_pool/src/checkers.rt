@@ -1,0 +1,79 @@
+//! Checkers that serve one text after another.
+ghost use Rattle.std.specs.Prelude.{◌≤◌, vec_len, OnOk};
+
+use std::alloc::{AllocError, Global};
+use verify::Checker;
+
+/// How many symbols the results of a proof may have that a worker checks: 4 MB. Heavier proofs are left to the calling thread.
+pub const SHARE: usize = 1_048_576;
+
+/// A worker's checker, and the outcome of the worker's jobs.
+#[derive(Drop)]
+pub struct Worker {
+    pub checker: Checker,
+    /// The least job that is not right, of those that were judged.
+    pub least: Result<Option<usize>, AllocError>,
+    /// The jobs that need more memory than the worker has.
+    pub deferred: Vec<usize>,
+}
+
+/// The checker of the calling thread, and one for each worker: made when it is first needed, and kept from then on with its
+/// buffers. The one of the calling thread alone takes the heaviest proofs, so their room is needed once.
+///
+/// A checker judges rightly whatever it judged before, so contracts see nothing of it.
+#[derive(Drop)]
+pub struct Checkers {
+    alloc: Global,
+    pub(crate) calling: Checker,
+    pub(crate) workers: Vec<Worker>,
+}
+
+impl Checkers {
+    /// Returns a checker for the calling thread, and none for workers. Does not allocate.
+    pub fn new(alloc: Global) -> Checkers {
+        Checkers {
+            alloc,
+            calling: Checker::new(alloc),
+            workers: Vec::new(alloc),
+        }
+    }
+
+    /// Returns the allocator of the checkers.
+    pub fn alloc(&self) -> Global {
+        self.alloc
+    }
+
+    /// Gives back the room that large proofs needed.
+    ///
+    /// Does not allocate. Cost: a constant for each worker.
+    pub fn shrink(&mut self) {
+        self.calling.shrink();
+        for worker in &mut self.workers {
+            worker.deferred = Vec::new(self.alloc);
+            worker.checker.shrink();
+        }
+    }
+
+    /// Drops the checkers of the workers.
+    pub(crate) fn drop_workers(&mut self) {
+        self.workers.clear();
+    }
+
+    /// Makes checkers for workers up to this number.
+    ///
+    /// Errors: an allocation fails. Cost: a constant for each worker.
+    pub(crate) fn add_workers(&mut self, count: usize) -> Result<(), AllocError>
+        ensures { OnOk result (count ≤ vec_len self.new.workers) }
+    {
+        while self.workers.len() < count {
+            let mut checker = Checker::new(self.alloc);
+            checker.limit(SHARE);
+            self.workers.push(Worker {
+                checker,
+                least: Ok(None),
+                deferred: Vec::new(self.alloc),
+            })?;
+        }
+        Ok(())
+    }
+}
