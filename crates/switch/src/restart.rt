@@ -7,7 +7,7 @@ ghost use Rattle.switch.specs.NodeStore.{down};
 ghost use Rattle.switch.specs.Switch.{StoreView, is_down_at, world_of, ActsUp, Revives, CanTakeOwed, TakesOwed};
 
 use crate::switch::Switch;
-use net::{StagedEvent, Event, MOST_EVENTS, Net, StepFault};
+use net::{Event, MOST_EVENTS, Net, StagedEvent, StepFault};
 use synod::{Keep, Value};
 
 impl<V: Value, K: Keep<V>> Switch<V, K> {
