@@ -1,7 +1,8 @@
 -- Agreement, of a world and of two worlds of one run.
 -- Source: Lamport, Paxos Made Simple, section 2.2: P2 is that each proposal above a chosen one has its value.
 -- No code states this; it follows from the steps of the nodes.
-use Rattle.net.specs.Words.{◌≡◌, ℕ, true, List, ◌++◌, Option, Some, Contains, ◌⊎◌, Ok, slice_get, Ballot, Packet, Accept, is_under, Event}
+use Rattle.std.specs.Prelude.{◌≡◌, ℕ, true, List, ◌++◌, Option, Some, Contains, ◌⊎◌, Ok, slice_get}
+use Rattle.net.specs.Words.{Ballot, Packet, Accept, is_under, Event}
 use Rattle.net.specs.Chosen.{IsChosen, IsChosenAt}
 use Rattle.net.specs.World.{World, after, log, offers_of}
 

@@ -1,7 +1,8 @@
 -- Chosen values: a quorum accepted the value at one slot under one ballot.
 -- Source: Lamport, Paxos Made Simple, section 2.2.
 -- The code keeps the last value accepted at a slot; the votes here are all that were ever cast.
-use Rattle.net.specs.Words.{◌≡◌, ℕ, Bool, true, List, Contains, Option, Ballot, is_quorum}
+use Rattle.std.specs.Prelude.{◌≡◌, ℕ, Bool, true, List, Contains, Option}
+use Rattle.net.specs.Words.{Ballot, is_quorum}
 
 -- the node accepted the value at the slot under the ballot
 pub record Vote (V : Type 0) : Type 0 where

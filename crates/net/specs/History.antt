@@ -1,7 +1,8 @@
 -- Agreement at every moment of a history.
 -- Source: Lamport, Paxos Made Simple, section 2.2.
 -- No code states this; it follows from the laws, for the events that one world took.
-use Rattle.net.specs.Words.{◌≡◌, ◌⊎◌, ◌<◌, ℕ, List, length, take, suc, Result, Ok, Err, IsOk, Event, StepFault, Memory}
+use Rattle.std.specs.Prelude.{◌≡◌, ◌⊎◌, ◌<◌, ℕ, List, length, take, suc, Result, Ok, Err, IsOk}
+use Rattle.net.specs.Words.{Event, StepFault, Memory}
 use Rattle.net.specs.World.{World, after}
 use Rattle.net.specs.Agree.{IsAfter, OneValue, LaterValue, ChosenAgree, LogsChosen, IsBeginningOf, LogsAgree, LogsOffered}
 use Rattle.net.specs.Taken.{Taken, world_of}

@@ -1,7 +1,8 @@
 -- The kept part of a node, and the one change that an event makes of it.
 -- Source: Lamport, Paxos Made Simple, section 2.5: an acceptor must remember, in stable storage, what it promised and accepted.
 -- The code stores the change before it posts anything; here both are of one step.
-use Rattle.net.specs.Words.{◌≢◌, ℕ, List, [], ◌∷◌, Option, Some, None, Result, Ok, Err, slice_get, option_map, Packet, Change, Refusal, Kept, Node, Stepped, kept_of, offered, begun, on_packet, restarted, Event, Offer, Begin, Deliver, Restart, StepFault}
+use Rattle.std.specs.Prelude.{◌≢◌, ℕ, List, [], ◌∷◌, Option, Some, None, Result, Ok, Err, slice_get}
+use Rattle.net.specs.Words.{option_map, Packet, Change, Refusal, Kept, Node, Stepped, kept_of, offered, begun, on_packet, restarted, Event, Offer, Begin, Deliver, Restart, StepFault}
 use Rattle.net.specs.World.{World, happens}
 
 -- promise, round and accepted entries of node k

@@ -1,7 +1,8 @@
 -- The laws of the world, each over every list of events that is taken, for any weights and any values.
 -- Source: Lamport, Paxos Made Simple, section 2.2.
 -- A law has no code; the steps of the nodes are the definitions that their own contracts cite.
-use Rattle.net.specs.Words.{◌≡◌, ◌≢◌, ℕ, List, [], ◌∷◌, ◌++◌, Some, Ok, option_map, changed_by, Event, Restart}
+use Rattle.std.specs.Prelude.{◌≡◌, ◌≢◌, ℕ, List, [], ◌∷◌, ◌++◌, Some, Ok}
+use Rattle.net.specs.Words.{option_map, changed_by, Event, Restart}
 use Rattle.net.specs.World.{World, happens, log}
 use Rattle.net.specs.Agree.{IsAfter, OneValue, LaterValue, ChosenAgree, LogsChosen, IsBeginningOf, LogsAgree, LogsOffered}
 use Rattle.net.specs.KeptPart.{kept_part, node_of, change_of, AreOfOthers}

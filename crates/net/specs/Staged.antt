@@ -1,7 +1,8 @@
 -- A staged event: the work of its node, with everything allocated and nothing changed yet.
 -- Source: this project stores a change before its effects are visible.
 -- The code keeps the step that the node staged; for a restart, its posts and, once it is loaded, the record.
-use Rattle.net.specs.Words.{◌≡◌, ◌≤◌, ◌+◌, ℕ, List, [], ◌∷◌, ◌++◌, Option, Some, None, Result, Ok, Err, length, slice_get, slice_set, AllByRecursion, Packet, Ask, Change, Refusal, IsPost, to_others, Kept, RecordView, Node, Stepped, kept_of, Core, HasAtLeast, Made, offered, begun, on_packet, reloaded, restarted, Event, Offer, Begin, Deliver, Restart, StepFault, Memory}
+use Rattle.std.specs.Prelude.{◌≡◌, ◌≤◌, ◌+◌, ℕ, List, [], ◌∷◌, ◌++◌, Option, Some, None, Result, Ok, Err, length, slice_get, slice_set}
+use Rattle.net.specs.Words.{AllByRecursion, Packet, Ask, Change, Refusal, IsPost, to_others, Kept, RecordView, Node, Stepped, kept_of, Core, HasAtLeast, Made, offered, begun, on_packet, reloaded, restarted, Event, Offer, Begin, Deliver, Restart, StepFault, Memory}
 use Rattle.net.specs.declared.staged.StagedWork.{StagedWork as RustWork}
 use Rattle.net.specs.declared.staged.StagedWork.TheVariants.{Step, Restart as RestartWork}
 use Rattle.net.specs.World.{World, fault_of, answered, happens_at}

@@ -1,7 +1,8 @@
 -- A world as contracts see it: its weights and the events that it took. Its state is that of the world after them.
 -- Source: Lamport, Paxos Made Simple, section 3: the inputs of a state machine determine its run.
 -- The code keeps the nodes and the packets beside the events; the type keeps that they are those of the world after the events.
-use Rattle.net.specs.Words.{◌≡◌, ℕ, List, [], ◌∷◌, ◌++◌, Result, length, AllByRecursion, Packet, IsWeights, IsPost, Node, Core, Event, StepFault}
+use Rattle.std.specs.Prelude.{◌≡◌, ℕ, List, [], ◌∷◌, ◌++◌, Result, length}
+use Rattle.net.specs.Words.{AllByRecursion, Packet, IsWeights, IsPost, Node, Core, Event, StepFault}
 use Rattle.net.specs.World.{World, after}
 use Rattle.net.specs.Agree.{IsAfter}
 

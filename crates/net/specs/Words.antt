@@ -6,7 +6,6 @@ pub use Rattle.net.specs.declared.fault.StepFault.{StepFault}
 pub use Rattle.net.specs.declared.fault.StepFault.TheVariants.{Busy, EventsSpent, LogFull, Memory, NoNode, NoPacket, RoundsSpent, TooLong}
 pub use Rattle.std.specs.List.{AllByRecursion}
 pub use Rattle.std.specs.Option.{option_map}
-pub use Rattle.std.specs.Prelude.{Bool, Contains, Err, IsOk, List, None, Ok, Option, Result, Some, [], if◌then◌else◌, length, slice_get, slice_set, suc, take, true, ℕ, ◌++◌, ◌+◌, ◌<◌, ◌==◌, ◌∷◌, ◌≡◌, ◌≢◌, ◌≤◌, ◌⊎◌}
 pub use Rattle.synod.specs.Ballots.{is_under}
 pub use Rattle.synod.specs.Core.{Core}
 pub use Rattle.synod.specs.Log.{log_of}

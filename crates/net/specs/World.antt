@@ -1,7 +1,8 @@
 -- The world of the nodes after a list of events: each event is the step of its node, and every packet ever posted is kept.
 -- Source: Lamport, Paxos Made Simple, sections 2.1 and 3 (messages may be lost, repeated and delayed, agents restart).
 -- The code keeps the nodes and packets of one moment and the events that led there; the world here also remembers every vote ever cast.
-use Rattle.net.specs.Words.{ℕ, suc, ◌+◌, ◌==◌, List, [], ◌∷◌, ◌++◌, Option, Some, None, Result, Ok, Err, slice_get, slice_set, if◌then◌else◌, Packet, Change, Round, Promise, Entry, Refusal, Node, Stepped, new_node, log_of, offered, begun, on_packet, restarted, MOST_EVENTS, Event, Offer, Begin, Deliver, Restart, StepFault, Busy, LogFull, RoundsSpent, TooLong, Memory, NoNode, NoPacket, EventsSpent}
+use Rattle.std.specs.Prelude.{ℕ, suc, ◌+◌, ◌==◌, List, [], ◌∷◌, ◌++◌, Option, Some, None, Result, Ok, Err, slice_get, slice_set, if◌then◌else◌}
+use Rattle.net.specs.Words.{Packet, Change, Round, Promise, Entry, Refusal, Node, Stepped, new_node, log_of, offered, begun, on_packet, restarted, MOST_EVENTS, Event, Offer, Begin, Deliver, Restart, StepFault, Busy, LogFull, RoundsSpent, TooLong, Memory, NoNode, NoPacket, EventsSpent}
 use Rattle.synod.specs.declared.refusal.Refusal.TheVariants.{Busy as NodeBusy, LogFull as NodeLogFull, RoundsSpent as NodeRoundsSpent, TooLong as NodeTooLong, Memory as NodeMemory}
 use Rattle.net.specs.Chosen.{Vote, vote}
 

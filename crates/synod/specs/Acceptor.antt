@@ -1,7 +1,8 @@
 -- The acceptor: its promises and its accepted entries.
 -- Source: Lamport, Paxos Made Simple, 2.2, phases 1(b) and 2(b); a refused proposer is told (2.5).
 -- The code makes the pages of a promise straight from the slots. The model lists all reports and cuts them.
-use Rattle.synod.specs.Words.{ℕ, suc, nat_lt, List, [], ◌∷◌, Option, Some, None, length, if◌then◌else◌, put_at, Ballot, SlotReport, Packet, Promise, Accepted, Nack, Held, Entry}
+use Rattle.std.specs.Prelude.{ℕ, suc, nat_lt, List, [], ◌∷◌, Option, Some, None, length, if◌then◌else◌}
+use Rattle.synod.specs.Words.{put_at, Ballot, SlotReport, Packet, Promise, Accepted, Nack, Held, Entry}
 use Rattle.synod.specs.declared.change.Change.TheVariants.{Promise as PromiseChange}
 use Rattle.synod.specs.Ballots.{is_under}
 use Rattle.synod.specs.Packets.{packet, to_all}

@@ -1,7 +1,8 @@
 -- The order of ballots: by round, then by node.
 -- Source: Lamport, Paxos Made Simple, 2.2 and 2.5, where different proposers use different numbers.
 -- The code compares the two numbers of a ballot in turn, as here.
-use Rattle.synod.specs.Words.{Bool, ◌==◌, nat_lt, ◌&&◌, ◌||◌, Ballot}
+use Rattle.std.specs.Prelude.{Bool, ◌==◌, nat_lt, ◌&&◌, ◌||◌}
+use Rattle.synod.specs.Words.{Ballot}
 
 -- a is lower than b
 abbrev pub is_under : Ballot → Ballot → Bool

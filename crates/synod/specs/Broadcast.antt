@@ -1,7 +1,8 @@
 -- A message to all nodes, or to all others.
 -- Source: Lamport, Paxos Made Simple, 2.2 and 2.3.
 -- The code lends the value, and copies it once for each packet that carries it.
-use Rattle.synod.specs.Words.{ℕ, Bool, true, false, ◌==◌, List, [], ◌∷◌, if◌then◌else◌, Packet, Body, Prepare, Accept, Accepted, Ask}
+use Rattle.std.specs.Prelude.{ℕ, Bool, true, false, ◌==◌, List, [], ◌∷◌, if◌then◌else◌}
+use Rattle.synod.specs.Words.{Packet, Body, Prepare, Accept, Accepted, Ask}
 use Rattle.synod.specs.declared.posts.Broadcast.{Broadcast}
 use Rattle.synod.specs.Packets.{packet, to_all_from, to_others_from}
 use Rattle.synod.specs.declared.posts.Broadcast.TheVariants.{Prepare as ToPrepare, Accept as ToAccept, Accepted as ToAccepted, Ask as ToAsk}

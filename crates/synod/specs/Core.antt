@@ -1,7 +1,8 @@
 -- A node as contracts see it: its state, and the room that it has reserved.
 -- Source: this project stages a step, which reserves room, before it commits it.
 -- The code has a struct for each of the three parts of a node, with its own room.
-use Rattle.synod.specs.Words.{ℕ, Bool, List, Option, Ballot, SlotReport, Role, Heard, Tally}
+use Rattle.std.specs.Prelude.{ℕ, Bool, List, Option}
+use Rattle.synod.specs.Words.{Ballot, SlotReport, Role, Heard, Tally}
 use Rattle.synod.specs.Record.{Kept, RecordView}
 use Rattle.synod.specs.Node.{Node}
 

@@ -1,7 +1,8 @@
 -- The learner: the votes that it counts, and the values that it learns and tells.
 -- Source: Lamport, Paxos Made Simple, 2.3.
 -- The code keeps the first tally of each slot by slot, and all later ones in a table. Votes are sets of nodes, never counters.
-use Rattle.synod.specs.Words.{ℕ, Bool, false, true, nat_lt, List, [], ◌∷◌, Option, Some, None, slice_set, slice_index_or, replicate, if◌then◌else◌, SLOTS, entry_at, put_at, MOST_NODES, Ballot, Packet, Ask, Told, Tally}
+use Rattle.std.specs.Prelude.{ℕ, Bool, false, true, nat_lt, List, [], ◌∷◌, Option, Some, None, slice_set, slice_index_or, replicate, if◌then◌else◌}
+use Rattle.synod.specs.Words.{SLOTS, entry_at, put_at, MOST_NODES, Ballot, Packet, Ask, Told, Tally}
 use Rattle.synod.specs.Weights.{is_quorum}
 use Rattle.synod.specs.Ballots.{is_same}
 use Rattle.synod.specs.Packets.{packet, to_others}

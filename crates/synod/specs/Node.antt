@@ -1,7 +1,8 @@
 -- The state of a node: proposer, acceptor and learner at once.
 -- Source: Lamport, Paxos Made Simple, 2.1 to 2.3 and 3.
 -- The code also has reserved room, and keeps the maps in pages.
-use Rattle.synod.specs.Words.{ℕ, Bool, false, ◌==◌, ◌||◌, List, [], ◌∷◌, Option, None, is_some, map, slice_set, slice_index_or, if◌then◌else◌, entry_at, put_at, Ballot, SlotReport, Packet, Held, Change, Role, Idle, Heard, Tally}
+use Rattle.std.specs.Prelude.{ℕ, Bool, false, ◌==◌, ◌||◌, List, [], ◌∷◌, Option, None, is_some, map, slice_set, slice_index_or, if◌then◌else◌}
+use Rattle.synod.specs.Words.{entry_at, put_at, Ballot, SlotReport, Packet, Held, Change, Role, Idle, Heard, Tally}
 use Rattle.synod.specs.Record.{Kept, new_kept}
 
 pub record Node (V : Type 0) : Type 0 where

@@ -1,7 +1,8 @@
 -- Packets: their receivers, and the limits that every packet keeps.
 -- Source: Lamport, Paxos Made Simple, 2.2 (the messages of the two phases) and 2.3 (learning).
 -- The code posts them one after another into one list, as here.
-use Rattle.synod.specs.Words.{ℕ, suc, ◌<◌, ◌≤◌, ◌==◌, List, [], ◌∷◌, ◌++◌, Option, if◌then◌else◌, AllByRecursion, SLOTS, MOST_PAGES, Ballot, SlotReport, Packet, Body, Prepare, Promise, Accept, Accepted, Nack, Ask, Told}
+use Rattle.std.specs.Prelude.{ℕ, suc, ◌<◌, ◌≤◌, ◌==◌, List, [], ◌∷◌, ◌++◌, Option, if◌then◌else◌}
+use Rattle.synod.specs.Words.{AllByRecursion, SLOTS, MOST_PAGES, Ballot, SlotReport, Packet, Body, Prepare, Promise, Accept, Accepted, Nack, Ask, Told}
 
 abbrev pub packet : {V : Type 0} → ℕ → ℕ → Body V → Packet V
 packet from to body = record { from = from; to = to; body = body }

@@ -1,7 +1,8 @@
 -- The pages of a promise: its reports are sent in pages of 256.
 -- Source: this project's profile of Lamport, Paxos Made Simple, 2.5, where one promise serves all instances.
 -- The code keeps the received pages by sender and number. The model cuts a list, and joins the received pages.
-use Rattle.synod.specs.Words.{ℕ, zero, suc, Bool, not, nat_lt, List, [], ◌∷◌, ◌++◌, Option, Some, None, front_of}
+use Rattle.std.specs.Prelude.{ℕ, zero, suc, Bool, not, nat_lt, List, [], ◌∷◌, ◌++◌, Option, Some, None}
+use Rattle.synod.specs.Words.{front_of}
 
 abbrev pub onto_first : {T : Type 0} → T → List (List T) → List (List T)
 onto_first x [] = (x ∷ []) ∷ []

@@ -1,7 +1,8 @@
 -- The proposer: its offers, ballots, promises and proposals.
 -- Source: Lamport, Paxos Made Simple, 2.2, phases 1(a) and 2(a), and section 3 for a leader of all instances.
 -- The code looks the highest report up by slot. The model asks it of one list of all reports heard.
-use Rattle.synod.specs.Words.{ℕ, zero, suc, ◌+◌, ◌-◌, ◌^◌, max, Bool, false, not, ◌==◌, ◌&&◌, nat_lt, List, [], ◌∷◌, ◌++◌, map, take, drop, length, Option, Some, None, Result, Ok, Err, if◌then◌else◌, SLOTS, MOST_BYTES, MOST_WAITING, Ballot, SlotReport, Prepare, Accept, Round, Heard, Role, Idle, Preparing, Leading, Refusal, Busy, LogFull, RoundsSpent, TooLong}
+use Rattle.std.specs.Prelude.{ℕ, zero, suc, ◌+◌, ◌-◌, ◌^◌, max, Bool, false, not, ◌==◌, ◌&&◌, nat_lt, List, [], ◌∷◌, ◌++◌, map, take, drop, length, Option, Some, None, Result, Ok, Err, if◌then◌else◌}
+use Rattle.synod.specs.Words.{SLOTS, MOST_BYTES, MOST_WAITING, Ballot, SlotReport, Prepare, Accept, Round, Heard, Role, Idle, Preparing, Leading, Refusal, Busy, LogFull, RoundsSpent, TooLong}
 use Rattle.synod.specs.Weights.{is_quorum}
 use Rattle.synod.specs.Ballots.{is_under, is_same}
 use Rattle.synod.specs.Packets.{to_all, accepts}

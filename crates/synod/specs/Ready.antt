@@ -1,7 +1,8 @@
 -- A staged step: the node that staged it, and the step.
 -- Source: this project stores a change before its effects are visible.
 -- The code keeps the updates to apply. The step is their result.
-use Rattle.synod.specs.Words.{◌≡◌, Some, Result, Ok, Err, Refusal, Memory}
+use Rattle.std.specs.Prelude.{◌≡◌, Some, Result, Ok, Err}
+use Rattle.synod.specs.Words.{Refusal, Memory}
 use Rattle.synod.specs.declared.ready.StagedStep.{StagedStep}
 use Rattle.synod.specs.declared.proposer.ProposerUpdate.{ProposerUpdate}
 use Rattle.synod.specs.declared.learner.LearnerUpdate.{LearnerUpdate}

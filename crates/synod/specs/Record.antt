@@ -1,7 +1,8 @@
 -- The kept part of a node, and its changes.
 -- Source: Lamport, Paxos Made Simple, 2.5, on stable storage.
 -- The code stores one change at a time and loads a record. The kept part is that record.
-use Rattle.synod.specs.Words.{ℕ, ◌<◌, List, [], Option, Some, None, put_at, Ballot, Held, Change, Round, Entry}
+use Rattle.std.specs.Prelude.{ℕ, ◌<◌, List, [], Option, Some, None}
+use Rattle.synod.specs.Words.{put_at, Ballot, Held, Change, Round, Entry}
 use Rattle.synod.specs.declared.change.Change.TheVariants.{Promise}
 use Rattle.synod.specs.Ballots.{no_ballot}
 

@@ -1,7 +1,8 @@
 -- The result of a call: its step, its refusal, or Memory in place of a step.
 -- Source: this project's profile. The refusal is the one that the event meets, even if every allocation fails.
 -- The code stages a step, and then commits it.
-use Rattle.synod.specs.Words.{◌≡◌, Result, Ok, Err, Vec, Global, Packet, Refusal, Memory}
+use Rattle.std.specs.Prelude.{◌≡◌, Result, Ok, Err, Vec}
+use Rattle.synod.specs.Words.{Global, Packet, Refusal, Memory}
 use Rattle.synod.specs.Node.{Node, Stepped}
 
 -- the node took the step and returned its posts; or it returned the refusal, or Memory if there is none, and is unchanged

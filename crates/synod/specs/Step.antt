@@ -1,7 +1,8 @@
 -- One node and one event: the step that the packet or the restart makes.
 -- Source: Lamport, Paxos Made Simple, 2.2 to 2.5.
 -- The code makes a step in two halves, ready and commit. The step is one.
-use Rattle.synod.specs.Words.{◌<◌, ◌≤◌, ℕ, List, Option, Some, None, length, AllByRecursion, SLOTS, SlotReport, Packet, Body, Prepare, Promise, Accept, Accepted, Nack, Ask, Told, Role, Idle, Preparing, Leading}
+use Rattle.std.specs.Prelude.{◌<◌, ◌≤◌, ℕ, List, Option, Some, None, length}
+use Rattle.synod.specs.Words.{AllByRecursion, SLOTS, SlotReport, Packet, Body, Prepare, Promise, Accept, Accepted, Nack, Ask, Told, Role, Idle, Preparing, Leading}
 use Rattle.synod.specs.Weights.{IsWeights}
 use Rattle.synod.specs.Packets.{IsReport, IsPost, to_others}
 use Rattle.synod.specs.Record.{Kept}

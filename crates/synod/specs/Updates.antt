@@ -1,7 +1,8 @@
 -- The updates that a staged step makes of the proposer and of the learner.
 -- Source: this project stages a step before it commits it.
 -- The code moves them into the node, and allocates nothing.
-use Rattle.synod.specs.Words.{◌<◌, ◌≤◌, ◌++◌, ℕ, [], ◌∷◌, Option, Some, None, length, drop, slice_index_or, put_at, Preparing, Leading, MOST_NODES}
+use Rattle.std.specs.Prelude.{◌<◌, ◌≤◌, ◌++◌, ℕ, [], ◌∷◌, Option, Some, None, length, drop, slice_index_or}
+use Rattle.synod.specs.Words.{put_at, Preparing, Leading, MOST_NODES}
 use Rattle.synod.specs.declared.proposer.Role.TheVariants.{Idle as RoleIdle}
 use Rattle.synod.specs.declared.proposer.ProposerUpdate.{ProposerUpdate}
 use Rattle.synod.specs.declared.proposer.ProposerUpdate.TheVariants.{Wait, Propose, Begin, Page, Hear, CompletePromise, Lead, Idle}

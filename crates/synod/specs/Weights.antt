@@ -1,7 +1,8 @@
 -- The weights of the nodes, and quorums: sets of nodes that weigh more than half of all.
 -- Source: Lamport, Paxos Made Simple, 2.2, where a majority of the acceptors is such a set.
 -- The code keeps nine places and a count. A set of nodes is here a test on their numbers.
-use Rattle.synod.specs.Words.{ℕ, suc, ◌+◌, ◌*◌, ◌≤◌, Bool, true, nat_lt, List, [], ◌∷◌, length, if◌then◌else◌, All, MOST_NODES, MOST_WEIGHT}
+use Rattle.std.specs.Prelude.{ℕ, suc, ◌+◌, ◌*◌, ◌≤◌, Bool, true, nat_lt, List, [], ◌∷◌, length, if◌then◌else◌, All}
+use Rattle.synod.specs.Words.{MOST_NODES, MOST_WEIGHT}
 
 -- 1 to 9 nodes, each of a weight from 1 to 100
 pub record IsWeights (weights : List ℕ) : Type 0 where

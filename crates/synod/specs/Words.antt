@@ -4,7 +4,6 @@ pub use Rattle.slots.specs.declared.slots.TheConstants.{SLOTS}
 pub use Rattle.std.specs.Borrow.{Bor}
 pub use Rattle.std.specs.List.{AllByRecursion}
 pub use Rattle.std.specs.Option.{option_copied}
-pub use Rattle.std.specs.Prelude.{All, Bool, Err, List, None, Ok, Option, Result, Some, Vec, [], drop, false, if◌then◌else◌, is_some, length, map, max, nat_lt, not, replicate, slice_index_or, slice_set, suc, take, true, zero, ℕ, ◌&&◌, ◌*◌, ◌++◌, ◌+◌, ◌-◌, ◌<◌, ◌==◌, ◌^◌, ◌||◌, ◌∷◌, ◌≡◌, ◌≤◌}
 pub use Rattle.std.specs.declared.alloc.Global.{Global}
 pub use Rattle.synod.specs.declared.ballot.Ballot.{Ballot}
 pub use Rattle.synod.specs.declared.change.Change.{Change}

@@ -1,7 +1,8 @@
 -- The votes under later ballots: by slot and ballot, in the order in which the ballots came.
 -- Source: this project's representation.
 -- The code has the first tally of each slot by slot, and all later ones in one table.
-use Rattle.synod.specs.Words.{◌≡◌, ◌≤◌, ℕ, suc, length, ◌==◌, ◌&&◌, Bool, List, [], ◌∷◌, Option, Some, None, if◌then◌else◌, entry_at, SLOTS, Ballot, Tally}
+use Rattle.std.specs.Prelude.{◌≡◌, ◌≤◌, ℕ, suc, length, ◌==◌, ◌&&◌, Bool, List, [], ◌∷◌, Option, Some, None, if◌then◌else◌}
+use Rattle.synod.specs.Words.{entry_at, SLOTS, Ballot, Tally}
 use Rattle.synod.specs.Ballots.{is_same}
 use Rattle.synod.specs.Learner.{no_voters}
 

@@ -1,7 +1,8 @@
 -- The received pages, as the maps that store them.
 -- Source: this project's representation.
 -- The code has a map of pages for each node, with its room.
-use Rattle.synod.specs.Words.{ℕ, List, Option, map, slice_set, SlotsView, put_at, SlotReport}
+use Rattle.std.specs.Prelude.{ℕ, List, Option, map, slice_set}
+use Rattle.synod.specs.Words.{SlotsView, put_at, SlotReport}
 use Rattle.synod.specs.declared.promise_pages.PagesWith.{PagesWith}
 use Rattle.synod.specs.Node.{pages_from, with_page}
 

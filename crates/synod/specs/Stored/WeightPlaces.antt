@@ -1,7 +1,8 @@
 -- The nine places that store the weights.
 -- Source: this project's representation.
 -- The places after the last weight are 0, so the list determines them.
-use Rattle.synod.specs.Words.{◌≡◌, ◌≤◌, ◌-◌, ℕ, List, ◌++◌, length, take, replicate, MOST_NODES}
+use Rattle.std.specs.Prelude.{◌≡◌, ◌≤◌, ◌-◌, ℕ, List, ◌++◌, length, take, replicate}
+use Rattle.synod.specs.Words.{MOST_NODES}
 use Rattle.synod.specs.Weights.{IsWeights}
 
 abbrev pub padded : List ℕ → List ℕ
