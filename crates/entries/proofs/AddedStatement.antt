@@ -1,4 +1,4 @@
--- One statement more or less: its numbers and groups stand behind those of the others.
+-- A statement appended or removed: its numbers and groups stand after those of the others.
 use Rattle.entries.proofs.Words.{◌≡◌, ℕ, ◌+◌, ◌-◌, ◌<◌, ◌^◌, true, false, Bool, List, [], ◌∷◌, ◌++◌, length, slice_get, slice_range, take, drop, Some, None, refl, Result, Ok, Err, OnOk, OnErr, is_err, ◌∙◌, ap, sym, subst, arith, length-append, length-take-le, take-append-drop, drop_more, nil_from_length, slice_get_within, get_or_from_slice_get, take-append_seam, take-length}
 use Rattle.entries.proofs.Words.{BufferPart, StatementRecord, Layout, AreShapedParts, assertion_of, AreSpansIn, Extends, counts_of, has_parts, run_of, record_by, layout_in, run_by, spans_by, body_of, bodies_of, IsKept, AreKept, ArePacked}
 use Rattle.std.proofs.lemmas.Bool.{ltb-false}
@@ -49,7 +49,7 @@ module _ (ns ms : List ℕ) (gs hs : List BufferPart) (rs qs : List StatementRec
 
 -- ---- its parts are those that were added
 
--- of a statement without parts all lists but its symbols are empty
+-- a statement without parts has only empty lists but its symbols
 pub record IsBare (p : AssertionParts) : Type 0 where
   pub hypotheses : p.hypotheses.now ≡ []
   pub asked : p.asked.now ≡ []
@@ -137,7 +137,7 @@ module _ (ms : List ℕ) (hs : List BufferPart) (us : List StatementRecord) (n :
       let e = bodies-before a ms g hs s (drop (n + 1) us) (extends-take s.from ms) (extends-take s.groups hs) from-length groups-length (take n us) kept-fewer in
       sym (ap (λ xs. take n (bodies_of ms hs xs)) (sym split) ∙ (ap (take n) e ∙ (ap (λ k. take k (es ++ more)) (sym (bodies-length a g (take n us) ∙ fewer-length)) ∙ take-append_seam es more)))
 
--- ---- what a growth answered
+-- ---- the outcome of an allocation
 
 pub on-ok : {T E : Type 0} (r : Result T E) (P : Type 0) → is_err r ≡ false → OnOk r P → P
 on-ok (Ok x) P h p = p

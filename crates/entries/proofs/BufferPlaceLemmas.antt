@@ -1,4 +1,4 @@
--- Statements in shared buffers: more behind them changes no statement, and they can be cut where a statement begins.
+-- Statements in shared buffers: more after them changes no statement, and they can be cut where a statement begins.
 use Rattle.entries.proofs.Words.{◌≡◌, ℕ, zero, suc, ◌<◌, ◌≤◌, List, [], ◌∷◌, ◌++◌, length, take, slice_get, slice_range, Some, refl, ◌⊎◌, ◌∙◌, ap, arith, inl, inr, same_Some, StatementRecord, BufferPart, Extends, end_by, groups_by, run_by, spans_by, bodies_of, AreKept}
 use Rattle.entries.proofs.SpanLemmas.{range-extends, extends-length}
 
@@ -57,7 +57,7 @@ module _ (a b : List ℕ) (g h : List BufferPart) (s : StatementRecord) (ts : Li
         kept-before rs k.1 last,
       )
 
-  -- what is kept there stands in the shorter buffers too
+  -- the numbers that are kept there stand in the shorter buffers too
   pub kept-cut : (rs : List StatementRecord) → AreKept b h (rs ++ s ∷ ts) → AreKept a g rs
   kept-cut [] k = tt
   kept-cut (q ∷ rs) k =

@@ -11,7 +11,7 @@ stack-from-append found (x ∷ xs) ys at = stack-from-append (cond (nat_lt x.sin
 pub stack-push : (vs : List StackVersion) (v : StackVersion) (at : ℕ) → stack_at (vs ++ v ∷ []) at ≡ cond (nat_lt v.since at) v.stack (stack_at vs at)
 stack-push vs v at = stack-from-append [] vs (v ∷ []) at
 
--- behind all versions it is the same everywhere
+-- after all versions it is the same everywhere
 pub stack-later : (vs : List StackVersion) (n at later : ℕ) → IsUntil n vs → n < at → n < later → stack_at vs at ≡ stack_at vs later
 stack-later vs n at later until lt l = from [] vs until
   where

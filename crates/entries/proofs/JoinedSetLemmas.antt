@@ -26,7 +26,7 @@ left-whole sets l p n m is = rw is (simp append_assoc)
 pub right-whole : (sets : List (List ℕ)) (n m : Node) (p r : ℕ) → set_at sets n.right ≡ set_of sets m → set_of sets n ++ p ∷ set_at sets r ≡ joined sets n.left n.position m.left ++ m.position ∷ joined sets m.right p r
 right-whole sets n m p r is = rw is (simp append_assoc)
 
--- what two joins gave, joined
+-- the results of two joins, joined
 pub turned : (sets some more : List (List ℕ)) (a x b c y d q below above : ℕ) → Extends sets some → Extends some more → c < length sets → d < length sets → IsSet some (joined sets a x b) below → IsSet more (joined some c y d) above → joined more below q above ≡ joined sets a x b ++ q ∷ joined sets c y d
 turned sets some more a x b c y d q below above first second left right is-below is-above =
     rw (set_at-extends some more below second is-below.within, is-below.is, is-above.is, joined-extends sets some c y d first left right) refl

@@ -81,7 +81,7 @@ module _ (is : List ℕ) (rises : IsStrictlyIncreasing is) where
       let at = searched is x (Err k) missed level in
       record { less = λ j h l. at.1 j h; other = λ j h l. let r = at.2 j h l in omega (arith, r) }
 
-  -- what is kept stays in order
+  -- the kept indexes stay in order
   pub rises-take : (n : ℕ) → IsStrictlyIncreasing (take n is)
   rises-take n = ⊎_elim
       (λ less. subst IsStrictlyIncreasing (sym (take_all n is (omega (arith, less)))) rises)

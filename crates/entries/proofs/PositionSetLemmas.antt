@@ -121,7 +121,7 @@ has-with q p (x ∷ xs) =
     (λ above. grind (arith, nat_tests))
     (λ not-above. grind (arith, nat_tests)))
 
--- a position above all of them goes behind them
+-- a position above all of them goes after them
 pub with-last : (p : ℕ) (xs : List ℕ) → ((q : ℕ) → has_position q xs ≡ true → q < p) → with_position p xs ≡ xs ++ p ∷ []
 with-last p [] all = refl
 with-last p (x ∷ xs) all =
@@ -146,7 +146,7 @@ get-count p (x ∷ xs) ascends known =
           ]
     ]
 
--- what stands at an index is a position of the set
+-- the number at an index is a position of the set
 pub has-get : (p : ℕ) (xs : List ℕ) (k : ℕ) → slice_get xs k ≡ Some p → has_position p xs ≡ true
 has-get p [] k at = absurd (cc)
 has-get p (x ∷ xs) zero at = let first = same_Some x p at in grind (arith, nat_tests)

@@ -127,6 +127,6 @@ more-nodes old new n sets view items are node few =
       few = omega arith;
     }
 
--- what was added is taken off again
+-- the sets that were added are truncated again
 pub cut-back : (sets more : List (List ℕ)) (size : ℕ) → Extends sets more → size ≡ length sets → 0 < size → take (max 1 size) more ≡ sets
 cut-back sets more size extends is some = ap (take (max 1 size)) extends.1 ∙ take_at sets extends.0 (max 1 size) (omega arith)

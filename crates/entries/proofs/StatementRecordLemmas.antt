@@ -1,7 +1,7 @@
--- What is kept of the statement at an index.
+-- The kept form of the statement at an index.
 use Rattle.entries.proofs.Words.{◌≡◌, ℕ, zero, suc, ◌+◌, Bool, true, false, List, [], ◌∷◌, ◌++◌, length, take, slice_get, slice_range, Option, Some, refl, ◌∙◌, ap, sym, arith, Bor, same_Some, Layout, StatementRecord, Background, BufferPart, Body, Entry, with_background, with_backgrounds, layout_in, groups_by, run_by, spans_by, body_of, bodies_of, IsKept, AreKept, IsOrdered, IsStored}
 
--- an element keeps its place where more stands behind the list
+-- an element keeps its place where more stands after the list
 pub get-more : {A : Type 0} (xs more : List A) (k : ℕ) (x : A) → slice_get xs k ≡ Some x → slice_get (xs ++ more) k ≡ Some x
 get-more [] more k x e = absurd (cc)
 get-more (z ∷ xs) more zero x e = e
@@ -61,12 +61,12 @@ at-index numbers groups rs ks es i r kept many view same here =
     by (q ∷ qs) (b ∷ ls) zero k l e = rw (← same_Some q r e) (record { kept = k.0; background = b; stands = refl; entry = refl })
     by (q ∷ qs) (b ∷ ls) (suc j) k l e = by qs ls j k.1 (omega (arith, l)) e
 
--- the parts stand one behind the other
+-- the parts stand one after the other
 ordered : (t : Bool) (run : List ℕ) → IsOrdered (layout_in t run)
 ordered true run = record { heads = omega arith; asked = omega arith; symbols = omega arith; hypotheses = omega arith; places = omega arith }
 ordered false run = record { heads = omega arith; asked = omega arith; symbols = omega arith; hypotheses = omega arith; places = omega arith }
 
--- what was read of it is what is kept
+-- the parts that were read are the kept ones
 module _ (numbers : List ℕ) (groups : List BufferPart) (r : StatementRecord) (next : Option StatementRecord) (behind : Option Background) (found : Option Entry) (run : Bor (List ℕ)) (at : Layout)
     (a : IsAt numbers groups r next behind found) (same : run.now ≡ run_by numbers r next) (laid : at ≡ layout_in r.has_parts run.now) where
   layout : layout_in r.has_parts (run_by numbers r next) ≡ at

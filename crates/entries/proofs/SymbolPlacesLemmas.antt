@@ -25,7 +25,7 @@ index-up k l h e = omega arith
 -- ---- the keys in order
 
 module _ (e ks : List ℕ) (k : AreKeys e ks) where
-  -- what stands among the keys is the key of a symbol
+  -- a number among the keys is the key of a symbol
   key-stands : (y : ℕ) → Contains ks y → slice_get e (index_of y) ≡ Some (symbol_of y)
   key-stands y c =
       let j = c.0 in
@@ -120,7 +120,7 @@ module _ (e keys : List ℕ) (k : AreKeysOf e keys) where
       let back : from + (j - from) ≡ j = omega (arith, low) in
       (j - from, omega (arith, n, low, high), part-at from to (j - from) (index_of (get_or keys j 0)) (omega (arith, low, high)) l ∙ ap (λ m. index_of (get_or keys m 0)) back)
 
-  -- behind a run stand greater symbols
+  -- after a run stand greater symbols
   past : (from to j : ℕ) → IsRun keys from to → to ≤ j → j < length keys → symbol_of (get_or keys from 0) < symbol_of (get_or keys j 0)
   past from to j r h l =
       let a = up from to (let s = r.some in omega (arith, s)) (omega (arith, h, l)) in
@@ -193,7 +193,7 @@ module _ (e keys : List ℕ) (k : AreKeysOf e keys) where
         subst (λ n. IsGrouped n (cut (map index_of keys) runs)) same (grouped runs 0 r c.0 (omega arith) c.1);
   }
 
--- what was made of the keys
+-- the lists that were made of the keys
 pub record IsMade (e indexes : List ℕ) (runs : List BufferPart) : Type 0 where
   pub places : ArePlacesOf e (cut indexes runs)
   pub inside : AreSpansIn (length indexes) runs

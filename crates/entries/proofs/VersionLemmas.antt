@@ -97,7 +97,7 @@ below-within vs v n readable tall = ⊎_elim (λ lt. lt) (λ ge. absurd (past-al
         let short : suc (suc n) ≡ 1 = sym tall ∙ (readable ∙ (ap (λ h. length (stacked h v.top (get_or (versions_of vs) v.below no_version).stack)) tall ∙ ap (λ x. suc (length x.stack)) past)) in
         omega (arith, short)
 
--- the version at an index has the same stack behind all versions
+-- the version at an index has the same stack after all versions
 pub stack-again : (vs : List Version) (i : ℕ) (w : Version) → AreVersions vs → i < length vs → stack_of (versions_of vs) (get_or vs i w) ≡ (get_or (versions_of vs) i no_version).stack
 stack-again vs i w are lt = by (get_or vs i w).height refl
   where
@@ -158,7 +158,7 @@ found-from found (v ∷ V) at (suc zero) le low high =
 found-from found (v ∷ V) at (suc (suc n)) le low high =
     ap (λ b. stack_from (cond b v.stack found) V at) (low 0 (omega arith)) ∙ found-from v.stack V at (suc n) (omega (arith, le)) (λ k lt. low (suc k) (omega (arith, lt))) (λ k ge lt. high (suc k) (omega (arith, ge)) (omega (arith, lt)))
 
--- behind the versions that are so since before `at` stands the one sought
+-- after the versions that are so since before `at` stands the one sought
 pub found-before : (vs : List Version) (at n : ℕ) → n ≤ length vs → IsPartitionPoint (λ v. nat_lt v.since at ≡ true) (λ v. nat_lt v.since at ≡ false) vs n → stack_at (versions_of vs) at ≡ last_of [] n (versions_of vs)
 found-before vs at n le point =
     let size = behind-length [] vs in
@@ -171,7 +171,7 @@ is-found vs at n (Some i) le point e = let up : n ≡ suc i = omega (arith, e.0,
 is-found vs at zero None le point e = found-before vs at zero le point
 is-found vs at (suc n) None le point e = absurd (e (omega arith))
 
--- the last version is valid behind all positions
+-- the last version is valid after all positions
 pub found-last : (vs : List Version) (at i : ℕ) (w : Version) → AreVersions vs → length vs ≡ suc i → IsUntil at (versions_of vs) → is_changed at (versions_of vs) ≡ false → stack_at (versions_of vs) at ≡ (get_or (versions_of vs) i no_version).stack
 found-last vs at i w are n until same =
     found-before vs at (suc i) (omega (arith, n)) (

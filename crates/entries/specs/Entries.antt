@@ -1,5 +1,5 @@
 -- A statement as numbers, as plain lists.
--- Metamath, 4.2.6 and 4.2.7: an assertion is cited by what it asks of its hypotheses. What the numbers mean is said in `frame`.
+-- Metamath, 4.2.6 and 4.2.7: a citation of an assertion needs its mandatory hypotheses. The meaning of the numbers is in `frame`.
 -- The code keeps the lists of all statements in a few buffers.
 use Rattle.std.specs.Prelude.{◌≡◌, ℕ, Bool, true, List, [], length, map, slice_get, Some}
 use Rattle.entries.specs.declared.cited_parts.Hypothesis.{Hypothesis}
@@ -12,7 +12,7 @@ use Rattle.entries.specs.declared.head.EntryRef.{EntryRef}
 use Rattle.entries.specs.Hypotheses.{told}
 use Rattle.entries.specs.Stored.Spans.{cut, AreSpansIn}
 
--- hypotheses by position, what each is and its first symbol, and groups of variables; of most statements all lists are empty.
+-- hypotheses by position, the number and the typecode of each, and groups of variables; for most statements all lists are empty.
 -- Whether these are whole, or only what the statement adds to what is active.
 pub record Assertion : Type 0 where
   pub whole : Bool
@@ -34,13 +34,13 @@ pub record Entry : Type 0 where
 abbrev pub assertion_of : AssertionParts → Assertion
 assertion_of p = record { whole = p.whole; hypotheses = p.hypotheses.now; asked = map told p.asked.now; heads = p.heads.now; groups = cut p.places.now p.groups.now }
 
--- of each hypothesis it is said what it is and how it begins, and the groups are parts of the places
+-- each hypothesis has its kind and its typecode, and the groups are parts of the places
 pub record AreShapedParts (p : AssertionParts) : Type 0 where
   pub paired : length p.asked.now ≡ length p.hypotheses.now
   pub headed : length p.heads.now ≡ length p.hypotheses.now
   pub grouped : AreSpansIn (length p.places.now) p.groups.now
 
--- the statement with this head, these symbols and these parts
+-- the statement with this header, these symbols and these parts
 abbrev pub made : Head → List ℕ → Assertion → Entry
 made h codes a = record { kind = h.kind; label = h.before.label; names = h.before.names; links = h.before.links; symbols = codes; assertion = a }
 

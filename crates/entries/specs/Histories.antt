@@ -1,4 +1,4 @@
--- Stacks of positions whose earlier versions can be asked for.
+-- Stacks of positions whose earlier versions can be read.
 -- Driscoll, Sarnak, Sleator and Tarjan, Making data structures persistent (1989): a stack that is fully persistent.
 -- The code keeps of each version its top, and where the version below it stands.
 use Rattle.std.specs.Prelude.{◌≡◌, ℕ, ◌≤◌, ◌==◌, Bool, false, nat_lt, nat_le, if◌then◌else◌, List, [], ◌∷◌, ◌++◌, filter, get_or}
@@ -57,6 +57,6 @@ AreWith old c vs new = (d : ℕ) → history new d ≡ (if d == c then vs else h
 abbrev pub AreSame : List (List StackVersion) → List (List StackVersion) → Type 0
 AreSame old new = (d : ℕ) → history new d ≡ history old d
 
--- of each number the versions until `last`
+-- the versions of each number until `last`
 abbrev pub AreKeptUntil : ℕ → List (List StackVersion) → List (List StackVersion) → Type 0
 AreKeptUntil last old new = (d : ℕ) → history new d ≡ kept_until last (history old d)

@@ -1,11 +1,11 @@
 -- A hypothesis as one number: a `$f` by its variable, a `$e` by its position.
--- Metamath, 4.2.6: of a `$f` a citation asks for the variable, of a `$e` for the expression.
+-- Metamath, 4.2.6: a citation reads of a `$f` the variable, of a `$e` the expression.
 -- The code keeps the numbers in one list with the others of its assertion.
 use Rattle.std.specs.Prelude.{ℕ, ◌-◌, nat_lt, if◌then◌else◌}
 use Rattle.entries.specs.declared.cited_parts.Hypothesis.{Hypothesis}
 use Rattle.entries.specs.declared.cited_parts.Hypothesis.TheVariants.{Float, Essential}
 use Rattle.entries.specs.declared.cited_parts.TheConstants.{ESSENTIALS}
 
--- the numbers of positions stand behind those of variables
+-- the numbers of positions stand after those of variables
 abbrev pub told : ℕ → Hypothesis
 told n = if nat_lt n ESSENTIALS then Float n else Essential (n - ESSENTIALS)

@@ -1,6 +1,6 @@
 -- Where each symbol of an expression stands.
 -- Metamath, 4.2.6: an image is put in for a variable wherever it stands.
--- The code keeps the indexes of all symbols in one list, one symbol's behind the other's.
+-- The code keeps the indexes of all symbols in one list, one symbol's after the other's.
 use Rattle.std.specs.Prelude.{◌≡◌, ℕ, suc, ◌<◌, ◌≤◌, ◌⊎◌, List, [], ◌∷◌, length, slice_get, Some}
 use Rattle.std.specs.List.{All, Contains}
 use Rattle.std.specs.List.Sorted.{IsStrictlyIncreasing}

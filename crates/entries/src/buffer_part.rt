@@ -3,14 +3,14 @@ ghost use Rattle.std.specs.Prelude.{◌≡◌, ◌≤◌, ◌<◌, length, slice
 
 use std::alloc::AllocError;
 
-/// The places of a statement from the one up to the other.
+/// The places of a statement from the first one up to the second.
 #[derive(Clone, Copy, Drop)]
 pub struct BufferPart {
     pub from: u32,
     pub to: u32,
 }
 
-/// A place within one statement, or the number of a row or a label, in 32 bits: more are answered as a failed allocation.
+/// Returns a place within one statement, or the number of a row or a label, in 32 bits: more are reported as a failed allocation.
 pub fn place(at: usize) -> Result<u32, AllocError>
     ensures { IfOk result (λ n. n ≡ at) }
 {
@@ -20,7 +20,7 @@ pub fn place(at: usize) -> Result<u32, AllocError>
     Ok(at as u32)
 }
 
-/// What stands between two places.
+/// Returns what stands between two places.
 pub fn between(from: usize, to: usize) -> Result<BufferPart, AllocError>
     ensures { IfOk result (λ s. (s.from ≡ from) × (s.to ≡ to)) }
 {
@@ -30,7 +30,7 @@ pub fn between(from: usize, to: usize) -> Result<BufferPart, AllocError>
     })
 }
 
-/// A part of the items.
+/// Returns a part of the items.
 pub fn part<T>(items: &[T], from: usize, to: usize) -> &[T]
     requires { (from ≤ to) × (to ≤ length items.now) }
     ensures { result.now ≡ slice_range items.now from to }
@@ -38,7 +38,7 @@ pub fn part<T>(items: &[T], from: usize, to: usize) -> &[T]
     &items[from..to]
 }
 
-/// The item at an index.
+/// Returns the item at an index.
 pub fn item<T: Copy>(items: &[T], index: usize) -> T
     requires { index < length items.now }
     ensures { slice_get items.now index ≡ Some result }

@@ -1,4 +1,4 @@
-//! What a verifier reads of an assertion that is cited.
+//! The parts of a cited assertion that a verifier reads.
 ghost use Rattle.std.specs.Prelude.{◌≡◌, ◌<◌, length, map, slice_get, Some, IfOk};
 ghost use Rattle.entries.specs.Hypotheses.{told};
 
@@ -7,10 +7,10 @@ use crate::groups::Groups;
 use std::alloc::AllocError;
 use std::marker::Model;
 
-/// The head of an expression that has no symbols. No symbol has this number.
+/// The typecode of an expression that has no symbols. No symbol has this number.
 pub const NO_HEAD: u32 = u32::MAX;
 
-/// From this number on a number tells a `$e` by its position, below it a `$f` by its variable.
+/// Numbers from this one on tell a `$e` by its position, lower ones a `$f` by its variable.
 pub const ESSENTIALS: u32 = 0x8000_0000;
 
 /// A mandatory hypothesis, by numbers of symbols.
@@ -22,7 +22,8 @@ pub enum Hypothesis {
     Essential(u32),
 }
 
-/// The hypothesis as one number. A variable or a position that does not fit beside the other kind is answered as a failed allocation.
+/// Returns the hypothesis as one number. A variable or a position that does not fit beside the other kind is reported as a
+/// failed allocation.
 pub fn number_of(hypothesis: Hypothesis) -> Result<u32, AllocError>
     ensures { IfOk result (λ n. told n ≡ hypothesis) }
 {
@@ -49,21 +50,21 @@ impl<'a> Model for Hypotheses<'a> {
 }
 
 impl<'a> Hypotheses<'a> {
-    /// Those that these numbers tell.
+    /// Returns the hypotheses that these numbers tell.
     pub fn new(numbers: &'a [u32]) -> Hypotheses<'a>
         ensures { result ≡ map told numbers.now }
     {
         Hypotheses { numbers }
     }
 
-    /// How many there are.
+    /// Returns how many there are.
     pub fn len(&self) -> usize
         ensures { result ≡ length self.now }
     {
         self.numbers.len()
     }
 
-    /// The hypothesis at an index, from 0.
+    /// Returns the hypothesis at an index, from 0.
     #[inline(always)]
     pub fn get(&self, index: usize) -> Hypothesis
         requires { index < length self.now }
@@ -73,7 +74,7 @@ impl<'a> Hypotheses<'a> {
     }
 }
 
-/// The hypothesis that a number tells.
+/// Returns the hypothesis that a number tells.
 #[inline(always)]
 fn hypothesis_of(number: u32) -> Hypothesis
     ensures { result ≡ told number }
@@ -88,12 +89,12 @@ fn hypothesis_of(number: u32) -> Hypothesis
 /// An assertion by numbers of symbols.
 #[derive(Drop)]
 pub struct Cited<'a> {
-    /// The first symbol of each mandatory hypothesis, in order.
+    /// The typecode of each mandatory hypothesis, in order.
     pub heads: &'a [u32],
-    /// What each is, in order.
+    /// The hypotheses, in order.
     pub hypotheses: Hypotheses<'a>,
     /// Its expression.
     pub conclusion: &'a [u32],
-    /// The variables whose images are to be disjoint, each two of a group.
+    /// The variables whose images must be disjoint, each two of a group.
     pub groups: Groups<'a>,
 }

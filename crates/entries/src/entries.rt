@@ -24,8 +24,8 @@ pub struct Entries {
     groups: Vec<BufferPart>,
 }
 
-/// What is kept of one statement: its record, what was there before it, its numbers, where its parts stand among them, and
-/// its groups. What is not used of it is not read.
+/// The kept form of one statement: its record, what was there before it, its numbers, where its parts stand among them, and
+/// its groups. Parts that are not used are not read.
 #[derive(Clone, Copy, Drop)]
 struct Stored<'a> {
     kept: StatementRecord,
@@ -47,7 +47,7 @@ impl Model for Entries {
 }
 
 impl Entries {
-    /// No statements.
+    /// Returns an empty list.
     pub fn new(alloc: Global) -> Entries
         ensures { result ≡ [] }
     {
@@ -59,7 +59,7 @@ impl Entries {
         }
     }
 
-    /// How many statements there are.
+    /// Returns how many statements there are.
     #[tactic(auto, using(crate::proofs::StatementRecordLemmas::within))]
     pub fn len(&self) -> usize
         ensures len { result ≡ length self.now }
@@ -68,7 +68,7 @@ impl Entries {
         self.records.len()
     }
 
-    /// The statement at an index, from 0.
+    /// Returns the statement at an index, from 0.
     #[inline(always)]
     pub fn entry(&self, index: usize) -> EntryRef<'_>
         requires { index < length self.now }
@@ -88,7 +88,7 @@ impl Entries {
         }
     }
 
-    /// The positions of the hypotheses of the assertion at an index.
+    /// Returns the positions of the hypotheses of the assertion at an index.
     pub fn hypotheses(&self, index: usize) -> &[u32]
         requires { index < length self.now }
         ensures { (e : Entry) → slice_get self.now index ≡ Some e → result.now ≡ e.assertion.hypotheses }
@@ -97,7 +97,7 @@ impl Entries {
         part(numbers, at.hypotheses, at.places)
     }
 
-    /// Whether the parts of the assertion at an index are whole.
+    /// Returns whether the parts of the assertion at an index are whole.
     pub fn is_whole(&self, index: usize) -> bool
         requires { index < length self.now }
         ensures { (e : Entry) → slice_get self.now index ≡ Some e → result ≡ e.assertion.whole }
@@ -105,7 +105,7 @@ impl Entries {
         self.stored(index).kept.whole
     }
 
-    /// The parts of the assertion at an index, where they are whole.
+    /// Returns the parts of the assertion at an index, where they are whole.
     pub fn cited(&self, index: usize) -> Option<Cited<'_>>
         requires { index < length self.now }
         ensures { (e : Entry) → slice_get self.now index ≡ Some e → IfSome result (AreWhole e) }
@@ -128,7 +128,7 @@ impl Entries {
         })
     }
 
-    /// What is kept of the statement at an index.
+    /// Returns the kept form of the statement at an index.
     #[inline(always)]
     fn stored(&self, index: usize) -> Stored<'_>
         requires { index < length self.now }
@@ -190,7 +190,7 @@ impl Entries {
     }
 }
 
-/// The numbers of the statement at an index, which has this record, and where its parts stand among them.
+/// Returns the numbers of the statement at an index, which has this record, and where its parts stand among them.
 #[inline(always)]
 fn run_at<'a>(
     records: &[StatementRecord],
@@ -269,7 +269,7 @@ fn add_numbers(
     append_both(numbers, parts.hypotheses, parts.places)
 }
 
-/// Adds both lists at the end.
+/// Appends both lists.
 #[inline(always)]
 fn append_both(buffer: &mut Vec<u32>, first: &[u32], second: &[u32]) -> Result<(), AllocError>
     ensures ok { OnOk result (buffer.new.items ≡ (buffer.old.items ++ first.now) ++ second.now) }
@@ -279,7 +279,7 @@ fn append_both(buffer: &mut Vec<u32>, first: &[u32], second: &[u32]) -> Result<(
     append(buffer, second)
 }
 
-/// Adds items at the end.
+/// Appends items.
 #[inline(always)]
 fn append<T: Copy>(buffer: &mut Vec<T>, items: &[T]) -> Result<(), AllocError>
     ensures ok { OnOk result (buffer.new.items ≡ buffer.old.items ++ items.now) }
@@ -296,9 +296,9 @@ fn append<T: Copy>(buffer: &mut Vec<T>, items: &[T]) -> Result<(), AllocError>
     Ok(())
 }
 
-/// Asks for fifteen times the room of what a full buffer has: so little is copied while it grows, and little
+/// Requests fifteen times the room of a full buffer's contents: so little is copied while it grows, and little
 /// memory is touched twice. Room that is not used yet is not touched.
-/// Where there is not so much memory, it grows as it must.
+/// If that allocation fails, it grows as it must.
 #[cold]
 fn widen<T>(buffer: &mut Vec<T>)
     ensures { buffer.new.items ≡ buffer.old.items }

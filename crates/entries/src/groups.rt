@@ -1,4 +1,4 @@
-//! Lists of numbers, one behind the other.
+//! Lists of numbers, one after the other.
 ghost use Rattle.std.specs.Prelude.{◌≡◌, ◌<◌, length, slice_get, Some};
 ghost use Rattle.entries.specs.Stored.Spans.{cut, AreSpansIn};
 
@@ -25,7 +25,7 @@ impl<'a> Model for Groups<'a> {
 }
 
 impl<'a> Groups<'a> {
-    /// These parts of the numbers.
+    /// Returns these parts of the numbers.
     pub fn new(spans: &'a [BufferPart], places: &'a [u32]) -> Groups<'a>
         requires { AreSpansIn (length places.now) spans.now }
         ensures { result ≡ cut places.now spans.now }
@@ -33,14 +33,14 @@ impl<'a> Groups<'a> {
         Groups { spans, places }
     }
 
-    /// How many lists there are.
+    /// Returns how many lists there are.
     pub fn len(&self) -> usize
         ensures { result ≡ length self.now }
     {
         self.spans.len()
     }
 
-    /// The list at an index, from 0.
+    /// Returns the list at an index, from 0.
     pub fn get(&self, index: usize) -> &'a [u32]
         requires { index < length self.now }
         ensures { slice_get self.now index ≡ Some result.now }

@@ -1,26 +1,26 @@
-//! What is noted of a statement beside its parts.
+//! The state before a statement, kept beside its parts.
 use crate::kind::Kind;
 use crate::links::Links;
 
-/// What was there before a statement.
+/// The state before a statement.
 #[derive(Clone, Copy, Drop)]
 pub struct Background {
     /// How many labels there were: the number of its own, where it has one.
     pub label: u32,
     /// How many names there were.
     pub names: u32,
-    /// What was active.
+    /// The last active statements.
     pub links: Links,
 }
 
-/// A statement's kind, and what was there before it.
+/// A statement's kind, and the state before it.
 #[derive(Clone, Copy, Drop)]
 pub struct Head {
     pub kind: Kind,
     pub before: Background,
 }
 
-/// A statement that is kept: its kind, what was there before it, and the numbers of its symbols.
+/// A statement that is kept: its kind, the state before it, and the numbers of its symbols.
 #[derive(Clone, Copy, Drop)]
 pub struct EntryRef<'a> {
     pub kind: Kind,

@@ -21,7 +21,7 @@ pub struct Version {
     pub height: u32,
 }
 
-/// The version without positions, since a position.
+/// Returns the version without positions, since a position.
 pub fn no_positions(since: u32) -> Version
     ensures { (result.since ≡ since) × (result.height ≡ 0) }
 {

@@ -9,12 +9,12 @@ use std::alloc::AllocError;
 /// So many numbers stand before the parts of an assertion: how many hypotheses, symbols, groups and variables of groups it has.
 pub const COUNTS: usize = 4;
 
-/// Where each part of a statement begins among its numbers, one behind the other, and where the last one ends.
+/// Where each part of a statement begins among its numbers, one after the other, and where the last one ends.
 #[derive(Clone, Copy, Drop)]
 pub struct Layout {
-    /// The first symbols of its hypotheses.
+    /// The typecodes of its hypotheses.
     pub heads: usize,
-    /// What its hypotheses are.
+    /// Its hypotheses, each as one number.
     pub asked: usize,
     /// Its symbols.
     pub symbols: usize,
@@ -27,7 +27,7 @@ pub struct Layout {
     pub groups: usize,
 }
 
-/// The layout of so many hypotheses, symbols, groups and variables of groups, the first part of which begins there.
+/// Returns the layout of so many hypotheses, symbols, groups and variables of groups, the first part of which begins there.
 #[inline(always)]
 pub fn lay(heads: usize, count: usize, symbols: usize, groups: usize, places: usize) -> Layout
     requires { (laid heads count symbols groups places).end < 2 ^ 64 }
@@ -46,7 +46,7 @@ pub fn lay(heads: usize, count: usize, symbols: usize, groups: usize, places: us
     }
 }
 
-/// The layout of an assertion whose numbers begin here.
+/// Returns the layout of an assertion whose numbers begin here.
 #[inline(always)]
 pub fn assertion_layout(numbers: &[u32]) -> Layout
     requires { COUNTS ≤ length numbers.now }
@@ -61,7 +61,7 @@ pub fn assertion_layout(numbers: &[u32]) -> Layout
     )
 }
 
-/// What stands before the parts.
+/// Returns what stands before the parts.
 pub fn counts(parts: &AssertionParts<'_>) -> Result<[u32; COUNTS], AllocError>
     ensures { IfOk result (λ counts. counts ≡ counts_of parts.now) }
 {

@@ -10,11 +10,11 @@ pub struct AssertionParts<'a> {
     pub symbols: &'a [u32],
     /// The positions of its hypotheses, in order.
     pub hypotheses: &'a [u32],
-    /// What each is, as `cited_parts::number_of` has it.
+    /// Each of them as one number, as `cited_parts::number_of` has it.
     pub asked: &'a [u32],
-    /// The first symbol of each.
+    /// The typecode of each.
     pub heads: &'a [u32],
-    /// The variables whose images are to be disjoint, one group after another.
+    /// The variables whose images must be disjoint, one group after another.
     pub places: &'a [u32],
     /// The groups.
     pub groups: &'a [BufferPart],

@@ -185,7 +185,7 @@ impl PositionSets {
         made
     }
 
-    /// Keeps the first `size` sets; the empty set always stays. Does not allocate.
+    /// Truncates to the first `size` sets; the empty set always stays. Does not allocate.
     pub fn truncate(&mut self, size: usize)
         ensures { self.new ≡ take (max 1 size) self.old }
     {

@@ -66,7 +66,7 @@ module _ (labels : ℕ) (letters : List ℕ) (index limit digits begin : ℕ) (r
     allowed : IsAllowed limit r.begun
     allowed = elim (zero-or digits) [ inl e ↦ inl (r.empty e) | inr e ↦ inr (65 ∷ [], 20 * digits + 1, placed-number_of (r.begun ++ 65 ∷ []) (20 * digits + 1) (r.counts (65 ∷ [])), let q = r.room e in omega (arith, q)) ]
 
-    -- what breaks a rule is told of the word that is begun
+    -- the rule that is broken is that of the word that is begun
     pub broken-at : (broken : LetterBreak) (fault : LetterFault) (letter : ℕ) → broken.fault ≡ fault → broken.letter ≡ letter → Breaks fault limit (items_of names r.numbers) r.begun r.rest
         → letter ≡ place_in fault (length r.front) (length r.begun) → IsLetterBreak names letters broken
     broken-at broken fault letter is at breaks place = record {
@@ -87,7 +87,7 @@ module _ (labels : ℕ) (letters : List ℕ) (index limit digits begin : ℕ) (r
     pub all-read : letters ≡ r.front → (items : List Item) × WritesRow names letters items
     all-read e = (items_of names r.numbers, subst (λ l. WritesRow names l (items_of names r.numbers)) (sym e) writes)
 
-  -- the letters are those that are read, and the rest behind them
+  -- the letters are those that are read, and the rest after them
   split : letters ≡ (r.front ++ r.begun) ++ r.rest
   split = r.whole ∙ sym (append_assoc r.front r.begun r.rest)
 

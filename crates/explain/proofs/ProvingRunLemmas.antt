@@ -16,7 +16,7 @@ use Rattle.verify.proofs.Sound.{Spelled, sound}
 use Rattle.reasons.specs.Run.{Held, nothing, Gives, of_hypothesis, of_assertion, Steps, Runs}
 use Rattle.reasons.specs.FirstFault.{RunsTo}
 
--- what is held, as the machine has it
+-- the state, as the machine has it
 abbrev state_of : Held → State
 state_of h = record { stack = h.stack; saved = h.marked; weight = h.weight }
 

@@ -1,4 +1,4 @@
--- From what a reader of proof code answers to the items that the tokens write.
+-- From the result of a reader of proof code to the items that the tokens write.
 use Rattle.std.specs.Prelude.{◌≡◌, ◌⊎◌, ◌↔◌, true, IsTrue, List, Option, Some, None, Result, Ok, Err, IfOk, MatchOption}
 use Rattle.std.proofs.Common.{subst, inl, inr}
 use Rattle.mm_lex.specs.Alphabet.{Name}

@@ -37,14 +37,14 @@ module _ (t : Name → Bool) where
     pub first-here : t word ≡ true → IsFirst t words index word rest
     first-here h = record { front = p.front; whole = p.whole ∙ ap (λ l. p.front ++ l) e; place = p.place; before = p.before; here = h }
 
-    -- the words before this one, this one and those behind it are all words
+    -- the words before this one, this one and those after it are all words
     pub room : index + 1 + length rest ≡ length words
     room = let l = length-append p.front left in let q = p.place in let a = ap length e in let w = ap length p.whole in omega (arith, l, q, a, w)
 
   pub all-passed : (words left : List Name) (index : ℕ) → IsPassed words left index → left ≡ [] → list_any t words ≡ false
   all-passed words left index p e = ap (list_any t) (p.whole ∙ (ap (λ l. p.front ++ l) e ∙ append-nil p.front)) ∙ p.before
 
--- ---- what passes
+-- ---- the tokens that pass
 
 all-labels : (mandatory words : List Name) → list_any (fails mandatory test.NotLabel) words ≡ false → list_all is_label words ≡ true
 all-labels mandatory [] h = refl
@@ -77,7 +77,7 @@ writes-compressed tokens mandatory index rest items f c l row =
     let p = listed-labels mandatory l.first.front l.first.before in
     inl (c, (f, record { listed = l.first.front; rest = rest; whole = l.whole ∙ ap (λ w. begin ∷ w) l.first.whole; labels = p.0; apart = p.1; letters = row }))
 
--- ---- what the broken rule is
+-- ---- the broken rule
 
 pub not-label-normal : (tokens mandatory words : List Name) (token : ℕ) (word : Name) (rest : List Name) → words ≡ tokens → is_compressed tokens ≡ false
     → IsFirst (fails mandatory test.NotLabel) words token word rest → IsNotLabel tokens mandatory token

@@ -16,13 +16,13 @@ use Rattle.explain.specs.declared.why.LetterBreak.{LetterBreak}
 use Rattle.explain.specs.declared.why.LetterFault.{LetterFault}
 use Rattle.explain.specs.declared.why.LetterFault.TheVariants.{NotLetter, NotEnded, EarlyMark, TooGreat}
 
--- what may be wrong with a token
+-- the faults of a token
 abbrev pub fails : List Name → Test → Name → Bool
 fails mandatory test.Unfinished token = has_byte question_mark token
 fails mandatory test.NotLabel token = not (is_label token)
 fails mandatory test.NotListed token = not (is_label token) || has_name token mandatory
 
--- the first of the words that fails the test, its index, and those behind it
+-- the first of the words that fails the test, its index, and those after it
 pub record IsFirst (test : Name → Bool) (words : List Name) (index : ℕ) (word : Name) (rest : List Name) : Type 0 where
   pub front : List Name
   pub whole : words ≡ front ++ word ∷ rest
@@ -63,14 +63,14 @@ IsAllowed limit begun = (begun ≡ []) ⊎ ((word : Name) × (n : ℕ) × IsNumb
 abbrev pub IsOver : ℕ → List ℕ → ℕ → Type 0
 IsOver limit begun letter = IsTrue (is_first letter || is_last letter) × ((word : Name) (n : ℕ) → IsNumber (begun ++ letter ∷ word) n → limit < n)
 
--- behind the items, with letters U to Y of a word that is begun, the rest breaks the rule
+-- after the items, with letters U to Y of a word that is begun, the rest breaks the rule
 abbrev pub Breaks : LetterFault → ℕ → List Item → List ℕ → List ℕ → Type 0
 Breaks NotLetter limit items begun rest = BeginsWith IsOther rest
 Breaks NotEnded limit items begun rest = (begun ≢ []) × IsEnd rest
 Breaks EarlyMark limit items begun rest = (items ≡ []) × (begun ≡ []) × BeginsWith (λ letter. letter ≡ 90) rest
 Breaks TooGreat limit items begun rest = BeginsWith (IsOver limit begun) rest
 
--- what is pointed at: the letter itself, or where the word begins
+-- the place of the fault: the letter itself, or where the word begins
 abbrev pub place_in : LetterFault → ℕ → ℕ → ℕ
 place_in NotLetter front begun = front + begun
 place_in NotEnded front begun = front
@@ -92,7 +92,7 @@ pub record IsLetterBreak (labels : List Name) (letters : List ℕ) (broken : Let
 
 -- ---- tokens
 
--- the tokens behind `(`, of which the first that is no label to be listed has this index and is this one
+-- the tokens after `(`, of which the first that is no label to be listed has this index and is this one
 pub record IsListing (tokens mandatory : List Name) (index : ℕ) (word : Name) (rest : List Name) : Type 0 where
   pub words : List Name
   pub whole : tokens ≡ begin ∷ words

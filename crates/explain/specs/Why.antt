@@ -1,6 +1,6 @@
 -- Why the tokens of a `$p` do not prove it.
 -- Source: Metamath, 4.2.6 and appendix B.
--- The code asks the verifier first.
+-- The code calls the verifier first.
 use Rattle.std.specs.Prelude.{ℕ, List}
 use Rattle.mm_lex.specs.Alphabet.{Name}
 use Rattle.mm_read.specs.declared.stmt.Stmt.{Stmt}

@@ -1,4 +1,4 @@
-//! Which rule the letters of a compressed proof break.
+//! Finds the rule that the letters of a compressed proof break.
 ghost use Rattle.std.specs.Prelude.{◌≡◌, ℕ, ◌+◌, ◌*◌, ◌<◌, ◌≤◌, ◌^◌, List, length, Some, slice_get, MatchOption, MatchResult};
 ghost use Rattle.mm_lex.specs.Alphabet.{Name};
 ghost use Rattle.proof_code.specs.declared.item.Item.{Item};
@@ -9,18 +9,18 @@ ghost use Rattle.explain.specs.LettersBefore.{IsReadTo};
 
 use crate::why::{LetterBreak, LetterFault};
 
-/// What stands before a letter.
+/// The state before a letter.
 #[derive(Clone, Copy, Drop)]
 pub(crate) struct Front {
     /// The greatest number that is possible here.
     limit: usize,
-    /// What the letters U to Y of the word that is begun come to.
+    /// The value of the letters U to Y of the word that is begun.
     digits: usize,
     /// Where that word begins, or the next one.
     begin: usize,
 }
 
-/// Which rule the letters break, where so many labels are numbered; none where they write items.
+/// Returns the rule that the letters break, where so many labels are numbered; `None` if they write items.
 pub(crate) fn letter_break(letters: &[u8], labels: usize) -> Option<LetterBreak>
     requires { 5 * (labels + length letters.now) + 200 < 2 ^ 64 }
     ensures { (names : List Name) → length names ≡ labels → MatchOption result ((items : List Item) × WritesRow names letters.now items)
@@ -50,7 +50,7 @@ pub(crate) fn letter_break(letters: &[u8], labels: usize) -> Option<LetterBreak>
     }
 }
 
-/// Whether a mark stands first.
+/// Returns whether a mark stands first.
 fn begins_with_mark(letters: &[u8]) -> bool
     ensures { result ≡ starts_with_mark letters.now }
 {
@@ -58,7 +58,7 @@ fn begins_with_mark(letters: &[u8]) -> bool
 }
 
 impl Front {
-    /// What stands before the next letter, or what this letter breaks.
+    /// Returns the state before the next letter, or what this letter breaks.
     fn read(self, index: usize, letter: u8) -> Result<Front, LetterBreak>
         requires room { 5 * self.limit + 200 < 2 ^ 64 }
         requires index { index + 1 < 2 ^ 64 }
@@ -102,7 +102,7 @@ impl Front {
         }
     }
 
-    /// The fault of the word that is begun.
+    /// Returns the fault of the word that is begun.
     fn broken(self, fault: LetterFault) -> LetterBreak
         ensures letter { result.letter ≡ self.begin }
         ensures fault { result.fault ≡ fault }

@@ -1,4 +1,4 @@
-//! Which rule of proof code tokens break.
+//! Finds the rule of proof code that tokens break.
 ghost use Rattle.std.specs.Prelude.{◌≡◌, ◌++◌, ◌<◌, ◌≤◌, ◌^◌, List, length, false, IsTrue, IsFalse, IfOk, MatchOption};
 ghost use Rattle.std.specs.List.{list_any, list_all};
 ghost use Rattle.mm_lex.specs.Alphabet.{is_label, has_name};
@@ -12,7 +12,7 @@ use mm_lex::{WordIter, Words, is_label};
 use proof_code::{MOST_LETTERS, is_compressed};
 use std::alloc::{AllocError, Global};
 
-/// What may be wrong with a token of a proof.
+/// A fault of a token of a proof.
 #[derive(Clone, Copy, Drop)]
 pub(crate) enum Test {
     /// It has the byte `?`.
@@ -23,7 +23,7 @@ pub(crate) enum Test {
     NotListed,
 }
 
-/// Which rule of proof code the tokens break, which write no items under these mandatory labels.
+/// Returns the rule of proof code that the tokens break, which write no items under these mandatory labels.
 pub(crate) fn code_break(
     alloc: Global,
     tokens: &Words,
@@ -47,7 +47,7 @@ pub(crate) fn code_break(
     }
 }
 
-/// The same for a compressed proof in which no token has the byte `?`.
+/// Returns the rule that a compressed proof breaks in which no token has the byte `?`.
 fn compressed_break(
     alloc: Global,
     tokens: &Words,
@@ -85,7 +85,7 @@ fn compressed_break(
     }
 }
 
-/// The first of the words with which this is wrong, and its index; it and those before it are passed.
+/// Returns the first of the words with this fault, and its index; it and the earlier words are passed.
 fn first_of<'a>(
     words: &mut WordIter<'a>,
     mandatory: &Words,
@@ -105,7 +105,7 @@ fn first_of<'a>(
     None
 }
 
-/// Whether this is wrong with the token.
+/// Returns whether the token has this fault.
 fn fails(token: &[u8], mandatory: &Words, test: Test) -> bool
     ensures { result ≡ fails mandatory.now test token.now }
 {
@@ -116,7 +116,7 @@ fn fails(token: &[u8], mandatory: &Words, test: Test) -> bool
     }
 }
 
-/// The letters of the words.
+/// Returns the letters of the words.
 fn join(alloc: Global, words: &mut WordIter<'_>) -> Result<Vec<u8>, AllocError>
     ensures { IfOk result (λ letters. letters.items ≡ joined words.old) }
 {

@@ -19,7 +19,7 @@ use reasons::first_fault;
 use std::alloc::{AllocError, Global};
 use verify::{Answer, Checker};
 
-/// Why the tokens do not prove the `$p` at a position, or none where they do.
+/// Returns why the tokens do not prove the `$p` at a position, or `None` if they do.
 ///
 /// It runs after a refusal. Cost: that of judging the proof twice, with whole expressions.
 pub fn explain(
@@ -38,7 +38,7 @@ pub fn explain(
     }
 }
 
-/// Why they do not.
+/// Returns why the tokens do not prove the `$p`.
 fn explain_wrong(
     alloc: Global,
     frames: &Frames,
@@ -59,7 +59,7 @@ fn explain_wrong(
     }
 }
 
-/// The items that the tokens write under these mandatory labels; none where they write none.
+/// Returns the items that the tokens write under these mandatory labels, or `None` if they write none.
 fn items_of(alloc: Global, tokens: &Words, mandatory: &Words) -> Result<Option<Items>, AllocError>
     ensures { IfOk result (λ items. MatchOption items ((other : List Item) → ¬ Writes tokens.now mandatory.now other)
         (λ items. Writes tokens.now mandatory.now items)) }
@@ -71,9 +71,9 @@ fn items_of(alloc: Global, tokens: &Words, mandatory: &Words) -> Result<Option<I
     }
 }
 
-/// The labels of the mandatory hypotheses of the `$p` at a position, in order.
+/// Returns the labels of the mandatory hypotheses of the `$p` at a position, in order.
 ///
-/// A label that is no word, which no statement that was read has, is answered as want of memory.
+/// A label that is no word, which no statement that was read has, is reported as out of memory.
 fn labels_of(alloc: Global, frames: &Frames, at: usize) -> Result<Words, AllocError>
     requires { (s : Statement) × IsProvable frames.now.statements at s }
     ensures { IfOk result (λ labels. (s : Statement) → IsProvable frames.now.statements at s → labels ≡ mandatory_labels frames.now.statements at s) }
@@ -90,7 +90,7 @@ fn labels_of(alloc: Global, frames: &Frames, at: usize) -> Result<Words, AllocEr
     Ok(labels)
 }
 
-/// Whether the bytes are a word.
+/// Returns whether the bytes are a word.
 fn is_word(bytes: &[u8]) -> bool
     ensures { IsTrue result → IsTrue (is_word bytes.now) }
 {

@@ -21,20 +21,20 @@ pub enum CodeBreak {
     NotLabel { token: usize },
     /// The first listed label that is one of a mandatory hypothesis.
     Mandatory { token: usize },
-    /// No `)` stands behind the listed labels.
+    /// No `)` follows the listed labels.
     Unclosed,
-    /// The letters behind `)`.
+    /// The letters after `)`.
     Letters(LetterBreak),
 }
 
-/// Where the letters of a compressed proof break a rule: a letter by its index from 0 among those of all tokens behind `)`.
+/// Where the letters of a compressed proof break a rule: a letter by its index from 0 among those of all tokens after `)`.
 #[derive(Clone, Copy, Debug, Drop)]
 pub struct LetterBreak {
     pub letter: usize,
     pub fault: LetterFault,
 }
 
-/// What is wrong with letters; all before them write items.
+/// A fault of the letters; all letters before it write items.
 #[derive(Clone, Copy, Debug, Drop)]
 pub enum LetterFault {
     /// The byte is none of A to Z.

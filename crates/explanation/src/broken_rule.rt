@@ -17,7 +17,7 @@ struct Broken<'a> {
     rule: Rule,
 }
 
-/// Which rule the statement breaks, by what, and where the other declaration stands.
+/// Writes which rule the statement breaks, by what, and where the other declaration stands.
 pub(crate) fn explain_rule(
     alloc: Global,
     page: &mut Page,
@@ -48,7 +48,7 @@ fn explain_broken(alloc: Global, page: &mut Page, broken: &Broken<'_>) {
     explain_statement(alloc, page, broken);
 }
 
-/// A block that is never closed.
+/// Writes that a block is never closed.
 fn explain_open(alloc: Global, page: &mut Page, broken: &Broken<'_>) {
     let Some(open) = never_closed(broken.statements) else {
         return;
@@ -57,7 +57,7 @@ fn explain_open(alloc: Global, page: &mut Page, broken: &Broken<'_>) {
     page.push(b"this block is never closed\n");
 }
 
-/// `LINE:COLUMN: ` of a token of a statement.
+/// Writes `LINE:COLUMN: ` of a token of a statement.
 pub(crate) fn push_start(
     alloc: Global,
     page: &mut Page,
@@ -69,7 +69,7 @@ pub(crate) fn push_start(
     page.push(b": ");
 }
 
-/// `LINE:COLUMN` of a token of a statement.
+/// Writes `LINE:COLUMN` of a token of a statement.
 pub(crate) fn push_token_place(
     alloc: Global,
     page: &mut Page,
@@ -110,7 +110,7 @@ fn explain_statement(alloc: Global, page: &mut Page, broken: &Broken<'_>) {
     }
 }
 
-/// A `$c` in a block, or a `$}` that closes none.
+/// Writes that a `$c` stands in a block, or that a `$}` closes none.
 fn explain_alone(alloc: Global, page: &mut Page, broken: &Broken<'_>) {
     push_start(alloc, page, broken.text, broken.statement, 1);
     if broken.rule == Rule::G1 {
@@ -121,7 +121,7 @@ fn explain_alone(alloc: Global, page: &mut Page, broken: &Broken<'_>) {
     page.push(b"this $} closes no block\n");
 }
 
-/// The place of a symbol of the statement, and the symbol.
+/// Writes the place of a symbol of the statement, and the symbol.
 fn push_symbol(alloc: Global, page: &mut Page, broken: &Broken<'_>, stmt: &Stmt, symbol: usize) {
     let token = symbols_before(stmt).saturating_add(symbol);
     push_start(alloc, page, broken.text, broken.statement, token);
@@ -171,7 +171,7 @@ fn explain_label(alloc: Global, page: &mut Page, broken: &Broken<'_>, stmt: &Stm
     push_other(alloc, page, broken, label_of(stmt), other);
 }
 
-/// What the other statement made of the name, and where.
+/// Writes how the other statement declares the name, and where.
 fn push_other(alloc: Global, page: &mut Page, broken: &Broken<'_>, name: &[u8], other: usize) {
     let Some(stmt) = broken.statements.get(other.saturating_sub(1)) else {
         page.push(b"\n");
@@ -184,7 +184,7 @@ fn push_other(alloc: Global, page: &mut Page, broken: &Broken<'_>, name: &[u8], 
     page.push(b"\n");
 }
 
-/// What a statement makes of a name, and the token at which it does.
+/// Returns how a statement declares a name, and the token at which it does.
 fn told(stmt: &Stmt, name: &[u8]) -> (&'static [u8], usize) {
     match stmt {
         Stmt::Const(names) => (
@@ -200,7 +200,7 @@ fn told(stmt: &Stmt, name: &[u8]) -> (&'static [u8], usize) {
     }
 }
 
-/// Where a name stands among these.
+/// Returns where a name stands among these.
 fn place_in(names: &mm_lex::Words, name: &[u8]) -> usize {
     let mut index = 0usize;
     let mut left = names.iter();

@@ -1,4 +1,4 @@
-//! Which rule of proof code the tokens of a proof break, in words.
+//! Writes the rule of proof code that the tokens of a proof break, in words.
 
 use crate::item_spots::{Spot, letter_spot};
 use crate::theorem::Theorem;
@@ -8,7 +8,7 @@ use mm_lex::Words;
 use proof_code::is_compressed;
 use std::alloc::Global;
 
-/// The rule that the tokens break, and where.
+/// Writes the rule that the tokens break, and where.
 pub(crate) fn explain_break(
     alloc: Global,
     page: &mut Page,
@@ -57,7 +57,7 @@ pub(crate) fn explain_break(
     }
 }
 
-/// Where the tokens cannot be read, and why.
+/// Writes where the tokens cannot be read, and why.
 fn push_break(alloc: Global, page: &mut Page, theorem: &Theorem<'_>, spot: Spot, words: &[u8]) {
     theorem.push_spot(alloc, page, spot);
     page.push(b" cannot be read\n  ");
@@ -65,7 +65,7 @@ fn push_break(alloc: Global, page: &mut Page, theorem: &Theorem<'_>, spot: Spot,
     page.push(b"\n");
 }
 
-/// A token that is no label.
+/// Returns the words for a token that is no label.
 fn no_label(proof: &Words) -> &'static [u8] {
     if is_compressed(proof) {
         b"this token is no label, and no ) stands before it"
@@ -74,7 +74,7 @@ fn no_label(proof: &Words) -> &'static [u8] {
     }
 }
 
-/// What is wrong with letters.
+/// Returns the words for a fault of the letters.
 fn of_letters(fault: LetterFault) -> &'static [u8] {
     match fault {
         LetterFault::NotLetter => b"this is no letter of a compressed proof",

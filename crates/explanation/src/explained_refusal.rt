@@ -1,4 +1,4 @@
-//! What is explained, and the lines of its explanation.
+//! The refusals that are explained, and the lines of an explanation.
 
 use crate::broken_rule::explain_rule;
 use crate::proof::explain_proof;
@@ -17,7 +17,7 @@ pub enum DatabaseFault {
     Text,
     /// Its tokens are no list of statements.
     Shape,
-    /// A statement, counted from 1, breaks a rule; one above the last where a block is open at the end.
+    /// A statement, counted from 1, breaks a rule; one above the last if a block is open at the end.
     Rule { statement: usize, rule: Rule },
     /// The proof of a `$p` is wrong.
     Proof { statement: usize },
@@ -25,7 +25,7 @@ pub enum DatabaseFault {
     Unfinished { statement: usize },
 }
 
-/// The lines that say why the text is refused; none where it is not refused so.
+/// Returns the lines that say why the text is refused; none if it is not refused for that.
 ///
 /// Cost: that of reading the text and of its statements once more, and of judging the one proof twice.
 pub fn explain_refusal(

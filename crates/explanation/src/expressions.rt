@@ -1,12 +1,12 @@
-//! Expressions by numbers, written as their symbols.
+//! Writes expressions, given by numbers, as their symbols.
 
 use crate::written_lines::Page;
 use frame::Frames;
 
-/// Behind so many symbols an expression is cut.
+/// The number of symbols after which an expression is cut.
 const MOST: usize = 400;
 
-/// The symbols, with a space before each; of a long expression the first ones, and how many there are.
+/// Writes the symbols, with a space before each; for a long expression the first ones, and how many there are.
 pub(crate) fn push_expression(page: &mut Page, frames: &Frames, expr: &[u32]) {
     for (index, number) in expr.iter().enumerate() {
         if index == MOST {

@@ -1,4 +1,4 @@
-//! Where an item or a letter stands among the tokens of a proof.
+//! Finds an item or a letter among the tokens of a proof.
 
 use mm_lex::Words;
 use proof_code::is_compressed;
@@ -10,7 +10,7 @@ pub(crate) struct Spot {
     pub(crate) byte: usize,
 }
 
-/// Where the item of that index begins: its token, or the first letter of its word or mark.
+/// Returns where the item of that index begins: its token, or the first letter of its word or mark.
 pub(crate) fn spot_of(proof: &Words, item: usize) -> Spot {
     if is_compressed(proof) {
         word_spot(proof, item)
@@ -22,7 +22,7 @@ pub(crate) fn spot_of(proof: &Words, item: usize) -> Spot {
     }
 }
 
-/// Where the word or mark of that index begins among the letters; behind the last token where there are fewer.
+/// Returns where the word or mark of that index begins among the letters; after the last token if there are fewer.
 fn word_spot(proof: &Words, item: usize) -> Spot {
     let mut behind = false;
     let mut left = proof.iter();
@@ -49,7 +49,7 @@ fn word_spot(proof: &Words, item: usize) -> Spot {
     Spot { token, byte: 0 }
 }
 
-/// Where the letter of that index stands, of all tokens behind `)`; behind the last token where there are fewer.
+/// Returns where the letter of that index stands, of all tokens after `)`; after the last token if there are fewer.
 pub(crate) fn letter_spot(proof: &Words, letter: usize) -> Spot {
     let mut behind = false;
     let mut left = proof.iter();
@@ -68,12 +68,12 @@ pub(crate) fn letter_spot(proof: &Words, letter: usize) -> Spot {
     Spot { token, byte: 0 }
 }
 
-/// Whether a letter ends a word, or marks.
+/// Returns whether a letter ends a word, or marks.
 fn ends_item(letter: u8) -> bool {
     letter.is_ascii_uppercase() && (letter <= b'T' || letter == b'Z')
 }
 
-/// Which step the item is: how many citations and recalls stand up to it.
+/// Returns which step the item is: how many citations and recalls stand up to it.
 pub(crate) fn step_of(numbers: &[u32], item: usize) -> usize {
     numbers
         .iter()

@@ -1,6 +1,6 @@
-//! Why a database is refused, in words, with the place in the text.
+//! Explains in words why a database is refused, with the place in the text.
 //!
-//! `explain_refusal` writes the lines of an explanation; it runs only after a refusal and looks at the text again. What it says
+//! `explain_refusal` writes the lines of an explanation; it runs only after a refusal and reads the text again. The explanation
 //! rests on the clauses of `places`, `offence` and `explain`; the words have no contract. Read `explained_refusal`,
 //! `written_lines`, `text_fault`, `shape_fault`, `broken_rule` with `statement_symbols`; `proof` with `theorem`, `judged`,
 //! `item_spots`, `step_fault`, `expressions` and `code_break`.

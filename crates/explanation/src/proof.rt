@@ -20,7 +20,7 @@ use reasons::{Fault, Reason};
 use scope::Rules;
 use std::alloc::Global;
 
-/// The rule of proof code that a proof breaks, or the first fault of its run.
+/// Writes the rule of proof code that a proof breaks, or the first fault of its run.
 pub(crate) fn explain_proof(alloc: Global, page: &mut Page, text: &[u8], statement: usize) {
     match read(alloc, text) {
         Ok(statements) => explain_wrong(alloc, page, text, statements.as_slice(), statement),
@@ -37,7 +37,7 @@ fn explain_wrong(alloc: Global, page: &mut Page, text: &[u8], statements: &[Stmt
     }
 }
 
-/// The same of a `$p` of the statements.
+/// Writes it for a `$p` of the statements.
 fn explain_at(alloc: Global, page: &mut Page, statements: &[Stmt], theorem: &Theorem<'_>)
     requires shaped { AreShaped statements.now }
     requires provable { (s : Statement) × IsProvable statements.now theorem.now.at s }
@@ -47,7 +47,7 @@ fn explain_at(alloc: Global, page: &mut Page, statements: &[Stmt], theorem: &The
     explain_entered(alloc, page, statements, theorem, &mut rules, &mut frames);
 }
 
-/// The same, where the rules and the frames have no statement yet.
+/// Writes it for a `$p` of the statements, by rules and frames without statements.
 fn explain_entered(
     alloc: Global,
     page: &mut Page,
@@ -78,7 +78,7 @@ fn explain_theorem(alloc: Global, page: &mut Page, frames: &Frames, theorem: &Th
     }
 }
 
-/// The rule of proof code that is broken, or the first fault of the run.
+/// Writes the rule of proof code that is broken, or the first fault of the run.
 fn explain_why(
     alloc: Global,
     page: &mut Page,
@@ -94,7 +94,7 @@ fn explain_why(
     }
 }
 
-/// The first fault of the run over the items.
+/// Writes the first fault of the run over the items.
 fn explain_reason(
     alloc: Global,
     page: &mut Page,
@@ -118,7 +118,7 @@ fn explain_reason(
     }
 }
 
-/// An item fails.
+/// Writes that an item fails.
 fn explain_step(
     alloc: Global,
     page: &mut Page,
@@ -133,7 +133,7 @@ fn explain_step(
     push_fault(page, theorem, frames, fault);
 }
 
-/// Not one result is left.
+/// Writes that more or fewer results than one are left.
 fn explain_results(alloc: Global, page: &mut Page, theorem: &Theorem<'_>, count: usize) {
     theorem.push_end(alloc, page);
     page.push(b" is wrong at its end\n  it leaves ");
@@ -141,7 +141,7 @@ fn explain_results(alloc: Global, page: &mut Page, theorem: &Theorem<'_>, count:
     page.push(b" results, and one has to be left\n");
 }
 
-/// Another theorem is proved.
+/// Writes that another theorem is proved.
 fn explain_other(
     alloc: Global,
     page: &mut Page,
@@ -159,7 +159,7 @@ fn explain_other(
     page.push(b"\n");
 }
 
-/// The expression of the statement at a position; nothing where none stands there.
+/// Returns the expression of the statement at a position; nothing if none stands there.
 fn expr_at(frames: &Frames, at: usize) -> &[u32] {
     if at == 0 || at > frames.len() {
         return &[];
@@ -167,7 +167,7 @@ fn expr_at(frames: &Frames, at: usize) -> &[u32] {
     frames.expr(at)
 }
 
-/// Which step of the proof the item is, and what it cites.
+/// Writes which step of the proof the item is, and what it cites.
 fn push_step(page: &mut Page, items: &Items, item: usize) {
     let parts = items.parts();
     page.push(b" is wrong at step ");

@@ -1,4 +1,4 @@
-//! What fails at a step of a proof, in words.
+//! Writes in words why a step of a proof fails.
 
 use crate::expressions::push_expression;
 use crate::theorem::Theorem;
@@ -6,7 +6,7 @@ use crate::written_lines::Page;
 use frame::Frames;
 use reasons::Fault;
 
-/// What fails at the step.
+/// Writes the fault of the step.
 pub(crate) fn push_fault(page: &mut Page, theorem: &Theorem<'_>, frames: &Frames, fault: &Fault) {
     match fault {
         Fault::Unknown => page.push(b"  no statement has this label\n"),
@@ -70,7 +70,7 @@ fn push_few(page: &mut Page, takes: usize, there: usize) {
     page.push(b"\n");
 }
 
-/// A result of another type than that of a `$f`.
+/// Writes that a result has another typecode than that of a `$f`.
 fn push_constant(
     page: &mut Page,
     theorem: &Theorem<'_>,
@@ -84,7 +84,7 @@ fn push_constant(
     push_there(page, frames, there);
 }
 
-/// A result that is not what a hypothesis asks for.
+/// Writes that a result is not the one that a hypothesis requires.
 fn push_asked(
     page: &mut Page,
     theorem: &Theorem<'_>,
@@ -110,7 +110,7 @@ fn push_hypothesis(page: &mut Page, theorem: &Theorem<'_>, at: usize) {
     page.push(theorem.label_at(at));
 }
 
-/// Two variables that are not kept apart.
+/// Writes that two variables are not disjoint.
 fn push_together(page: &mut Page, frames: &Frames, variables: [u32; 2], images: [u32; 2]) {
     let [first, second] = variables;
     let [one, other] = images;

@@ -6,7 +6,7 @@ use mm_lex::{LexFault, tokens};
 use places::{CommentFault, comment_fault};
 use std::alloc::Global;
 
-/// What is wrong with the bytes or the comments of the text.
+/// Writes the fault of the bytes or the comments of the text.
 pub(crate) fn explain_text(alloc: Global, page: &mut Page, text: &[u8]) {
     match tokens(alloc, text) {
         Ok(_) => {}
@@ -27,7 +27,7 @@ fn explain_byte(page: &mut Page, text: &[u8], offset: usize) {
     page.push(b"  visible ASCII characters, spaces, tabs, form feeds and ends of lines may\n");
 }
 
-/// The digit of a number below 16.
+/// Returns the digit of a number below 16.
 fn hexadecimal(number: u8) -> u8 {
     match b"0123456789abcdef".get(number as usize) {
         Some(digit) => *digit,

@@ -24,7 +24,7 @@ pub(crate) struct Theorem<'a> {
 }
 
 impl<'a> Theorem<'a> {
-    /// The `$p` at a position; none where no `$p` stands there.
+    /// Returns the `$p` at a position, or `None` if no `$p` stands there.
     pub(crate) fn new(text: &'a [u8], statements: &'a [Stmt], at: usize) -> Option<Theorem<'a>>
         ensures { IfSome result (λ theorem. (s : Statement) × IsProvable statements.now theorem.at s) }
     {
@@ -42,7 +42,7 @@ impl<'a> Theorem<'a> {
         })
     }
 
-    /// `LINE:COLUMN: the proof of LABEL`, of a byte of a token of the proof, or of the `$.` behind the last token.
+    /// Writes `LINE:COLUMN: the proof of LABEL` for a byte of a token of the proof, or for the `$.` after the last token.
     pub(crate) fn push_spot(&self, alloc: Global, page: &mut Page, spot: Spot) {
         let token = self.expr.len().saturating_add(4).saturating_add(spot.token);
         match place_of(alloc, self.text, self.at, token) {
@@ -54,13 +54,13 @@ impl<'a> Theorem<'a> {
         page.push(self.label);
     }
 
-    /// The same of the `$.`.
+    /// Writes `LINE:COLUMN: the proof of LABEL` for the `$.`.
     pub(crate) fn push_end(&self, alloc: Global, page: &mut Page) {
         let token = self.proof.len();
         self.push_spot(alloc, page, Spot { token, byte: 0 });
     }
 
-    /// The label of the statement at a position.
+    /// Returns the label of the statement at a position.
     pub(crate) fn label_at(&self, at: usize) -> &'a [u8] {
         match self.statements.get(at.saturating_sub(1)) {
             Some(stmt) => label_of(stmt),
@@ -68,7 +68,7 @@ impl<'a> Theorem<'a> {
         }
     }
 
-    /// The constant of the `$f` at a position.
+    /// Returns the typecode of the `$f` at a position.
     pub(crate) fn constant_at(&self, at: usize) -> &'a [u8] {
         match self.statements.get(at.saturating_sub(1)) {
             Some(Stmt::Float { constant, .. }) => constant.as_bytes(),
@@ -76,7 +76,7 @@ impl<'a> Theorem<'a> {
         }
     }
 
-    /// Whether the statement at a position is a `$f` or `$e`.
+    /// Returns whether the statement at a position is a `$f` or `$e`.
     pub(crate) fn is_hypothesis(&self, at: usize) -> bool {
         matches!(
             self.statements.get(at.saturating_sub(1)),

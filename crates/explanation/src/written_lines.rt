@@ -5,7 +5,7 @@ use mm_lex::Span;
 use places::line_and_column;
 use std::alloc::{AllocError, Global};
 
-/// The lines of an explanation, or nothing where a growth was refused: all that is pushed after that is dropped.
+/// The lines of an explanation, or nothing if an allocation failed: all that is pushed after that is dropped.
 #[derive(Drop)]
 pub(crate) struct Page {
     lines: Vec<u8>,
@@ -20,7 +20,7 @@ impl Page {
         }
     }
 
-    /// The lines, where there was memory for all of them.
+    /// Returns the lines, if memory sufficed for all of them.
     pub(crate) fn into_lines(self) -> Result<Vec<u8>, AllocError> {
         let Page { lines, is_refused } = self;
         if is_refused {
@@ -29,7 +29,7 @@ impl Page {
         Ok(lines)
     }
 
-    /// There is no memory for what comes next.
+    /// Records that memory ran out.
     pub(crate) fn refuse(&mut self) {
         self.is_refused = true;
     }
@@ -45,7 +45,7 @@ impl Page {
         self.push(buffer.format(number).as_bytes());
     }
 
-    /// `LINE:COLUMN`
+    /// Writes `LINE:COLUMN`.
     pub(crate) fn push_place(&mut self, text: &[u8], offset: usize) {
         let within = if offset <= text.len() {
             offset
@@ -59,7 +59,7 @@ impl Page {
     }
 }
 
-/// The token at a place; nothing where the place is none.
+/// Returns the token at a place; nothing if the place is none.
 pub(crate) fn word(text: &[u8], span: Span) -> &[u8] {
     match text.get(span.start..span.end) {
         Some(word) => word,

@@ -1,4 +1,4 @@
--- Two databases walked side by side, and what of the one is kept in the other.
+-- Two databases walked in parallel, and the assertions of the one that are kept in the other.
 use Rattle.std.specs.Prelude.{◌≡◌, ℕ, zero, suc, ◌+◌, ◌-◌, ◌<◌, ◌≤◌, true, false, List, [], ◌∷◌, ◌++◌, length, map, take, get_or, slice_get, Some, Result, Ok, Err, IfOk, refl}
 use Rattle.std.proofs.Common.{sym, ◌∙◌, ap, subst, arith, inl, inr}
 use Rattle.std.proofs.lemmas.Bool.{cases_eq}
@@ -15,7 +15,7 @@ use Rattle.extract.specs.Selected.{IsPart, nothing, takes, leaves, IsKept}
 use Rattle.extract.specs.Walk.{wanted, AreKept, IsSameFrame, IsWalked}
 use Rattle.library.proofs.AddingLemmas.{taken-more}
 
--- ---- what holds of an answer
+-- ---- the property of an answer
 
 pub ok-one : {A E : Type 0} (r : Result A E) (P Q : A → Type 0) → IfOk r P → ((a : A) → P a → Q a) → IfOk r Q
 ok-one (Ok a) P Q p f = f a p
@@ -60,7 +60,7 @@ longer S n s less is = take_more S n s less ∙ ap (λ r. take n S ++ r ∷ []) 
 before-is : (S : Database) (n : ℕ) → before (bares S) (suc n) ≡ bares (take n S)
 before-is S n = ap (λ m. take m (bares S)) (let e : suc n - 1 ≡ n = omega arith in e) ∙ take-map bare n S
 
--- ---- what is kept
+-- ---- the assertions that are kept
 
 pub wanted-assertion : (labels : List Name) (s : Stmt) → wanted labels s ≡ true → is_assertion s ≡ true
 wanted-assertion labels (Axiom label expr) h = refl

@@ -1,4 +1,4 @@
--- What is taken out is an extract: the part where it was found to be one, and else the whole.
+-- The result of an extraction is an extract: the part if it was found to be one, and else the whole.
 use Rattle.std.specs.Prelude.{◌≡◌, ◌||◌, ℕ, true, List, [], ◌∷◌, ◌++◌, length, Some, Result, Ok, Err, IfOk, refl}
 use Rattle.std.specs.List.{list_any, AllByRecursion}
 use Rattle.std.proofs.Common.{◌∙◌, ap, subst}

@@ -102,7 +102,7 @@ module _ (S F : Database) (same : F ≡ bares S) (once : HasLabelsOnce F) where
       by (inl v) = wrong-one (take n labels) label g f w v
       by (inr q) = absurd (right-wrong (take n labels) label g q.0 w)
 
-  -- the same of labels that are seen as names
+  -- the same for labels that are seen as names
 
   module _ {A : Type 0} (f : A → Name) (xs : List A) (n : ℕ) (x : A) (label : Name) (less : n < length xs) (e : label ≡ f (get_or xs n x)) (p : IsPassed S (map f xs) n) where
     -- the place is one of the names

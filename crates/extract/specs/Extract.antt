@@ -1,4 +1,4 @@
--- What is taken out of a database.
+-- Extracts of a database.
 -- Source: this project's profile; Metamath, 4.2 (what makes a database good).
 -- The code chooses statements, judges the choice, and gives the whole where the choice is not enough.
 use Rattle.std.specs.Prelude.{ℕ, List}

@@ -1,6 +1,6 @@
 -- Some of the statements of a database, and an assertion that stands among them as in the whole.
 -- Source: Metamath, 4.2.7: an assertion is its frame, that is its hypotheses, its pairs and its expression.
--- The code goes through both databases once, side by side.
+-- The code goes through both databases once, in parallel.
 use Rattle.std.specs.Prelude.{◌≡◌, ℕ, IsTrue, List, [], ◌∷◌, map, Option}
 use Rattle.mm_lex.specs.Alphabet.{Name}
 use Rattle.mm_read.specs.declared.stmt.Stmt.{Stmt}

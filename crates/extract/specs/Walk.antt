@@ -1,6 +1,6 @@
--- How far a database and a part of it were walked side by side.
+-- How far a database and a part of it were walked in parallel.
 -- Source: none; for the private functions of `comparison`.
--- The code keeps of each the scope behind the statements that were passed.
+-- The code keeps of each the scope after the statements that were passed.
 use Rattle.std.specs.Prelude.{◌≡◌, ℕ, ◌≤◌, Bool, true, false, List, map, take, Some}
 use Rattle.mm_lex.specs.Alphabet.{Name, has_name}
 use Rattle.mm_read.specs.declared.stmt.Stmt.{Stmt}
@@ -21,12 +21,12 @@ wanted labels s = false
 abbrev pub AreKept : Database → Database → List Name → ℕ → Type 0
 AreKept S T labels n = (i : ℕ) (s : Stmt) → i ≤ n → stmt_at S i ≡ Some s → wanted labels s ≡ true → (label : Name) → Carries S i s label → IsKept S T label
 
--- an assertion behind the statements A of S and B of T has the same hypotheses and pairs
+-- an assertion after the statements A of S and B of T has the same hypotheses and pairs
 pub record IsSameFrame (S T A B : Database) (s : Stmt) : Type 0 where
   pub hypotheses : map (stmt_at S) (hypotheses A s) ≡ map (stmt_at T) (hypotheses B s)
   pub groups : mandatory_groups A s ≡ mandatory_groups B s
 
--- n statements of S were passed and k of T met, behind which the scopes stand
+-- n statements of S were passed and k of T met, after which the scopes stand
 pub record IsWalked (S T : Database) (labels : List Name) (n k : ℕ) (whole part : Database) : Type 0 where
   pub whole_is : whole ≡ bares (take n S)
   pub part_is : part ≡ bares (take k T)

@@ -25,7 +25,7 @@ pub record NamesHypothesis (S : Database) (label : Name) : Type 0 where
   pub carries : Carries S position stmt label
   pub other : IsFalse (is_assertion stmt)
 
--- what is wrong with a label behind others
+-- the fault of a label after others
 abbrev pub IsWrong : Database → List Name → Name → ExtractFault → Type 0
 IsWrong S earlier label NoLabel = HasNoLabel S label
 IsWrong S earlier label NotAssertion = NamesHypothesis S label
@@ -36,12 +36,12 @@ IsWrong S earlier label Memory = ⊥
 abbrev pub IsRight : Database → List Name → Name → Type 0
 IsRight S earlier label = NamesAssertion S label × (has_name label earlier ≡ false)
 
--- what is wrong with it, if anything
+-- the fault of it, if any
 abbrev pub IsJudged : Database → List Name → Name → Option ExtractFault → Type 0
 IsJudged S earlier label None = IsRight S earlier label
 IsJudged S earlier label (Some fault) = IsWrong S earlier label fault
 
--- nothing is wrong with the labels, which stand behind others
+-- nothing is wrong with the labels, which stand after others
 abbrev pub AreRight : Database → List Name → List Name → Type 0
 AreRight S earlier [] = Unit {0}
 AreRight S earlier (label ∷ labels) = IsRight S earlier label × AreRight S (earlier ++ label ∷ []) labels

@@ -1,4 +1,4 @@
-//! Which statements are taken out.
+//! Chooses the statements of an extract.
 ghost use Rattle.std.specs.Prelude.{◌≡◌, option_map};
 ghost use Rattle.scope.specs.Active.{stmt_at};
 
@@ -21,7 +21,7 @@ struct Block {
     used: bool,
 }
 
-/// What is noted while the statements are walked up, which are taken where they are marked.
+/// The records of a walk up the statements, which are taken where they are marked.
 #[derive(Drop)]
 struct Choice<'a> {
     alloc: Global,
@@ -29,17 +29,18 @@ struct Choice<'a> {
     marks: Vec<bool>,
     /// The symbols that were declared.
     symbols: NameTable,
-    /// Of each symbol the position of its last declaration.
+    /// The position of each symbol's last declaration.
     declared: Vec<usize>,
-    /// Of each symbol the position of the last assertion that has a hypothesis for it as a variable.
+    /// The position of the last assertion that has a hypothesis for the symbol as a variable, for each symbol.
     variable_of: Vec<usize>,
     /// The positions of the active `$d`.
     disjoint: Vec<usize>,
     blocks: Vec<Block>,
 }
 
-/// For each statement whether it is taken: the assertions of the labels, all that their proofs name, the hypotheses of these, the
-/// `$d` that have two of their variables, the declarations of the symbols of all these, and the blocks that are not empty then.
+/// Returns for each statement whether it is taken: the assertions of the labels, all that their proofs name, the hypotheses of
+/// these, the `$d` that have two of their variables, the declarations of the symbols of all these, and the blocks that are not
+/// empty then.
 pub(crate) fn choose(
     alloc: Global,
     library: &Library,
@@ -101,14 +102,14 @@ impl<'a> Choice<'a> {
         }
     }
 
-    /// The last open block is used.
+    /// Marks the last open block as used.
     fn use_block(&mut self) {
         if let Some(block) = self.blocks.last_mut() {
             block.used = true;
         }
     }
 
-    /// Notes where these symbols are declared.
+    /// Records where these symbols are declared.
     fn declare(&mut self, at: usize, names: &Words) -> Result<(), AllocError> {
         for name in names.iter() {
             let code = self.symbols.code(self.alloc, name)?;
@@ -180,7 +181,7 @@ impl<'a> Choice<'a> {
         }
     }
 
-    /// Notes a variable of the assertion at a position.
+    /// Records a variable of the assertion at a position.
     fn note_variable(&mut self, at: usize, name: &[u8]) {
         if let Some(code) = self.symbols.find(name) {
             if let Some(assertion) = self.variable_of.get_mut(code) {
@@ -204,7 +205,7 @@ impl<'a> Choice<'a> {
         }
     }
 
-    /// Whether two of the names are variables of the assertion at a position.
+    /// Returns whether two of the names are variables of the assertion at a position.
     fn has_two(&self, at: usize, names: &Words) -> bool {
         let mut one = false;
         for name in names.iter() {
@@ -240,7 +241,7 @@ impl<'a> Choice<'a> {
     }
 }
 
-/// The statement at a position, counted from 1.
+/// Returns the statement at a position, counted from 1.
 fn statement_at(statements: &[Stmt], position: usize) -> Option<&Stmt>
     ensures { option_map (λ s. s.now) result ≡ stmt_at statements.now position }
 {
@@ -250,7 +251,7 @@ fn statement_at(statements: &[Stmt], position: usize) -> Option<&Stmt>
     statements.get(position - 1)
 }
 
-/// The mandatory hypotheses of the assertion at a position, by position; none where no assertion stands there.
+/// Returns the mandatory hypotheses of the assertion at a position, by position; none if no assertion stands there.
 fn mandatory(alloc: Global, library: &Library, at: usize) -> Result<Vec<u32>, AllocError> {
     let mut list = Vec::new(alloc);
     if let Some(statement) = statement_at(library.statements(), at) {

@@ -5,8 +5,8 @@ use mm_lex::Words;
 use mm_read::Stmt;
 use std::alloc::{AllocError, Global};
 
-/// For each statement whether it has one of the labels, or the proof of one that is marked names it. What a proof names stands
-/// before it, so the statements are walked down.
+/// Returns for each statement whether it has one of the labels, or the proof of one that is marked names it. A proof names
+/// earlier statements, so the statements are walked down.
 pub(crate) fn named(
     alloc: Global,
     library: &Library,
@@ -28,7 +28,8 @@ pub(crate) fn named(
     Ok(marks)
 }
 
-/// Marks what the labels of a proof name: all tokens of a normal proof, those in the parentheses of a compressed one.
+/// Marks the statements that the labels of a proof name: all tokens of a normal proof, those in the parentheses of a compressed
+/// one.
 fn mark_named(frames: &Frames, proof: &Words, marks: &mut [bool]) {
     for token in proof.iter() {
         if token == b")".as_slice() {
@@ -47,7 +48,7 @@ pub(crate) fn mark(marks: &mut [bool], position: Option<usize>) {
     }
 }
 
-/// Whether the position is marked.
+/// Returns whether the position is marked.
 pub(crate) fn is_marked(marks: &[bool], position: usize) -> bool {
     position > 0 && position <= marks.len() && marks[position - 1]
 }

@@ -1,4 +1,4 @@
-//! Whether some statements are a part of others, and have assertions as these have them.
+//! Compares some statements with others that they should be a part of, with the same assertions.
 ghost use Rattle.std.specs.Prelude.{◌≡◌, ℕ, ◌+◌, ◌<◌, ◌∷◌, ◌++◌, [], map, length, true, IsTrue, IfOk, Some, slice_get};
 ghost use Rattle.mm_read.specs.Statements.{IsShaped, AreShaped};
 ghost use Rattle.scope.specs.Active.{bare, is_assertion, stmt_at};
@@ -15,18 +15,18 @@ use std::alloc::{AllocError, Global};
 /// How far both lists were walked.
 #[derive(Drop)]
 struct Walk {
-    /// Behind the statements of the whole that were passed.
+    /// The scope after the statements of the whole that were passed.
     whole: Scope,
-    /// Behind the statements of the part that were met.
+    /// The scope after the statements of the part that were met.
     part: Scope,
     /// How many these are.
     next: usize,
 }
 
-/// Whether the one statements are some of the others, in order, and have each assertion of these labels that the others have with
-/// its hypotheses and pairs.
+/// Returns whether the statements are some of the others, in order, and have each assertion of these labels that the others have
+/// with its hypotheses and pairs.
 ///
-/// Errors: a growth was refused. Cost: a pass over the rules of both, and the frames of these assertions.
+/// Errors: an allocation failed. Cost: a pass over the rules of both, and the frames of these assertions.
 pub(crate) fn is_extract(
     alloc: Global,
     whole: &[Stmt],
@@ -45,7 +45,7 @@ pub(crate) fn is_extract(
     is_walk(alloc, whole, part, labels, &mut walk)
 }
 
-/// Whether nothing speaks against it up to the end of both lists, from a walk that begins.
+/// Returns whether no difference is found up to the end of both lists, in a walk from the start.
 fn is_walk(
     alloc: Global,
     whole: &[Stmt],
@@ -66,7 +66,7 @@ fn is_walk(
     Ok(walk.next == part.len())
 }
 
-/// Goes on to the next statement of the whole; whether nothing speaks against it.
+/// Goes on to the next statement of the whole; returns whether no difference is found.
 fn advance(
     alloc: Global,
     whole: &[Stmt],
@@ -96,7 +96,7 @@ fn advance(
     pass_both(walk, statement, walk.next + 1)
 }
 
-/// Passes a statement that comes next in both; whether the scopes go on with it.
+/// Passes a statement that comes next in both; returns whether the scopes accept it.
 fn pass_both(walk: &mut Walk, statement: &Stmt, next: usize) -> Result<bool, AllocError>
     requires { IsShaped statement.now }
     ensures next { walk.new.next ≡ next }
@@ -110,7 +110,7 @@ fn pass_both(walk: &mut Walk, statement: &Stmt, next: usize) -> Result<bool, All
     accepts(&mut walk.whole, statement)
 }
 
-/// Whether the scope goes on with the statement.
+/// Returns whether the scope accepts the statement.
 fn accepts(scope: &mut Scope, statement: &Stmt) -> Result<bool, AllocError>
     requires { IsShaped statement.now }
     ensures { IfOk result (λ yes. yes ≡ true → scope.new.statements ≡ scope.old.statements ++ bare statement.now ∷ []) }
@@ -122,7 +122,7 @@ fn accepts(scope: &mut Scope, statement: &Stmt) -> Result<bool, AllocError>
     }
 }
 
-/// Whether it is an assertion of one of these labels.
+/// Returns whether it is an assertion of one of these labels.
 fn is_wanted(statement: &Stmt, labels: &[&str]) -> bool
     ensures { result ≡ wanted (map (λ label. label.now) labels.now) statement.now }
 {
@@ -133,7 +133,7 @@ fn is_wanted(statement: &Stmt, labels: &[&str]) -> bool
     }
 }
 
-/// Whether the statement stands there.
+/// Returns whether the statement stands there.
 fn is_at(statements: &[Stmt], index: usize, statement: &Stmt) -> bool
     ensures stands { result ≡ true → slice_get statements.now index ≡ Some statement.now }
     ensures within { result ≡ true → index < length statements.now }
@@ -144,7 +144,7 @@ fn is_at(statements: &[Stmt], index: usize, statement: &Stmt) -> bool
     }
 }
 
-/// Whether a statement that comes next in both has the same hypotheses and pairs, where it is an assertion that is wanted.
+/// Returns whether a statement that comes next in both has the same hypotheses and pairs, where it is an assertion that is wanted.
 fn agrees(
     alloc: Global,
     whole: &[Stmt],
@@ -164,7 +164,7 @@ fn agrees(
     Ok(same_frame(whole, part, &one, &other))
 }
 
-/// Whether two frames have the same statements as hypotheses, and the same lists of variables.
+/// Returns whether two frames have the same statements as hypotheses, and the same lists of variables.
 fn same_frame(whole: &[Stmt], part: &[Stmt], one: &Frame, other: &Frame) -> bool
     ensures positions { result ≡ true → map (stmt_at whole.now) one.now.hypotheses ≡ map (stmt_at part.now) other.now.hypotheses }
     ensures groups { result ≡ true → one.now.groups ≡ other.now.groups }
@@ -173,7 +173,7 @@ fn same_frame(whole: &[Stmt], part: &[Stmt], one: &Frame, other: &Frame) -> bool
         && same_groups(one.groups(), other.groups())
 }
 
-/// Whether the same statements stand at these positions.
+/// Returns whether the same statements stand at these positions.
 fn same_positions(whole: &[Stmt], part: &[Stmt], one: &[usize], other: &[usize]) -> bool
     ensures { result ≡ true → map (stmt_at whole.now) one.now ≡ map (stmt_at part.now) other.now }
 {
@@ -188,7 +188,7 @@ fn same_positions(whole: &[Stmt], part: &[Stmt], one: &[usize], other: &[usize])
     true
 }
 
-/// Whether a statement stands at the one position, and the same at the other.
+/// Returns whether a statement stands at the first position, and the same at the second.
 fn same_place(whole: &[Stmt], part: &[Stmt], one: usize, other: usize) -> bool
     ensures { result ≡ true → stmt_at whole.now one ≡ stmt_at part.now other }
 {
@@ -201,7 +201,7 @@ fn same_place(whole: &[Stmt], part: &[Stmt], one: usize, other: usize) -> bool
     }
 }
 
-/// Whether the lists of variables are the same.
+/// Returns whether the lists of variables are the same.
 fn same_groups(one: &[Words], other: &[Words]) -> bool
     ensures { result ≡ true → one.now ≡ other.now }
 {
@@ -216,7 +216,7 @@ fn same_groups(one: &[Words], other: &[Words]) -> bool
     true
 }
 
-/// Whether it is the same statement.
+/// Returns whether it is the same statement.
 fn same_statement(one: &Stmt, other: &Stmt) -> bool
     ensures { result ≡ true → one.now ≡ other.now }
 {
@@ -239,7 +239,7 @@ fn same_statement(one: &Stmt, other: &Stmt) -> bool
     }
 }
 
-/// The same of statements with labels.
+/// Returns whether statements with labels are the same.
 fn same_labelled(one: &Stmt, other: &Stmt) -> bool
     ensures { result ≡ true → one.now ≡ other.now }
 {

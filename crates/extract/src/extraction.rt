@@ -1,4 +1,4 @@
-//! What is taken out of a library.
+//! Extracts assertions from a library.
 ghost use Rattle.std.specs.Prelude.{◌≡◌, ◌⊎◌, [], map, Err, IfOk, IfErr};
 ghost use Rattle.extract.specs.declared.fault.ExtractFault.{ExtractFault as Fault};
 ghost use Rattle.extract.specs.Wanted.{AreRight, IsFirstWrong};
@@ -13,10 +13,10 @@ use library::{Entry, Library, Submission};
 use mm_read::push_line;
 use std::alloc::{AllocError, Global};
 
-/// Statements of the library with the assertions of these labels, in the export form: those with all that their proofs use, and
-/// little else.
+/// Returns statements of the library with the assertions of these labels, in the export form: those with all that their proofs
+/// use, and little else.
 ///
-/// Errors: what is wrong with the first label that is no assertion's or that stands before, also where every growth is refused;
+/// Errors: what is wrong with the first label that is no assertion's or that stands before, even if every allocation fails;
 /// `Memory` in place of an answer alone. Cost: that of the proofs taken, and a pass over the rules of all statements.
 /// Source: Metamath, 4.2.
 pub fn extract(alloc: Global, library: &Library, labels: &[&str]) -> Result<Vec<u8>, ExtractFault>
@@ -30,7 +30,7 @@ pub fn extract(alloc: Global, library: &Library, labels: &[&str]) -> Result<Vec<
     }
 }
 
-/// The text of the chosen statements where they are enough, and else of all.
+/// Returns the text of the chosen statements if they are enough, and else of all.
 fn taken(alloc: Global, library: &Library, labels: &[&str]) -> Result<Vec<u8>, AllocError>
     requires { AreRight library.now.replica.statements [] (map (λ label. label.now) labels.now) }
     ensures { IfOk result (λ text. IsExtract library.now.replica.statements (map (λ label. label.now) labels.now) text.items) }
@@ -39,7 +39,7 @@ fn taken(alloc: Global, library: &Library, labels: &[&str]) -> Result<Vec<u8>, A
     taken_by(alloc, library, labels, &mut part)
 }
 
-/// The same by a library for the chosen statements, which stays empty where they are not good.
+/// Returns that text, by an empty library for the chosen statements, which stays empty if they are not good.
 fn taken_by(
     alloc: Global,
     library: &Library,
@@ -57,7 +57,7 @@ fn taken_by(
     }
 }
 
-/// The text of the chosen statements.
+/// Returns the text of the chosen statements.
 fn chosen(alloc: Global, library: &Library, labels: &[&str]) -> Result<Vec<u8>, AllocError> {
     let marks = choose(alloc, library, labels)?;
     let mut text = Vec::new(alloc);
@@ -69,7 +69,7 @@ fn chosen(alloc: Global, library: &Library, labels: &[&str]) -> Result<Vec<u8>, 
     Ok(text)
 }
 
-/// Adds the statements of a text, where they are good.
+/// Adds the statements of a text, if they are good.
 fn enter(text: Vec<u8>, part: &mut Library) -> Result<(), AllocError> {
     let text = Bytes::from_vec(text).map_err(AllocError::from)?;
     let entry = Entry::Text(Submission {

@@ -10,7 +10,7 @@ pub enum ExtractFault {
     NotAssertion,
     /// The label stands before in the list.
     SameLabel,
-    /// A growth was refused.
+    /// An allocation failed.
     Memory,
 }
 

@@ -1,8 +1,8 @@
 //! A database of some assertions of a library, with what they need and little else.
 //!
-//! The crate above uses `extract`: what it gives reads as good statements of the library, in their order, and has each named
+//! The crate above uses `extract`: the result reads as good statements of the library, in their order, and has each named
 //! assertion with its hypotheses and its mandatory pairs. Which statements are chosen is promised nowhere: the choice is judged by
-//! a library of its own and compared with the whole, and where anything is wanting the whole is given.
+//! a library of its own and compared with the whole, and if anything is missing the whole is returned.
 //!
 //! Reading order: `fault`, `wanted` (the labels), `cited` and `choice` (the statements), `comparison` (what is kept),
 //! `extraction`.

@@ -11,7 +11,7 @@ use crate::fault::ExtractFault;
 use frame::{Frames, is_assertion};
 use mm_read::Stmt;
 
-/// What is wrong with the first label that is no assertion's, or that stands before; none where nothing is. Takes no memory.
+/// Returns the fault of the first label that is no assertion's, or that stands before; `None` if there is none. Does not allocate.
 pub(crate) fn first_wrong(
     frames: &Frames,
     statements: &[Stmt],
@@ -33,7 +33,7 @@ pub(crate) fn first_wrong(
     None
 }
 
-/// What is wrong with a label behind others, if anything.
+/// Returns the fault of a label after others, or `None`.
 fn wrong(
     frames: &Frames,
     statements: &[Stmt],
@@ -58,7 +58,7 @@ fn wrong(
     }
 }
 
-/// Whether an assertion stands at the position.
+/// Returns whether an assertion stands at the position.
 fn is_assertion_at(statements: &[Stmt], at: usize) -> bool
     requires { (1 ≤ at) × (at ≤ length statements.now) }
     ensures { (s : Statement) → stmt_at statements.now at ≡ Some s → result ≡ is_assertion s }
@@ -66,7 +66,7 @@ fn is_assertion_at(statements: &[Stmt], at: usize) -> bool
     is_assertion(&statements[at - 1])
 }
 
-/// Whether the label stands among these.
+/// Returns whether the label stands among these.
 pub(crate) fn is_among(label: &[u8], labels: &[&str]) -> bool
     ensures { result ≡ has_name label.now (map (λ label. label.now) labels.now) }
 {
@@ -78,7 +78,7 @@ pub(crate) fn is_among(label: &[u8], labels: &[&str]) -> bool
     false
 }
 
-/// Whether the text has these bytes.
+/// Returns whether the text has these bytes.
 fn is_text(text: &str, bytes: &[u8]) -> bool
     ensures { result ≡ name_eq bytes.now text.now }
 {

@@ -1,4 +1,4 @@
--- Images that are apart: each two variables, one from each.
+-- Disjoint images: each two variables, one from each.
 use Rattle.frame.proofs.Words.{list_all, list_any, sym, ◌∙◌, ap, arith, true≢false, ◌≡◌, ℕ, ◌+◌, ◌<◌, Bool, true, false, not, ◌||◌, ◌&&◌, ◌==◌, take, List, [], ◌∷◌, zero, suc, length, map, get_or, refl, and_from, or_left, or_right, true_from_ne_false, list_all-map, list_all_more, list_all_at, Any-from_list_any}
 use Rattle.frame.proofs.Words.{Name, name_eq, has_name, Expr, Database, is_variable, name_same, all-has, is_pair, are_apart, AreBelow, is_variable_apart, is_symbol_apart}
 
@@ -39,17 +39,17 @@ pub all-true : {A : Type 0} (p : A → Bool) (xs : List A) → ((x : A) → p x 
 all-true p [] h = refl
 all-true p (x ∷ xs) h = ap (λ b. b && list_all p xs) (h x) ∙ all-true p xs h
 
--- a variable is apart from an expression as a symbol where it is so as a variable
+-- a variable is disjoint from an expression as a symbol if it is so as a variable
 pub symbol_variable : (S : Database) (u : Name) (f : Expr) → is_variable S u ≡ true → is_symbol_apart S f u ≡ is_variable_apart S u f
 symbol_variable S u f e = ap (λ b. list_all (λ v. not b || not (is_variable S v) || is_pair S u v) f) e
 
--- a symbol that is no variable is apart from each expression
+-- a symbol that is no variable is disjoint from each expression
 pub symbol_constant : (S : Database) (u : Name) (f : Expr) → is_variable S u ≡ false → is_symbol_apart S f u ≡ true
 symbol_constant S u f e = ap (λ b. list_all (λ v. not b || not (is_variable S v) || is_pair S u v) f) e ∙ all-true (λ v. true) f (λ v. refl)
 
 -- ---- two images
 
--- two symbols are kept apart where the first is no variable
+-- two symbols are disjoint where the first is no variable
 pub kept_by : (a b c : Bool) → a ≡ false → (not a || not b || c) ≡ true
 kept_by a b c e = rw e
 
@@ -67,7 +67,7 @@ module _ (S : Database) where
   abbrev is_good : Name → Name → Bool
   is_good u v = not (is_variable S u) || not (is_variable S v) || is_pair S u v
 
-  -- images that are apart: each two variables, one from each, are a pair
+  -- disjoint images: each two variables, one from each, are a pair
   pub pair_at : (e f : Expr) → are_apart S e f ≡ true → (u v : Name) → is_variable S u ≡ true → is_variable S v ≡ true
       → has_name u e ≡ true → has_name v f ≡ true → is_pair S u v ≡ true
   pair_at e f h u v p q in_e in_f =

@@ -46,7 +46,7 @@ same-lists (x ∷ xs) (y ∷ ys) a b f g =
     back p i (inr j) = j
     back p i (inl e) = let l = above-in y p ys b.0 i in let h = heads in absurd (omega (arith, l, e, h))
 
--- what rises has each position once
+-- a rising list has each position once
 pub once-each : (ps : List ℕ) (k j p : ℕ) → Ascends ps → slice_get ps k ≡ Some p → slice_get ps j ≡ Some p → k ≡ j
 once-each [] k j p a h g = cc
 once-each (q ∷ ps) zero zero p a h g = refl

@@ -25,7 +25,7 @@ module _ (S : Database) (a : ℕ) (s : Stmt) (legal : AllKept S) (is : HasAssert
   front-legal : AllKept T
   front-legal = kept-front S (a - 1) legal
 
-  -- what stands before the assertion stands in the whole database
+  -- a statement before the assertion stands in the whole database
   there : (A : Database) (t : Stmt) (B : Database) → T ≡ A ++ t ∷ B → stmt_at S (suc (length A)) ≡ Some t
   there A t B whole = (take-get (a - 1) (length A) S t (ap (λ w. slice_get w (length A)) whole ∙ stands-at A t B)).1
 
@@ -95,7 +95,7 @@ image-own S a (q ∷ σ) c p h = by (image-own S a σ c parts.1 h) (name_eq c q.
     by own false e = own
 
 module _ (S : Database) (a : ℕ) (s : Stmt) (b : IsBound S a s) (σ τ : Images) (p : OfVariables S a σ) (q : OfVariables S a τ) (same : premises S a s σ ≡ premises S a s τ) where
-  -- what the images make of a mandatory `$f`
+  -- the image of a mandatory `$f`
   premise-at : (ρ : Images) → OfVariables S a ρ → (x : Name) (f : HasFloat S (hypotheses (before S a) s) x) → slice_get (premises S a s ρ) f.place ≡ Some (f.constant ∷ image ρ x)
   premise-at ρ of x f =
       let fixed = image-own S a ρ f.constant of (b.first f.place f.position (Float f.label f.constant x) f.listed f.stands) in

@@ -86,11 +86,11 @@ ordered xs ys zs moved sorted is = subst (AreThose (λ p. In p xs)) (sym is) (re
   only = λ p i. contains-in p xs (Contains-permutation ys xs p (IsPermutation-sym xs ys moved) (Contains-from_dedup eqb ys p (in-contains p (dedup eqb ys) i)));
 })
 
--- what is put behind a list
+-- items that are appended to a list
 pub appended : (old more new : List ℕ) → new ≡ old ++ more → HasMore (λ p. In p more) old new
 appended old more new is = subst (HasMore (λ p. In p more) old) (sym is) (record { stays = λ p i. in-left p old more i; all = λ p i. in-right p old more i; only = λ p i. in-either p old more i })
 
--- one is put behind a list, and then others
+-- one item is appended to a list, and then others
 pub pushed-more : {q : ℕ} {old pushed new : List ℕ} (ys : List ℕ) → pushed ≡ old ++ q ∷ [] → HasMore (λ p. In p ys) pushed new → HasMore (λ p. In p (q ∷ ys)) old new
 pushed-more {q = q} {old = old} {new = new} ys is more = let put = subst (λ l. HasMore (λ p. In p ys) l new) is more in
     record { stays = λ p i. put.stays p (in-left p old (q ∷ []) i); all = λ p. ⊎_elim (λ e. put.stays p (last-in p q old (inl e))) (put.all p); only = λ p i. ⊎_elim (λ j. ⊎_elim (λ e. inr (inl e)) inl (last-out p q old j)) (λ k. inr (inr k)) (put.only p i) }
@@ -112,7 +112,7 @@ float-more k c q at list new b last some size stands is =
     }
     by false h = record { stays = λ p i. i; all = λ p f. absurd (true≢false (sym f.stands ∙ (ap (λ n. is_active (statements_of k) n (length (statements_of k) + 1)) (f.last ∙ sym last) ∙ h))); only = λ p i. inl i }
 
--- what was looked at before, and one symbol more
+-- the symbols that were looked at before, and one more
 pub looked-more : (es : List Entry) (S : Database) (looked : List ℕ) (c : ℕ) (old new : List ℕ) → HasMore (IsFloatOf es S c) old new → AreLooked es S looked old → AreLooked es S (looked ++ c ∷ []) new
 looked-more es S looked c old new more there d p h f =
     elim (or_cases (list_any (λ n. n == d) looked) (c == d || false) (sym (list_any-append (λ n. n == d) looked (c ∷ [])) ∙ h)) [
@@ -120,14 +120,14 @@ looked-more es S looked c old new more there d p h f =
       | inr q ↦ let same : c ≡ d = grind (arith, q) in more.all p (subst (λ x. IsFloatOf es S x p) (sym same) f)
     ]
 
--- ---- what is found of each element of a list, one after another
+-- ---- the items that are found of each element of a list, one after another
 
 -- the list with what is left has what the first list has with all
 pub record HasLeft (P : ℕ → ℕ → Type 0) (all left old new : List ℕ) : Type 0 where
   pub there : (p : ℕ) → In p old ⊎ OfSome P all p → In p new ⊎ OfSome P left p
   pub back : (p : ℕ) → In p new ⊎ OfSome P left p → In p old ⊎ OfSome P all p
 
--- what is found of one element is added, and the others are left
+-- the items that are found of one element are added, and the others are left
 pub left-step : {P : ℕ → ℕ → Type 0} {all whole left : List ℕ} {q : ℕ} {old mid new : List ℕ} → ((x : ℕ) → In x whole → (x ≡ q) ⊎ In x left) → ((x : ℕ) → (x ≡ q) ⊎ In x left → In x whole)
     → HasMore (P q) mid new → HasLeft P all whole old mid → HasLeft P all left old new
 left-step {P = P} {whole = whole} {left = left} {q = q} {mid = mid} {new = new} split join more h = record { there = λ p i. forth p (h.there p i); back = λ p i. h.back p (before p i) }

@@ -16,7 +16,7 @@ use Rattle.frame.proofs.NamedCodes.{coded, has-code, code-low, floats-is, is-flo
 use Rattle.frame.proofs.ActiveFloats.{rest-active, one-float, hyp-kind, ess-hyp, float-in-kind, float-of-kind, stays-behind, one-place}
 use Rattle.frame.proofs.LegalBehind.{stands-at}
 
--- ---- the mandatory hypotheses behind the first i statements
+-- ---- the mandatory hypotheses after the first i statements
 
 module _ (es : List Entry) (names labels : List Name) (i : ℕ) (all : AllKept (map (stmt_of names labels) es))
     (kept : (k : ℕ) (x : Entry) → slice_get es k ≡ Some x → is_essential (stmt_of names labels x) ≡ true → x.assertion.hypotheses ≡ floats_in (take k (map (stmt_of names labels) es)) (expr_of (stmt_of names labels x))) (s : Stmt) where
@@ -26,7 +26,7 @@ module _ (es : List Entry) (names labels : List Name) (i : ℕ) (all : AllKept (
   legal : AllKept S
   legal = kept-front (map (stmt_of names labels) es) i all
 
-  -- what is kept with an active `$e`
+  -- the hypotheses that are kept with an active `$e`
   ess-kept : (r : ℕ) (h : IsActiveAt S is_essential r) → kept_at es r ≡ floats_in h.front (expr_of h.stmt)
   ess-kept r h =
       let n = length h.front in
@@ -101,7 +101,7 @@ module _ (es : List Entry) (names labels : List Name) (i : ℕ) (all : AllKept (
   gathered-hypotheses list w =
       same-lists list (hypotheses S s) w.ascends (ascends-active (is_hypothesis S s) 1 S).1 (λ p i. given-hyp p (w.only p i)) (λ p i. w.all p (hyp-given p i))
 
--- ---- what is found by the numbers of the symbols
+-- ---- the hypotheses that are found by the numbers of the symbols
 
 module _ (es : List Entry) (names labels : List Name) (m : ℕ) (S : Database)
     (whole : S ≡ map (stmt_of names labels) es) (distinct : AreDistinct names) (numbered : AreNumbered (length names) m es) (all : AllKept S) where

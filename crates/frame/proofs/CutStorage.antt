@@ -33,7 +33,7 @@ positions-front n S =
     ap (take (length (labels_of (take n S)))) (ap (positions_from 1) (sym (take-append-drop n S)) ∙ positions_from-append 1 (take n S) (drop n S))
     ∙ take_at (positions_from 1 (take n S)) (positions_from (1 + length (take n S)) (drop n S)) (length (labels_of (take n S))) (length-positions 1 (take n S))
 
--- ---- what was done to the parts: the statement behind the first n is e
+-- ---- the changes of the parts: the statement after the first n is e
 
 pub record IsCut (names labels : List Name) (positions : List ℕ) (symbols : List Symbol) (entries : List Entry)
     (names' labels' : List Name) (positions' : List ℕ) (between symbols' : List Symbol) (replaced' : List ℕ) (entries' : List Entry) (links' : Links) (n : ℕ) (e : Entry) : Type 0 where
@@ -55,7 +55,7 @@ module _ {names labels : List Name} {positions : List ℕ} {symbols : List Symbo
   abbrev pub S : Database
   S = map (stmt_of names labels) entries
 
-  -- the entry behind the first n knows how many names and labels there were
+  -- the entry after the first n knows how many names and labels there were
   counts : KeepsCounts names labels entries n e
   counts = k.counts_kept n e p.at
 
@@ -150,7 +150,7 @@ module _ (k : Stock) (n : ℕ) (e : Entry) (stored : AreStored k) (at : slice_ge
   pub front-naming : IsNumberingOf (take n (statements_of k)) (naming_of (take n (statements_of k)))
   front-naming = naming-all (take n (statements_of k)) (kept-front (statements_of k) n stored.kept.legal)
 
-  -- the entry behind them tells how many names it has
+  -- the entry after them tells how many names it has
   pub numbering-front : take (e.names + e.label) k.numbering ≡ naming_of (take n (statements_of k))
   numbering-front =
       let counts = stored.kept.counts_kept n e at in
@@ -160,7 +160,7 @@ module _ (k : Stock) (n : ℕ) (e : Entry) (stored : AreStored k) (at : slice_ge
 
 -- ---- taken back, everything is as before
 
--- what was left behind, and what it was cut to
+-- the contents that remained, and those after truncation
 pub record IsTakenBack (old mid new : Stock) : Type 0 where
   pub behind : IsBehind old mid
   pub numbering_cut : new.numbering ≡ take (length old.numbering) mid.numbering

@@ -14,14 +14,14 @@ get-set (y ∷ xs) zero (suc c) new x g = let no : nat_eq (suc c) zero ≡ false
 get-set (y ∷ xs) (suc k) zero new x g = let no : nat_eq zero (suc k) ≡ false = grind arith in g ∙ ap (λ b. Some (cond b new x)) (sym no)
 get-set (y ∷ xs) (suc k) (suc c) new x g = let same : nat_eq c k ≡ nat_eq (suc c) (suc k) = grind arith in get-set xs k c new x g ∙ ap (λ b. Some (cond b new x)) same
 
--- the last declaration of a symbol is the one that was noted last
+-- the last declaration of a symbol is the one that was recorded last
 noted-again : (kind : Kind) (n : ℕ) (y : Symbol) (any : Bool) → with_last kind n (noted kind y n any) ≡ noted kind y n (any || true)
 noted-again Float n y true = refl
 noted-again Float n y false = refl
 noted-again kind n y true = refl
 noted-again kind n y false = refl
 
--- one symbol noted, by what is noted of each: the others stay
+-- one symbol recorded, by the record for each: the others stay
 pub note-step : (kind : Kind) (xs : List Symbol) (k c v : ℕ) (r y : Symbol) (x : ℕ → ℕ) (any : Bool) → slice_get xs c ≡ Some (noted kind y (x c) any) → r ≡ get_or xs k r → v ≡ x k
     → slice_get (slice_set xs k (with_last kind v r)) c ≡ Some (noted kind y (x c) (any || nat_eq c k))
 note-step kind xs k c v r y x any g e h = get-set xs k c (with_last kind v r) (noted kind y (x c) any) g ∙ by (nat_eq c k) refl
@@ -39,7 +39,7 @@ last_from-push test found at (d ∷ es) e =
     last_from-push test (cond (test d) at found) (at + 1) es e
     ∙ ap (λ n. cond (test e) n (last_from test (cond (test d) at found) (at + 1) es)) (place at (length es))
 
--- what one more statement declares, by what it says of a symbol
+-- the declarations of one more statement, by its effect on a symbol
 declared-is : (kind : Kind) (codes : List ℕ) (c at f v : ℕ)
     → ◌≡◌ {A = Symbol} (record { float = cond (is_float_kind kind && second_is c codes) at f; variable = cond (is_var_kind kind && list_any (nat_eq c) codes) at v }) (with_declared kind codes at c (record { float = f; variable = v }))
 declared-is Float (a ∷ b ∷ codes) c at f v = by (nat_eq c b)
@@ -55,7 +55,7 @@ declared-is Var codes c at f v = by (list_any (nat_eq c) codes)
     by false = refl
 declared-is kind codes c at f v = refl
 
--- the last declarations behind one more entry
+-- the last declarations after one more entry
 pub symbol_of-push : (es : List Entry) (e : Entry) (c : ℕ) → symbol_of (es ++ e ∷ []) c ≡ with_entry e (1 + length es) c (symbol_of es c)
 symbol_of-push es e c = rw (last_from-push (floats c) 0 1 es e, last_from-push (declares c) 0 1 es e) (declared-is e.kind e.symbols c (1 + length es) _ _)
 
@@ -76,7 +76,7 @@ replaced_of-push es e = replaced-push [] es e
 
 -- ---- one entry less
 
--- what a statement that declares these symbols replaced is restored
+-- the declarations that a statement with these symbols replaced are restored
 pub restored : (old new : List Symbol) (kind : Kind) (codes olds : List ℕ) (x : ℕ → Symbol) (at : ℕ) → olds ≡ map (λ c. last_of kind (x c)) codes
     → ((y : ℕ → ℕ) → olds ≡ map y codes → (c : ℕ) (s : Symbol) → slice_get old c ≡ Some s → slice_get new c ≡ Some (noted kind s (y c) (list_any (λ k. nat_eq c k) codes)))
     → length new ≡ length old → ReadsAs old (λ c. noted kind (x c) at (list_any (nat_eq c) codes)) → ReadsAs new x
@@ -89,7 +89,7 @@ restored old new kind codes olds x at h each n reads c lt =
     back kind s true = refl
     back kind s false = refl
 
--- the loop's step: what one more symbol's declaration replaces is noted
+-- the loop's step: what one more symbol's declaration replaces is recorded
 pub note-more : (kind : Kind) (symbols : List Symbol) (codes : List ℕ) (x : ℕ → Symbol) (i v : ℕ) (d : Symbol) (old here new : List ℕ) → i < length codes → get_or codes i 0 < length symbols → ReadsAs symbols x
     → here ≡ old ++ map (λ c. last_of kind (x c)) (take i codes) → v ≡ last_of kind (get_or symbols (get_or codes i 0) d) → new ≡ here ++ v ∷ []
     → new ≡ old ++ map (λ c. last_of kind (x c)) (take (i + 1) codes)
@@ -111,7 +111,7 @@ left {whole = whole} {all = all} n e p size some got =
     let more : whole ≡ take (n - 1) all ++ e ∷ p.0 = p.1 ∙ (ap (λ r. r ++ p.0) is ∙ append_assoc (take (n - 1) all) (e ∷ []) p.0) in
     record { is = is; extends = (e ∷ p.0, more); here = ap (λ r. slice_get r (length (take (n - 1) all))) more ∙ stands-at (take (n - 1) all) e p.0 }
 
--- what was noted last, as a slice
+-- the last recorded declarations, as a slice
 pub noted-last : (all front last w : List ℕ) (size count : ℕ) → w ≡ all → all ≡ front ++ last → size ≡ length all → length last ≡ count
     → take (length w - (size - count)) (drop (size - count) w) ≡ last
 noted-last all front last w size count same h n m =

@@ -3,7 +3,7 @@ use Rattle.frame.proofs.Words.{list_all, sym, ◌∙◌, ap, subst, arith, take-
 use Rattle.frame.proofs.Words.{Name, name_eq, has_name, Stmt, Const, Database, constants, variables, was_symbol, was_variable, with_name, with_names, AreCodes, AreDistinct, Declared, declared_symbols, kind_in, is_constant_kind, TellsAll, symbols_by, symbols_from, symbols_of, has_name-append, symbols_of-later, symbols-distinct, was_symbol-either, AreBelow, Stock, is_declared, AreStored, names_in, statements_of}
 use Rattle.mm_read.specs.declared.stmt.Stmt.TheVariants.{Var}
 
--- the names of a storage are told apart
+-- the names of a storage are distinct
 pub stored-distinct : (k : Stock) → AreStored k → AreDistinct (names_in k)
 stored-distinct k stored = subst AreDistinct (sym stored.kept.names_kept) (symbols-distinct (statements_of k))
 
@@ -21,7 +21,7 @@ codes-below names (c ∷ codes) h =
 
 -- ---- a name of another kind
 
--- what a statement declares is a constant or a variable
+-- a symbol that a statement declares is a constant or a variable
 by-unnamed : (s : Stmt) (x : Name) → (has_name x (constants s) || has_name x (variables s)) ≡ false → has_name x (symbols_by s) ≡ false
 by-unnamed (Const names) x h = sym (or-false (has_name x names)) ∙ h
 by-unnamed (Var names) x h = h

@@ -13,7 +13,7 @@ use Rattle.frame.proofs.BlockWalkLemmas.{get-take, take-one, last-within, active
 
 -- ---- the last open block
 
--- it has nothing open behind it
+-- it has nothing open after it
 last-open : (S : Database) (b : ℕ) → last_active is_open S ≡ suc b → (stays_open 0 (drop (suc b) S) ≡ true) × (left_open (drop (suc b) S) ≡ 0)
 last-open S b e = by (split_last is_open S)
   where
@@ -24,7 +24,7 @@ last-open S b e = by (split_last is_open S)
         let rest : drop (suc b) S ≡ p.2 = ap (λ m. drop m S) n ∙ (ap (drop (suc (length p.0))) p.3.cut ∙ drop-front p.0 p.1 p.2) in
         (ap (stays_open 0) rest ∙ p.3.stays, ap left_open rest ∙ (left-count 0 p.2 ∙ ap length (p.3.alone 0)))
 
--- an open block with nothing open behind it is the last one
+-- an open block with nothing open after it is the last one
 open-last : (S : Database) (b : ℕ) (t : Stmt) → slice_get S b ≡ Some t → is_open t ≡ true → stays_open 0 (drop (suc b) S) ≡ true → left_open (drop (suc b) S) ≡ 0 → last_active is_open S ≡ suc b
 open-last S b t g o h z =
     let l : IsLast is_open S (take b S) t (drop (suc b) S) = record { cut = cut-here S b t g; of_kind = o; stays = h; alone = λ at. nil_from_length _ (sym (left-count at (drop (suc b) S)) ∙ z) } in
@@ -65,7 +65,7 @@ module _ (S : Database) (b block : ℕ) (t : Stmt) (get : slice_get S b ≡ Some
 
 -- ---- the end of one block
 
--- what is open has no end
+-- an open block has no end
 end-none : (d at : ℕ) (U : Database) → stays_open d U ≡ true → end_from d at U ≡ 0
 end-none d at [] h = refl
 end-none d at (Open ∷ U) h = end-none (suc d) (at + 1) U h
@@ -95,7 +95,7 @@ end-low zero at (Close ∷ U) = grind arith
 end-low (suc d) at (Close ∷ U) = lower at (end_from d (at + 1) U) (end-low d (at + 1) U)
 end-low d at (s ∷ U) = lower at (end_from d (at + 1) U) (end-low d (at + 1) U)
 
--- behind the first k statements the block is open where it has no end there
+-- after the first k statements the block is open where it has no end there
 end-tells : (d at k : ℕ) (U : Database) → 1 ≤ at → stays_open d (take k U) ≡ (end_from d at U == 0 || nat_le (at + k) (end_from d at U))
 end-tells d at zero U one = sym (ap (λ n. end_from d at U == 0 || nat_le n (end_from d at U)) (add-zero at) ∙ end-low d at U)
 end-tells d at (suc k) [] one = refl
@@ -111,7 +111,7 @@ length-with kind.Close zero at ends = refl
 length-with kind.Close (suc b) at ends = length-set ends b at
 length-with q block at ends = refl
 
--- what a statement notes is the end of the block that it ends
+-- a statement records the end of the block that it ends
 noted-end : (ends : List ℕ) (s : Stmt) (block at b : ℕ) → b < length ends → get_or (with_end (kind_of s) block at ends) b 0 ≡ cond (is_close s && nat_eq block (suc b)) at (get_or ends b 0)
 noted-end ends Close zero at b lt = let no : nat_eq zero (suc b) ≡ false = grind arith in rw no refl
 noted-end ends Close (suc k) at b lt = by (cases_eq b k)
@@ -159,7 +159,7 @@ tells-less ends S s block n told is b t g opens =
     noted-end ends s block 0 b (omega (arith, n, lt))
     ∙ (ap (cond (is_close s && nat_eq block (suc b)) 0) (told b t (get-more S (s ∷ []) b t g) opens) ∙ sym (end-step S b block t s g opens is).1)
 
--- ---- what is active by the ends
+-- ---- the active statements by the ends
 
 plain-deficit : (s : Stmt) (T : Database) → is_open s ≡ false → is_close s ≡ false → deficit (s ∷ T) ≡ deficit T
 plain-deficit Open T o c = cc

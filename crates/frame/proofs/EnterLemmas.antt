@@ -50,7 +50,7 @@ pub essential-bare : (s : Stmt) → is_essential (bare s) ≡ is_essential s
 essential-bare (stmt.Prove label expr proof) = refl
 essential-bare s = refl
 
--- what was declared of a statement, and what was noted of it before and after
+-- the declarations of a statement, and the numbers recorded of it before and after
 pub record IsEntered (old new : Stock) (s : Stmt) (h : Head) (before after : Option (List ℕ)) : Type 0 where
   pub stored : AreStored old
   pub legal : IsLegal (statements_of old) s
@@ -98,7 +98,7 @@ pub not-essential : (s : Stmt) → is_assertion s ≡ true → is_essential s �
 not-essential (stmt.Ess label expr) a e = cc
 not-essential s a e = cc
 
--- what is kept with each `$e`
+-- the hypotheses that are kept with each `$e`
 pub essentials-kept : (k : Stock) → AreStored k → (i : ℕ) (x : Entry) → slice_get k.entries i ≡ Some x → is_essential (stmt_of (names_in k) (labels_in k) x) ≡ true
     → x.assertion.hypotheses ≡ floats_in (take i (statements_of k)) (expr_of (stmt_of (names_in k) (labels_in k) x))
 essentials-kept k stored i x h e =
@@ -109,14 +109,14 @@ essentials-kept k stored i x h e =
     by Ess g = refl
     by kind g = cc
 
--- ---- what was done to the parts of the storage
+-- ---- the changes of the parts of the storage
 
 variable-numbers : (names : List Name) (s : Stmt) (codes : List ℕ) → AreNumbers names (symbols_in s) codes → AreVariableNumbers names s codes
 variable-numbers names (stmt.Var xs) codes n = n
 variable-numbers names (stmt.Float label constant variable) codes n = n
 variable-numbers names s codes n = tt
 
--- what became of the parts of the storage
+-- the parts of the storage after the call
 pub record IsExtended (old new : Stock) (s : Stmt) (h : Head) (a : Assertion) (codes : List ℕ) (kind : Kind) (at : ℕ) (symbols : List Symbol) (replaced : List ℕ) (entries : List Entry) (links : Links) : Type 0 where
   pub grown : Grown old new
   pub room : HasRoom new

@@ -1,4 +1,4 @@
--- Names told apart, and statements by their kinds.
+-- Distinct names, and statements by their kinds.
 use Rattle.frame.proofs.Words.{◌&&◌, is_float_kind, second_is, sym, ◌∙◌, ap, subst, arith, take-take, ◌≡◌, ℕ, zero, suc, ◌-◌, ◌<◌, true, List, [], ◌∷◌, length, map, take, slice_get, Option, Some, option_map, refl, same_Some, slice_get-map}
 use Rattle.frame.proofs.Words.{Name, Stmt, Database, expr_of, is_assertion, IsLegal, name_at, decode, AreDistinct, is_hypothesis, AreBelow, head_of, IsHead, IsOf, Kind, Float, Ess, Axiom, Prove, Entry, stmt_by, AreNumbered, HasTwo, is_typed_by, asked_by, take-get, code-at}
 use Rattle.frame.proofs.LegalLabels.{AllKept}
@@ -25,7 +25,7 @@ kept-front all n legal (suc k) t h =
     let one : suc k - 1 ≡ k = omega arith in
     subst (λ D. IsLegal D t) (ap (λ j. take j all) one ∙ (sym (take-take k n all (omega (arith, l))) ∙ ap (λ j. take j (take n all)) (sym one))) (legal (suc k) t r.1)
 
--- ---- names told apart
+-- ---- distinct names
 
 pub name_at-injective : (names : List Name) (i j : ℕ) → AreDistinct names → i < length names → j < length names → name_at names i ≡ name_at names j → i ≡ j
 name_at-injective names i j d h k e = same_Some i j (sym (code-at names (name_at names i) i d h refl) ∙ code-at names (name_at names i) j d k (sym e))

@@ -12,11 +12,11 @@ some-map None P Q f p = p
 -- ---- an assertion that is there
 
 module _ (k : Stock) (a i : ℕ) (s : Stmt) (e : Entry) (stored : AreStored k) (asserts : is_assertion s ≡ true) (t : IsThere k a i s e) where
-  -- what stands before it
+  -- the statements before it
   abbrev T : Database
   T = take (a - 1) (statements_of k)
 
-  -- what is kept with it, by whether its parts are whole
+  -- the hypotheses that are kept with it, by whether its parts are whole
   pub kept-by : (b : Bool) → e.assertion.whole ≡ b → e.assertion.hypotheses ≡ kept_with b T s
   kept-by b w = t.kept.hypotheses_kept ∙ ap (λ whole. kept_with whole T s) w
 
@@ -25,7 +25,7 @@ module _ (k : Stock) (a i : ℕ) (s : Stmt) (e : Entry) (stored : AreStored k) (
   mandatory-own w list l =
       gathered-hypotheses k.entries (names_in k) (labels_in k) (a - 1) stored.kept.legal (essentials-kept k stored) s list (subst (λ own. AreWith k.entries T own list) (kept-by false w) l)
 
-  -- what is said of its hypotheses, and its groups
+  -- the kinds of its hypotheses, and its groups
   pub spread-lists : (ps : List ℕ) (d : Assertion) → IsSpread k.entries T ps d → ps ≡ hypotheses T s → AreListsOf (statements_of k) (names_in k) a d s
   spread-lists ps d p h =
       there-lists k a i s e d stored asserts t (spread-kept k.entries T s ps d h (not-essential s asserts) p) p.is_whole

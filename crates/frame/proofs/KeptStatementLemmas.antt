@@ -66,7 +66,7 @@ module _ (es : List Entry) (names labels : List Name) (m a : ℕ) (e : Entry) (d
   own-hyps : AreHyps front_of own d.hypotheses
   own-hyps = subst (AreHyps front_of own) (sym hyps-are) (hyps front_of own)
 
-  -- ---- what is asked of the results
+  -- ---- the results that are required
 
   one-asked : (p : ℕ) → IsHyp front_of own p → IsAsked all names p (head_at es p) (asked_at es p)
   one-asked p h =
@@ -180,7 +180,7 @@ module _ (es : List Entry) (names labels : List Name) (m a : ℕ) (e : Entry) (d
       by true more = (typed-low (symbols_at es q.0) (symbols-low q.0), more)
       by false more = more
 
-  -- ---- what is read of it
+  -- ---- the parts that are read of it
 
   pub kept-lists : AreListsOf all names a d own
   kept-lists = record {

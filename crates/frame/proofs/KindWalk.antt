@@ -52,7 +52,7 @@ variable_chain = record { no_close = refl; tells = λ S. refl }
 pub essential_chain : IsChain is_essential (λ l. l.essential)
 essential_chain = record { no_close = refl; tells = λ S. refl }
 
--- those of the kind that are active behind the first p statements
+-- those of the kind that are active after the first p statements
 abbrev pub walked : (Stmt → Bool) → Stock → ℕ → List (ℕ × Stmt)
 walked kind k p = actives kind (take p (statements_of k))
 
@@ -61,7 +61,7 @@ pub record IsAt (kind : Stmt → Bool) (k : Stock) (p : ℕ) : Type 0 where
   pub within : p ≤ length k.entries
   pub last : p ≡ last_active kind (take p (statements_of k))
 
--- the last one of those behind the first m stands at p
+-- the last one of those after the first m stands at p
 pub record IsFrom (kind : Stmt → Bool) (k : Stock) (m p : ℕ) : Type 0 where
   pub at : IsAt kind k p
   pub low : p ≤ m

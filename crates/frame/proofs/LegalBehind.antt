@@ -1,11 +1,11 @@
--- What a legal statement keeps of what stands before it; a constant is never a variable.
+-- A legal statement and the statements before it; a constant is never a variable.
 use Rattle.frame.proofs.Words.{sym, ◌∙◌, ap, subst, arith, ◌≡◌, suc, ◌-◌, true, false, not, List, [], ◌∷◌, ◌++◌, length, take, Option, Some, slice_get, refl, take-append_seam, not-false, false_from_ne_true, Name, Stmt, Database, G1, G2, G3, G4, G5, G6, G7, G8, G9, G10, stmt_at, before, is_variable, is_constant, Tells, kind_in, is_constant_kind, is_variable_kind, IsLegal, keeps, active-was, is_variable-active, naming_of}
 use Rattle.scope.specs.declared.numbering.NameKind.{NameKind}
 use Rattle.scope.specs.declared.numbering.NameKind.TheVariants.{Constant}
 use Rattle.frame.proofs.LegalLabels.{AllKept, all-fail}
 use Rattle.frame.proofs.NamingLemmas.{naming-all}
 
--- ---- what a legal statement keeps
+-- ---- the properties of a legal statement
 
 pub record Keeps (S : Database) (s : Stmt) : Type 0 where
   pub g5 : keeps S s G5 ≡ true
@@ -23,7 +23,7 @@ legal-keeps S s h =
       g9 = not-false (keeps S s G9) r.1.1.1.1.1.1.1.1.0;
     }
 
--- the element behind a front stands at the front's length
+-- the element after a front stands at the front's length
 pub stands-at : {X : Type 0} (A : List X) (t : X) (B : List X) → slice_get (A ++ t ∷ B) (length A) ≡ Some t
 stands-at [] t B = refl
 stands-at (a ∷ A) t B = stands-at A t B

@@ -1,8 +1,8 @@
--- What the verifier uses of legal statements.
+-- The properties of legal statements that the verifier uses.
 use Rattle.frame.proofs.Words.{sym, ◌∙◌, ap, arith, ◌≡◌, ℕ, zero, suc, ◌-◌, ◌<◌, Bool, true, false, not, cond, ◌||◌, List, [], ◌∷◌, take, Some, None, slice_get, refl, get_or-take, length-take, bytes_eq-Decides, list_any_at, slice_get_within, get_or_from_slice_get, Name, Stmt, Database, find, G1, G2, G3, G4, G5, G6, G7, G8, G9, G10, stmt_at, before, label_of, has_label, was_label, was_symbol, IsLegal, keeps, is_fresh_label, Carries, HasLabelsOnce}
 use Rattle.mm_read.specs.declared.stmt.Stmt.TheVariants.{Float}
 
--- each statement is legal behind those before it
+-- each statement is legal after the earlier ones
 abbrev pub AllKept : Database → Type 0
 AllKept S = (j : ℕ) (s : Stmt) → stmt_at S j ≡ Some s → IsLegal (before S j) s
 
@@ -23,7 +23,7 @@ all-fail p (x ∷ xs) h = by (p x) refl h (all-fail p xs)
 keeps_label : (S : Database) (s : Stmt) → IsLegal S s → not (keeps S s G4) ≡ false
 keeps_label S s h = (all-fail (λ rule. not (keeps S s rule)) (G1 ∷ G2 ∷ G3 ∷ G4 ∷ G5 ∷ G6 ∷ G7 ∷ G8 ∷ G9 ∷ G10 ∷ []) h).1.1.1.0
 
--- what is neither of two is not the first
+-- a value that is neither of two is not the first
 not_or : (a b : Bool) → not (not (a || b)) ≡ false → a ≡ false
 not_or true b h = cc
 not_or false b h = refl

@@ -1,4 +1,4 @@
--- What is active behind one statement more, by its kind; cutting a list where an element stands.
+-- The active statements after one statement more, by kind; cutting a list where an element stands.
 use Rattle.frame.proofs.Words.{sym, ◌∙◌, ap, arith, inl, inr, append-nil, length-take-le, ◌≡◌, ℕ, zero, suc, ◌+◌, ◌-◌, Bool, true, false, cond, List, [], ◌∷◌, ◌++◌, length, take, drop, slice_get, Some, refl, take-append_seam, slice_get_within, Stmt, Database, is_open, is_close, is_essential, actives, last_position, last_active, links_of, is_var, is_disj, Links, Kind, kind_of, next_links}
 use Rattle.frame.proofs.OpenLemmas.{HasLast, IsNoClose, split_last, last-position, last_position-push, actives-append, stays-from, close-actives, close-outside}
 use Rattle.entries.specs.declared.kind.Kind.TheVariants.{Close}
@@ -29,7 +29,7 @@ last-push kind S s c = ap last_position (actives-push kind S s c) ∙ by (kind s
     by true = last_position-push (actives kind S) (1 + length S, s)
     by false = ap last_position (append-nil (actives kind S))
 
--- behind a `$}` those are active that were in front of the `${`
+-- after a `$}` those are active that were in front of the `${`
 pub actives-close : (kind : Stmt → Bool) (S : Database) → IsNoClose kind → actives kind (S ++ stmt.Close ∷ []) ≡ actives kind (take (last_active is_open S - 1) S)
 actives-close kind S n = by (split_last is_open S)
   where

@@ -13,7 +13,7 @@ hypothesis-at es (p ∷ ps) (suc k) h l = hypothesis-at es ps k h.1 (omega (arit
 
 -- ---- the groups, from the last `$d` back
 
--- those noted are those of the `$f`
+-- those recorded are those of the `$f`
 pub noted-typed : (ns : List ℕ) (hs : List Hypothesis) → ((c : ℕ) → list_any (λ n. n == c) ns ≡ is_typed hs c) → (codes : List ℕ) → noted_in ns codes ≡ typed hs codes
 noted-typed ns hs h [] = refl
 noted-typed ns hs h (c ∷ codes) = rw (h c, noted-typed ns hs h codes) refl

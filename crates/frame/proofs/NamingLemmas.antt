@@ -1,4 +1,4 @@
--- What the names that statements declare are.
+-- The kinds of the names that statements declare.
 use Rattle.frame.proofs.Words.{sym, ◌∙◌, ap, subst, arith, append-nil, append_assoc, take-append-drop, ◌≡◌, ℕ, suc, ◌+◌, List, [], ◌∷◌, ◌++◌, length, take, drop, ◌-◌, Result, Ok, Err, OnOk, OnErr, slice_get, refl, take-append_seam}
 use Rattle.frame.proofs.Words.{Name, Stmt, Database, declared_with, IsLegal, symbols_of, labels_of, Declared, declared_symbols, declared_labels, is_symbol_kind, IsNumberingOf, declared_with-more, numbering-after, symbols_of-later, names_that-append, Extends, statements_of, AreAllLegal, naming_from, naming_of, Stock, AreStored, get-more, get-last}
 use Rattle.scope.proofs.KindCountLemmas.{both-counts}
@@ -30,7 +30,7 @@ naming_of-front n S =
 pub symbols-extend : (old new : Declared) → Extends old new → Extends (declared_symbols old) (declared_symbols new)
 symbols-extend old new p = (declared_symbols p.0, ap declared_symbols p.1 ∙ names_that-append is_symbol_kind old p.0)
 
--- ---- of legal statements
+-- ---- for legal statements
 
 naming-later : (S T : Database) (names : Declared) → AreAllLegal (S ++ T) → IsNumberingOf S names → IsNumberingOf (S ++ T) (naming_from names T)
 naming-later S [] names all n = subst (λ (R : Database). IsNumberingOf R names) (sym (append-nil S)) n

@@ -1,4 +1,4 @@
--- What is gathered from what stands is the frame of the definition.
+-- The frame gathered from the active statements is the frame of the definition.
 use Rattle.frame.proofs.Words.{list_any, flat_map, position_or_len, ◌∙◌, ap, sym, arith, inl, inr, ◌≡◌, ℕ, ◌<◌, ◌≤◌, Bool, true, false, cond, ◌&&◌, ◌||◌, List, [], ◌∷◌, ◌++◌, map, filter, length, refl, Some, None, is_some, nat_lt, or-false, cases_lt}
 use Rattle.frame.proofs.Words.{Name, name_eq, has_name, Stmt, Database, Expr, active, separated, expr_of, is_essential, is_variable, name_at, code_of, has-at, same_name, lt-list_any, has_name-append, FrameParts, is_mandatory, is_hypothesis, hypotheses, groups, mandatory_groups, separates, AreMandatory, is_in_essential, asks, asked, among, groups_among}
 use mathlib.Core.Path.{fun_ext}
@@ -29,7 +29,7 @@ any-standing x [] = refl
 any-standing x ((at, Ess label expr) ∷ es) = ap (λ b. has_name x expr || b) (any-standing x es)
 any-standing x ((at, t) ∷ es) = any-standing x es
 
--- the assertion's own variables are noted, and the `$e` are left
+-- the assertion's own variables are recorded, and the `$e` are left
 pub noted-start : (S : Database) (s : Stmt) (x : Name)
     → ((false || (is_variable S x && has_name x (expr_of s))) || (is_variable S x && list_any (is_in_essential x) (standing_of S))) ≡ is_mandatory S s x
 noted-start S s x =

@@ -1,8 +1,8 @@
--- What stays open when statements are put behind others, and the last active statement of a kind.
+-- Blocks that stay open when statements are appended, and the last active statement of a kind.
 use Rattle.frame.proofs.Words.{sym, ◌∙◌, ap, arith, inl, inr, append-nil, ◌≡◌, ℕ, suc, ◌+◌, ◌-◌, Bool, true, false, cond, ◌⊎◌, List, [], ◌∷◌, ◌++◌, length, filter, refl, or-true, filter-append, list_any-append, Stmt, Open, Close, Database, stays_open, active, active_from, is_open, is_close, actives_from, actives, last_position, last_active, deficit, deficit-below, below-deficit, no_deficit, some_deficit, left_open, active_from-later, active_from-close, before_open-none}
 use Rattle.scope.specs.Laws.{has_open, before_open}
 
--- statements behind others close first what those leave open
+-- later statements close first the blocks that the earlier ones leave open
 pub deficit-join : (S T : Database) → deficit (S ++ T) ≡ deficit S + (deficit T - left_open S)
 deficit-join [] T = omega arith
 deficit-join (Open ∷ S) T = by (stays_open 0 S) refl (deficit-join S T)
@@ -60,7 +60,7 @@ split_last kind (s ∷ S) = by (split_last kind S) (stays_open 0 S) (kind s) ref
     by (inl h) true false e f = inl (λ at. rw (e, f) (h (at + 1)))
     by (inl h) false c e f = inl (λ at. rw e (h (at + 1)))
 
--- ---- what the last one says of the others
+-- ---- the last one and the others
 
 abbrev pub IsNoClose : (Stmt → Bool) → Type 0
 IsNoClose kind = kind Close ≡ false
@@ -92,7 +92,7 @@ pub is-open : (s : Stmt) → is_open s ≡ true → s ≡ Open
 is-open Open h = refl
 is-open s h = cc
 
--- ---- behind a `$}`
+-- ---- after a `$}`
 
 none-open : (es : List (ℕ × Stmt)) → filter (λ p. is_open p.1) es ≡ [] → has_open es ≡ false
 none-open [] h = refl
@@ -105,7 +105,7 @@ before-last (e ∷ es) at fs h =
     let o : has_open (es ++ (at, Open) ∷ fs) ≡ true = list_any-append (λ p. is_open p.1) es ((at, Open) ∷ fs) ∙ or-true (has_open es) in
     rw o (ap (λ r. e ∷ r) (before-last es at fs h))
 
--- what was active in front of the last open block is, and of the other kinds no more
+-- a `$}` leaves the active statements of a kind that stand before the last open block
 close-before : (kind : Stmt → Bool) (S : Database) → IsNoClose kind → actives kind (S ++ Close ∷ []) ≡ filter (λ p. kind p.1) (before_open (active S))
 close-before kind S n =
     ap (filter (λ p. kind p.1)) (active_from-close 1 S)

@@ -14,7 +14,7 @@ use Rattle.frame.proofs.OpenLemmas.{no_close}
 use Rattle.frame.proofs.BlockWalkLemmas.{take-one}
 use Rattle.frame.proofs.PairsLemmas.{groups-any}
 
--- ---- what stands in a stack
+-- ---- the positions in a stack
 
 swapped : (x y z : Bool) → ((x || y) || z) ≡ (y || (x || z))
 swapped true true z = refl
@@ -100,7 +100,7 @@ module _ (k : Stock) (stored : AreStored k) (d : AreDistinct (names_in k)) (m : 
       and-true true = refl
       and-true false = refl
 
-  -- x and y are apart where one of the `$d` in the stack of the one has the other
+  -- x and y are disjoint if one of the `$d` in the stack of the one has the other
   pub pair-is : (x y : ℕ) (st : List ℕ) → x < length N → y < length N → m ≤ length (statements_of k) → st ≡ stack_at (history k.disjoints x) (m + 1)
       → is_pair T (name_at N x) (name_at N y) ≡ (not (x == y) && list_any (λ p. has_code k.entries y p) st)
   pair-is x y st a b le is =
@@ -180,7 +180,7 @@ having-less n m found es c (p ∷ ps) lt all within =
     by true with without = with
     by false with without = without
 
--- behind a `$d` its symbols are those that have it on top
+-- after a `$d` its symbols are those that have it on top
 module _ (k : Stock) (stored : AreStored k) (p c : ℕ) (of_kind : IsOfKind is_disj (statements_of k) p) (st : List ℕ) (is : st ≡ stack_at (history k.disjoints c) (p + 1)) where
   within : p ≤ length k.entries
   within = let one = of_kind.one in omega (arith, slice_get_within (statements_of k) (p - 1) of_kind.statement of_kind.stands, as-many k, one)
@@ -206,7 +206,7 @@ module _ (k : Stock) (stored : AreStored k) (p c : ℕ) (of_kind : IsOfKind is_d
           ≡ actives is_disj (take (p - 1) (statements_of k)) ++ (p, of_kind.statement) ∷ []
       last place = rw (of_kind.of_kind, place) refl
 
-  -- the `$d` itself stands behind those before it
+  -- the `$d` itself stands after those before it
   rest-less : AllLess p rest
   rest-less =
       let one = of_kind.one in

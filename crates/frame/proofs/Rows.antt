@@ -15,7 +15,7 @@ a1_frame = refl
 tze_frame : frame_of (before demo 8) (Axiom (codes "tze") (w (codes "term 0"))) ≡ record { hypotheses = []; groups = []; conclusion = w (codes "term 0") }
 tze_frame = refl
 
--- `ax` takes the `$f` of x and y, and keeps the two apart
+-- `ax` takes the `$f` of x and y, and has the two as a disjoint pair
 ax_frame : frame_of rows_front row_ax ≡ record { hypotheses = 3 ∷ 4 ∷ []; groups = w (codes "x y") ∷ []; conclusion = w (codes "|- x R y") }
 ax_frame = refl
 

@@ -67,7 +67,7 @@ back-kept at before n lt vs = kept-changed at (stack_at vs before) vs n lt
 pub all-later : (n at : ℕ) (hs : List (List StackVersion)) → n ≤ at → AreUntil n hs → AreUntil at hs
 all-later n at hs le until c = until-later n at (history hs c) le (until c)
 
--- ---- what the next statement makes of the stacks
+-- ---- the stacks after the next statement
 
 module _ (at : ℕ) (one : 1 ≤ at) (old : List (List StackVersion)) (until : AreUntil (at - 1) old) where
   low : at - 1 < at
@@ -121,7 +121,7 @@ having-same found es fs c n (p ∷ ps) are same =
 code-front : (es : List Entry) (c n p : ℕ) → 1 ≤ p → p ≤ n → has_code (take n es) c p ≡ has_code es c p
 code-front es c n p one le = ap (λ o. list_any (λ x. nat_eq c x) (option_symbols o)) (get-take (p - 1) n es (omega (arith, one, le)))
 
--- what was active behind the first m of n statements, by the first n entries
+-- the statements that were active after the first m of n, by the first n entries
 pub having-front : (kind : Stmt → Bool) (es : List Entry) (c n m : ℕ) (S : Database) → m ≤ n → having (take n es) c (actives kind (take m S)) ≡ having es c (actives kind (take m S))
 having-front kind es c n m S le =
     having-same [] (take n es) es c n (actives kind (take m S)) (actives-in kind 1 1 n (take m S) (omega arith) (omega (arith, length-take {A = Stmt}, le)))
@@ -208,7 +208,7 @@ module _ (kind : Stmt → Bool) (hs : List (List StackVersion)) (es : List Entry
       here c (opening block) (opening-some block) (omega (arith, opening-low block, is, within, size))
       ∙ ap (having more c) (ap (λ n. actives kind (take n S)) (opening-back block ∙ ap (λ n. n - 1) is) ∙ sym (ap (λ t. actives kind (S ++ t ∷ [])) closes ∙ actives-close kind S no_close))
 
--- ---- the stacks of both kinds behind the next statement
+-- ---- the stacks of both kinds after the next statement
 
 module _ (hs : List (List StackVersion)) (es : List Entry) (S : Database) (e : Entry) (s : Stmt) (x : NextStatement) (size : length es ≡ length S) (place : x.at ≡ length es + 1) (codes : x.codes.now ≡ e.symbols) (of_kind : x.kind ≡ kind_of s) (block : x.links.block ≡ last_active is_open S) where
   pub latest-disj : AreStacks is_disj hs es S → (c : ℕ) → latest_of Disj x.kind x hs c ≡ having (es ++ e ∷ []) c (actives is_disj (S ++ s ∷ []))
@@ -249,7 +249,7 @@ stacks-same kind hs new es S are same = record {
   each = λ c at one low. ap (λ vs. stack_at vs at) (same c) ∙ are.each c at one low;
 }
 
--- what is taken back is as before
+-- a stack that is restored is as before
 pub stacks-back : (kind : Stmt → Bool) (old mid new : List (List StackVersion)) (es : List Entry) (S : Database) → AreStacks kind old es S → KeepsUntil (length es) old mid → AreKeptUntil (length es) mid new → AreStacks kind new es S
 stacks-back kind old mid new es S are keeps kept = stacks-same kind old new es S are (λ c. kept c ∙ (keeps c ∙ until-kept (length es) (history old c) (are.until c)))
 

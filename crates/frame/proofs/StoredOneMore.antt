@@ -4,7 +4,7 @@ use Rattle.frame.proofs.Words.{Name, Stmt, Database, before, label_of, stays_ope
 use Rattle.frame.proofs.SymbolNumberLemmas.{decode-extends, name_at-extends, below-more}
 use Rattle.mm_read.specs.declared.stmt.Stmt.TheVariants as stmt
 
--- ---- what was entered stands for what it stood for
+-- ---- an entry that was added keeps its meaning
 
 pub stmt-more : (names names' labels labels' : List Name) (e : Entry) → Extends names names' → Extends labels labels' → AreBelow (length names) e.symbols → IsLabelBelow e.kind e.label (length labels)
     → stmt_of names' labels' e ≡ stmt_of names labels e

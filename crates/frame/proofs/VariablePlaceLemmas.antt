@@ -11,7 +11,7 @@ use Rattle.frame.proofs.PlacedHypotheses.{members, used-cases}
 
 -- ---- constants and variables of legal statements
 
--- what is active behind A is active behind A, t and B, where t and B close nothing of A
+-- a statement that is active after A is active after A, t and B, where t and B close nothing of A
 still-active : (q : Stmt → Bool) (S A : Database) (t : Stmt) (B : Database) → S ≡ A ++ t ∷ B → stays_open 0 (t ∷ B) ≡ true → list_any (λ p. q p.1) (active A) ≡ true → list_any (λ p. q p.1) (active S) ≡ true
 still-active q S A t B whole stays h =
     let r = active-stands q 1 A h in

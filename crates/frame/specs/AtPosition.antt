@@ -1,6 +1,6 @@
--- What a verifier reads of a database by position.
+-- The parts of a database that a verifier reads by position.
 -- Metamath, 4.2: labels name one statement each; what may be cited at a statement.
--- The code answers by numbers; these words say which statements and names they stand for.
+-- The code returns numbers; these words say which statements and names they stand for.
 use Rattle.std.specs.Prelude.{◌≡◌, ℕ, ◌<◌, true, List, [], length, get_or, Option, Some, None}
 use Rattle.frame.specs.Words.{Name, Stmt, Database, stmt_at, expr_of, is_assertion, decode, AreDistinct}
 use Rattle.frame.specs.FrameOf.{HasAssertion}
@@ -11,7 +11,7 @@ use Rattle.frame.specs.Citations.{Carries, IsHypothesis, IsInstance, premises}
 use Rattle.frame.specs.Below.{AreBelow}
 use Rattle.frame.specs.Bound.{IsBound}
 
--- what a citation of the statement at i means at `at`
+-- the meaning of a citation of the statement at i, at `at`
 abbrev pub IsMeaning : Database → List Name → ℕ → ℕ → Meaning → Type 0
 IsMeaning S names at i (Hypothesis e) = (s : Stmt) × IsHypothesis S at i s × (decode names e.now ≡ expr_of s) × AreBelow (length names) e.now
 IsMeaning S names at i Assertion = (s : Stmt) × HasAssertion S i s × (i < at)
@@ -37,7 +37,7 @@ IsSingle S at =
     (a : ℕ) (s : Stmt) (σ τ : Images) → IsInstance S at a s σ → IsInstance S at a s τ
     → premises S a s σ ≡ premises S a s τ → applied σ (expr_of s) ≡ applied τ (expr_of s)
 
--- what legal statements keep, and that their names are told apart
+-- legal statements keep these properties, and their names are distinct
 pub record AreLegal (S : Database) (names : List Name) : Type 0 where
   pub once : HasLabelsOnce S
   pub single : (at : ℕ) → IsSingle S at

@@ -1,4 +1,4 @@
--- What legality says of the symbols of an assertion and of its mandatory hypotheses.
+-- Consequences of legality for the symbols of an assertion and of its mandatory hypotheses.
 -- Metamath, 4.2.4 and 4.2.7: a variable that is used has an active `$f`, and just one; an expression begins with a constant.
 -- The code tests none of this where an assertion is cited.
 use Rattle.std.specs.Prelude.{◌≡◌, ℕ, true, false, List, [], ◌∷◌, slice_get, Some}

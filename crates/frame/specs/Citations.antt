@@ -46,6 +46,6 @@ option_expr (Some s) = expr_of s
 abbrev pub expr_at : Database → ℕ → Expr
 expr_at S i = option_expr (stmt_at S i)
 
--- what the images make of the mandatory hypotheses, in order
+-- the images of the mandatory hypotheses, in order
 abbrev pub premises : Database → ℕ → Stmt → Images → List Expr
 premises S a s σ = map (λ i. applied σ (expr_at S i)) (hypotheses (before S a) s)

@@ -1,5 +1,5 @@
--- The parts of an assertion by numbers: of each mandatory hypothesis its first symbol and what it is.
--- Metamath, 4.2.6: an assertion is cited by what it asks of the results for its hypotheses.
+-- The parts of an assertion by numbers: each mandatory hypothesis has its typecode and one number.
+-- Metamath, 4.2.6: a citation of an assertion needs results for its mandatory hypotheses.
 -- The code keeps these parts by the assertion; the expression of a `$e` is read where the `$e` stands.
 use Rattle.std.specs.Prelude.{◌≡◌, ℕ, ◌<◌, List, [], ◌∷◌, length, map, Some}
 use Rattle.frame.specs.Words.{Name, Stmt, Expr, Database, stmt_at, before, expr_of, name_at, decode, Hypothesis, Assertion}
@@ -15,7 +15,7 @@ abbrev pub head_of : List ℕ → ℕ
 head_of [] = NO_HEAD
 head_of (c ∷ codes) = c
 
--- the number stands for the first symbol
+-- the number stands for the typecode
 abbrev pub IsHead : List Name → ℕ → Expr → Type 0
 IsHead names h [] = h ≡ NO_HEAD
 IsHead names h (x ∷ e) = (h < length names) × (name_at names h ≡ x)
@@ -26,7 +26,7 @@ IsOf names p (stmt.Float label constant variable) (Float x) = (x < length names)
 IsOf names p (stmt.Ess label expr) (Essential q) = q ≡ p
 IsOf names p s h = ⊥
 
--- the hypothesis at p, by its first symbol and by what it is
+-- the hypothesis at p, by its typecode and its number
 pub record IsAsked (S : Database) (names : List Name) (p head : ℕ) (h : Hypothesis) : Type 0 where
   pub stmt : Stmt
   pub stands : stmt_at S p ≡ Some stmt

@@ -1,4 +1,4 @@
--- Images that are disjoint by the `$d` active behind the statements S.
+-- Images that are disjoint by the `$d` active after the statements S.
 use Rattle.std.specs.Prelude.{Bool, not, ◌||◌, List}
 use Rattle.std.specs.List.{list_all}
 use Rattle.frame.specs.Words.{Name, name_eq, Expr, Database, is_variable}
@@ -10,7 +10,7 @@ abbrev pub are_apart : Database → Expr → Expr → Bool
 are_apart S e f =
     list_all (λ u. list_all (λ v. not (is_variable S u) || not (is_variable S v) || is_pair S u v) f) e
 
--- the images of each two variables that a list keeps apart are apart
+-- the images of each two variables in a list of disjoint variables are disjoint
 abbrev pub is_group_apart : Database → Images → List Name → Bool
 is_group_apart S σ names =
     list_all (λ x. list_all (λ y. name_eq x y || are_apart S (image σ x) (image σ y)) names) names

@@ -1,4 +1,4 @@
--- What is active behind a list of statements, by kind: the last such statement, from which the one before it is found.
+-- The active statements after a list of statements, by kind: the last such statement, from which the one before it is found.
 -- Metamath, 4.2.8: blocks nest, so what is active where a statement stands that is active itself is active still.
 -- The code keeps for each position the last active statement of four kinds, and walks back from it.
 use Rattle.std.specs.Prelude.{ℕ, Bool, true, false, List, [], ◌∷◌, filter}

@@ -1,4 +1,4 @@
--- What contracts see of a frame and of the frames of a database.
+-- The view of a frame and of the frames of a database in contracts.
 use Rattle.std.specs.Prelude.{ℕ, List}
 use Rattle.frame.specs.Words.{Name, Expr, Database}
 

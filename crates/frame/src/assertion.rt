@@ -1,4 +1,4 @@
-//! What an assertion asks of who cites it, as a value of its own.
+//! The frame of an assertion as a value of its own.
 ghost use Rattle.std.specs.Prelude.{◌≡◌};
 
 use mm_lex::Words;
@@ -25,21 +25,21 @@ impl Model for Frame {
 }
 
 impl Frame {
-    /// The positions of the mandatory hypotheses, in order, counted from 1.
+    /// Returns the positions of the mandatory hypotheses, in order, counted from 1.
     pub fn hypotheses(&self) -> &[usize]
         ensures { result.now ≡ self.now.hypotheses }
     {
         self.hypotheses.as_slice()
     }
 
-    /// The lists of disjoint variables: of each active `$d` the mandatory ones, where they are two or more.
+    /// Returns the disjoint variable conditions: for each active `$d` its mandatory variables, where they are two or more.
     pub fn groups(&self) -> &[Words]
         ensures { result.now ≡ self.now.groups }
     {
         self.groups.as_slice()
     }
 
-    /// The expression of the assertion.
+    /// Returns the expression of the assertion.
     pub fn conclusion(&self) -> &Words
         ensures { result.now ≡ self.now.conclusion }
     {

@@ -1,11 +1,11 @@
-//! What is active at a position, read off the storage.
+//! Reads off the storage what is active at a position.
 ghost use Rattle.std.specs.Prelude.{◌≡◌, ◌+◌, ◌-◌, ◌<◌, ◌≤◌, length, take, slice_get};
 ghost use Rattle.{scope.specs.Active.is_active, frame.specs.Links.links_of, frame.specs.Stored.Whole.AreStored, frame.specs.Stored.EntryMeanings.statements_of, frame.specs.Stored.Counts.IsPlain};
 
 use crate::storage::Stock;
 use entries::Links;
 
-/// What is active before the statement at `at`, or at the end.
+/// Returns what is active before the statement at `at`, or at the end.
 pub fn links_at(stock: &Stock, at: usize) -> Links
     requires stored { AreStored stock.now }
     requires place { (1 ≤ at) × (at ≤ length (statements_of stock.now) + 1) }
@@ -18,7 +18,7 @@ pub fn links_at(stock: &Stock, at: usize) -> Links
     }
 }
 
-/// Whether the statement at i, which is neither `${` nor `$}`, is active at `at`.
+/// Returns whether the statement at i, which is neither `${` nor `$}`, is active at `at`.
 ///
 /// Cost: two look-ups.
 pub fn is_active_at(stock: &Stock, i: usize, at: usize) -> bool

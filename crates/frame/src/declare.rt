@@ -1,5 +1,5 @@
-//! What one more statement changes, and how it is taken back: the names and the last declarations of symbols, where blocks
-//! end, and what is active behind it.
+//! The changes that one more statement makes, and how they are undone: the names and the last declarations of symbols, where
+//! blocks end, and what is active after it.
 ghost use Rattle.std.specs.Prelude.{◌≡◌, ℕ, ◌+◌, ◌≤◌, ◌==◌, ◌++◌, ◌∷◌, [], Some, length, slice_get, OnOk, if◌then◌else◌, map, take};
 ghost use Rattle.{std.specs.List.list_any, mm_read.specs.declared.stmt.Stmt.Stmt as Statement, scope.specs.Active.label_of, scope.specs.Declares.IsNotedBy, scope.specs.Declares.MayDeclare, scope.specs.Declares.declared_with, entries.specs.Stored.Spans.Extends, frame.specs.Below.AreBelow, frame.specs.Links.links_of, frame.specs.declared.storage.Symbol.Symbol as Declared, frame.specs.Stored.Whole.AreStored, frame.specs.Stored.EntryMeanings.option_position, frame.specs.Stored.EntryMeanings.statements_of, frame.specs.Stored.EntryMeanings.declared_by, frame.specs.Stored.EntryMeanings.last_of, frame.specs.Stored.EntryMeanings.with_last, frame.specs.Stored.EntryMeanings.ReadsAs, frame.specs.Stored.EntryMeanings.replaced_of, frame.specs.Stored.EntryMeanings.symbol_of, frame.specs.Stored.Counts.Grown, frame.specs.Stored.Counts.HasRoom, frame.specs.Stored.Counts.kind_of, frame.specs.Stored.Counts.next_links, frame.specs.Stored.Counts.HasTwo, frame.specs.Stored.Ends.with_end, frame.specs.Stored.Ends.TellEnds};
 
@@ -14,8 +14,8 @@ use std::alloc::{AllocError, Global};
 /// There are fewer symbols than this, so numbers fit in 32 bits.
 const NAMES_LIMIT: usize = 2147483648;
 
-/// Declares what the statement that comes next declares, whose label gets its position. The numbers of the symbols of a
-/// `$c` and a `$v` are noted.
+/// Declares the names of the next statement, whose label gets its position. The numbers of the symbols of a
+/// `$c` and a `$v` are recorded.
 pub fn declare_next(
     alloc: Global,
     stock: &mut Stock,
@@ -46,7 +46,7 @@ pub fn declare_next(
     Ok(())
 }
 
-/// What is active behind one more statement of a kind.
+/// Returns what is active after one more statement of a kind.
 pub fn links_after(stock: &Stock, kind: Kind) -> Links
     requires { AreStored stock.now }
     ensures { (s : Statement) → kind_of s ≡ kind → result ≡ links_of (statements_of stock.now ++ s ∷ []) }
@@ -69,7 +69,7 @@ pub fn links_after(stock: &Stock, kind: Kind) -> Links
     }
 }
 
-/// What is active behind a statement of a kind at `at`, if it is no `$}`.
+/// Returns what is active after a statement of a kind at `at`, if it is no `$}`.
 fn links_with(links: Links, kind: Kind, at: u32) -> Links
     ensures { result ≡ next_links links at kind }
 {
@@ -84,7 +84,7 @@ fn links_with(links: Links, kind: Kind, at: u32) -> Links
     links
 }
 
-/// The symbols that a statement of this kind with these symbols declares.
+/// Returns the symbols that a statement of this kind with these symbols declares.
 pub fn declared(kind: Kind, codes: &[u32]) -> &[u32]
     requires { HasTwo kind codes.now }
     ensures declared { result.now ≡ declared_by kind codes.now }
@@ -97,7 +97,7 @@ pub fn declared(kind: Kind, codes: &[u32]) -> &[u32]
     }
 }
 
-/// The last declaration of a symbol by statements of this kind.
+/// Returns the last declaration of a symbol by statements of this kind.
 fn last(symbol: Symbol, kind: Kind) -> usize
     ensures { result ≡ last_of kind symbol }
 {
@@ -107,7 +107,7 @@ fn last(symbol: Symbol, kind: Kind) -> usize
     }
 }
 
-/// Notes what a statement of this kind that declares these symbols replaces as their last declarations.
+/// Records the last declarations that a statement of this kind with these symbols replaces.
 pub fn note_replaced(
     symbols: &[Symbol],
     kind: Kind,
@@ -124,7 +124,7 @@ pub fn note_replaced(
     Ok(())
 }
 
-/// Notes `at` as the last declaration of these symbols by statements of this kind.
+/// Records `at` as the last declaration of these symbols by statements of this kind.
 pub fn declare(symbols: &mut Vec<Symbol>, kind: Kind, declared: &[u32], at: usize)
     requires { AreBelow (length symbols.old.items) declared.now }
     ensures each { (c : ℕ) (x : Declared) → slice_get symbols.old.items c ≡ Some x → slice_get symbols.new.items c ≡ Some (if list_any (λ y. c == y) declared.now then with_last kind at x else x) }
@@ -135,7 +135,7 @@ pub fn declare(symbols: &mut Vec<Symbol>, kind: Kind, declared: &[u32], at: usiz
     }
 }
 
-/// Notes the last declaration of a symbol by statements of this kind.
+/// Records the last declaration of a symbol by statements of this kind.
 fn set_last(symbol: &mut Symbol, kind: Kind, at: usize)
     ensures { symbol.new ≡ with_last kind at symbol.old }
 {
@@ -145,7 +145,7 @@ fn set_last(symbol: &mut Symbol, kind: Kind, at: usize)
     }
 }
 
-/// Notes `at` as the end of the block that opened at `block`, where a statement of this kind ends it.
+/// Records `at` as the end of the block that opened at `block`, where a statement of this kind ends it.
 pub fn note_end(ends: &mut Vec<u32>, kind: Kind, block: u32, at: u32)
     requires { block ≤ length ends.old.items }
     ensures { ends.new.items ≡ with_end kind block at ends.old.items }
@@ -155,7 +155,7 @@ pub fn note_end(ends: &mut Vec<u32>, kind: Kind, block: u32, at: u32)
     }
 }
 
-/// Takes the entries behind the first `len` away, the last one first, and with them their declarations and the ends of
+/// Removes the entries after the first `len`, the last one first, and with them their declarations and the ends of
 /// blocks that they are.
 pub fn take_away(stock: &mut Stock, len: usize)
     requires stored { AreStored stock.old }
@@ -187,7 +187,7 @@ pub fn take_away(stock: &mut Stock, len: usize)
     }
 }
 
-/// What a statement of this kind that declares these symbols replaced is their last declaration again.
+/// Restores the last declarations that a statement of this kind with these symbols replaced.
 fn restore(symbols: &mut Vec<Symbol>, kind: Kind, declared: &[u32], replaced: &[usize])
     requires below { AreBelow (length symbols.old.items) declared.now }
     requires count { length replaced.now ≡ length declared.now }

@@ -1,4 +1,4 @@
-//! One statement more in the storage, or none, or only the first ones.
+//! Appends a statement to the storage, or nothing, or truncates it to the first statements.
 ghost use Rattle.std.specs.Prelude.{true, ◌≡◌, ◌++◌, ◌∷◌, [], Some, OnOk, OnErr, take, length, slice_get, ◌+◌, IfSome, IfErr};
 ghost use Rattle.{names.specs.Codes.with_names, scope.specs.Active.bare, scope.specs.Legal.IsLegal, scope.specs.Legal.broken_rule, scope.specs.Stored.Noted.AreNoted, scope.specs.Symbols.AreVariableNumbers, scope.specs.Symbols.symbols_after, scope.specs.Symbols.symbols_by, scope.specs.Symbols.symbols_in, scope.specs.Symbols.symbols_of, entries.specs.Entries.Entry, entries.specs.Histories.AreKeptUntil, entries.specs.Stored.Spans.Extends, frame.specs.Stored.Whole.AreStored, frame.specs.Stored.Counts.IsBehind, frame.specs.Stored.EntryMeanings.labels_in, frame.specs.Stored.EntryMeanings.names_in, frame.specs.Stored.EntryMeanings.statements_of};
 
@@ -18,8 +18,8 @@ use mm_read::Stmt;
 use scope::{Noted, Rule, Rules, Scope, Steps};
 use std::alloc::{AllocError, Global};
 
-/// Appends the statement, with the numbers of its symbols where they were noted. If an allocation fails,
-/// more may be left behind what was there.
+/// Appends the statement, with the numbers of its symbols where they were recorded. If an allocation fails,
+/// some of it may remain after the earlier contents.
 fn extend(
     alloc: Global,
     stock: &mut Stock,
@@ -74,7 +74,7 @@ fn extend(
     Ok(())
 }
 
-/// Appends the statement, with the numbers of its symbols where they were noted.
+/// Appends the statement, with the numbers of its symbols where they were recorded.
 ///
 /// If an allocation fails, everything is as before.
 fn extend_whole(
@@ -101,7 +101,7 @@ fn extend_whole(
     result
 }
 
-/// Takes back what was left behind the first names and replaced declarations, and behind the statements.
+/// Truncates the storage to the first names and replaced declarations, and to its statements.
 fn roll_back(stock: &mut Stock, names: usize, replaced: usize)
     ensures names { stock.new.numbering ≡ take names stock.old.numbering }
     ensures symbols { stock.new.symbols.items ≡ take (length (names_in stock.new)) stock.old.symbols.items }
@@ -124,9 +124,9 @@ fn roll_back(stock: &mut Stock, names: usize, replaced: usize)
 }
 
 impl Frames {
-    /// Adds the statement that the scope accepts next.
+    /// Appends the statement that the scope accepts next.
     ///
-    /// If an allocation fails, everything is as before. One step is counted, whatever is answered.
+    /// If an allocation fails, everything is as before. One step is counted, whatever the outcome.
     /// Cost: the statement's own size.
     pub fn push(&mut self, scope: &Scope, stmt: &Stmt, steps: &mut Steps) -> Result<(), AllocError>
         requires same { scope.now.statements ≡ self.old.statements }
@@ -149,18 +149,18 @@ impl Frames {
         )
     }
 
-    /// Adds the next statement, where it breaks none of the rules G1 to G10: the rules, whose state stands behind the
+    /// Appends the next statement if it breaks none of the rules G1 to G10: the rules, whose state is that after the
     /// same statements, are lent the numbering, and accept it.
     ///
     /// Errors: the least rule that it breaks, or `Memory` where it breaks none; everything is then as before. Cost: that
-    /// of `Rules::broken_rule` and of `push`; one step is counted, whatever is answered.
+    /// of `Rules::broken_rule` and of `push`; one step is counted, whatever the outcome.
     pub fn add(&mut self, rules: &mut Rules, stmt: &Stmt, steps: &mut Steps) -> Result<(), Rule>
         requires same { rules.old.statements ≡ self.old.statements }
         ensures added { OnOk result (self.new.statements ≡ self.old.statements ++ bare stmt.now ∷ []) }
         ensures accepted { OnOk result (rules.new.statements ≡ rules.old.statements ++ bare stmt.now ∷ []) }
         ensures legal { OnOk result (IsLegal self.old.statements stmt.now) }
 
-        // A broken rule is answered even if every allocation fails.
+        // A broken rule is returned even if every allocation fails.
         ensures broken { IfSome (broken_rule self.old.statements stmt.now) (λ rule. result ≡ Err rule) }
         ensures only_memory { IsLegal self.old.statements stmt.now → IfErr result (λ rule. rule ≡ Rule.Memory) }
         ensures same { OnErr result (self.new ≡ self.old) }
@@ -191,9 +191,9 @@ impl Frames {
         accepted.map_err(|_| Rule::Memory)
     }
 
-    /// Only the first `len` statements stay.
+    /// Truncates to the first `len` statements.
     ///
-    /// Does not allocate. Cost: the size of the statements that go.
+    /// Does not allocate. Cost: the size of the statements that are removed.
     pub fn shorten(&mut self, len: usize)
         ensures statements { self.new.statements ≡ take len self.old.statements }
         ensures names { Extends self.new.names self.old.names }

@@ -19,7 +19,7 @@ use std::marker::Model;
 
 /// The statements of a database by position, without their proofs, with their symbols as numbers.
 ///
-/// Contracts see the list of the statements, each legal behind those before it, and the names that the numbers
+/// Contracts see the list of the statements, each legal after the earlier ones, and the names that the numbers
 /// stand for, in order of first declaration.
 #[derive(Drop)]
 pub struct Frames {
@@ -40,7 +40,7 @@ impl Model for Frames {
 }
 
 impl Frames {
-    /// No statements.
+    /// Returns an empty database.
     pub fn new(alloc: Global) -> Frames
         ensures statements { result.statements ≡ [] }
         ensures names { result.names ≡ [] }
@@ -68,7 +68,7 @@ impl Frames {
         }
     }
 
-    /// How many statements there are.
+    /// Returns how many statements there are.
     pub fn len(&self) -> usize
         ensures { result ≡ length self.now.statements }
     {
@@ -84,7 +84,7 @@ impl Frames {
         let _ = self.stock.positions.reserve(labels);
     }
 
-    /// The position of the statement with this label.
+    /// Returns the position of the statement with this label.
     pub fn position(&self, label: &[u8]) -> Option<usize>
         ensures { IsPosition self.now.statements label.now result }
     {
@@ -92,7 +92,7 @@ impl Frames {
         Some(self.stock.positions[number as usize] as usize)
     }
 
-    /// The position of the statement with each label.
+    /// Returns the position of the statement with each label.
     ///
     /// Errors: an allocation fails. Cost: that of looking each label up.
     pub fn positions(&self, labels: &Words) -> Result<Vec<Option<usize>>, AllocError>
@@ -106,7 +106,7 @@ impl Frames {
         Ok(positions)
     }
 
-    /// The expression of the statement at a position, by numbers; nothing where it has none.
+    /// Returns the expression of the statement at a position, by numbers; nothing if it has none.
     pub fn expr(&self, at: usize) -> &[u32]
         requires { (1 ≤ at) × (at ≤ length self.now.statements) }
         ensures same { (s : Statement) → stmt_at self.now.statements at ≡ Some s → decode self.now.names result.now ≡ expr_of s }
@@ -120,7 +120,7 @@ impl Frames {
         }
     }
 
-    /// What a citation of the statement at i means at `at`.
+    /// Returns what a citation of the statement at i means at `at`.
     pub fn meaning(&self, at: usize, i: usize) -> Meaning<'_>
         requires { (1 ≤ at) × (at ≤ length self.now.statements) }
         ensures { IsMeaning self.now.statements self.now.names at i result }
@@ -154,7 +154,7 @@ impl Frames {
         }
     }
 
-    /// The parts of the assertion at a position, by numbers, where they are kept whole: where they are few.
+    /// Returns the parts of the assertion at a position, by numbers, if they are kept whole, which they are if they are few.
     pub fn cited(&self, a: usize) -> Option<Cited<'_>>
         requires { (s : Statement) × HasAssertion self.now.statements a s }
         ensures { (s : Statement) → stmt_at self.now.statements a ≡ Some s → IfSome result (IsCited self.now.statements self.now.names a s) }
@@ -162,9 +162,9 @@ impl Frames {
         self.stock.entries.cited(a - 1)
     }
 
-    /// Makes the lists of the assertion at a position, of which only what it adds to what is active is kept.
+    /// Makes the lists of the assertion at a position, of which only the additions to what is active are kept.
     ///
-    /// Cost: the size of its hypotheses, which a sort puts in order, and of the active `$d`.
+    /// Cost: the size of its hypotheses, which are sorted, and of the active `$d`.
     pub fn gather(&self, a: usize, gathered: &mut Gathered) -> Result<(), AllocError>
         requires { (s : Statement) × HasAssertion self.now.statements a s }
         ensures { OnOk result (IsGathered self.now.statements self.now.names a gathered.new) }
@@ -174,7 +174,7 @@ impl Frames {
         spread(&self.stock, a, gathered)
     }
 
-    /// The parts of the assertion at a position, by the lists that were made of it.
+    /// Returns the parts of the assertion at a position, by the lists that were made of it.
     pub fn gathered<'a>(&'a self, a: usize, gathered: &'a Gathered) -> Cited<'a>
         requires assertion { (s : Statement) × HasAssertion self.now.statements a s }
         requires gathered { IsGathered self.now.statements self.now.names a gathered.now }
@@ -188,7 +188,7 @@ impl Frames {
         }
     }
 
-    /// Adds the mandatory hypotheses of the assertion at a position, by position, in order, to a list that has none.
+    /// Appends the mandatory hypotheses of the assertion at a position, by position, in order, to an empty list.
     pub fn mandatory(&self, a: usize, list: &mut Vec<u32>) -> Result<(), AllocError>
         requires assertion { (s : Statement) × HasAssertion self.now.statements a s }
         requires empty { list.old.items ≡ [] }
@@ -203,7 +203,7 @@ impl Frames {
         }
     }
 
-    /// The label of the statement at a position; none where it has none.
+    /// Returns the label of the statement at a position, or `None` if it has none.
     pub fn label(&self, at: usize) -> Option<&[u8]>
         requires { (1 ≤ at) × (at ≤ length self.now.statements) }
         ensures { (s : Statement) → stmt_at self.now.statements at ≡ Some s → option_map (λ r. r.now) result ≡ label_of s }
@@ -216,7 +216,7 @@ impl Frames {
         }
     }
 
-    /// The symbol of a number; nothing where no symbol has it.
+    /// Returns the symbol of a number; nothing if no symbol has it.
     pub fn symbol(&self, number: u32) -> &[u8]
         ensures { result.now ≡ name_at self.now.names number }
     {

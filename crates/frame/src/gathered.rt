@@ -1,4 +1,4 @@
-//! What is found out about an assertion.
+//! Buffers for the parts of an assertion.
 ghost use Rattle.std.specs.Prelude.{◌≡◌, length, false};
 ghost use Rattle.{entries.specs.Entries.AreShapedParts, entries.specs.Entries.assertion_of, entries.specs.Entries.partless};
 
@@ -12,17 +12,17 @@ use std::marker::Model;
 /// Contracts see them as an assertion is kept.
 #[derive(Drop)]
 pub struct Gathered {
-    /// Whether the parts are whole, or only what it adds to what is active.
+    /// Whether the parts are whole, or only those that the assertion adds to what is active.
     pub(crate) whole: bool,
     /// The symbols whose `$f` was looked for, and then the variables of the hypotheses.
     pub(crate) noted: Stack,
     /// The positions of its hypotheses, in order.
     pub(crate) hypotheses: Vec<u32>,
-    /// What each hypothesis is, as one number.
+    /// Each hypothesis as one number.
     pub(crate) asked: Vec<u32>,
-    /// The first symbol of each.
+    /// The typecode of each.
     pub(crate) heads: Vec<u32>,
-    /// The variables whose images are to be disjoint, one group after another.
+    /// The variables whose images must be disjoint, one group after another.
     pub(crate) places: Vec<u32>,
     /// The groups.
     pub(crate) groups: Vec<BufferPart>,
@@ -40,7 +40,7 @@ impl Model for Gathered {
 }
 
 impl Gathered {
-    /// Nothing.
+    /// Returns empty buffers.
     pub fn new(alloc: Global) -> Gathered {
         Gathered {
             whole: false,
@@ -53,7 +53,7 @@ impl Gathered {
         }
     }
 
-    /// What is kept of a statement with these symbols.
+    /// Returns the kept form of a statement with these symbols.
     pub(crate) fn parts<'a>(&'a self, symbols: &'a [u32]) -> AssertionParts<'a>
         requires asked { length self.now.asked ≡ length self.now.hypotheses }
         requires heads { length self.now.heads ≡ length self.now.hypotheses }
@@ -72,7 +72,7 @@ impl Gathered {
         }
     }
 
-    /// Nothing again. The buffers stay.
+    /// Empties the buffers, which keep their room.
     pub(crate) fn clear(&mut self)
         ensures { self.new ≡ partless false }
     {

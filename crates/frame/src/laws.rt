@@ -1,7 +1,7 @@
 //! Laws of frames.
 ghost use Rattle.frame.specs.Laws.{GroupsArePairs};
 
-/// The lists of variables that a frame keeps apart are exactly its mandatory pairs.
+/// The lists of disjoint variables of a frame are exactly its mandatory pairs.
 pub fn groups_are_pairs()
     ensures { GroupsArePairs }
 {}

@@ -1,9 +1,9 @@
-//! What an assertion asks of who cites it.
+//! The frames of assertions: mandatory hypotheses, disjoint variable conditions and conclusion.
 //!
-//! `Frames` keeps the statements of a database by position, and reads off them what a verifier asks: what a citation means at a
+//! `Frames` keeps the statements of a database by position, and reads off them what a verifier needs: what a citation means at a
 //! statement, the parts of an assertion, and the disjoint variables. `frame` gathers the `Frame` of one assertion from
 //! what is active. Reading order: `storage`, `shape`, `gathered`; `symbol_numbers`, `at_position`, `stacks`, `declare`, `mandatory`,
-//! `make`, `extend` (one statement more or less); `meaning`, `frames`, `row`, `pairs`, `active_apart` (what is asked); `assertion`,
+//! `make`, `extend` (appending and truncating); `meaning`, `frames`, `row`, `pairs`, `active_apart` (queries); `assertion`,
 //! `one_frame`; `laws`.
 #![tactic(auto)]
 

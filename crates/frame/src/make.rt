@@ -1,4 +1,4 @@
-//! The hypotheses that are kept with a statement, what they are, and its disjoint variables.
+//! The hypotheses that are kept with a statement, each as one number, and its disjoint variables.
 ghost use Rattle.std.specs.Prelude.{◌≡◌, ℕ, List, ◌+◌, ◌-◌, ◌≤◌, ◌==◌, ◌||◌, ◌++◌, ◌∷◌, [], true, false, if◌then◌else◌, length, map, take, OnOk};
 ghost use Rattle.{names.specs.Codes.with_names, scope.specs.Active.bare, scope.specs.Stored.Noted.AreNoted, scope.specs.Symbols.symbols_by, scope.specs.Symbols.symbols_in, entries.specs.Hypotheses.told, entries.specs.Stored.Spans.cut, entries.specs.Stored.Spans.AreSpansIn, frame.specs.Below.AreBelow, frame.specs.Cited.head_of, frame.specs.Stored.Whole.AreStored, frame.specs.Stored.Whole.IsDraftOf, frame.specs.Stored.Hypotheses.AreHypotheses, frame.specs.Stored.Hypotheses.IsSpread, frame.specs.Stored.Counts.HasTwo, frame.specs.Stored.Counts.kind_of, frame.specs.Stored.AssertionParts.asked_at, frame.specs.Stored.AssertionParts.asked_by, frame.specs.Stored.AssertionParts.head_at, frame.specs.Stored.AssertionParts.has_two, frame.specs.Stored.AssertionParts.is_typed, frame.specs.Stored.AssertionParts.is_typed_by, frame.specs.Stored.AssertionParts.noted_in, std.specs.List.list_any, frame.specs.Stored.AssertionParts.has_parts, frame.specs.Stored.EntryMeanings.names_in, frame.specs.Stored.EntryMeanings.statements_of, frame.specs.FrameOf.hypotheses, frame.specs.Stored.OneFrame.asked};
 
@@ -13,7 +13,7 @@ use mm_read::Stmt;
 use scope::{Noted, Stack};
 use std::alloc::AllocError;
 
-/// The first symbol of an expression.
+/// Returns the typecode of an expression, its first symbol.
 fn head(codes: &[u32]) -> u32
     ensures { result ≡ head_of codes.now }
 {
@@ -23,7 +23,7 @@ fn head(codes: &[u32]) -> u32
     }
 }
 
-/// What the hypothesis at a position is.
+/// Returns what the hypothesis at a position is.
 fn hypothesis(entry: EntryRef<'_>, position: u32) -> Hypothesis
     requires { HasTwo entry.kind entry.symbols.now }
     ensures { result ≡ asked_by position entry.entry.kind entry.entry.symbols.now }
@@ -34,7 +34,7 @@ fn hypothesis(entry: EntryRef<'_>, position: u32) -> Hypothesis
     }
 }
 
-/// Adds what the hypotheses are, and their first symbols.
+/// Appends the hypotheses, each as one number, and their typecodes.
 fn describe(
     stock: &Stock,
     hypotheses: &[u32],
@@ -56,7 +56,7 @@ fn describe(
     Ok(())
 }
 
-/// Notes the variable of a `$f`, once.
+/// Records the variable of a `$f`, once.
 fn note_variable(hypothesis: Hypothesis, found: &mut Stack) -> Result<(), AllocError>
     ensures { OnOk result ((c : ℕ) → list_any (λ n. n == c) found.new ≡ (list_any (λ n. n == c) found.old || is_typed_by c hypothesis)) }
 {
@@ -69,7 +69,7 @@ fn note_variable(hypothesis: Hypothesis, found: &mut Stack) -> Result<(), AllocE
     found.push(variable)
 }
 
-/// Notes the variables of the hypotheses.
+/// Records the variables of the hypotheses.
 fn note_variables(hypotheses: &Hypotheses<'_>, found: &mut Stack) -> Result<(), AllocError>
     ensures { OnOk result ((c : ℕ) → list_any (λ n. n == c) found.new ≡ is_typed hypotheses.now c) }
 {
@@ -80,7 +80,7 @@ fn note_variables(hypotheses: &Hypotheses<'_>, found: &mut Stack) -> Result<(), 
     Ok(())
 }
 
-/// Adds the group of those of the symbols that are among the variables, where they are two or more.
+/// Appends the group of those of the symbols that are among the variables, if they are two or more.
 fn add_group(
     variables: &Stack,
     codes: &[u32],
@@ -107,7 +107,7 @@ fn add_group(
     Ok(())
 }
 
-/// Says what the hypotheses of an assertion at `at` are, and adds its groups.
+/// Appends the hypotheses of an assertion at `at`, each as one number, and its groups.
 pub fn spread(stock: &Stock, at: usize, draft: &mut Gathered) -> Result<(), AllocError>
     requires stored { AreStored stock.now }
     requires place { (1 ≤ at) × (at ≤ length (statements_of stock.now) + 1) }
@@ -133,7 +133,7 @@ pub fn spread(stock: &Stock, at: usize, draft: &mut Gathered) -> Result<(), Allo
     Ok(())
 }
 
-/// Finds the parts of an assertion or a `$e` behind all statements, by the numbers that were noted of its symbols: the
+/// Finds the parts of an assertion or a `$e` after all statements, by the recorded numbers of its symbols: the
 /// `$f` of its own variables, or all mandatory hypotheses, where it may keep more than its own and these are few.
 /// Another statement has none.
 pub fn enter_parts(

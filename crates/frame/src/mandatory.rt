@@ -7,7 +7,7 @@ use crate::storage::Stock;
 use scope::Stack;
 use std::alloc::AllocError;
 
-/// Puts positions in ascending order, each once.
+/// Sorts positions in ascending order, each once.
 fn order(list: &mut Vec<u32>)
     ensures { AreThose (λ p. In p list.old.items) list.new.items }
 {
@@ -15,7 +15,7 @@ fn order(list: &mut Vec<u32>)
     list.dedup();
 }
 
-/// Adds the `$f` of a symbol that is active behind all statements, if there is one and it is not there.
+/// Appends the `$f` of a symbol that is active after all statements, if there is one and it is not listed yet.
 fn add_float(
     stock: &Stock,
     looked: &mut Stack,
@@ -41,7 +41,7 @@ fn add_float(
 
 /// Finds the active `$f` of the symbols, in order.
 ///
-/// Cost: that of the symbols, and of putting the `$f` in order.
+/// Cost: that of the symbols, and of sorting the `$f`.
 pub fn find_floats(
     stock: &Stock,
     looked: &mut Stack,
@@ -61,14 +61,14 @@ pub fn find_floats(
     Ok(())
 }
 
-/// Whether the list has each of the positions.
+/// Returns whether the list has each of the positions.
 fn has_each(list: &[u32], positions: &[u32]) -> bool
     ensures { result ≡ list_all (λ p. list_any (λ q. q == p) list.now) positions.now }
 {
     positions.iter().all(|position| list.contains(position))
 }
 
-/// Adds the positions, unless the list is short and has each of them.
+/// Appends the positions, unless the list is short and has each of them.
 fn add_new(list: &mut Vec<u32>, positions: &[u32]) -> Result<(), AllocError>
     ensures { OnOk result (HasMore (λ p. In p positions.now) list.old.items list.new.items) }
 {
@@ -79,9 +79,9 @@ fn add_new(list: &mut Vec<u32>, positions: &[u32]) -> Result<(), AllocError>
     Ok(())
 }
 
-/// Adds the `$e` that are active at `at`, and the `$f` that are kept with them, all in order.
+/// Appends the `$e` that are active at `at`, and the `$f` that are kept with them, all in order.
 ///
-/// Cost: that of these, and of putting them in order.
+/// Cost: that of these, and of sorting them.
 pub fn add_essentials(stock: &Stock, at: usize, list: &mut Vec<u32>) -> Result<(), AllocError>
     requires stored { AreStored stock.now }
     requires place { (1 ≤ at) × (at ≤ length (statements_of stock.now) + 1) }
@@ -101,8 +101,8 @@ pub fn add_essentials(stock: &Stock, at: usize, list: &mut Vec<u32>) -> Result<(
 /// Lists of at most so many items are kept whole, beside what an assertion adds.
 const FEW: usize = 64;
 
-/// Whether the mandatory hypotheses and groups of an assertion with so many `$f` of its own are few, or may be. Whatever is
-/// answered, what is kept is right.
+/// Returns whether the mandatory hypotheses and groups of an assertion with so many `$f` of its own are few, or may be. Whatever
+/// the answer is, the kept parts are right.
 ///
 /// Cost: at most a few steps, however much is active.
 pub fn are_few(stock: &Stock, own: usize) -> bool {

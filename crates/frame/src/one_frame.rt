@@ -10,7 +10,7 @@ use scope::{Scope, Standing};
 use smallvec::SmallVec;
 use std::alloc::{AllocError, Global};
 
-/// The frame of an assertion behind the statements of the scope.
+/// Returns the frame of an assertion after the statements of the scope.
 ///
 /// Source: Metamath, 4.2.7. Cost: the size of the assertion and of the active `$f`, `$e` and `$d`.
 pub fn frame(alloc: Global, scope: &Scope, stmt: &Stmt) -> Result<Frame, AllocError>
@@ -28,7 +28,7 @@ pub fn frame(alloc: Global, scope: &Scope, stmt: &Stmt) -> Result<Frame, AllocEr
     })
 }
 
-/// The expression of an assertion.
+/// Returns the expression of an assertion.
 fn expression(stmt: &Stmt) -> &Words
     requires { IsTrue (is_assertion stmt.now) }
     ensures { result.now ≡ expr_of stmt.now }
@@ -39,7 +39,7 @@ fn expression(stmt: &Stmt) -> &Words
     }
 }
 
-/// The variables of an assertion and of the active `$e`.
+/// Returns the variables of an assertion and of the active `$e`.
 fn mandatory_variables(alloc: Global, scope: &Scope, stmt: &Stmt) -> Result<NameTable, AllocError>
     requires { IsTrue (is_assertion stmt.now) }
     ensures { IfOk result (λ used. AreMandatory scope.now.statements stmt.now used) }
@@ -54,7 +54,7 @@ fn mandatory_variables(alloc: Global, scope: &Scope, stmt: &Stmt) -> Result<Name
     Ok(used)
 }
 
-/// Notes each variable of an expression.
+/// Records each variable of an expression.
 fn note_variables(
     alloc: Global,
     scope: &Scope,
@@ -71,7 +71,7 @@ fn note_variables(
     Ok(())
 }
 
-/// Notes a name, once.
+/// Records a name, once.
 fn note(alloc: Global, used: &mut NameTable, name: &[u8]) -> Result<(), AllocError>
     ensures { OnOk result ((x : Name) → has_name x used.new ≡ (has_name x used.old || name_eq x name.now)) }
 {
@@ -79,7 +79,7 @@ fn note(alloc: Global, used: &mut NameTable, name: &[u8]) -> Result<(), AllocErr
     Ok(())
 }
 
-/// The positions of the `$e`, and of the `$f` of the variables.
+/// Returns the positions of the `$e`, and of the `$f` of the variables.
 fn mandatory_hypotheses(
     alloc: Global,
     standing: &[Standing],
@@ -96,7 +96,7 @@ fn mandatory_hypotheses(
     Ok(list)
 }
 
-/// Whether it is an `$e`, or the `$f` of one of the variables.
+/// Returns whether it is an `$e`, or the `$f` of one of the variables.
 fn is_asked(used: &NameTable, stmt: &Stmt) -> bool
     ensures { result ≡ asks used.now stmt.now }
 {
@@ -113,7 +113,7 @@ fn has(used: &NameTable, name: &[u8]) -> bool
     used.find(name).is_some()
 }
 
-/// Of each `$d` those of the variables, where they are two or more.
+/// Returns for each `$d` those of the variables, where they are two or more.
 fn groups(alloc: Global, standing: &[Standing], used: &NameTable) -> Result<Vec<Words>, AllocError>
     ensures { IfOk result (λ groups. groups.items ≡ groups_among used.now standing.now) }
 {
@@ -129,7 +129,7 @@ fn groups(alloc: Global, standing: &[Standing], used: &NameTable) -> Result<Vec<
     Ok(groups)
 }
 
-/// Those of the names that are among the variables.
+/// Returns those of the names that are among the variables.
 fn group(alloc: Global, used: &NameTable, names: &Words) -> Result<Words, AllocError>
     ensures { IfOk result (λ group. group ≡ among used.now names.now) }
 {

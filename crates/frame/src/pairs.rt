@@ -11,7 +11,7 @@ use std::marker::Model;
 
 /// The `$d` that are active at a position.
 ///
-/// Contracts see the statements before the position, and the names that numbers stand for.
+/// Contracts see the statements up to the position, and the names that numbers stand for.
 #[derive(Drop)]
 pub struct Pairs<'a> {
     pub(crate) stock: &'a Stock,
@@ -60,7 +60,7 @@ impl<'a> Pairs<'a> {
         Row::new(self.stock, self.stock.disjoints.stack(x, self.at))
     }
 
-    /// The same `$d` once more.
+    /// Returns the same `$d`.
     #[inline(always)]
     pub fn copy(&self) -> Pairs<'a>
         ensures { result ≡ self.now }
@@ -68,7 +68,7 @@ impl<'a> Pairs<'a> {
         Pairs { ..*self }
     }
 
-    /// Goes back to the last active `$d`, and gives its list. None where none is active.
+    /// Goes back to the last active `$d` and returns its list, or `None` if none is active.
     ///
     /// Cost: two look-ups.
     #[inline(always)]
@@ -87,7 +87,7 @@ impl<'a> Pairs<'a> {
         Some(self.stock.entries.entry(last - 1).symbols)
     }
 
-    /// The number of a name, where it has one. A name with none is no variable there.
+    /// Returns the number of a name, where it has one. A name with none is no variable there.
     pub fn number(&self, name: &[u8]) -> Option<u32>
         ensures number { result ≡ code_of self.now.names name.now }
         ensures unnamed { IfNone result (is_variable self.now.statements name.now ≡ false) }
@@ -106,12 +106,12 @@ impl<'a> Pairs<'a> {
     }
 }
 
-/// A `$d` with at most so many symbols is looked through; of a longer one the stacks tell whether it has a symbol.
+/// A `$d` with at most so many symbols is searched in order; for a longer one the stacks tell whether it has a symbol.
 const FEW: usize = 8;
 
 /// Returns whether one of the `$d` at these positions has the symbol.
 ///
-/// Cost: how many they are, times a binary search.
+/// Cost: their number, times a binary search.
 fn any_has(stock: &Stock, mut stack: PositionStack<'_>, code: u32) -> bool
     requires stored { AreStored stock.now }
     requires disjoints { AreOfKind is_disj (statements_of stock.now) stack }

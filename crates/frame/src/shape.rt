@@ -1,11 +1,11 @@
-//! What is read off a statement.
+//! Properties of a statement's shape.
 ghost use Rattle.std.specs.Prelude.{◌≡◌};
 ghost use Rattle.{scope.specs.Active.bare, scope.specs.Active.is_assertion, scope.specs.Active.is_essential, frame.specs.Stored.AssertionParts.has_parts, frame.specs.Stored.Counts.kind_of, frame.specs.Stored.Labels.is_label_kind};
 
 use entries::Kind;
 use mm_read::Stmt;
 
-/// The kind of a statement.
+/// Returns the kind of a statement.
 pub fn kind(stmt: &Stmt) -> Kind
     ensures { result ≡ kind_of (bare stmt.now) }
 {
@@ -22,28 +22,28 @@ pub fn kind(stmt: &Stmt) -> Kind
     }
 }
 
-/// Whether a statement is an assertion.
+/// Returns whether a statement is an assertion.
 pub fn is_assertion(stmt: &Stmt) -> bool
     ensures { result ≡ is_assertion stmt.now }
 {
     matches!(stmt, Stmt::Axiom { .. } | Stmt::Prove { .. })
 }
 
-/// Whether a statement is an essential hypothesis.
+/// Returns whether a statement is an essential hypothesis.
 pub fn is_essential(stmt: &Stmt) -> bool
     ensures { result ≡ is_essential stmt.now }
 {
     matches!(stmt, Stmt::Ess { .. })
 }
 
-/// Whether statements of a kind have the parts of an assertion.
+/// Returns whether statements of a kind have the parts of an assertion.
 pub fn has_parts(kind: Kind) -> bool
     ensures { result ≡ has_parts kind }
 {
     matches!(kind, Kind::Ess | Kind::Axiom | Kind::Prove)
 }
 
-/// Whether statements of a kind have a label. They are those with an expression.
+/// Returns whether statements of a kind have a label. They are those with an expression.
 pub fn has_label(kind: Kind) -> bool
     ensures { result ≡ is_label_kind kind }
 {

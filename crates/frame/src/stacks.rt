@@ -8,7 +8,7 @@ ghost use Rattle.frame.specs.Stored.Whole.{IsWalked};
 use entries::{Entries, Histories, Kind, Links};
 use std::alloc::AllocError;
 
-/// The statement that comes next, as far as it changes what is active.
+/// The next statement, as far as it changes what is active.
 #[derive(Clone, Copy, Drop)]
 pub struct NextStatement<'a> {
     pub kind: Kind,
@@ -20,9 +20,9 @@ pub struct NextStatement<'a> {
     pub links: Links,
 }
 
-/// Notes what the next statement makes active, or what is active again behind a `$}`.
+/// Records what the next statement makes active, or what is active again after a `$}`.
 ///
-/// Cost: the symbols of a `$d` or `$v`; of a `$}` those of the `$d` and `$v` that it makes inactive, and for each of
+/// Cost: the symbols of a `$d` or `$v`; for a `$}` those of the `$d` and `$v` that it makes inactive, and for each of
 /// these symbols a binary search.
 pub fn note_active(
     disjoints: &mut Histories,
@@ -61,8 +61,8 @@ fn push_each(histories: &mut Histories, codes: &[u32], at: u32) -> Result<(), Al
     Ok(())
 }
 
-/// Makes the stack of each symbol of the active statements of a kind that stand in the last block the one that it was
-/// where that block opened.
+/// Restores the stack of each symbol of the active statements of a kind that stand in the last block to the one that it was
+/// when that block opened.
 fn go_back_all(
     histories: &mut Histories,
     entries: &Entries,
@@ -84,7 +84,7 @@ fn go_back_all(
     Ok(())
 }
 
-/// Makes the stack of each of the symbols the one that it was at `before`.
+/// Restores the stack of each of the symbols to the one that it was at `before`.
 fn go_back_each(
     histories: &mut Histories,
     codes: &[u32],
@@ -101,7 +101,7 @@ fn go_back_each(
     Ok(())
 }
 
-/// The last active statement of a kind, by position, or 0.
+/// Returns the last active statement of a kind, by position, or 0.
 fn link(links: Links, of: Kind) -> u32
     ensures { result ≡ link_by of links }
 {

@@ -6,7 +6,7 @@ use mm_lex::Words;
 use mm_read::Stmt;
 use scope::{NameKind, Noted, Numbering};
 
-/// The number of a symbol; none where the word is no symbol.
+/// Returns the number of a symbol, or `None` if the word is no symbol.
 pub fn symbol_number(numbering: &Numbering, word: &[u8]) -> Option<u32>
     ensures found { IfSome result (λ n. IsNumberOf (declared_symbols numbering.now) word.now n) }
     ensures none { IfNone result (is_declared (kind_in numbering.now word.now) ≡ false) }
@@ -19,7 +19,7 @@ pub fn symbol_number(numbering: &Numbering, word: &[u8]) -> Option<u32>
     }
 }
 
-/// The number of a label; none where the word is no label.
+/// Returns the number of a label, or `None` if the word is no label.
 pub fn label_number(numbering: &Numbering, word: &[u8]) -> Option<u32>
     ensures found { IfSome result (λ n. IsNumberOf (declared_labels numbering.now) word.now n) }
     ensures none { IfNone result (is_label_kind (kind_in numbering.now word.now) ≡ false) }
@@ -32,7 +32,7 @@ pub fn label_number(numbering: &Numbering, word: &[u8]) -> Option<u32>
     }
 }
 
-/// Notes the number of a symbol.
+/// Records the number of a symbol.
 fn note_symbol(numbering: &Numbering, word: &[u8], noted: &mut Noted)
     ensures { (xs : Expr) → AreNoted (declared_symbols numbering.now) xs noted.old → AreNoted (declared_symbols numbering.now) (xs ++ word.now ∷ []) noted.new }
 {
@@ -42,7 +42,7 @@ fn note_symbol(numbering: &Numbering, word: &[u8], noted: &mut Noted)
     }
 }
 
-/// Notes the numbers of the symbols of a list, and no others.
+/// Records the numbers of the symbols of a list, and no others.
 fn note_list(numbering: &Numbering, words: &Words, noted: &mut Noted)
     ensures { AreNoted (declared_symbols numbering.now) words.now noted.new }
 {
@@ -52,7 +52,7 @@ fn note_list(numbering: &Numbering, words: &Words, noted: &mut Noted)
     }
 }
 
-/// Notes the numbers of the symbols of a statement, where they are not noted. Those that it declares have none yet.
+/// Records the numbers of the symbols of a statement, if they are not recorded. Those that it declares have none yet.
 pub fn find_numbers(numbering: &Numbering, stmt: &Stmt, noted: &mut Noted)
     requires { AreNoted (with_names (declared_symbols numbering.now) (symbols_by stmt.now)) (symbols_in stmt.now) noted.old }
     ensures { AreNoted (with_names (declared_symbols numbering.now) (symbols_by stmt.now)) (symbols_in stmt.now) noted.new }

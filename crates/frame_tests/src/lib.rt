@@ -1,4 +1,5 @@
-//! Tests of `scope`, `frame` and `subst`: copies of a scope, the numbers it notes, worked frames, and images put in at once.
+//! Tests of `scope`, `frame` and `subst`: copies of a scope, the numbers it records, worked frames, and images substituted at
+//! once.
 #![tactic(auto)]
 
 #[cfg(test)]

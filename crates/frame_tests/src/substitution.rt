@@ -1,4 +1,4 @@
-//! Images that are put in at once, and an image of nothing.
+//! Images that are substituted at once, and an image of nothing.
 use std::alloc::{AllocError, Global};
 use subst::{Buffer, Subst, apply, apply_into, has_room};
 
@@ -7,7 +7,7 @@ const X: u32 = 4;
 
 const Y: u32 = 5;
 
-/// What is put in for x and for y, an expression, and what comes of it.
+/// The images of x and of y, an expression, and the result.
 const ROWS: [(&[u32], &[u32], &[u32], &[u32]); 3] = [
     (&[Y], &[X], &[0, X, 3, Y], &[0, Y, 3, X]),
     (&[], &[Y], &[0, 1, X, 2], &[0, 1, 2]),
@@ -21,7 +21,7 @@ fn images_are_put_in_at_once(rt: HostRuntime) {
     }
 }
 
-/// Whether an expression with these images of x and y becomes that one, also behind others in a buffer.
+/// Returns whether an expression with these images of x and y becomes that one, also at the end of a buffer.
 fn gives(
     alloc: Global,
     x: &[u32],
@@ -33,7 +33,7 @@ fn gives(
     gives_by(alloc, &mut subst, x, y, expr, want)
 }
 
-/// The same by those images, of which there are none yet.
+/// Returns whether it does so with an empty list of images.
 fn gives_by(
     alloc: Global,
     subst: &mut Subst,
@@ -48,12 +48,12 @@ fn gives_by(
     Ok(becomes(alloc, subst, expr, want)? && is_added(alloc, subst, expr, want)?)
 }
 
-/// Whether the expression becomes that one.
+/// Returns whether the expression becomes that one.
 fn becomes(alloc: Global, subst: &Subst, expr: &[u32], want: &[u32]) -> Result<bool, AllocError> {
     Ok(apply(alloc, subst, expr)?.as_slice() == want)
 }
 
-/// Whether that is what is added to a buffer twice.
+/// Returns whether that is added to a buffer twice.
 fn is_added(alloc: Global, subst: &Subst, expr: &[u32], want: &[u32]) -> Result<bool, AllocError> {
     let mut buffer = Buffer::new(alloc);
     if !has_room(subst, expr, &buffer) {

@@ -18,7 +18,7 @@ const APART: &[u8] = b"$c wff |- R $. $v x y z $. wx $f wff x $. wy $f wff y $. 
     ${ $d x y $. ax $a |- x R y $. $} ${ h $e |- x R y $. r $a |- R x $. $} \
     ${ $d x z $. th $p |- R x $= wx wz wx wz ax r $. $}";
 
-/// A text, how many statements stand before an assertion, and its hypotheses, the one list of variables that it keeps apart
+/// A text, how many statements stand before an assertion, and its hypotheses, the one list of its disjoint variables
 /// (or none) and its conclusion.
 const ROWS: [(&[u8], usize, &[usize], &[u8], &[u8]); 5] = [
     (ARITHMETIC, 16, &[6, 7, 15, 16], b"", b"|- Q"),
@@ -45,7 +45,7 @@ fn assertions_have_their_frames(rt: HostRuntime) {
     }
 }
 
-/// The frame of the assertion that stands behind so many statements.
+/// Returns the frame of the assertion after so many statements.
 fn frame_behind(alloc: Global, text: &[u8], count: usize) -> Option<Frame> {
     match read(alloc, text) {
         Ok(statements) => frame_at(alloc, statements.as_slice(), count),

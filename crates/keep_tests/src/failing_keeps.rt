@@ -14,7 +14,7 @@ fn a_store_fails(rt: HostRuntime) {
     }
 }
 
-/// Whether the first node is down once its first store fails, which leaves the new record or the old, and up again once it
+/// Returns whether the first node is down once its first store fails, which leaves the new record or the old, and up again once it
 /// restarts.
 fn store_fails(alloc: Global, new: bool) -> Result<bool, StepFault> {
     let (mut switch, mut cells) = three(alloc, Fuse::new(alloc, Some(0), new))?;
@@ -33,7 +33,7 @@ fn goes_down(
     )
 }
 
-/// Whether the restart asked both others, and the next ballot is the second.
+/// Returns whether the restart asked both others, and the next ballot is the second.
 fn comes_back(switch: &mut Switch<Carried, Fuse>) -> Result<bool, StepFault> {
     let asked = matches!(switch.history(), [Event::Begin(0), Event::Restart(0)])
         && asks(switch, 3, 1)?
@@ -41,7 +41,7 @@ fn comes_back(switch: &mut Switch<Carried, Fuse>) -> Result<bool, StepFault> {
     Ok(asked && begin_on(switch, 0) == Ok(8) && prepares(switch, 6)?)
 }
 
-/// Whether the packet is one by which node 0 asks that node for the first entry.
+/// Returns whether the packet is one by which node 0 asks that node for the first entry.
 fn asks(switch: &Switch<Carried, Fuse>, number: u64, to: u8) -> Result<bool, StepFault> {
     let packet = switch.packet(number)?;
     let asked = match &packet.body {
@@ -51,7 +51,7 @@ fn asks(switch: &Switch<Carried, Fuse>, number: u64, to: u8) -> Result<bool, Ste
     Ok(asked && packet.from == 0 && packet.to == to)
 }
 
-/// Whether the packet tells node 1 of ballot 2.0.
+/// Returns whether the packet tells node 1 of ballot 2.0.
 fn prepares(switch: &Switch<Carried, Fuse>, number: u64) -> Result<bool, StepFault> {
     let packet = switch.packet(number)?;
     let prepared = match &packet.body {
@@ -92,7 +92,7 @@ fn keeps(alloc: Global, slot: u32) -> Result<bool, Failed> {
     is_kept(&mut keep, slot)
 }
 
-/// Whether a no-operation that is stored at the slot is loaded.
+/// Returns whether a no-operation that is stored at the slot is loaded.
 fn is_kept<K: Keep<Carried>>(keep: &mut K, slot: u32) -> Result<bool, Failed> {
     let ballot = Ballot { round: 1, node: 0 };
     let held = Held {

@@ -11,7 +11,7 @@ use std::alloc::{AllocError, Global};
 use synod::{Change, Failed, Keep, Record, Weights};
 use world::Carried;
 
-/// The text of author 7 under that serial number, as an entry.
+/// Returns the text of author 7 under that serial number, as an entry.
 pub fn entry(alloc: Global, serial: u64, text: &[u8]) -> Result<Entry, AllocError> {
     Ok(Entry::Text(Submission {
         author: 7,
@@ -67,7 +67,7 @@ impl Keep<Carried> for Fuse {
     }
 }
 
-/// Whether this call is the one that fails.
+/// Returns whether this call is the one that fails.
 fn blows(left: &mut Option<u32>) -> bool {
     match *left {
         Some(0) => {
@@ -82,7 +82,7 @@ fn blows(left: &mut Option<u32>) -> bool {
     }
 }
 
-/// Three nodes, the first with this keep.
+/// Makes three nodes, the first with this keep.
 pub fn three(
     alloc: Global,
     first: Fuse,
@@ -96,7 +96,7 @@ pub fn three(
     cells(alloc, Weights::equal(3), keeps)
 }
 
-/// The first node restarts.
+/// Restarts the first node.
 pub fn restart_first(
     switch: &mut Switch<Carried, Fuse>,
     cells: &mut Vec<NodeCell>,

@@ -49,7 +49,7 @@ fn is_filled(alloc: Global) -> Result<bool, StepFault> {
     Ok(makes_all(alloc, &mut switch) && fills(&switch, &mut cells)?)
 }
 
-/// Whether each step of the row is made, and no other packet and no other node is there.
+/// Returns whether each step of the row is made, and no other packet and no other node is there.
 fn makes_all(alloc: Global, switch: &mut Switch<Carried, Fuse>) -> bool {
     for (step, want) in GAP {
         if make(alloc, switch, step) != Ok(want) {
@@ -60,7 +60,7 @@ fn makes_all(alloc: Global, switch: &mut Switch<Carried, Fuse>) -> bool {
         && begin_on(switch, 3) == Err(StepFault::NoNode)
 }
 
-/// Whether the cells add so many statements each, and agree.
+/// Returns whether the cells add so many statements each, and agree.
 fn fills(switch: &Switch<Carried, Fuse>, cells: &mut Vec<NodeCell>) -> Result<bool, StepFault> {
     for (cell, added) in cells.iter_mut().zip([1, 0, 2]) {
         if !adds(cell, switch, added)? {
@@ -70,7 +70,7 @@ fn fills(switch: &Switch<Carried, Fuse>, cells: &mut Vec<NodeCell>) -> Result<bo
     Ok(all_agree(switch, cells))
 }
 
-/// Whether the cell takes over and applies what its log has, so many statements without a label.
+/// Returns whether the cell takes over and applies what its log has, so many statements without a label.
 fn adds(
     cell: &mut NodeCell,
     switch: &Switch<Carried, Fuse>,
@@ -93,7 +93,7 @@ fn make(alloc: Global, switch: &mut Switch<Carried, Fuse>, step: Step) -> Result
     }
 }
 
-/// Takes over and applies all that the cell's log has.
+/// Takes over and applies all entries of the cell's log.
 fn settle(cell: &mut NodeCell, switch: &Switch<Carried, Fuse>) -> Result<(), StepFault> {
     for _entry in 0..3 {
         if !take_on(cell, switch)? {
@@ -104,7 +104,7 @@ fn settle(cell: &mut NodeCell, switch: &Switch<Carried, Fuse>) -> Result<(), Ste
     Ok(())
 }
 
-/// Whether each cell is of the switch, and each two compare as their statements do.
+/// Returns whether each cell is of the switch, and each two compare as their statements do.
 fn all_agree(switch: &Switch<Carried, Fuse>, cells: &[NodeCell]) -> bool {
     for one in cells {
         for other in cells {
@@ -116,7 +116,7 @@ fn all_agree(switch: &Switch<Carried, Fuse>, cells: &[NodeCell]) -> bool {
     true
 }
 
-/// Which of two cells is ahead, where both are of the switch.
+/// Returns which of two cells is ahead, where both are of the switch.
 fn ahead(one: &NodeCell, other: &NodeCell, switch: &Switch<Carried, Fuse>) -> Option<Ahead> {
     if belongs(one, switch) && belongs(other, switch) {
         Some(compare_on(one, other, switch))
@@ -125,7 +125,7 @@ fn ahead(one: &NodeCell, other: &NodeCell, switch: &Switch<Carried, Fuse>) -> Op
     }
 }
 
-/// Whose library has more statements, counted.
+/// Returns whose library has more statements, counted.
 fn counted(one: &NodeCell, other: &NodeCell) -> Ahead {
     let first = one.library().statements().len();
     let second = other.library().statements().len();
@@ -152,8 +152,8 @@ fn stop_at_each(rt: HostRuntime) {
     }
 }
 
-/// Whether all cells agree behind the steps, where node 0 has this keep and restarts after one of them; a step that is refused
-/// is passed over. Each cell takes over and applies what it can after each step.
+/// Returns whether all cells agree after the steps, where node 0 has this keep and restarts after one of them; a step that is
+/// refused is passed over. Each cell takes over and applies what it can after each step.
 fn agrees(alloc: Global, left: Option<u32>, new: bool, stop: usize) -> Result<bool, StepFault> {
     let (mut switch, mut cells) = three(alloc, Fuse::new(alloc, left, new))?;
     go_on(alloc, &mut switch, &mut cells, stop)

@@ -1,5 +1,5 @@
 //! Tests of `world` and `cluster`: keeps that fail at each of their calls, a gap in the log that each cell fills, and an
-//! application after a refused growth.
+//! application after a failed allocation.
 #![tactic(auto)]
 
 #[cfg(test)]

@@ -1,4 +1,4 @@
-//! A world of entries: a list of events at once, and an application after a growth that was refused.
+//! A world of entries: a list of events at once, and an application after an allocation that failed.
 use crate::fuse::entry;
 use library::Entry;
 use net::{Event, StepFault};
@@ -14,7 +14,7 @@ fn events_are_run(rt: HostRuntime) {
     assert!(rt; runs_to_its_end(rt.alloc()) == Ok(true));
 }
 
-/// Whether the events up to the gap are all taken, and all but its last if one more names no packet.
+/// Returns whether the events up to the gap are all taken, and all but its last if one more names no packet.
 fn runs_to_its_end(alloc: Global) -> Result<bool, AllocError> {
     let mut events = gap(alloc)?;
     let good = match run(alloc, Weights::equal(3), gap(alloc)?) {
@@ -29,7 +29,7 @@ fn runs_to_its_end(alloc: Global) -> Result<bool, AllocError> {
     Ok(good && bad)
 }
 
-/// The events of the row up to the gap.
+/// Returns the events of the row up to the gap.
 fn gap(alloc: Global) -> Result<Vec<Event<Entry>>, AllocError> {
     let mut events = Vec::new(alloc);
     events.push(Event::Begin(0))?;
@@ -49,7 +49,7 @@ fn push_deliveries(events: &mut Vec<Event<Entry>>, numbers: &[u64]) -> Result<()
     Ok(())
 }
 
-/// The replica stays at its slot where memory was refused once, and the next application decides.
+/// The replica stays at its slot after an allocation failed once, and the next application decides.
 #[test]
 fn applies_after_a_refused_growth(rt: HostRuntime) {
     if let Ok(mut world) = learned(rt.alloc()) {
@@ -57,7 +57,7 @@ fn applies_after_a_refused_growth(rt: HostRuntime) {
     }
 }
 
-/// Whether the two entries are applied by three calls of which one may find no memory, and nothing is left then.
+/// Returns whether the two entries are applied by three calls of which one may run out of memory, and nothing is left then.
 fn applies_all(world: &mut World) -> bool {
     for _call in 0..3 {
         match world.apply_next(0) {
@@ -72,7 +72,7 @@ fn applies_all(world: &mut World) -> bool {
     world.apply_next(0) == Ok(None)
 }
 
-/// A world of one node that learned two texts of one author under one number.
+/// Returns a world of one node that learned two texts of one author under one number.
 fn learned(alloc: Global) -> Result<World, StepFault> {
     let mut world = World::new(alloc, Weights::equal(1))?;
     learn_two(alloc, &mut world)?;

@@ -1,4 +1,4 @@
--- Statements entered one by one: what is left to judge behind those that were taken.
+-- Statements added one by one: those that are left to judge after the accepted ones.
 use Rattle.library.proofs.Words.{◌≡◌, ℕ, ◌+◌, ◌<◌, [], ◌∷◌, ◌++◌, length, length-append, take, drop, get_or, Option, Some, None, Result, Ok, Err, IfSome, arith, refl, sym, ◌∙◌, ap, append_assoc, map_more, drop_more, Stmt, Database, IsKnown, BrokenRule as Rule, bare, bares, broken_rule, first_broken}
 use Rattle.scope.specs.declared.rule.Rule.TheVariants.{Memory}
 use Rattle.library.proofs.JoinedRulesLemmas.{first_broken-taken}
@@ -19,12 +19,12 @@ pub left-more : (cur old next S : Database) (i : ℕ) (s : Stmt) → i < length 
 left-more cur old next S i s less is legal after left =
     left ∙ (left-at cur S i s less is ∙ (first_broken-taken (i + 1) cur s (drop (i + 1) S) (sym legal) ∙ ap (λ U. first_broken (i + 1 + 1) U (drop (i + 1) S)) (sym after)))
 
--- a rule that is not want of memory is the one that is broken
+-- a rule that is not out of memory is the one that is broken
 pub rule-is : (r : Option Rule) (rule : Rule) → IfSome r (λ other. ◌≡◌ {A = Result (Unit {0}) Rule} (Err rule) (Err other)) → (r ≡ None → rule ≡ Memory) → (rule ≡ Memory → ⊥) → r ≡ Some rule
 rule-is None rule shown none other = absurd (other (none refl))
 rule-is (Some r) rule shown none other = ap Some (let e = shown in cc)
 
--- what closing at the end answered
+-- the answer of closing at the end
 pub none-at-end : (r : Option Rule) (result : Result (Unit {0}) Rule) → IfSome r (λ rule. result ≡ Err rule) → result ≡ Ok tt → r ≡ None
 none-at-end None result shown ok = refl
 none-at-end (Some rule) result shown ok = absurd (let e = shown in cc)

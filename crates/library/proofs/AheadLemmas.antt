@@ -5,7 +5,7 @@ use Rattle.library.specs.declared.adding.Added.{Added}
 use Rattle.library.specs.declared.adding.Tables.{Tables}
 use Rattle.library.proofs.UnprovedLemmas.{known-alone, to-later}
 
--- what is proved of the first statements of a library is known of all
+-- a `$p` that is proved among the first statements of a library is known to be proved among all
 pub added-ahead : {old new : Tables} (S : Database) (count known : ℕ) (a : Added) → count ≤ length S → length old.frames.statements ≤ 0
     → known ≤ length (take count S) → AreProvedTo (take count S) known → IsAdded old new S a → IsAdded old new S (record { broken = a.broken; known = known })
 added-ahead S count known a within alone low proved e =

@@ -1,4 +1,4 @@
--- One verdict: of a text that is judged behind given statements, under a given charter, one thing is true.
+-- One verdict: one answer is true of a text that is judged after given statements, under a given charter.
 use Rattle.library.proofs.Words.{◌≡◌, ◌≢◌, ℕ, zero, suc, ◌+◌, ◌-◌, ◌<◌, ◌≤◌, true, false, IsTrue, IsFalse, List, ◌++◌, length, Option, Some, None, refl, sym, ◌∙◌, ap, subst, arith, Name, Stmt, Database, spelled, Reads, HasTokens, IsNoDatabase, BrokenRule, proof_of, first_broken, is_unfinished, Submission, Cause, TooLong, Shape, NotChartered, Rule, Proof, Unfinished, Verdict, Added, Refused, forbidden, Good, IsReadable, IsAllowed, IsFirstUnproved, IsFault, IsCause}
 use Rattle.mm_lex.specs.declared.fault.LexFault.{LexFault}
 use Rattle.mm_lex.specs.declared.fault.LexFault.TheVariants as lex
@@ -13,7 +13,7 @@ use Rattle.library.proofs.GoodLemmas.{provable-behind}
 use Rattle.library.proofs.JoinedRulesLemmas.{legal-text}
 use Rattle.mm_read.proofs.OneReading.{same_tokens}
 
--- ---- what a text reads as
+-- ---- the statements that a text reads as
 
 pub one-reading : (text : List ℕ) (S T : Database) → Reads text S → Reads text T → S ≡ T
 one-reading text S T p q = one_spelling S T p.shaped q.shaped (same_tokens text (spelled S) (spelled T) p.tokens q.tokens)
@@ -39,13 +39,13 @@ one-unproved L T m n s r p q = by (m - n) refl (n - m) refl
 -- ---- one verdict
 
 module _ (L : Database) (charter : Option (List ℕ)) (submission : Submission) where
-  -- what decides on a text
+  -- the verdict on a text
   abbrev pub IsVerdict : Verdict → Type 0
   IsVerdict Added = (T : Database) × IsAllowed charter submission T × Good (L ++ T)
   IsVerdict (Refused cause) = IsCause L charter submission cause
   IsVerdict verdict = ⊥
 
-  -- what decides on a text that reads as T, where its author may not declare this statement of it, or may declare all
+  -- the verdict on a text that reads as T, where its author may not declare this statement of it, or may declare all
   abbrev Late : Database → Option ℕ → Verdict → Type 0
   Late T (Some n) verdict = verdict ≡ Refused (NotChartered n)
   Late T None Added = Good (L ++ T)

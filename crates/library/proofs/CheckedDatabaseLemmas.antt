@@ -19,10 +19,10 @@ bares-bares (s ∷ S) = ap (λ t. t ∷ bares (bares S)) (bare-bare s) ∙ ap (�
 pub shaped-append : (S T : Database) → AreShaped S → AreShaped T → AreShaped (S ++ T)
 shaped-append S T p q = list_all-append is_shaped S T ∙ (ap (λ b. b && list_all is_shaped T) p ∙ q)
 
--- ---- judged behind the first statements
+-- ---- judged after the first statements
 
 module _ (L T : Database) where
-  -- a `$p` of T stands behind L
+  -- a `$p` of T stands after L
   stands-behind : (n : ℕ) (s : Stmt) → IsProvable T n s → (length L < length L + n) × (length L + n ≤ length (L ++ T))
   stands-behind n s p =
       let w = stands-within T n s p.stands in
@@ -48,7 +48,7 @@ module _ (L T : Database) where
             earlier = λ m r below p. let w = stands-behind m r p in least.3 (length L + m) w.0 (omega (arith, here, below)) r (provable-behind L T m r p);
           }
 
--- the same of a list that is cut
+-- the same for a list that is cut
 module _ (S : Database) (front : ℕ) (within : front ≤ length S) where
   least-cut : (o : Option ℕ) → IsLeastUnproved S front o → IsLeastUnproved (take front S ++ drop front S) (length (take front S)) o
   least-cut o h =
@@ -83,7 +83,7 @@ good-more L T good judged = record { legal = legal-more L T good.legal judged.0;
       | inr q ↦ subst (IsProved (L ++ T)) (sym q.1) (judged.1 q.0 s q.2)
     ]
 
--- what was added as a slice
+-- the statements that were added, as a slice
 module _ (S : Database) (front : ℕ) {tables : Tables} (checked : IsChecked (take front S) tables) (within : front ≤ length S) where
   all-bares : (old new : Database) → old ≡ bares (take front S) → new ≡ old ++ bares (drop front S) → new ≡ bares S
   all-bares old new before after =
@@ -102,6 +102,6 @@ module _ (S : Database) (front : ℕ) {tables : Tables} (checked : IsChecked (ta
         known = rw (take-append-drop front S, length-take-le front S within) at (h.known (take front S) alone);
       }
 
--- a text that stands behind the others
+-- a text that is appended
 pub good-behind : {L : Database} (T : Database) {whole : Database} {front : ℕ} → Good L → whole ≡ L ++ T → front ≡ length L → IsJudged (take front whole) (drop front whole) None → Good (L ++ T)
 good-behind {L = L} T good is_whole is_front judged = good-more L T good (rw (is_whole, is_front, take-append_seam L T, drop-append_seam L T) at judged)

@@ -1,4 +1,4 @@
--- What a proof cites stands before it, and what citations lead to is what a walk down has marked.
+-- A proof cites earlier statements, and a walk down has marked the statements that citations lead to.
 use Rattle.library.proofs.Words.{◌≡◌, ◌↔◌, ◌⊎◌, ℕ, zero, suc, ◌-◌, ◌<◌, ◌≤◌, Bool, true, false, List, [], ◌∷◌, ◌++◌, length, get_or, Some, option_map, slice_get, slice_set, replicate, refl, sym, ◌∙◌, ap, subst, arith, inl, inr, cases_eq, get_or_default}
 use Rattle.library.proofs.Words.{Name, Stmt, Database, bare, bares, stmt_at, label_of, proof_of, stmt_at-bares, Carries, HasLabelsOnce, Item, Cite, Recall, Mark, one_list, Derivation, Derivations, Spells, SpellsAll, cites_hypothesis, cites_assertion, recalls, marks, spells_none, spells_more, mandatory_labels, IsRight, Good, HasItems, ItemsCite, Cites, RestsOn, directly, through, IsMarked, is_marked, Marks, label_of-bare}
 use Rattle.library.proofs.FrontLemmas.{active-below}
@@ -30,7 +30,7 @@ pub one-items : (S : Database) (at : ℕ) (items other : List Item) → HasItems
 one-items S at items other p q =
     one_list (proof_of p.stmt) (mandatory_labels (bares S) at p.stmt) items other p.written (written-of S at p.stmt (proof_of p.stmt) p.provable refl other q)
 
--- ---- what a proof cites stands before it
+-- ---- a proof cites earlier statements
 
 module _ (S : Database) (at : ℕ) where
   -- each label that is cited is that of an earlier statement
@@ -169,7 +169,7 @@ walk-end S j p ms done w a = (w.sound a, reached)
 
 -- ---- one position of the walk
 
--- what the test of a mark says
+-- the result of the test of a mark
 bit-marked : (ms : List Bool) (p : ℕ) (bit : Bool) → 0 < p → p ≤ length ms → bit ≡ get_or ms (p - 1) bit → is_marked ms (Some p) ≡ bit
 bit-marked ms zero bit h within is = absurd (omega (arith, h))
 bit-marked ms (suc n) bit h within is =

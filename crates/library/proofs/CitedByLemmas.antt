@@ -80,7 +80,7 @@ labels-same S P Q labels are same =
 
 -- ---- the walk up
 
--- a position that is marked: the one asked about, or of all users one up to p
+-- a position that is marked: the one of the query, or of all users one up to p
 abbrev IsSought : Database → Bool → ℕ → ℕ → ℕ → Type 0
 IsSought S all a p b = (b ≡ a) ⊎ ((b ≤ p) × (all ≡ true) × RestsOn S b a)
 
@@ -198,7 +198,7 @@ set-all : (all : Bool) (ms : List Bool) (k : ℕ) → get_or ms k false ≡ fals
 set-all true ms k h = refl
 set-all false ms k h = ap (slice_set ms k) (sym h) ∙ set-get_or ms k false
 
--- the statement behind position p is no `$p`, or its proof meets no mark, or it does
+-- the statement after position p is no `$p`, or its proof meets no mark, or it does
 module _ (S : Database) (all : Bool) (a p : ℕ) (marks : List Bool) (labels : List Name) (good : Good S) (within : p < length S) (w : IsSearched S all a p marks labels) where
   next : p + 1 ≡ suc p
   next = omega arith
@@ -265,7 +265,7 @@ module _ (S : Database) (ms : List Bool) where
   listed-all p labels over are =
       labels-same S (Upto (IsMarkedAxiom S ms) p) (IsMarkedAxiom S ms) labels are (λ a. ((λ u. u.1), λ h. (let w = marked-within ms a h.0 in omega (arith, w.1, over), h)))
 
--- ---- what is used
+-- ---- the statements that are used
 
 not-both : (s : Stmt) → is_provable s ≡ true → is_axiom s ≡ true → ⊥
 not-both (Axiom label expr) h k = let e = h in cc

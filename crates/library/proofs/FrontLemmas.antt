@@ -1,4 +1,4 @@
--- What is read of the first statements of a list stays so when others come behind.
+-- The values that are read of the first statements of a list stay the same when others are appended.
 use Rattle.library.proofs.Words.{◌≡◌, ℕ, zero, suc, ◌+◌, ◌-◌, ◌<◌, ◌≤◌, true, ◌&&◌, nat_le, nat_lt, List, [], ◌∷◌, ◌++◌, length, map, take, drop, get_or, Some, slice_get, refl, sym, ◌∙◌, ap, subst, arith, and_parts, nat_tests, take-append-le, drop-append-le, length-drop, take-append-drop, slice_get-get_or, Stmt, Prove, Database, stmt_at, before, bare, is_active, stays_open, hypotheses, is_hypothesis_kind, stands-within, stmt_stays}
 use Rattle.frame.proofs.AssertionLemmas.{hypothesis-kinds}
 use Rattle.frame.proofs.PlacedHypotheses.{IsHyp, AreHyps, hyps}
@@ -63,7 +63,7 @@ hypotheses-stand S s = by (hypotheses S s) (hyps S s)
     by [] h = tt
     by (p ∷ ps) h = (one p h.0, by ps h.1)
 
--- what is the same of each position of a list is the same of each hypothesis
+-- a property of each position of a list is one of each hypothesis
 pub map-stand : {A : Type 0} (S : Database) (f g : ℕ → A) → ((i : ℕ) → i ≤ length S → f i ≡ g i) → (ps : List ℕ) → AreHypothesesAt S ps → map f ps ≡ map g ps
 map-stand S f g same [] h = refl
 map-stand S f g same (p ∷ ps) h = ap (λ v. v ∷ map f ps) (same p (stands-within S p h.0.stmt h.0.stands).1) ∙ ap (λ vs. g p ∷ vs) (map-stand S f g same ps h.1)

@@ -1,5 +1,5 @@
--- What a text makes of good statements: its own `$p` are to be proved, those before it stay proved, since a derivation looks at earlier
--- statements alone.
+-- Good statements with a text after them: its own `$p` are to be proved, those before it stay proved, since a derivation looks
+-- at earlier statements alone.
 use Rattle.library.proofs.Words.{◌≡◌, ℕ, ◌-◌, ◌≤◌, IsTrue, List, ◌∷◌, ◌++◌, length, map, zero, suc, ◌+◌, refl, ◌⊎◌, list_all, sym, ◌∙◌, ap, subst, arith, inl, inr, map-append, length-map}
 use Rattle.library.proofs.Words.{Name, Stmt, Expr, Database, before, is_variable, bare, bares, stmt_at, proof_of, stands-within, hypotheses, mandatory_groups, Carries, IsHypothesis, IsInstance, premises, expr_at, option_expr, Item, Derivation, Derivations, hyp, apply, more, Spells, SpellsAll, cites_hypothesis, cites_assertion, recalls, marks, spells_none, spells_more, IsRight, IsProvable, stmt_stays, Writes, mandatory_labels, label_or_none, IsProved}
 use Rattle.frame.specs.Substitution.{Images, apply as applied}
@@ -7,7 +7,7 @@ use Rattle.frame.specs.Disjoint.{are_groups_apart}
 use Rattle.verify.specs.Concludes.{Concludes, ConcludeAll}
 use Rattle.library.proofs.FrontLemmas.{stmt_at-front, before-front, active-later, map-stand, hypotheses-at, stmt_at-behind}
 
--- ---- what is derived at a position stays so when statements come behind
+-- ---- a derivation at a position stays one when statements are appended
 
 module _ (S T : Database) where
   carries-later : (i : ℕ) (s : Stmt) (label : Name) → Carries S i s label → Carries (S ++ T) i s label
@@ -82,7 +82,7 @@ module _ (S T : Database) where
       },
     )
 
--- ---- what is proved
+-- ---- the proved theorems
 
 pub provable-later : (S T : Database) (at : ℕ) (s : Stmt) → IsProvable S at s → IsProvable (S ++ T) at s
 provable-later S T at s p = record { stands = stmt_stays S T at s p.stands; provable = p.provable }

@@ -1,9 +1,9 @@
--- The rules over two lists, one behind the other.
+-- The rules over two lists, one after the other.
 use Rattle.library.proofs.Words.{◌≡◌, ℕ, zero, suc, ◌+◌, ◌-◌, [], ◌∷◌, ◌++◌, map, take, slice_get, Option, Some, None, refl, sym, ◌∙◌, ap, subst, arith, append_assoc, append-nil, map-append, Stmt, Prove, Database, bare, bares, before, stmt_at, broken_rule, end_rule, first_broken, or_later, numbered, AllLegal, IsLegal}
 use Rattle.scope.specs.declared.rule.Rule.{Rule}
 use Rattle.scope.proofs.BareLemmas.{broken_rule-bares, end_rule-bares}
 
--- each of the statements keeps the rules behind those before it
+-- each of the statements keeps the rules after those before it
 abbrev pub AreLegal : Database → Database → Type 0
 AreLegal S [] = Unit {0}
 AreLegal S (s ∷ T) = IsLegal S s × AreLegal (S ++ s ∷ []) T
@@ -36,7 +36,7 @@ none-join m n S (s ∷ A) T legal h =
     ap (λ r. or_later m r (first_broken (m + 1) (S ++ s ∷ []) (A ++ T))) legal.0
     ∙ none-join (m + 1) n (S ++ s ∷ []) A T legal.1 (ap (λ U. first_broken n U T) (append_assoc S (s ∷ []) A) ∙ h)
 
--- a legal list with a text behind it is legal where the text breaks no rule
+-- a legal list with a text after it is legal where the text breaks no rule
 pub legal-more : (L T : Database) → AllLegal L → first_broken 1 L T ≡ None → AllLegal (L ++ T)
 legal-more L T legal h = none-join 1 1 [] L T (none-split 1 1 [] L [] (ap (first_broken 1 []) (append-nil L) ∙ legal)).0 h
 
@@ -50,14 +50,14 @@ legal-behind L (x ∷ T) zero s legal stands =
     subst (λ U. IsLegal U s) (sym (append-nil L)) (subst (IsLegal L) same legal.0)
 legal-behind L (x ∷ T) (suc i) s legal stands = subst (λ U. IsLegal U s) (append_assoc L (x ∷ []) (take i T)) (legal-behind (L ++ x ∷ []) T i s legal.1 stands)
 
--- each statement of a legal list is legal behind those before it
+-- each statement of a legal list is legal after those before it
 pub legal-each : (S : Database) → AllLegal S → (j : ℕ) (s : Stmt) → stmt_at S j ≡ Some s → IsLegal (before S j) s
 legal-each S legal zero s stands = cc
 legal-each S legal (suc i) s stands =
     let same : i ≡ suc i - 1 = omega arith in
     subst (λ n. IsLegal (take n S) s) same (legal-behind [] S i s (none-split 1 1 [] S [] (ap (first_broken 1 []) (append-nil S) ∙ legal)).0 stands)
 
--- what is broken behind statements does not hang on their proofs
+-- the rule that is broken after statements does not depend on their proofs
 pub broken-bares : (S U : Database) → bares S ≡ bares U → (s : Stmt) → broken_rule S s ≡ broken_rule U s
 broken-bares S U same s = sym (broken_rule-bares S s) ∙ (ap (λ V. broken_rule V s) same ∙ broken_rule-bares U s)
 

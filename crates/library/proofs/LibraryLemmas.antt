@@ -125,7 +125,7 @@ pub lookup-status : (author serial : ℕ) (es : List ((ℕ × ℕ) × Option Cau
 lookup-status author serial [] = refl
 lookup-status author serial (e ∷ es) = grind (arith, lookup-status author serial es)
 
--- what was not decided goes last
+-- an entry that was not decided goes last
 pub decided_of-insert : (author serial : ℕ) (cause : Option Cause) (es : List ((ℕ × ℕ) × Option Cause)) → status (decided_of es) author serial ≡ None
     → decided_of (insert_entry (λ (a b : ℕ × ℕ). (a.0 == b.0) && (a.1 == b.1)) es (author, serial) cause) ≡ decided_of es ++ record { author = author; serial = serial; verdict = verdict_of cause } ∷ []
 decided_of-insert author serial cause es none =

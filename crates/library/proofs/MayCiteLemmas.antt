@@ -1,4 +1,4 @@
--- What a proof cites is a mandatory hypothesis, or what a token before `)` names.
+-- A proof cites a mandatory hypothesis, or a statement that a token before `)` names.
 use Rattle.library.proofs.Words.{◌≡◌, ◌↔◌, ◌⊎◌, ℕ, zero, suc, ◌+◌, Bool, true, false, ◌||◌, if◌then◌else◌, List, [], ◌∷◌, ◌++◌, Option, Some, None, slice_get, refl, list_all, list_any, sym, ◌∙◌, ap, subst, inl, inr, true≢false, append-nil, bytes_eq-Decides, or_right, and_parts, false_from_ne_true, any_passes_from_place}
 use Rattle.library.proofs.Words.{Name, name_eq, has_name, is_label, Stmt, Float, Ess, Database, bare, bares, before, stmt_at, label_of, proof_of, hypotheses, Carries, is_hypothesis_kind, HasLabelsOnce, IsPosition, Item, Cite, Recall, Mark, AreItems, Writes, begin, finish, label_or_none, mandatory_labels, IsProvable, IsMarked, is_marked, listed_in, ListsNone, ListsSome, ProofMeets, Cites}
 use Rattle.mm_lex.proofs.NameLemmas.{name_same}
@@ -10,7 +10,7 @@ use Rattle.library.proofs.ProvingLemmas.{written-of}
 
 -- ---- the labels of items
 
--- what an item cites stands among the labels
+-- the label that an item cites stands among the labels
 row-label : (labels : List Name) (marks : ℕ) (row : List Name) (items : List Item) → AreItems labels marks row items → (place : ℕ) (label : Name) → slice_get items place ≡ Some (Cite label) → (k : ℕ) × (slice_get labels k ≡ Some label)
 row-label labels marks (word ∷ row) (Mark ∷ items) are (suc place) label e = row-label labels (marks + 1) row items are.1 place label e
 row-label labels marks (word ∷ row) (Cite cited ∷ items) are zero label e = let same : cited ≡ label = (let h = e in cc) in let m = are.2 in (m.0, m.2 ∙ ap Some same)
@@ -38,7 +38,7 @@ labels-listed (token ∷ labels) rest are k label e =
     by zero e behind = let same : token ≡ label = (let h = e in cc) in ap (λ b. b || has_name label (listed_in (labels ++ rest))) (ap (name_eq label) same ∙ name_same label)
     by (suc k) e behind = or_right (name_eq label token) (has_name label (listed_in (labels ++ rest))) (behind k e)
 
--- what an item cites is a mandatory label or stands before `)`
+-- an item cites a mandatory label or one before `)`
 pub cited-label : (tokens mandatory : List Name) (items : List Item) → Writes tokens mandatory items → (place : ℕ) (label : Name) → slice_get items place ≡ Some (Cite label)
     → ((k : ℕ) × (slice_get mandatory k ≡ Some label)) ⊎ (has_name label (listed_in tokens) ≡ true)
 cited-label tokens mandatory items (inl packed) place label e =

@@ -72,7 +72,7 @@ module _ (S : Database) (marks : List Bool) where
         taken : take (n + 1) words ≡ take n words ++ label ∷ []
         taken = take_more words n [] within ∙ ap (λ l. take n words ++ l ∷ []) (let e = at_drop in let same : slice_index_or words n [] ≡ label = cc in same)
 
--- ---- what the numbers cite
+-- ---- the statements that the numbers cite
 
 number-tested : (marks wanted : List Bool) (places : List (Option ℕ)) → wanted ≡ map (is_marked marks) places → (n : ℕ) → is_marked wanted (Some n) ≡ is_marked marks (place_of places n)
 number-tested marks wanted places tests zero = refl
@@ -88,7 +88,7 @@ tested-meets S labels marks wanted numbers found once w is =
     meets-items S labels w.places w.named once numbers (items_of labels numbers) marks found refl
     (is ∙ any-same (λ n. is_marked wanted (Some n)) (λ n. is_marked marks (place_of w.places n)) (number-tested marks wanted w.places w.tests) numbers)
 
--- what a number cites, it cites where more labels stand behind
+-- a number cites the same statement when more labels follow
 item-front : (labels rest : List Name) (n : ℕ) (label : Name) → item_of labels n ≡ Cite label → item_of (labels ++ rest) n ≡ Cite label
 item-front labels rest zero label e = absurd (let f = e in cc)
 item-front labels rest (suc n) label e = elim (cases_lt n (length labels)) [
@@ -128,7 +128,7 @@ late-meets S marks words left n count old wanted numbers found tested same once 
     subst (λ k. found ≡ true ↔ ItemsMeet S (items_of (front ++ take k words) numbers) marks) same
     (tested-meets S (front ++ take n words) marks wanted numbers found once (tested.tests front w) any)
 
--- ---- what a heading lists
+-- ---- the labels that a heading lists
 
 -- where the tokens of a compressed proof write items under these labels, it was found whether one cites a statement that is marked
 abbrev pub TellsMeeting : Database → List Name → List Name → List Bool → Bool → Type 0
@@ -207,7 +207,7 @@ module _ (S F : Database) (same : F ≡ bares S) (good : Good S) (at : ℕ) (s :
       packed-of : (labels : List Name) (items : List Item) → Writes tokens labels items → WritesPacked tokens labels items
       packed-of labels items written = elim written [ inl packed ↦ packed.1 | inr plain ↦ absurd (both_ways (is_compressed tokens) plain.0 compressed) ]
 
-  -- what the tokens of a normal proof list is what it cites
+  -- a normal proof cites the statements that its tokens list
   pub listed-meets : is_compressed tokens ≡ false → (found : Bool) → (found ≡ false → ListsNone F tokens marks) → (found ≡ true → ListsSome F tokens marks) → found ≡ true ↔ ProofMeets S at marks
   listed-meets plain found none some =
       let one = good-items in

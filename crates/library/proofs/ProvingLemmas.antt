@@ -8,7 +8,7 @@ use Rattle.library.proofs.FrontLemmas.{hypotheses-bare, IsHypothesisAt, kind-bar
 
 -- ---- items
 
--- what was found of the items
+-- the result for the items
 abbrev pub Found : List Name → List Name → Option (List Item) → Type 0
 Found tokens mandatory found = MatchOption found ((other : List Item) → ¬ Writes tokens mandatory other) (λ items. Writes tokens mandatory items)
 
@@ -81,7 +81,7 @@ module _ (S F : Database) (at : ℕ) (s : Stmt) (same : F ≡ bares S) (provable
         right = subst (λ U. IsRight U at p.items) (sym same) p.right;
       }
 
-  -- what is said of the tokens is said of the `$p`
+  -- a result for the tokens is one for the `$p`
   pub judged-stands : {E : Type 0} (tokens : List Name) → proof_of s ≡ tokens → (r : Result Answer E)
       → IfOk r (λ answer. Says answer (Proves F at tokens)) → IfOk r (λ answer. Says answer (StandsProved S at))
   judged-stands tokens e (Ok Proved) h = proves-stands tokens e h

@@ -1,4 +1,4 @@
--- The `$p` of a label, and what is answered of it.
+-- The `$p` of a label, and the answers for it.
 use Rattle.library.proofs.Words.{◌≡◌, ◌↔◌, ◌⊎◌, ℕ, List, Option, Some, None, Result, Err, MatchOption, refl, inl, inr, sym, ◌∙◌, ap, subst, true≢false, Name, Stmt, Database, bare, bares, proof_of, stmt_at, is_provable, Carries, HasLabelsOnce, Item, Derivation, mandatory_labels, IsProvable, IsRight, Derives, Good, HasItems, HasNoLabel, NamesNoProof, NamesProof, SpellsTree, IsTreeOf}
 use Rattle.library.specs.declared.queries.AskFault.{AskFault}
 use Rattle.library.specs.declared.queries.AskFault.TheVariants.{NoLabel, NotProvable, TooLarge, Memory}
@@ -47,7 +47,7 @@ module _ (S F : Database) (same : F ≡ bares S) where
       let e = one-items S at p.items items (record { stmt = p.stmt; provable = p.provable; written = p.written }) h in
       subst (λ U. IsRight U at items) (sym same) (subst (λ is. IsRight (bares S) at is) e p.right)
 
-  -- what was found of the tokens of the `$p` s
+  -- the result for the tokens of the `$p` s
   pub found-good : (at : ℕ) (s : Stmt) (tokens : List Name) → Good S → IsProvable S at s → proof_of s ≡ tokens → (found : Option (List Item)) → Found tokens (mandatory_labels (bares S) at s) found
       → MatchOption found ((r : Stmt) → ¬ IsProvable S at r) (λ items. HasItems S at items × IsRight F at items)
   found-good at s tokens good provable e None none = λ r p.

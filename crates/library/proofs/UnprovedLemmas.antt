@@ -1,4 +1,4 @@
--- The positions of the `$p` behind the first statements, and what their least that is not right says of all statements.
+-- The positions of the `$p` after the first statements, and the consequences of their least that is not right for all statements.
 use Rattle.library.proofs.Words.{◌≡◌, ℕ, zero, suc, ◌+◌, ◌-◌, ◌<◌, ◌≤◌, List, [], ◌∷◌, ◌++◌, length, get_or, Option, Some, None, slice_get, slice_get-get_or, get_or_default, ◌∙◌, ap, sym, subst, arith, inl, inr, cases_eq, cases_order, Stmt, Database, stmt_at, IsProvable, IsRightProof, AreProofs, AreBehind, StandsProved, IsKnown, IsLeastUnproved}
 use Rattle.library.proofs.Words.{true, AreShaped, is_shaped, and_parts, list_all, take, drop, cases_lt, take-append-drop, IsProved}
 use Rattle.library.specs.Added.{AreProvedTo}
@@ -53,7 +53,7 @@ module _ (S F : Database) (ps : List ℕ) (are : AreProofs S F ps) (k at : ℕ) 
   pub proof-stands : stmt_at S at ≡ Some s
   proof-stands = let p = are.placed k at (slice_get-get_or ps k at less ∙ ap Some (sym is)) in stands_index S at s p.0 p.1 here
 
-  -- what is said of that position is said of the index
+  -- a property of that position is one of the index
   pub proof-at : (P : ℕ → Type 0) → P at → P (get_or ps k 0)
   proof-at P = subst P (is ∙ get_or_default ps k at 0 less)
 
@@ -62,7 +62,7 @@ module _ (S : Database) where
   abbrev pub FrontProved : ℕ → List ℕ → Type 0
   FrontProved count ps = (k : ℕ) → k < count → StandsProved S (get_or ps k 0)
 
-  -- what is said of a position that none before it is
+  -- the `$p` at a position is not proved, and those before it are
   abbrev pub IsFirst : ℕ → ℕ → ℕ → Type 0
   IsFirst front end at = (front < at) × (at ≤ end) × (StandsProved S at → ⊥) × ((m : ℕ) → front < m → m < at → StandsProved S m)
 
@@ -116,7 +116,7 @@ pub all-to : (S : Database) → IsLeastUnproved S 0 None → AreProvedTo S (leng
 all-to S h zero below = λ s p. absurd (let e = p.stands in cc)
 all-to S h (suc n) below = h (suc n) (omega arith) below
 
--- what is proved among first statements is proved when others come behind
+-- a `$p` that is proved among first statements is proved when others are appended
 pub to-later : (S : Database) (count end : ℕ) → end ≤ length (take count S) → AreProvedTo (take count S) end → AreProvedTo S end
 to-later S count end within are at below s p =
     elim (provable-where (take count S) (drop count S) at s (subst (λ U. IsProvable U at s) (sym (take-append-drop count S)) p)) [
@@ -128,7 +128,7 @@ to-later S count end within are at below s p =
     none zero e q = absurd (let f = q.stands in cc)
     none (suc n) e q = absurd (omega (arith, e, below, within))
 
--- the least behind those that are known to be proved is the least
+-- the least after those that are known to be proved is the least
 pub known-least : (S : Database) (front known : ℕ) (found : Option ℕ) → IsKnown S front known → IsLeastUnproved S known found → IsLeastUnproved S front found
 known-least S front known None h least = λ at above within. elim (cases_lt known at) [ inl more ↦ least at more within | inr less ↦ h.proved at above less ]
 known-least S front known (Some at) h least = (
@@ -138,7 +138,7 @@ known-least S front known (Some at) h least = (
   (λ m above below. elim (cases_lt known m) [ inl more ↦ least.3 m more below | inr less ↦ h.proved m above less ]),
 )
 
--- what is known of a text that stands alone
+-- the facts on a text that stands alone
 pub known-alone : (T : Database) (known : ℕ) → known ≤ length T → AreProvedTo T known → (L : Database) → length L ≡ 0 → IsKnown (L ++ T) (length L) known
 known-alone T known within are [] alone = record { low = omega arith; within = within; proved = λ at above below. are at below }
 known-alone T known within are (s ∷ L) alone = absurd (omega (arith, alone))

@@ -1,4 +1,4 @@
--- What adding statements leaves, on one thread or with proofs judged ahead.
+-- The outcome of adding statements, on one thread or with proofs judged ahead.
 -- Source: this project's profile; Metamath, 4.2 and appendix B.
 -- The code judges the proofs of first statements while all are added, since a `$p` stays proved when others follow.
 use Rattle.std.specs.Prelude.{◌≡◌, ℕ, ◌+◌, ◌*◌, ◌≤◌, ◌++◌, length, take, drop, IsTrue, None, Ok, IfOk}
@@ -32,7 +32,7 @@ pub record IsAdded (old new : Tables) (T : Database) (a : Added) : Type 0 where
 abbrev pub IsCounted : StepCounts → StepCounts → Database → Type 0
 IsCounted old new T = (count_of old ≤ count_of new) × (count_of new ≤ count_of old + 2 * length T)
 
--- what may be called so adds statements to tables whose rules and frames are of the same ones
+-- a function with this contract adds statements to tables whose rules and frames are of the same ones
 abbrev pub Adds : (Bor Database → MutBor Tables → MutBor StepCounts → MutBor Checkers → Type 0)
     → (Bor Database → MutBor Tables → MutBor StepCounts → MutBor Checkers → Added → MutBor Tables → MutBor StepCounts → MutBor Checkers → Type 0) → Type 0
 Adds pre post =

@@ -31,7 +31,7 @@ pub record Decided : Type 0 where
   pub serial : ℕ
   pub verdict : Verdict
 
--- what a replica keeps: the statements added, the verdicts decided, and the charter that is there
+-- the state of a replica: the statements added, the verdicts decided, and the charter that is there
 pub record Replica : Type 0 where
   pub statements : Database
   pub decided : List Decided

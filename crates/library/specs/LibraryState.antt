@@ -15,7 +15,7 @@ pub record Kept : Type 0 where
   pub replica : Replica
   pub steps : ℕ
 
--- what was decided: added, or refused for this cause
+-- a decision: added, or refused for this cause
 abbrev pub verdict_of : Option Cause → Verdict
 verdict_of None = Added
 verdict_of (Some cause) = Refused cause
@@ -24,7 +24,7 @@ verdict_of (Some cause) = Refused cause
 abbrev pub decided_of : List ((ℕ × ℕ) × Option Cause) → List Decided
 decided_of entries = map (λ p. record { author = p.0.0; serial = p.0.1; verdict = verdict_of p.1 }) entries
 
--- what is decided is added or refused
+-- a decided entry is added or refused
 abbrev pub IsDecision : Verdict → Type 0
 IsDecision Added = ⊤
 IsDecision (Refused cause) = ⊤

@@ -28,7 +28,7 @@ AreBehind S front end [] = (at : ℕ) (s : Stmt) → front < at → at ≤ end �
 AreBehind S front end (at ∷ positions) =
     (front < at) × (at ≤ end) × ((m : ℕ) (s : Stmt) → front < m → m < at → ¬ IsProvable S m s) × AreBehind S at end positions
 
--- what may be called so returns of proofs the index of the least that is not right
+-- a function with this contract returns of proofs the index of the least that is not right
 abbrev pub FindsLeast : {E : Type 0} → (Bor ProofsAt → MutBor Checkers → Type 0) → (Bor ProofsAt → MutBor Checkers → Result (Option ℕ) E → MutBor Checkers → Type 0) → Type 0
 FindsLeast {E} pre post =
     ((proofs : Bor ProofsAt) (checkers : MutBor Checkers) → pre proofs checkers)

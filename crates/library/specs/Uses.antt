@@ -1,4 +1,5 @@
--- What the proof of a `$p` rests on, by its own citations or by those of the `$p` that it cites, and who uses a statement.
+-- The statements that the proof of a `$p` rests on, by its own citations or by those of the `$p` that it cites, and the users of
+-- a statement.
 -- Source: Metamath, 4.2.6 and appendix B: a proof cites by labels; a label that is listed and not cited does not count.
 -- The code walks the positions once, from the `$p` down or from the statement up; here one citation leads to the next.
 use Rattle.std.specs.Prelude.{◌≡◌, ◌↔◌, ℕ, ◌<◌, Bool, true, false, IsTrue, List, [], ◌∷◌, map, Some, slice_get}

@@ -45,8 +45,8 @@ pub(crate) fn items_of(database: &CheckedDatabase, at: usize) -> Result<Option<I
 /// Errors: an allocation fails. Cost: that of the proofs that it rests on, each read once, and a byte for each
 /// statement before it.
 ///
-/// A position up to that of the `$p` is marked where its proof, or one of a `$p` that it leads to, cites what stands there, or
-/// it stands there itself. What a proof cites stands before it, so the positions are walked down.
+/// A position up to that of the `$p` is marked if its proof, or one of a `$p` that it leads to, cites the statement there, or
+/// if it stands there itself. A proof cites earlier statements, so the positions are walked down.
 pub(crate) fn axioms_used(database: &CheckedDatabase, at: usize) -> Result<Vec<Word>, AllocError>
     requires { (s : Statement) × IsProvable database.now at s }
     ensures { IfOk result (λ labels. AreLabelsOf database.now (Uses database.now at) labels.items) }
@@ -75,7 +75,7 @@ pub(crate) fn axioms_used(database: &CheckedDatabase, at: usize) -> Result<Vec<W
     Ok(labels)
 }
 
-/// Marks what the items cite.
+/// Marks the positions that the items cite.
 fn mark_cited(frames: &Frames, items: Items, marks: &mut [bool]) -> Result<(), AllocError>
     requires once { HasLabelsOnce frames.now.statements }
     ensures { OnOk result (Marks (ItemsCite frames.now.statements items) marks.old marks.new) }
@@ -88,7 +88,7 @@ fn mark_cited(frames: &Frames, items: Items, marks: &mut [bool]) -> Result<(), A
     Ok(())
 }
 
-/// The position that an item cites, by its number.
+/// Returns the position that an item cites, by its number.
 fn place_of(places: &[Option<usize>], number: u32) -> Option<usize>
     ensures { result ≡ place_of places.now number }
 {

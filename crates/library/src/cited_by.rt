@@ -63,7 +63,7 @@ struct Search {
 
 impl Search {
     /// Tells whether the proof of the `$p` at a position, whose tokens these are, cites a statement that is marked. A normal proof
-    /// cites what it lists. Of a compressed one, where no mandatory hypothesis is marked and it lists none that is, the
+    /// cites the labels that it lists. For a compressed one, if no mandatory hypothesis is marked and it lists none that is, the
     /// letters need not be read.
     fn meets(
         &mut self,

@@ -11,7 +11,7 @@ use mm_read::{ReadFault, Stmt};
 use std::alloc::AllocError;
 
 /// Returns the statements of the text, where it is within the limit, reads, and the charter forbids its author none of
-/// them; else the cause why it is refused, whatever statements are there. `read` returns of a text the statements that it writes.
+/// them; else the cause why it is refused, whatever statements are there. `read` returns the statements that a text writes.
 ///
 /// Errors: an allocation fails. Cost: that of reading, and the number of statements.
 pub(crate) fn read_text<T: Fn(&[u8]) -> Result<Vec<Stmt>, ReadFault>>(

@@ -122,7 +122,7 @@ impl Library {
         )
     }
 
-    /// Applies the next entry, where `read` returns of a text the statements that it writes, `add` adds statements to the
+    /// Applies the next entry, where `read` returns the statements that a text writes, `add` adds statements to the
     /// tables, and `least` returns of proofs the index of the least that is not right. The statements of a text are added
     /// where they are good; a charter counts from now on where it is added.
     fn apply_by<

@@ -59,8 +59,8 @@ impl Library {
         Ok(axioms_used(self.database(), at)?)
     }
 
-    /// Returns the labels of the `$p` whose proofs cite what has the label, a hypothesis or an assertion, each once, in the
-    /// order of the library; with `all` also of those that use it through others, as `trace` does.
+    /// Returns the labels of the `$p` whose proofs cite the statement with the label, a hypothesis or an assertion, each once,
+    /// in the order of the library; with `all` also of those that use it through others, as `trace` does.
     ///
     /// Errors: `NoLabel` where no statement has the label, also where every allocation fails; `Memory` in place of an answer
     /// alone. Cost: that of the proofs after the statement, each read once, and once more where it lists what is sought, and

@@ -12,7 +12,7 @@ pub enum Cause {
     Text,
     /// C3: the tokens are no list of statements.
     Shape,
-    /// C7: a charter is there that does not name the author, and this is the least `$c` or `$a` of the text. Of a
+    /// C7: a charter is there that does not name the author, and this is the least `$c` or `$a` of the text. For a
     /// refused charter the number is 0.
     NotChartered { statement: usize },
     /// C4: the least statement that breaks a rule, and its least rule. A block that is open at the end breaks G10 one
@@ -33,6 +33,6 @@ pub enum Verdict {
     Nothing,
     /// The author's entry of that number was decided before; the first verdict stays.
     Repeat,
-    /// Nothing of it was added.
+    /// The entry was refused, and nothing of it was added.
     Refused(Cause),
 }

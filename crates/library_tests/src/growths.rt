@@ -1,4 +1,4 @@
-//! Where a growth is refused nothing is decided, and the same text asked again has its verdict: run with each allocation refused
+//! If an allocation fails nothing is decided, and the same text submitted again has its verdict: run with each allocation refused
 //! in turn.
 use crate::text_entries::{entry, of_new, verdict_on};
 use crate::worker_counts::by_workers;
@@ -36,7 +36,7 @@ fn decides_each(alloc: Global) -> bool {
     of_new(alloc, |library| decides_rows(alloc, library))
 }
 
-/// Whether each text has its verdict, and so many statements stand then.
+/// Returns whether each text has its verdict, and so many statements stand then.
 fn decides_rows(alloc: Global, library: &mut Library) -> bool {
     for (serial, text, verdict, count) in ROWS {
         if !is_decided(alloc, library, serial, text, verdict)
@@ -48,7 +48,7 @@ fn decides_rows(alloc: Global, library: &mut Library) -> bool {
     true
 }
 
-/// Whether this is the verdict on the text. Where a growth is refused, nothing may be decided, and it is asked again.
+/// Returns whether this is the verdict on the text. If an allocation fails, nothing may be decided, and the call is repeated.
 fn is_decided(
     alloc: Global,
     library: &mut Library,
@@ -67,7 +67,7 @@ fn is_decided(
     }
 }
 
-/// The verdict on the text; nothing where there is no memory.
+/// Returns the verdict on the text; nothing if memory runs out.
 fn verdict_of(alloc: Global, library: &mut Library, serial: u64, text: &[u8]) -> Option<Verdict> {
     let entry = entry(serial, Bytes::copy_from_slice(alloc, text).ok()?);
     verdict_on(library, &entry)

@@ -1,4 +1,4 @@
-//! Tests of `library`: texts up to the limit of their length, workers side by side, and answers after a refused growth.
+//! Tests of `library`: texts up to the limit of their length, workers in parallel, and answers after a failed allocation.
 #![tactic(auto)]
 
 #[cfg(test)]

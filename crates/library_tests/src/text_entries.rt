@@ -3,7 +3,7 @@ use bytes::Bytes;
 use library::{Cause, Entry, Library, Submission, Verdict};
 use std::alloc::Global;
 
-/// An author's text as an entry.
+/// Returns an author's text as an entry.
 pub fn entry(serial: u64, text: Bytes) -> Entry {
     Entry::Text(Submission {
         author: 1,
@@ -27,14 +27,14 @@ fn texts_have_a_limit(rt: HostRuntime) {
     }
 }
 
-/// The verdict of a new library on so many spaces.
+/// Returns the verdict of a new library on so many spaces.
 fn spaces_verdict(alloc: Global, length: usize) -> Option<Verdict> {
     let text = Bytes::from_vec(vec![in alloc; b' '; length].ok()?).ok()?;
     let entry = entry(1, text);
     of_new(alloc, |library| verdict_on(library, &entry))
 }
 
-/// What is asked of a new library. It is dropped by a call, whose drops are proved once for each type, and not laid out here.
+/// Queries a new library. It is dropped by a call, whose drops are proved once for each type, and not laid out here.
 pub fn of_new<T, F: FnOnce(&mut Library) -> T>(alloc: Global, ask: F) -> T
     requires { F.IsAlwaysCallable ask }
 {
@@ -44,7 +44,7 @@ pub fn of_new<T, F: FnOnce(&mut Library) -> T>(alloc: Global, ask: F) -> T
     answer
 }
 
-/// The verdict on the entry; nothing where there is no memory.
+/// Returns the verdict on the entry; nothing if memory runs out.
 pub fn verdict_on(library: &mut Library, entry: &Entry) -> Option<Verdict> {
     library.apply(Some(entry)).ok()
 }

@@ -67,7 +67,7 @@ fn is_judged_by_each<R: Threads + Sync>(
         && by_workers(rt, alloc, 16, text, &OpenGate) == Some(verdict)
 }
 
-/// The verdict of a new library by so many workers.
+/// Returns the verdict of a new library by so many workers.
 pub fn by_workers<G: Gate + Sync, R: Threads + Sync>(
     rt: &R,
     alloc: Global,
@@ -85,7 +85,7 @@ pub fn by_workers<G: Gate + Sync, R: Threads + Sync>(
     )
 }
 
-/// The verdict on the entry, asked once more where a growth is refused.
+/// Returns the verdict on the entry; the call is repeated if an allocation fails.
 fn asked_again<G: Gate + Sync, R: Threads + Sync>(
     rt: &R,
     library: &mut Library,
@@ -99,7 +99,7 @@ fn asked_again<G: Gate + Sync, R: Threads + Sync>(
     }
 }
 
-/// Some proofs are wrong, in a text that is long enough that its first proofs are judged while the others are entered.
+/// Some proofs are wrong, in a text that is long enough that its first proofs are judged while the others are added.
 #[test]
 fn long_text_judged_alike(rt: HostRuntime) -> Result<(), Fail> {
     for (wrong, verdict) in LONG_ROWS {
@@ -129,7 +129,7 @@ const LONG_ROWS: [(&[u32], Verdict); 4] = [
     ),
 ];
 
-/// A text of 12,000 proofs.
+/// Returns a text of 12,000 proofs.
 fn long_text(alloc: Global, wrong: &[u32]) -> Result<Vec<u8>, AllocError> {
     let mut text = Vec::from_slice(alloc, b"$c |- o $. a $a |- o $. ".as_slice())?;
     for number in 0..12_000u32 {
@@ -140,7 +140,7 @@ fn long_text(alloc: Global, wrong: &[u32]) -> Result<Vec<u8>, AllocError> {
     Ok(text)
 }
 
-/// Each of the first two proofs waits at the gate for the other, so two workers run side by side.
+/// Each of the first two proofs waits at the gate for the other, so two workers run in parallel.
 #[test]
 fn gate_two_proofs(rt: HostRuntime) {
     let meeting = Meeting {
@@ -166,7 +166,7 @@ struct Meeting {
 }
 
 impl Meeting {
-    /// Tells that the one has come, and waits for the other.
+    /// Records that a proof has come, and waits for the other.
     fn meet(&self, comes: &AtomicBool, other: &AtomicBool) {
         comes.store(true, Ordering::SeqCst);
         for _turn in 0..TURNS {

@@ -28,8 +28,8 @@ fn the_log_may_be_full(rt: HostRuntime) {
     assert!(rt; fills_its_log(rt.alloc()) == Some(true));
 }
 
-/// Whether a node that alone leads, and hears of a value at the last slot, proposes at each slot and then has no room for an
-/// offer.
+/// Returns whether a node that alone leads, and hears of a value at the last slot, proposes at each slot and then has no room
+/// for an offer.
 fn fills_its_log(alloc: Global) -> Option<bool> {
     let mut node = NodeCore::new(alloc, 0, Weights::equal(1));
     let filled = is_filled(alloc, &mut node);
@@ -38,7 +38,7 @@ fn fills_its_log(alloc: Global) -> Option<bool> {
     filled
 }
 
-/// The same of that node, which is new.
+/// Returns whether a new node does so.
 fn is_filled(alloc: Global, node: &mut NodeCore<Number>) -> Option<bool> {
     if node.begin().is_err() {
         return None;
@@ -47,7 +47,7 @@ fn is_filled(alloc: Global, node: &mut NodeCore<Number>) -> Option<bool> {
     Some(proposed == SLOTS as usize && node.offer(Number(2)).err() == Some(Refusal::LogFull))
 }
 
-/// How many packets the node posts where a promise to it reports a value at the last slot.
+/// Returns how many packets the node posts where a promise to it reports a value at the last slot.
 fn proposed_behind(alloc: Global, node: &mut NodeCore<Number>) -> Option<usize> {
     if node.nodes() == 0 {
         return None;
@@ -68,7 +68,7 @@ fn proposed_behind(alloc: Global, node: &mut NodeCore<Number>) -> Option<usize> 
     }
 }
 
-/// A value at the last slot.
+/// Returns a value at the last slot.
 fn last_reported(alloc: Global) -> Option<Reports<Number>>
     ensures { IfSome result (λ reports. AllByRecursion IsReport reports) }
 {
@@ -88,7 +88,7 @@ fn the_rounds_may_be_spent(rt: HostRuntime) {
     assert!(rt; spends_its_rounds(rt.alloc()) == Some(true));
 }
 
-/// Whether a node that hears of the greatest round begins no other.
+/// Returns whether a node that hears of the greatest round begins no other.
 fn spends_its_rounds(alloc: Global) -> Option<bool> {
     let mut node = NodeCore::new(alloc, 0, Weights::equal(1));
     let spent = are_spent(&mut node);
@@ -96,7 +96,7 @@ fn spends_its_rounds(alloc: Global) -> Option<bool> {
     spent
 }
 
-/// The same of that node, which is new.
+/// Returns whether a new node does so.
 fn are_spent(node: &mut NodeCore<Number>) -> Option<bool> {
     if node.nodes() == 0 {
         return None;

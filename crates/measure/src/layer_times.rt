@@ -1,4 +1,4 @@
-//! How long each layer takes on a database. Each phase is made from the answers of the ones before it.
+//! Times each layer on a database. Each phase is made from the results of the ones before it.
 ghost use Rattle.std.specs.Prelude.{◌≡◌, [], ◌∷◌, ◌++◌, IsTrue, length};
 ghost use Rattle.mm_read.specs.declared.stmt.Stmt.{Stmt as Statement};
 ghost use Rattle.mm_read.specs.Statements.{AreShaped, IsShaped, Database};
@@ -41,7 +41,7 @@ fn count_tokens(alloc: Global, text: &[u8]) -> usize {
     }
 }
 
-/// The layers above the statements; `read` began at `before`.
+/// Times the layers above the statements; `read` began at `before`.
 fn time_statements<R: Clock + Print + Eprint>(
     rt: &R,
     alloc: Global,
@@ -66,7 +66,7 @@ fn time_statements<R: Clock + Print + Eprint>(
     tell(rt, "all and proofs", kept, verified)
 }
 
-/// How many statements a scope accepts, up to the first that breaks a rule.
+/// Returns how many statements a scope accepts, up to the first that breaks a rule.
 fn count_legal(alloc: Global, statements: &[Stmt]) -> usize
     requires { AreShaped statements.now }
 {
@@ -76,7 +76,7 @@ fn count_legal(alloc: Global, statements: &[Stmt]) -> usize
     legal
 }
 
-/// The same with a scope that has no statement yet.
+/// Returns how many statements a scope without statements accepts.
 fn count_accepted(scope: &mut Scope, statements: &[Stmt]) -> usize
     requires { AreShaped statements.now }
 {
@@ -91,7 +91,7 @@ fn count_accepted(scope: &mut Scope, statements: &[Stmt]) -> usize
     legal
 }
 
-/// How many statements rules accept and frames keep, up to the first that breaks a rule.
+/// Returns how many statements rules accept and frames keep, up to the first that breaks a rule.
 fn count_framed(alloc: Global, statements: &[Stmt]) -> usize
     requires { AreShaped statements.now }
 {
@@ -103,7 +103,7 @@ fn count_framed(alloc: Global, statements: &[Stmt]) -> usize
     kept
 }
 
-/// The same with rules and frames that have no statement yet.
+/// Returns how many statements are accepted, by rules and frames without statements.
 fn count_kept(rules: &mut Rules, frames: &mut Frames, statements: &[Stmt]) -> usize
     requires same { frames.old.statements ≡ rules.old.statements }
     requires shaped { AreShaped statements.now }
@@ -117,7 +117,7 @@ fn count_kept(rules: &mut Rules, frames: &mut Frames, statements: &[Stmt]) -> us
     frames.len()
 }
 
-/// How many provable assertions are proved, up to the first statement that breaks a rule.
+/// Returns how many provable assertions are proved, up to the first statement that breaks a rule.
 fn count_proved(alloc: Global, statements: &[Stmt]) -> usize
     requires { AreShaped statements.now }
 {
@@ -131,7 +131,7 @@ fn count_proved(alloc: Global, statements: &[Stmt]) -> usize
     right
 }
 
-/// The same with rules and frames that have no statement yet, and a checker.
+/// Returns how many provable assertions are proved, by rules and frames without statements, and a checker.
 fn count_right(
     rules: &mut Rules,
     frames: &mut Frames,
@@ -156,7 +156,7 @@ fn count_right(
     proved
 }
 
-/// Whether the statement is legal next, and was added.
+/// Returns whether the statement is legal next, and was added.
 fn add(rules: &mut Rules, frames: &mut Frames, statement: &Stmt, steps: &mut Steps) -> bool
     requires same { frames.old.statements ≡ rules.old.statements }
     requires shaped { IsShaped statement.now }
@@ -166,7 +166,7 @@ fn add(rules: &mut Rules, frames: &mut Frames, statement: &Stmt, steps: &mut Ste
     frames.add(rules, statement, steps).is_ok()
 }
 
-/// Whether the proof of the statement that the frames hold last is right.
+/// Returns whether the proof of the statement that the frames hold last is right.
 fn is_proved(checker: &mut Checker, frames: &Frames, statement: &Stmt, proof: &Words) -> bool
     requires last { (S : Database) × (frames.now.statements ≡ S ++ bare statement.now ∷ []) }
     requires provable { IsTrue (is_provable statement.now) }
@@ -178,7 +178,7 @@ fn is_proved(checker: &mut Checker, frames: &Frames, statement: &Stmt, proof: &W
     }
 }
 
-/// Tells how long a phase took.
+/// Prints how long a phase took.
 fn tell<R: Eprint>(rt: &R, phase: &str, before: Duration, after: Duration) -> io::Result<()> {
     let spent = after.saturating_sub(before).as_millis();
     eprintln!(rt; "{phase:>16} {spent:>6} ms")

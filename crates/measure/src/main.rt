@@ -22,7 +22,7 @@ fn main(rt: HostRuntime) -> io::Result<()> {
     time_parts(&rt, rt.alloc(), part, &mut rt.stdin(), &mut text)
 }
 
-/// What the first argument asks for.
+/// The parts that the first argument names.
 #[derive(Clone, Copy)]
 enum Part {
     All,
@@ -32,7 +32,7 @@ enum Part {
     Unknown,
 }
 
-/// The parts that are wanted, one after another; the input goes into the text.
+/// Times the parts that are wanted, one after another; the input goes into the text.
 fn time_parts<R: Threads + Sync + Clock + Print + Eprint, I: Read>(
     rt: &R,
     alloc: Global,
@@ -80,7 +80,7 @@ fn part_named(word: &str) -> Part {
     }
 }
 
-/// Reads the input to its end; how long that took.
+/// Reads the input to its end; returns how long that took.
 fn read_input<R: Clock, I: Read>(
     rt: &R,
     input: &mut I,

@@ -1,4 +1,4 @@
-//! Values that are numbers, and the test of what a node takes for granted of a packet.
+//! Values that are numbers, and the test of what a node assumes about a packet.
 ghost use Rattle.std.specs.Prelude.{◌≡◌, IsTrue};
 ghost use Rattle.std.specs.List.{AllByRecursion};
 ghost use Rattle.synod.specs.Packets.{IsReport, IsBody, IsPacket};
@@ -23,7 +23,7 @@ impl Value for Number {
     }
 }
 
-/// Whether a node may be given the packet.
+/// Returns whether a node may be given the packet.
 pub fn is_packet(packet: &Packet<Number>, nodes: u8) -> bool
     ensures { IsTrue result → IsPacket nodes packet.now }
 {

@@ -1,4 +1,4 @@
-//! What a slot of the log costs: 100,000 values through one node and through three, in one process and on one thread, timed at
+//! Times the slots of a log: 100,000 values through one node and through three, in one process and on one thread, with a time at
 //! each 20,000 slots.
 use crate::numbered_values::{Number, is_packet};
 use std::alloc::Global;
@@ -28,7 +28,7 @@ struct Run {
     packets: VecDeque<Packet<Number>>,
 }
 
-/// Drives the values through nodes of these weights, node 0 leading; how many node 0 learned.
+/// Drives the values through nodes of these weights, node 0 leading; returns how many node 0 learned.
 fn drive<R: Clock + Print + Eprint>(rt: &R, alloc: Global, weights: &[u8]) -> io::Result<u64> {
     let mut run = Run {
         nodes: Vec::new(alloc),
@@ -37,7 +37,7 @@ fn drive<R: Clock + Print + Eprint>(rt: &R, alloc: Global, weights: &[u8]) -> io
     drive_nodes(rt, alloc, &mut run, weights)
 }
 
-/// The same with a run that has no node yet.
+/// Drives the values through nodes in a run that has no node yet.
 fn drive_nodes<R: Clock + Print + Eprint>(
     rt: &R,
     alloc: Global,
@@ -74,14 +74,14 @@ fn begin(alloc: Global, run: &mut Run, weights: &[u8]) -> Option<()> {
     deliver_all(run)
 }
 
-/// Offers a value to node 0, and delivers all that comes of it.
+/// Offers a value to node 0, and delivers all packets that follow.
 fn offer_one(run: &mut Run, value: u64) -> Option<()> {
     let posts = run.nodes.get_mut(0)?.offer(Number(value)).ok()?;
     post(&mut run.packets, posts)?;
     deliver_all(run)
 }
 
-/// Delivers the packets, first in first, until none is on its way.
+/// Delivers the packets, first in first out, until none is on its way.
 fn deliver_all(run: &mut Run) -> Option<()> {
     for _ in 0..u64::MAX {
         match run.packets.pop_front() {
@@ -112,7 +112,7 @@ fn post(packets: &mut VecDeque<Packet<Number>>, posts: Vec<Packet<Number>>) -> O
     Some(())
 }
 
-/// How many values node 0 learned.
+/// Returns how many values node 0 learned.
 fn count_learned(run: &Run) -> u64 {
     match run.nodes.first() {
         Some(node) => match node.log() {

@@ -56,7 +56,7 @@ fn time_way<R: Threads + Sync + Clock + Print + Eprint>(
     tell(rt, way, start, &verdict)
 }
 
-/// The verdict of a new library on the entry, by some workers, or on this thread.
+/// Returns the verdict of a new library on the entry, by some workers, or on this thread.
 fn judge_new<R: Threads + Sync>(
     rt: &R,
     alloc: Global,
@@ -81,7 +81,7 @@ fn judge<R: Threads + Sync>(
     }
 }
 
-/// Tells how long a way took that began at `start`, and its verdict.
+/// Prints how long a way took that began at `start`, and its verdict.
 fn tell<R: Clock + Print + Eprint>(
     rt: &R,
     way: &str,

@@ -35,7 +35,7 @@ IsClean-none text none =
 first_step : (b : ℕ) (xs : List ℕ) (n : ℕ) → is_allowed b ≡ true → position_or_len is_bad xs ≡ n → position_or_len is_bad (b ∷ xs) ≡ suc n
 first_step b xs n e k = rw e (let more : 1 + position_or_len is_bad xs ≡ suc n = omega (arith, k) in more)
 
--- a bad byte behind allowed ones is the first that is bad
+-- a bad byte after allowed ones is the first that is bad
 first_is : (text : List ℕ) (offset : ℕ) → offset < length text → is_allowed (get_or text offset 0) ≡ false → list_all is_allowed (take offset text) ≡ true → position_or_len is_bad text ≡ offset
 first_is [] offset inside bad before = absurd (omega (arith, inside))
 first_is (b ∷ text) zero inside bad before = rw bad refl

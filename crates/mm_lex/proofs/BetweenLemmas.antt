@@ -1,4 +1,4 @@
--- From place to place in a text: what stands between two places, and between a third one; and what then stands behind them.
+-- From place to place in a text: what stands between two places, and between a third one; and what then stands after them.
 use Rattle.std.specs.Prelude.{◌≡◌, ℕ, ◌≤◌, true, List, [], ◌∷◌, ◌++◌, length, flat_map, None, Ok, Err, refl}
 use Rattle.std.proofs.Common.{sym, ◌∙◌, ap, arith, subst, append_assoc}
 use Rattle.std.proofs.lemmas.List.{append-nil, map-append}
@@ -15,12 +15,12 @@ use Rattle.mm_lex.specs.Between.{HasBetween, AreBehind, StopsBehind, FailsBehind
 use Rattle.mm_lex.proofs.Cutting.{Outcome, prepend, scan, scan_cut, scan-cut, scan-stops}
 use Rattle.mm_lex.proofs.CuttingMeans.{with_plain, with_comment, cuts_as, no_runs, cut-scan, stops-scan}
 
--- the runs behind comments
+-- the runs after comments
 abbrev outer : List Part → List Span
 outer ps = flat_map (λ (p : Part). p.after) ps
 
 module _ {text : List ℕ} where
-  -- ---- a cut behind another
+  -- ---- a cut after another
 
   -- plain runs before a cut are tokens before its tokens
   plain_cut : (front spans tokens : List Span) → AllPlain text front → Cuts text spans tokens → Cuts text (front ++ spans) (front ++ tokens)
@@ -41,7 +41,7 @@ module _ {text : List ℕ} where
       = cuts_as text _ _ _ whole (with_comment text p.begin p.end p.inside _ _ are.0.begins are.0.inside are.0.ends inner) in
       plain_cut first _ _ plain (subst (λ ts. Cuts text (flat_map part_spans (p ∷ ps) ++ spans) ts) (sym (append_assoc p.after (outer ps) tokens)) these)
 
-  -- the cuts of two lists of runs, one behind the other, are one cut
+  -- the cuts of two lists of runs, one after the other, are one cut
   pub cuts_join : (a t b u : List Span) → Cuts text a t → Cuts text b u → Cuts text (a ++ b) (t ++ u)
   cuts_join a t b u cut more =
       let rest = flat_map part_spans cut.parts in
@@ -71,7 +71,7 @@ module _ {text : List ℕ} where
   pub between_as : {from at : ℕ} {ws vs : List Name} → ws ≡ vs → HasBetween text from at ws → HasBetween text from at vs
   between_as {from} {at} e has = subst (λ ws. HasBetween text from at ws) e has
 
-  -- runs that are the same behind two places
+  -- runs that are the same after two places
   pub between_runs : (from at : ℕ) → from ≤ at → at ≤ length text → runs_behind text from ≡ runs_behind text at → HasBetween text from at []
   between_runs from at later within same = record { later = later; within = within; passed = []; tokens = []; whole = same; cut = no_runs text; are = refl }
 
@@ -105,19 +105,19 @@ module _ {text : List ℕ} where
       are = refl;
     }
 
-  -- ---- behind a place
+  -- ---- after a place
 
-  -- no token behind a place where no run is left
+  -- no token after a place where no run is left
   pub none_behind : (at : ℕ) → runs_behind text at ≡ [] → AreBehind text at []
   none_behind at none = ([], cuts_as text (runs_behind text at) [] [] none (no_runs text), refl)
 
-  -- no token behind the end of the text
+  -- no token after the end of the text
   pub none_behind_end : (at : ℕ) → length text ≤ at → at ≤ length text → AreBehind text at []
   none_behind_end at end within =
       let all : at ≡ length text = omega (arith, end, within) in
       none_behind at (ap (runs_behind text) all ∙ ap (λ r. runs_from (length text) r) (drop-length text))
 
-  -- the same tokens behind a place, by another list of words
+  -- the same tokens after a place, by another list of words
   pub behind_as : (at : ℕ) {ws vs : List Name} → ws ≡ vs → AreBehind text at ws → AreBehind text at vs
   behind_as at e are = subst (λ ws. AreBehind text at ws) e are
 
@@ -126,7 +126,7 @@ module _ {text : List ℕ} where
     pub between_scan : scan text (runs_behind text from) None ≡ prepend has.tokens (scan text (runs_behind text at) None)
     between_scan = ap (λ r. scan text r None) has.whole ∙ scan_cut text has.passed has.tokens (runs_behind text at) has.cut
 
-    -- what is behind the later place
+    -- the words after the later place
     pub behind_on : {vs : List Name} → AreBehind text at vs → AreBehind text from (ws ++ vs)
     behind_on {vs} are = (
       has.tokens ++ are.0,
@@ -134,11 +134,11 @@ module _ {text : List ℕ} where
       map-append (word text) has.tokens are.0 ∙ (ap (λ r. r ++ words text are.0) has.are ∙ ap (λ r. ws ++ r) are.2),
     )
 
-    -- where the comments stop behind the later place, they stop behind the earlier one
+    -- where the comments stop after the later place, they stop after the earlier one
     pub stops_on : (offset : ℕ) → StopsAt text (runs_behind text at) offset → StopsAt text (runs_behind text from) offset
     stops_on offset is = stops-scan text (runs_behind text from) offset (between_scan ∙ ap (prepend has.tokens) (scan-stops text (runs_behind text at) offset is))
 
-    -- a fault behind the later place is one behind the earlier, where no growth was refused
+    -- a fault after the later place is one after the earlier, where no allocation failed
     pub stops_behind : (fault : LexFault) → StopsBehind text at fault → StopsBehind text from fault
     stops_behind (Text offset) is = is
     stops_behind (Comment offset) is = stops_on offset is
@@ -150,7 +150,7 @@ module _ {text : List ℕ} where
     fails_behind (Comment offset) is = stops_on offset is
     fails_behind Memory is = tt
 
-    -- what is behind the earlier place
+    -- the words after the earlier place
     pub behind_rest : {vs : List Name} → AreBehind text from vs → (us : List Name) × AreBehind text at us × (vs ≡ ws ++ us)
     behind_rest {vs} are = by (scan text (runs_behind text at) None) refl
       where
@@ -168,7 +168,7 @@ module _ {text : List ℕ} where
         by (Err offset) e =
             let other : ◌≡◌ {A = Outcome} (Ok are.0) (Err offset) = sym all ∙ (between_scan ∙ ap (prepend has.tokens) e) in cc
 
-  -- the words behind a place are one list
+  -- the words after a place are one list
   pub behind_unique : (at : ℕ) {ws vs : List Name} → AreBehind text at ws → AreBehind text at vs → ws ≡ vs
   behind_unique at are also =
       let a = scan-cut text (runs_behind text at) are.0 are.1 in
@@ -176,13 +176,13 @@ module _ {text : List ℕ} where
       let same : are.0 ≡ also.0 = cc in
       sym are.2 ∙ (ap (words text) same ∙ also.2)
 
-  -- a place with tokens behind it has no fault of comments behind it
+  -- a place with tokens after it has no fault of comments after it
   pub behind_no_stop : (at offset : ℕ) {ws : List Name} → AreBehind text at ws → StopsAt text (runs_behind text at) offset → ⊥
   behind_no_stop at offset are is =
       let a = scan-cut text (runs_behind text at) are.0 are.1 in
       let b = scan-stops text (runs_behind text at) offset is in cc
 
--- a fault of the comments is one also where a growth may have been refused
+-- a fault of the comments is one also where an allocation may have failed
 pub stops_fail : (text : List ℕ) (at : ℕ) (fault : LexFault) → StopsBehind text at fault → FailsBehind text at fault
 stops_fail text at (Text offset) is = is
 stops_fail text at (Comment offset) is = is

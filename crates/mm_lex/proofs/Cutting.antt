@@ -118,7 +118,7 @@ module _ (text : List ℕ) where
 
   -- ---- a cut, and then other runs
 
-  -- a comment with the plain runs behind it leaves these runs
+  -- a comment with the plain runs after it leaves these runs
   scan_part : (p : Part) (ys : List Span) → IsPart text p → scan text (part_spans p ++ ys) None ≡ prepend p.after (scan text ys None)
   scan_part p ys is =
       scan_opener p.begin ((p.inside ++ (p.end ∷ p.after)) ++ ys) (is_opener p.begin is.begins)
@@ -127,7 +127,7 @@ module _ (text : List ℕ) where
       ∙ (scan_closing p.end (p.after ++ ys) p.begin.start (closer_no_opener p.end is.ends) (is_closer p.end is.ends)
       ∙ scan_all_plain p.after ys is.after)))
 
-  -- .. and a list of comments those behind each
+  -- .. and a list of comments those after each
   scan_parts : (ps : List Part) (ys : List Span) → AreParts text ps → scan text (flat_map part_spans ps ++ ys) None ≡ prepend (flat_map (λ (p : Part). p.after) ps) (scan text ys None)
   scan_parts [] ys h = sym (prepend-nil (scan text ys None))
   scan_parts (p ∷ ps) ys h =
@@ -136,7 +136,7 @@ module _ (text : List ℕ) where
       ∙ (ap (prepend p.after) (scan_parts ps ys h.1)
       ∙ prepend-append p.after (flat_map (λ (p : Part). p.after) ps) (scan text ys None)))
 
-  -- runs that are cut leave their tokens, and the scan goes on behind them
+  -- runs that are cut leave their tokens, and the scan goes on after them
   pub scan_cut : (spans tokens ys : List Span) → Cuts text spans tokens → scan text (spans ++ ys) None ≡ prepend tokens (scan text ys None)
   scan_cut spans tokens ys cut =
       let rest = flat_map part_spans cut.parts in
@@ -147,7 +147,7 @@ module _ (text : List ℕ) where
       ∙ (prepend-append cut.first outer (scan text ys None)
       ∙ ap (λ ts. prepend ts (scan text ys None)) (sym cut.outside))))
 
-  -- ---- what the scan of a text must give
+  -- ---- the result that the scan of a text must have
 
   pub scan-cut : (spans tokens : List Span) → Cuts text spans tokens → scan text spans None ≡ Ok tokens
   scan-cut spans tokens cut =

@@ -1,4 +1,4 @@
--- What the scan of a list of runs gives, it gives by right: a cut, or the fault at its offset.
+-- The result of the scan of a list of runs is justified: a cut, or the fault at its offset.
 use Rattle.std.specs.Prelude.{◌≡◌, ℕ, Bool, true, false, ◌⊎◌, List, [], ◌∷◌, ◌++◌, flat_map, Option, Some, None, Ok, Err, refl}
 use Rattle.std.proofs.Common.{sym, ◌∙◌, ap, inl, inr, append_assoc}
 use Rattle.std.proofs.lemmas.Slice.Eq.{bytes_eq-Decides}
@@ -62,13 +62,13 @@ module _ (text : List ℕ) where
     outside = cut.outside;
   }
 
-  -- ---- a fault behind what is cut
+  -- ---- a fault after what is cut
 
-  -- runs that a cut may stand behind, and their tokens
+  -- runs that a cut may stand after, and their tokens
   abbrev IsFront : List Span → List Span → Type 0
   IsFront front out = (spans tokens : List Span) → Cuts text spans tokens → Cuts text (front ++ spans) (out ++ tokens)
 
-  -- a fault of the runs behind such a front is one of the whole
+  -- a fault of the runs after such a front is one of the whole
   behind : (front out : List Span) → IsFront front out → (spans : List Span) (offset : ℕ) → StopsAt text spans offset → StopsAt text (front ++ spans) offset
   behind front out is_front spans offset (inl is) = inl (record {
     before = front ++ is.before;
@@ -205,7 +205,7 @@ module _ (text : List ℕ) where
         inl (record { before = []; tokens = []; at = s; rest = spans; whole = refl; cut = no_runs; closes = (bytes_eq-Decides _ _).0 f; place = refl })
     out_step false false e f r t m k = passed (plain s e f) t k
 
-    -- a `$)` inside of a comment: what the scan gives behind it has its meaning for the whole
+    -- a `$)` inside of a comment: what the scan gives after it has its meaning for the whole
     closed : word text s ≡ closer → (from : ℕ) (r : Outcome) → Meaning spans None r → Meaning (s ∷ spans) (Some from) r
     closed is from (Ok tokens) m = record { inner = []; end = s; rest = spans; whole = refl; plain = refl; ends = is; cut = m }
     closed is from (Err offset) m = inr (inr (record { inner = []; end = s; rest = spans; whole = refl; plain = refl; ends = is; stops = m }))
@@ -249,7 +249,7 @@ module _ (text : List ℕ) where
     in_step from false true e f r t m k = closed ((bytes_eq-Decides _ _).0 f) from r m
     in_step from false false e f r t m k = skipped (plain s e f) from t k
 
-  -- what the scan gives has its meaning, outside of a comment and inside of one
+  -- the result of the scan has its meaning, outside of a comment and inside of one
   means : (spans : List Span) (from : Option ℕ) → Meaning spans from (scan text spans from)
   means [] None = no_runs
   means [] (Some from) = inr (inl (refl, refl))

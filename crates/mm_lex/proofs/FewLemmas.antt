@@ -21,7 +21,7 @@ byte_few at b bytes true e = rw e (omega arith)
 byte_few at b bytes false e = rw e (with_few at (starts_white bytes) (runs_from (at + 1) bytes))
 
 module _ (text : List ℕ) where
-  -- .. so behind a place at most one run more than behind the next
+  -- .. so after a place at most one run more than after the next
   one_few : (at : ℕ) → at < length text → length (runs_behind text at) ≤ 1 + length (runs_behind text (at + 1))
   one_few at inside =
       let b = get_or text at 0 in
@@ -30,7 +30,7 @@ module _ (text : List ℕ) where
       let here : drop at text ≡ b ∷ drop (at + 1) text = drop-cons text at 0 inside ∙ ap (λ r. b ∷ r) rest in
       subst (λ bytes. length (runs_from at bytes) ≤ 1 + length (runs_behind text (at + 1))) (sym here) (byte_few at b (drop (at + 1) text) (is_white b) refl)
 
-  -- behind a place stand at most as many runs more than behind a later one as bytes between the two
+  -- after a place stand at most as many runs more than after a later one as bytes between the two
   runs_few : (n at : ℕ) → at + n ≤ length text → length (runs_behind text at) ≤ n + length (runs_behind text (at + n))
   runs_few zero at within = let same : at + 0 ≡ at = omega arith in rw same (omega arith)
   runs_few (suc n) at within =
@@ -39,7 +39,7 @@ module _ (text : List ℕ) where
       let rest = runs_few n (at + 1) (omega (arith, within)) in
       subst (λ k. length (runs_behind text at) ≤ suc n + length (runs_behind text k)) same (omega (arith, first, rest))
 
-  -- the runs behind comments are no more than all runs of these parts
+  -- the runs after comments are no more than all runs of these parts
   parts_few : (ps : List Part) → length (flat_map (λ (p : Part). p.after) ps) ≤ length (flat_map part_spans ps)
   parts_few [] = omega arith
   parts_few (p ∷ ps) =
@@ -80,7 +80,7 @@ module _ (text : List ℕ) where
         has.later,
       )
 
-  -- the tokens behind a place are no more than the bytes left
+  -- the tokens after a place are no more than the bytes left
   pub behind_few : (at : ℕ) (ws : List Name) → at ≤ length text → AreBehind text at ws → length ws + at ≤ length text
   behind_few at ws within are =
       let same : at + (length text - at) ≡ length text = omega (arith, within) in

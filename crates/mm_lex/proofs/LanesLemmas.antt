@@ -92,7 +92,7 @@ module _ (xs : List ℕ) (long : length xs ≡ 16) (m : ℕ) (of_high : m ≡ ma
   pub none_high : m ≡ 0 → 16 ≡ position_or_len is_high xs
   none_high none = sym (leading_from_mask_l is_high xs (sym of_high ∙ none) ∙ long)
 
--- what passes among the first bytes passes in the text
+-- a byte that passes among the first bytes passes in the text
 pub first_among : (p : ℕ → Bool) (n : ℕ) (text : List ℕ) → position_or_len p (take n text) < length (take n text) → position_or_len p text ≡ position_or_len p (take n text)
 first_among p n text few =
     ap (position_or_len p) (sym (take-append-drop n text))
@@ -103,7 +103,7 @@ first_among p n text few =
     by true e = absurd (omega (arith, eqb-true _ _ e, few))
     by false e = refl
 
--- ---- the bytes behind those seen
+-- ---- the bytes after those seen
 
 module _ (text : List ℕ) (at : ℕ) (clean : IsClean text) (room : at + 16 ≤ length text)
     (seen : position_or_len is_white text ≡ at + position_or_len is_white (drop at text))
@@ -119,7 +119,7 @@ module _ (text : List ℕ) (at : ℕ) (clean : IsClean text) (room : at + 16 ≤
   next_white : count ≡ prefix_len (λ b. not (is_white b)) next
   next_white = counted ∙ low_is_white next (clean-take 16 (drop at text) (clean-drop at text clean))
 
-  -- the bytes before a white one, counted in the next sixteen and, where none is white there, behind them
+  -- the bytes before a white one, counted in the next sixteen and, where none is white there, after them
   parts : prefix_len (λ b. not (is_white b)) (drop at text)
       ≡ cond (eqb (prefix_len (λ b. not (is_white b)) next) (length next)) (length next + prefix_len (λ b. not (is_white b)) (drop 16 (drop at text))) (prefix_len (λ b. not (is_white b)) next)
   parts = ap (prefix_len (λ b. not (is_white b))) (sym (take-append-drop 16 (drop at text))) ∙ prefix_len-append (λ b. not (is_white b)) next (drop 16 (drop at text))
@@ -134,7 +134,7 @@ module _ (text : List ℕ) (at : ℕ) (clean : IsClean text) (room : at + 16 ≤
           absurd (omega (arith, same, few, next_white, next_len))
       by false e = seen ∙ ap (λ n. at + n) (parts ∙ (ap (λ t. cond t (length next + prefix_len (λ b. not (is_white b)) (drop 16 (drop at text))) (prefix_len (λ b. not (is_white b)) next)) e ∙ sym next_white))
 
-  -- where none is, it is behind them
+  -- where none is, it is after them
   pub goes_on : count ≡ 16 → position_or_len is_white text ≡ at + count + position_or_len is_white (drop (at + count) text)
   goes_on all = by (eqb (prefix_len (λ b. not (is_white b)) next) (length next)) refl
     where

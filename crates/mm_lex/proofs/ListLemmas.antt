@@ -60,7 +60,7 @@ module _ {text : List ℕ} where
       other = other;
     }
 
-    -- .. or with the text, where no token is behind the place
+    -- .. or with the text, where no token is after the place
     pub ends_text : AreBehind text at [] → AreBehind text from words
     ends_text none = behind_as from (append-nil adds.more ∙ sym adds.whole) (behind_on adds.between none)
 

@@ -11,7 +11,7 @@ name_same x = (bytes_eq-Decides x x).1 refl
 pub same_name : (x y : Name) → name_eq x y ≡ true → x ≡ y
 same_name x y h = (bytes_eq-Decides x y).0 h
 
--- a test that is tried before others is one behind them
+-- a test that is tried before others is one after them
 pub tried_first : (a b : Bool) → cond a true b ≡ (b || (a || false))
 tried_first true true = refl
 tried_first true false = refl

@@ -43,12 +43,12 @@ module _ (text : List ℕ) where
   marked_closer : (s : Span) → word text s ≡ closer → is_plain (word text s) ≡ false
   marked_closer s e = ap is_plain e
 
-  -- what comes behind the first runs begins with a `$(`, or is nothing
+  -- the list after the first runs begins with a `$(`, or is empty
   marked_parts : (ps : List Part) → AreParts text ps → BeginsMarked (flat_map part_spans ps)
   marked_parts [] are = tt
   marked_parts (p ∷ ps) are = marked_opener p.begin are.0.begins
 
-  -- two comments with the runs behind them are one where their four parts are
+  -- two comments with the runs after them are one where their four parts are
   same_part : (p q : Part) → p.begin ≡ q.begin → p.inside ≡ q.inside → p.end ≡ q.end → p.after ≡ q.after → p ≡ q
   same_part p q b i e a =
       ap (λ x. record { begin = x; inside = p.inside; end = p.end; after = p.after }) b
@@ -56,7 +56,7 @@ module _ (text : List ℕ) where
       ∙ (ap (λ x. record { begin = q.begin; inside = q.inside; end = x; after = p.after }) e
       ∙ ap (λ x. record { begin = q.begin; inside = q.inside; end = q.end; after = x }) a))
 
-  -- one list of runs is one list of comments with what is behind each
+  -- one list of runs is one list of comments with what is after each
   same_parts : (ps qs : List Part) → AreParts text ps → AreParts text qs → flat_map part_spans ps ≡ flat_map part_spans qs → ps ≡ qs
   same_parts [] [] are also e = refl
   same_parts [] (q ∷ qs) are also e = cc

@@ -20,7 +20,7 @@ abbrev AllBetween : ℕ → ℕ → List Span → Type 0
 AllBetween low high [] = Unit {0}
 AllBetween low high (s ∷ spans) = Between low high s × AllBetween low high spans
 
--- runs between two places are between two that lie further apart
+-- runs between two places are between two that lie further out
 wider : (low lower high higher : ℕ) (spans : List Span) → lower ≤ low → high ≤ higher → AllBetween low high spans → AllBetween lower higher spans
 wider low lower high higher [] l h are = tt
 wider low lower high higher (s ∷ spans) l h are =
@@ -85,7 +85,7 @@ plain_spans text low high within none [] are = refl
 plain_spans text low high within none (s ∷ spans) are =
     and_from _ _ (plain_span text low high within none s are.0) (plain_spans text low high within none spans are.1)
 
--- ---- bytes cut off behind a white byte
+-- ---- bytes cut off after a white byte
 
 abbrev EndsWhite : List ℕ → Type 0
 EndsWhite [] = Unit {0}
@@ -113,7 +113,7 @@ with_append at true spans more some = refl
 with_append at false [] more some = absurd (some refl)
 with_append at false (s ∷ spans) more some = refl
 
--- one byte more: the runs of two texts, one behind the other
+-- one byte more: the runs of two texts, one after the other
 pub append_step : (at b c : ℕ) (bytes more : List ℕ) (t : Bool) → is_white b ≡ t
     → runs_from (at + 1) ((c ∷ bytes) ++ more) ≡ runs_from (at + 1) (c ∷ bytes) ++ runs_from (at + 1 + length (c ∷ bytes)) more
     → runs_from at ((b ∷ c ∷ bytes) ++ more) ≡ runs_from at (b ∷ c ∷ bytes) ++ runs_from (at + length (b ∷ c ∷ bytes)) more
@@ -125,7 +125,7 @@ append_step at b c bytes more false e k =
     rw e (ap (with_byte at (is_white c)) (k ∙ ap (λ n. runs_from (at + 1) (c ∷ bytes) ++ runs_from n more) same)
     ∙ with_append at (is_white c) (runs_from (at + 1) (c ∷ bytes)) (runs_from (at + length (b ∷ c ∷ bytes)) more) (runs_some (at + 1) c bytes))
 
--- the runs of bytes that end white, and then those of what is behind them
+-- the runs of bytes that end white, and then those of what is after them
 runs_append : (at : ℕ) (bytes more : List ℕ) → EndsWhite bytes → runs_from at (bytes ++ more) ≡ runs_from at bytes ++ runs_from (at + length bytes) more
 runs_append at [] more ends = let same : at ≡ at + 0 = omega arith in ap (λ n. runs_from n more) same
 runs_append at (b ∷ []) more ends = rw ends refl
@@ -153,11 +153,11 @@ module _ (text : List ℕ) (at : ℕ) (start : at ≤ length text) where
         plain = plain_spans text at (length text) (omega arith) none (runs_behind text at) between;
       }
 
-  -- up to a place behind a white byte, or none at all
+  -- up to a place after a white byte, or none at all
   plain_none : PassesPlain text at at
   plain_none = record { passed = []; later = omega arith; within = start; whole = refl; plain = refl }
 
-  -- up to behind a white byte, where no `$` stands before it
+  -- up to after a white byte, where no `$` stands before it
   plain_some : (i : ℕ) → at + suc i ≤ length text → is_white (get_or text (at + i) 0) ≡ true
       → ((k : ℕ) → at ≤ k → k < at + suc i → get_or text k 0 ≡ 36 → ⊥) → PassesPlain text at (at + suc i)
   plain_some i within white none =
@@ -176,7 +176,7 @@ module _ (text : List ℕ) (at : ℕ) (start : at ≤ length text) where
         plain = plain_spans text at (at + suc i) within none (runs_from at front) between;
       }
 
-  -- up to a place that is behind a white byte or is the first, where no `$` stands before it
+  -- up to a place that is after a white byte or is the first, where no `$` stands before it
   pub plain_front : (n : ℕ) → at + n ≤ length text → (0 < n → is_white (get_or text (at + (n - 1)) 0) ≡ true)
       → ((k : ℕ) → at ≤ k → k < at + n → get_or text k 0 ≡ 36 → ⊥) → PassesPlain text at (at + n)
   plain_front zero within white none = let same : at + 0 ≡ at = omega arith in rw same plain_none
@@ -184,9 +184,9 @@ module _ (text : List ℕ) (at : ℕ) (start : at ≤ length text) where
       let same : suc i - 1 ≡ i = omega arith in
       plain_some i within (ap (λ k. is_white (get_or text (at + k) 0)) (sym same) ∙ white (omega arith)) none
 
-  -- ---- what a search for `$` tells
+  -- ---- the result of a search for `$`
 
-  -- a byte of the text behind the place, seen in what is left
+  -- a byte of the text after the place, seen in what is left
   byte_at : (hay : List ℕ) (k : ℕ) → hay ≡ drop at text → at ≤ k → get_or hay (k - at) 0 ≡ get_or text k 0
   byte_at hay k whole later =
       let same : at + (k - at) ≡ k = omega arith in

@@ -65,7 +65,7 @@ all_plain-push text (x ∷ xs) s h k = and_from (is_plain (word text x)) _ (and_
 
 module _ {text : List ℕ} {from at : ℕ} (so : PassesPlain text from at) where
   module _ (s : Span) (run : runs_behind text at ≡ s ∷ runs_behind text s.end) (is : IsRunAt text s) (later : at ≤ s.start) where
-    -- the runs from the start of the comment's inside: those passed, this one, and those behind it
+    -- the runs from the start of the comment's inside: those passed, this one, and those after it
     inside_whole : runs_behind text from ≡ so.passed ++ s ∷ runs_behind text s.end
     inside_whole = so.whole ∙ ap (λ r. so.passed ++ r) run
 
@@ -116,7 +116,7 @@ pub record Cut (text : List ℕ) (spans : List Span) (refused : Bool) (at : ℕ)
   pub kept : refused ≡ false → spans ≡ tokens
   pub words : All (IsWordAt text) spans
 
--- a token more is kept, where no growth was refused before or now
+-- a token more is kept, where no allocation failed before or now
 kept_push : (refused r : Bool) (spans tokens : List Span) (s : Span) → (refused ≡ false → spans ≡ tokens) → (refused ≡ true → r ≡ true)
     → r ≡ false → cond r spans (spans ++ s ∷ []) ≡ tokens ++ s ∷ []
 kept_push true r spans tokens s kept stays e = absurd (true≢false (sym (stays refl) ∙ e))
@@ -185,7 +185,7 @@ module _ {text : List ℕ} {spans : List Span} {refused : Bool} {at : ℕ} (so :
   pub cut_end : runs_behind text at ≡ [] → scan text (runs text) None ≡ Ok so.tokens
   cut_end none = so.whole ∙ (ap (λ r. prepend so.tokens (scan text r None)) none ∙ ap Ok (append-nil so.tokens))
 
--- ---- what the code may then answer
+-- ---- the answer that the code may then give
 
 pub AreTokens-scan : (text : List ℕ) (tokens : List Span) → IsClean text → scan text (runs text) None ≡ Ok tokens → AreTokens text tokens
 AreTokens-scan text tokens clean e = (clean, cut-scan text (runs text) tokens e)

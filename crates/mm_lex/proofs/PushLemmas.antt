@@ -14,11 +14,11 @@ words_of-both a b text more = slice_split-space (a ∷ text) (b ∷ more)
 AreWords-both : (ws vs : List Name) → list_all is_word ws ≡ true → list_all is_word vs ≡ true → list_all is_word (ws ++ vs) ≡ true
 AreWords-both ws vs h k = list_all-append is_word ws vs ∙ rw (h, k) refl
 
--- a text has words of another behind its own
+-- a text has words of another after its own
 abbrev Next : List ℕ → List ℕ → List ℕ → Type 0
 Next text more new = (words_of new ≡ words_of text ++ words_of more) × (list_all is_word (words_of text) ≡ true → list_all is_word (words_of more) ≡ true → list_all is_word (words_of new) ≡ true)
 
--- what holds of a text's words joined with another's: where both are words, all are
+-- a text's words joined with another's: where both are words, all are
 next : (text more new : List ℕ) → words_of new ≡ words_of text ++ words_of more → Next text more new
 next text more new e = (e, λ h k. ap (list_all is_word) e ∙ AreWords-both (words_of text) (words_of more) h k)
 

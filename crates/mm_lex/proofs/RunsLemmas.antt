@@ -22,7 +22,7 @@ unwrap_or-position p xs = by (nat_lt (position_or_len p xs) (length xs)) refl
     by true e = refl
     by false e = omega (arith, ltb-false _ _ e, position_or_len-le p xs)
 
--- what a search finds is the first place that passes, inside the list
+-- a search finds the first place that passes, inside the list
 pub found_at : (p : ℕ → Bool) (xs : List ℕ) (n : ℕ) → Some n ≡ position p xs → (n ≡ position_or_len p xs) × (n < length xs)
 found_at p xs n = by (nat_lt (position_or_len p xs) (length xs)) refl
   where
@@ -48,7 +48,7 @@ before_step : (p q : ℕ → Bool) (b : ℕ) (xs : List ℕ) (n : ℕ) (t : Bool
 before_step p q b xs n true e k = refl
 before_step p q b xs n false e k = rw (one_more n) (rw e k)
 
--- what comes before it fails the test
+-- each element before it fails the test
 pub all_before : (p q : ℕ → Bool) → ((b : ℕ) → q b ≡ not (p b)) → (xs : List ℕ) → list_all q (take (position_or_len p xs) xs) ≡ true
 all_before p q same [] = refl
 all_before p q same (b ∷ xs) = before_step p q b xs (position_or_len p xs) (p b) (same b) (all_before p q same xs)
@@ -73,7 +73,7 @@ runs_from-white at [] = refl
 runs_from-white at (b ∷ bytes) =
     white_step at b bytes (position_or_len is_shown bytes) (is_white b) refl (runs_from-white (at + 1) bytes)
 
--- what is behind them is empty, or begins with a byte that is not white
+-- the list after them is empty, or begins with a byte that is not white
 pub record BeginsShown (bytes : List ℕ) : Type 0 where
   pub first : ℕ
   pub rest : List ℕ
@@ -88,7 +88,7 @@ shown_step b bytes n true e k inside =
     rw cut (k (omega (arith, inside)))
 shown_step b bytes n false e k inside = record { first = b; rest = bytes; whole = refl; shown = e }
 
--- behind the white bytes of a list stands a byte that is not white, where the list goes on
+-- after the white bytes of a list stands a byte that is not white, where the list goes on
 pub begins_shown : (bytes : List ℕ) → position_or_len is_shown bytes < length bytes → BeginsShown (drop (position_or_len is_shown bytes) bytes)
 begins_shown [] inside = absurd (omega (arith, inside))
 begins_shown (b ∷ bytes) inside =
@@ -134,7 +134,7 @@ module _ (text : List ℕ) (at white visible : ℕ) (within : at ≤ length text
       here ∙ (ap (λ n. runs_from (at + n) (drop n (drop at text))) (sym blanks) ∙ ap (runs_from (at + white)) gone)
 
   module _ (inside : white < length (drop at text)) where
-    -- behind the white bytes stands a byte that is not white
+    -- after the white bytes stands a byte that is not white
     begins : BeginsShown (drop white (drop at text))
     begins = let k : position_or_len is_shown (drop at text) < length (drop at text) = omega (arith, blanks) in rw blanks (begins_shown (drop at text) k)
 
@@ -169,13 +169,13 @@ module _ (text : List ℕ) (at white visible : ℕ) (within : at ≤ length text
 -- ---- to the next byte that is not white
 
 module _ (text : List ℕ) (at white : ℕ) (within : at ≤ length text) (blanks : white ≡ position_or_len is_shown (drop at text)) where
-  -- the runs are the same behind the white bytes
+  -- the runs are the same after the white bytes
   pub pass_white : runs_from at (drop at text) ≡ runs_from (at + white) (drop (at + white) text)
   pass_white =
       runs_from-white at (drop at text)
       ∙ (ap (λ n. runs_from (at + n) (drop n (drop at text))) (sym blanks) ∙ ap (runs_from (at + white)) (drop-drop white at text))
 
-  -- what is then left does not start white, where anything is left
+  -- the rest does not start white, if there is one
   pub shown_behind : at + white < length text → starts_white (drop (at + white) text) ≡ false
   shown_behind inside =
       let k : position_or_len is_shown (drop at text) < length (drop at text) = omega (arith, blanks, inside, length-drop at text) in

@@ -14,7 +14,7 @@ use Rattle.mm_lex.specs.Stored.Stretch.{stretch, ends_here, ends_between, lanes_
 abbrev set : Bool → ℕ
 set t = cond t 255 0
 
--- the top bit of one lane tells its tests: low, `$`, or a space with what is up to `$` behind it
+-- the top bit of one lane tells its tests: low, `$`, or a space with what is up to `$` after it
 lane : (low dollar space next : Bool) → top 7 (bit_or (bit_or (set low) (set dollar)) (bit_and (set space) (set next))) ≡ (low || dollar || (space && next))
 lane true true true true = refl
 lane true true true false = refl
@@ -97,13 +97,13 @@ lanes_count k xs = prefix_len not (lanes_end (take k xs) (take k (drop 1 xs)))
 abbrev Counts : ℕ → List ℕ → ℕ → Type 0
 Counts k xs n = (n < k → stretch xs ≡ n) × (k ≤ n → stretch xs ≡ k + stretch (drop k xs))
 
--- one byte more in the lanes: the stretch ends in them, or goes on behind them
+-- one byte more in the lanes: the stretch ends in them, or goes on after them
 counts_step : (t : Bool) (k s n r : ℕ) → (n < k → s ≡ n) × (k ≤ n → s ≡ k + r)
     → (cond (not t) (1 + n) 0 < suc k → cond t zero (suc s) ≡ cond (not t) (1 + n) 0) × (suc k ≤ cond (not t) (1 + n) 0 → cond t zero (suc s) ≡ suc k + r)
 counts_step true k s n r h = (λ lt. refl, λ le. absurd (omega (arith, le)))
 counts_step false k s n r h = (λ lt. omega (arith, h.0 (omega (arith, lt))), λ le. omega (arith, h.1 (omega (arith, le))))
 
--- the count in the first lanes is the stretch, where it ends there; else the stretch goes on behind them
+-- the count in the first lanes is the stretch, where it ends there; else the stretch goes on after them
 counts : (k : ℕ) (xs : List ℕ) → k < length xs → Counts k xs (lanes_count k xs)
 counts zero xs room = (λ lt. absurd (omega (arith, lt)), λ le. omega arith)
 counts (suc k) [] room = absurd (omega (arith, room))
@@ -111,7 +111,7 @@ counts (suc k) (b ∷ []) room = absurd (omega (arith, room))
 counts (suc k) (b ∷ c ∷ xs) room =
     counts_step (ends_between b c) k (stretch (c ∷ xs)) (lanes_count k (c ∷ xs)) (stretch (drop k (c ∷ xs))) (counts k (c ∷ xs) (omega (arith, room)))
 
--- ---- the bytes behind those seen
+-- ---- the bytes after those seen
 
 module _ (text : List ℕ) (at : ℕ) (room : at + 16 < length text) (seen : stretch text ≡ at + stretch (drop at text)) (count : ℕ) (counted : count ≡ lanes_count 16 (drop at text)) where
   -- .. in sixteen lanes of the text
@@ -122,7 +122,7 @@ module _ (text : List ℕ) (at : ℕ) (room : at + 16 < length text) (seen : str
   pub stretch_ends : count < 16 → stretch text ≡ at + count
   stretch_ends few = omega (arith, seen, both.0 few)
 
-  -- where they do not, it goes on behind the lanes
+  -- where they do not, it goes on after the lanes
   pub stretch_goes_on : count ≡ 16 → stretch text ≡ at + count + stretch (drop (at + count) text)
   stretch_goes_on all =
       let rest : drop 16 (drop at text) ≡ drop (at + count) text = drop-drop 16 at text ∙ ap (λ n. drop (at + n) text) (sym all) in
@@ -136,7 +136,7 @@ one_step : (t : Bool) (s : ℕ) → t ≡ false → cond t zero (suc s) ≡ suc 
 one_step true s e = cc
 one_step false s e = refl
 
--- where symbols do not end at the first byte, the stretch is that byte and the stretch behind it
+-- where symbols do not end at the first byte, the stretch is that byte and the stretch after it
 stretch_byte : (xs : List ℕ) → 0 < length xs → ends_here xs ≡ false → stretch xs ≡ suc (stretch (drop 1 xs))
 stretch_byte [] some e = absurd (omega (arith, some))
 stretch_byte (b ∷ xs) some e = one_step (ends_here (b ∷ xs)) (stretch xs) e

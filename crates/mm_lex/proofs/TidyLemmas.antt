@@ -27,7 +27,7 @@ is_tidy (b ∷ c ∷ bytes) = is_symbol_byte b && cond (is_space c) (is_tidy byt
 shown_byte : (b next : ℕ) → is_allowed b ≡ true → is_white b ≡ false → ends_between b next ≡ false → is_symbol_byte b ≡ true
 shown_byte b next h white goes = grind (arith, h, white, goes)
 
--- behind a space, where symbols do not end, stands a byte above `$`
+-- after a space, where symbols do not end, stands a byte above `$`
 space_byte : (c next : ℕ) → is_space c ≡ true → ends_between c next ≡ false → 36 < next
 space_byte c next e goes = grind (arith, e, goes)
 
@@ -51,11 +51,11 @@ stretch_on b bytes e = rw e refl
 stretch_off : (b : ℕ) (bytes : List ℕ) → ends_here (b ∷ bytes) ≡ true → stretch (b ∷ bytes) ≡ zero
 stretch_off b bytes e = rw e refl
 
--- what follows the first byte of a symbol
+-- the bytes after the first one of a symbol
 abbrev rest_of : List ℕ → List ℕ
 rest_of bytes = take (stretch bytes) bytes
 
--- what is to be shown of the bytes from one on that is not white
+-- the claim for the bytes from one on that is not white
 abbrev Tidies : ℕ → List ℕ → Type 0
 Tidies b bytes = is_white b ≡ false → ends_here (b ∷ bytes) ≡ false → is_tidy (b ∷ rest_of bytes) ≡ true
 
@@ -73,7 +73,7 @@ goes_next : (d : ℕ) (bytes : List ℕ) → 36 < d → ends_here (d ∷ bytes) 
 goes_next d [] h = (above_dollar d 32 h).0
 goes_next d (e ∷ bytes) h = (above_dollar d e h).0
 
--- at three bytes or more: what holds from the next one and from the one behind it, holds from here
+-- at three bytes or more: what holds from the next one and from the one after it, holds from here
 two_more : (b c d : ℕ) (bytes : List ℕ) → is_symbol_byte b ≡ true → is_allowed c ≡ true → Tidies c (d ∷ bytes) → Tidies d bytes
     → (t : Bool) → ends_here (c ∷ d ∷ bytes) ≡ t → is_tidy (b ∷ rest_of (c ∷ d ∷ bytes)) ≡ true
 two_more b c d bytes shown clean from behind true e = rw (stretch_off c (d ∷ bytes) e) shown
@@ -159,11 +159,11 @@ module _ (b c : ℕ) (bytes : List ℕ) (tidy : is_tidy (b ∷ c ∷ bytes) ≡ 
   pub first_byte : is_symbol_byte b ≡ true
   first_byte = (and_parts (is_symbol_byte b) _ tidy).0
 
-  -- behind a space the bytes are tidy
+  -- after a space the bytes are tidy
   pub behind_gap : is_space c ≡ true → is_tidy bytes ≡ true
   behind_gap e = ap (λ u. cond u (is_tidy bytes) (is_tidy (c ∷ bytes))) (sym e) ∙ (and_parts (is_symbol_byte b) _ tidy).1
 
-  -- behind another byte they are tidy with it
+  -- after another byte they are tidy with it
   pub behind_byte : is_space c ≡ false → is_tidy (c ∷ bytes) ≡ true
   behind_byte e = ap (λ u. cond u (is_tidy bytes) (is_tidy (c ∷ bytes))) (sym e) ∙ (and_parts (is_symbol_byte b) _ tidy).1
 

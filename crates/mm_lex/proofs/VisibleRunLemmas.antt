@@ -26,11 +26,11 @@ record Runs (text : List ℕ) (at : ℕ) (bytes : List ℕ) : Type 0 where
 pub white_run : (at c : ℕ) (bytes : List ℕ) → is_white c ≡ true → runs_from at (c ∷ bytes) ≡ runs_from (at + 1) bytes
 white_run at c bytes e = rw e refl
 
--- a byte that is not white begins a run, or lengthens the one behind it
+-- a byte that is not white begins a run, or lengthens the one after it
 shown_run : (at b : ℕ) (bytes : List ℕ) → is_white b ≡ false → runs_from at (b ∷ bytes) ≡ with_byte at (starts_white bytes) (runs_from (at + 1) bytes)
 shown_run at b bytes e = rw e refl
 
--- the byte at a place, and the bytes behind it
+-- the byte at a place, and the bytes after it
 behind_one : (text : List ℕ) (at b : ℕ) (bytes : List ℕ) → drop at text ≡ b ∷ bytes → drop (at + 1) text ≡ bytes
 behind_one text at b bytes e = let next : drop (1 + at) text ≡ drop (at + 1) text = ap (λ n. drop n text) (omega arith) in sym next ∙ (sym (plus at) ∙ ap (drop 1) e)
   where
@@ -54,7 +54,7 @@ head_byte c [] h = h
 head_byte c (d ∷ bytes) h = (and_parts (is_symbol_byte c) _ h).0
 
 module _ (text more : List ℕ) where
-  -- a byte before others: behind it stands a gap and the next word, or the rest of its own word
+  -- a byte before others: after it stands a gap and the next word, or the rest of its own word
   runs_step : (at b c : ℕ) (bytes : List ℕ) → drop at text ≡ b ∷ c ∷ (bytes ++ more) → is_tidy (b ∷ c ∷ bytes) ≡ true → (t : Bool) → is_space c ≡ t
       → (t ≡ true → Runs text (at + 1 + 1) bytes) → (t ≡ false → Runs text (at + 1) (c ∷ bytes)) → Runs text at (b ∷ c ∷ bytes)
   runs_step at b c bytes e h true k gap on =

@@ -26,7 +26,7 @@ pub first_part : (text : List ℕ) → (x : List ℕ) × (xs : List Name) × (sl
 first_part [] = ([], [], refl)
 first_part (b ∷ text) = first_step (is_space b) b (slice_split is_space text) (first_part text)
 
--- parts behind stay, with one byte more before the first
+-- parts after stay, with one byte more before the first
 split_step : (t : Bool) (b : ℕ) (parts more : List Name) (x : List ℕ) (xs : List Name) → parts ≡ x ∷ xs
     → cond t ([] ∷ (parts ++ more)) (onto_first b (parts ++ more)) ≡ cond t ([] ∷ parts) (onto_first b parts) ++ more
 split_step true b parts more x xs e = refl
@@ -93,7 +93,7 @@ slice_split-whole : (text : List ℕ) → position_or_len is_space text ≡ leng
 slice_split-whole [] h = refl
 slice_split-whole (b ∷ text) h = whole_step (is_space b) b text h (slice_split-whole text)
 
--- what is behind a space has a word
+-- the text after a space has a word
 words_of-behind : (text rest : List ℕ) (w : Name) → slice_split is_space text ≡ w ∷ slice_split is_space rest → list_all is_word (slice_split is_space text) ≡ true → slice_split is_space rest ≡ words_of rest
 words_of-behind text [] w e k = absurd (true≢false (sym (and_parts (is_word w) false (sym (ap (list_all is_word) e) ∙ k)).1))
 words_of-behind text (b ∷ rest) w e k = refl
@@ -111,7 +111,7 @@ words_of-first (b ∷ text) inside k =
 
 -- where the search for a space ends
 module _ (text : List ℕ) where
-  -- a space there: the word before it, and the words behind it
+  -- a space there: the word before it, and the words after it
   pub at_position : (n : ℕ) → Some n ≡ position is_space text → list_all is_word (words_of text) ≡ true → words_of text ≡ take n text ∷ words_of (drop (n + 1) text)
   at_position n = by (nat_lt (position_or_len is_space text) (length text)) refl
     where
@@ -127,7 +127,7 @@ module _ (text : List ℕ) where
       by true e h some = cc
       by false e h some = words_of-last text (omega (arith, ltb-false _ _ e, prefix_len-le-length (λ c. not (is_space c)) text)) some
 
--- the words behind the first are words
+-- the words after the first are words
 pub AreWords-behind : (ws vs : List Name) (w : Name) → ws ≡ w ∷ vs → list_all is_word ws ≡ true → list_all is_word vs ≡ true
 AreWords-behind ws vs w e k = (and_parts (is_word w) (list_all is_word vs) (sym (ap (list_all is_word) e) ∙ k)).1
 

@@ -1,6 +1,6 @@
--- What stands between two places of a text, and behind a place: tokens, comments taken out.
+-- The words between two places of a text, and after a place: tokens, comments taken out.
 -- Source: Metamath, 4.1.1 and 4.1.2.
--- The code goes on from place to place; here the runs between two places, or behind one, are cut at the comments.
+-- The code goes on from place to place; here the runs between two places, or after one, are cut at the comments.
 use Rattle.std.specs.Prelude.{◌≡◌, ℕ, ◌<◌, ◌≤◌, List, [], ◌∷◌, ◌++◌, length, Option, Some, None}
 use Rattle.mm_lex.specs.declared.span.Span.{Span}
 use Rattle.mm_lex.specs.declared.fault.LexFault.{LexFault}
@@ -20,27 +20,27 @@ pub record HasBetween (text : List ℕ) (from at : ℕ) (ws : List Name) : Type 
   pub cut : Cuts text passed tokens
   pub are : words text tokens ≡ ws
 
--- the tokens behind a place, up to the end of the text, are these words
+-- the tokens after a place, up to the end of the text, are these words
 abbrev pub AreBehind : List ℕ → ℕ → List Name → Type 0
 AreBehind text at ws = (tokens : List Span) × Cuts text (runs_behind text at) tokens × (words text tokens ≡ ws)
 
--- so many tokens stand behind a place
+-- so many tokens stand after a place
 abbrev pub CountBehind : List ℕ → ℕ → ℕ → Type 0
 CountBehind text at count = (ws : List Name) × AreBehind text at ws × (length ws ≡ count)
 
--- behind a place the comments are at fault
+-- after a place the comments are at fault
 abbrev pub StopsBehind : List ℕ → ℕ → LexFault → Type 0
 StopsBehind text at (Text offset) = ⊥
 StopsBehind text at (Comment offset) = StopsAt text (runs_behind text at) offset
 StopsBehind text at Memory = ⊥
 
--- .. or a growth was refused
+-- .. or an allocation failed
 abbrev pub FailsBehind : List ℕ → ℕ → LexFault → Type 0
 FailsBehind text at (Text offset) = ⊥
 FailsBehind text at (Comment offset) = StopsAt text (runs_behind text at) offset
 FailsBehind text at Memory = Unit {0}
 
--- the next token behind a place stands here
+-- the next token after a place stands here
 pub record IsTokenBehind (text : List ℕ) (at : ℕ) (s : Span) : Type 0 where
   pub token : IsWordAt text s
   pub later : at < s.end

@@ -1,6 +1,6 @@
 -- Where the comment ends that is open at a place of the text.
 -- Source: Metamath, 4.1.2 (a comment runs to the next `$)`; comments do not nest).
--- The code goes from one run to the next; here the runs behind the place are cut in one.
+-- The code goes from one run to the next; here the runs after the place are cut in one.
 use Rattle.std.specs.Prelude.{◌≡◌, ℕ, ◌<◌, ◌≤◌, List, ◌∷◌, ◌++◌, length, drop}
 use Rattle.mm_lex.specs.declared.span.Span.{Span}
 use Rattle.mm_lex.specs.declared.comment.CommentEnd.{CommentEnd}
@@ -8,7 +8,7 @@ use Rattle.mm_lex.specs.declared.comment.CommentEnd.TheVariants.{Closed, Nested,
 use Rattle.mm_lex.specs.Alphabet.{runs_from, word}
 use Rattle.mm_lex.specs.Tokens.{opener, closer, AllPlain}
 
--- the runs that begin at a place or behind it
+-- the runs that begin at a place or after it
 abbrev pub runs_behind : List ℕ → ℕ → List Span
 runs_behind text at = runs_from at (drop at text)
 

@@ -15,14 +15,14 @@ pub record AddsSymbols (text : List ℕ) (from at : ℕ) (old new : List Name) :
   pub between : HasBetween text from at more
   pub symbols : IsTrue (list_all is_symbol more)
 
--- behind these symbols stands a token that is none
+-- after these symbols stands a token that is none
 pub record EndsSymbols (text : List ℕ) (from : ℕ) (ws : List Name) (s : Span) : Type 0 where
   pub token : IsWordAt text s
   pub later : from < s.end
   pub between : HasBetween text from s.end (ws ++ word text s ∷ [])
   pub other : IsFalse (is_symbol (word text s))
 
--- what ends the list: such a token, or the end of the text
+-- the end of the list: such a token, or the end of the text
 abbrev pub IsListEnd : List ℕ → ℕ → List Name → Option Span → Type 0
 IsListEnd text from ws (Some s) = EndsSymbols text from ws s
 IsListEnd text from ws None = AreBehind text from ws

@@ -1,6 +1,6 @@
 -- Why a text has no tokens.
 -- Source: Metamath, 4.1.1 (the bytes of a text) and 4.1.2 (comments do not nest).
--- The code answers the first fault that it meets; here each fault says what stands before it.
+-- The code returns the first fault that it meets; here each fault says what stands before it.
 use Rattle.std.specs.Prelude.{◌≡◌, ℕ, ◌<◌, ◌⊎◌, IsFalse, List, ◌∷◌, ◌++◌, length, take, slice_index}
 use Rattle.mm_lex.specs.declared.span.Span.{Span}
 use Rattle.mm_lex.specs.declared.fault.LexFault.{LexFault}
@@ -14,7 +14,7 @@ pub record IsFirstBadByte (text : List ℕ) (offset : ℕ) : Type 0 where
   pub bad : IsFalse (is_allowed (slice_index text offset))
   pub before : IsClean (take offset text)
 
--- what comes before is well cut, and then a `$)` stands outside of a comment, ..
+-- the text before is well cut, and then a `$)` stands outside of a comment, ..
 pub record IsStrayCloser (text : List ℕ) (spans : List Span) (offset : ℕ) : Type 0 where
   pub before : List Span
   pub tokens : List Span
@@ -59,7 +59,7 @@ StopsAt text spans offset = IsStrayCloser text spans offset ⊎ IsNestedOpener t
 abbrev pub IsCommentFault : List ℕ → ℕ → Type 0
 IsCommentFault text offset = IsClean text × StopsAt text (runs text) offset
 
--- what a fault says of the text
+-- the meaning of a fault of the text
 abbrev pub IsLexFault : List ℕ → LexFault → Type 0
 IsLexFault text (Text offset) = IsFirstBadByte text offset
 IsLexFault text (Comment offset) = IsCommentFault text offset

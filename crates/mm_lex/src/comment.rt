@@ -10,15 +10,15 @@ use memchr::memchr;
 /// How a comment ends.
 #[derive(Drop)]
 pub(crate) enum CommentEnd {
-    /// At a `$)`: the offset of the byte behind it.
+    /// At a `$)`: the offset of the byte after it.
     Closed(usize),
-    /// Not before another `$(`: its offset.
+    /// It meets another `$(` first: the offset of that.
     Nested(usize),
-    /// Not at all.
+    /// It never ends.
     Unclosed,
 }
 
-/// How the comment ends whose inside begins at `from`.
+/// Returns how the comment ends whose contents begin at `from`.
 #[inline(never)]
 pub(crate) fn comment_end(text: &[u8], from: usize) -> CommentEnd
     requires clean { IsClean text.now }
@@ -39,7 +39,7 @@ pub(crate) fn comment_end(text: &[u8], from: usize) -> CommentEnd
     CommentEnd::Unclosed
 }
 
-/// Where the run stands in which the next `$` is, or the end of the text.
+/// Returns where the run stands that has the next `$`, or the end of the text.
 fn plain_end(text: &[u8], at: usize) -> usize
     requires { at ≤ length text.now }
     ensures { PassesPlain text.now at result }
@@ -50,7 +50,7 @@ fn plain_end(text: &[u8], at: usize) -> usize
     }
 }
 
-/// Where the last white byte ends, or 0.
+/// Returns where the last white byte ends, or 0.
 fn white_end(text: &[u8]) -> usize
     ensures within { result ≤ length text.now }
     ensures white { 0 < result → IsTrue (is_white (slice_index text.now (result - 1))) }

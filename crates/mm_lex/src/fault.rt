@@ -10,7 +10,7 @@ pub enum LexFault {
     Text { offset: usize },
     /// The first token `$(` inside or `$)` outside a comment, or else the `$(` that is never closed.
     Comment { offset: usize },
-    /// A growth was refused.
+    /// An allocation failed.
     Memory,
 }
 

@@ -3,7 +3,7 @@ ghost use Rattle.std.specs.Prelude.{◌≡◌};
 ghost use Rattle.std.specs.List.{list_all};
 ghost use Rattle.mm_lex.specs.Alphabet.{is_label, is_label_byte};
 
-/// Whether the word is a label: some bytes, each a letter, a digit, `.`, `-` or `_` (Metamath book, section 4.1.1).
+/// Returns whether the word is a label: some bytes, each a letter, a digit, `.`, `-` or `_` (Metamath book, section 4.1.1).
 pub fn is_label(word: &[u8]) -> bool
     ensures { result ≡ is_label word.now }
 {

@@ -1,4 +1,4 @@
-//! Where the visible or the white bytes end that a text begins with, found many bytes at a time.
+//! Counts the visible or the white bytes at the start of a text, many bytes at a time.
 ghost use Rattle.std.specs.Prelude.{◌≡◌, ◌+◌, ◌-◌, ◌≤◌, not, length, take, drop, nat_le, nat_lt};
 ghost use Rattle.std.specs.List.{position, position_or_len};
 ghost use Rattle.mm_lex.specs.Alphabet.{is_white};
@@ -9,7 +9,7 @@ use std::simd::prelude::*;
 /// How many bytes are looked at together.
 pub(crate) const LANES: usize = 16;
 
-/// How many bytes a text without a bad byte begins with that are not white.
+/// Returns how many bytes at the start of a text without a bad byte are not white.
 pub(crate) fn count_visible(text: &[u8]) -> usize
     requires { IsClean text.now }
     ensures count { result ≡ position_or_len is_white text.now }
@@ -26,7 +26,7 @@ pub(crate) fn count_visible(text: &[u8]) -> usize
     at + count_one_by_one(&text[at..])
 }
 
-/// How many of the first bytes come before one that is white: in a text without a bad byte, one up to the space.
+/// Returns how many of the first bytes come before one that is white: in a text without a bad byte, one up to the space.
 fn count_in_lanes(text: &[u8]) -> usize
     requires room { 16 ≤ length text.now }
     ensures count { result ≡ position_or_len (λ b. nat_le b 32) (take 16 text.now) }
@@ -41,7 +41,7 @@ fn count_in_lanes(text: &[u8]) -> usize
     }
 }
 
-/// How many bytes a text without a bad byte begins with that are white.
+/// Returns how many bytes at the start of a text without a bad byte are white.
 pub(crate) fn count_white(text: &[u8]) -> usize
     requires { IsClean text.now }
     ensures count { result ≡ position_or_len (λ b. not (is_white b)) text.now }
@@ -56,7 +56,7 @@ pub(crate) fn count_white(text: &[u8]) -> usize
     first_visible(text).unwrap_or(text.len())
 }
 
-/// How many of the first bytes come before one above the space.
+/// Returns how many of the first bytes come before one above the space.
 fn count_low_in_lanes(text: &[u8]) -> usize
     requires room { 16 ≤ length text.now }
     ensures count { result ≡ position_or_len (λ b. nat_lt 32 b) (take 16 text.now) }

@@ -11,17 +11,17 @@ use crate::span::Span;
 use crate::visible_run::{is_closer, is_opener, next_run};
 use std::alloc::Global;
 
-/// The tokens of a text, in order, its comments taken out.
+/// Returns the tokens of a text, in order, its comments taken out.
 ///
 /// Errors: `Text`, the first byte that no text may have, also inside a comment; else `Comment`, the
-/// first token that breaks the rules of comments; else `Memory`. The first two are found however
-/// little memory there is. Cost: the size of the text.
+/// first token that breaks the rules of comments; else `Memory`. The first two are returned even if
+/// every allocation fails. Cost: the size of the text.
 /// Source: Metamath, 4.1.1 and 4.1.2.
 pub fn tokens(alloc: Global, text: &[u8]) -> Result<Vec<Span>, LexFault>
     ensures tokens { IfOk result (λ spans. AreTokens text.now spans.items) }
     ensures words { IfOk result (λ spans. All (IsWordAt text.now) spans.items) }
 
-    // A fault is answered also where every growth is refused.
+    // A fault is returned even if every allocation fails.
     ensures text_fault { (offset : ℕ) → IsFirstBadByte text.now offset → result ≡ Err (LexFault.Text offset) }
     ensures comment_fault { (offset : ℕ) → IsCommentFault text.now offset → result ≡ Err (LexFault.Comment offset) }
     ensures fault { IfErr result (λ fault. IsLexFault text.now fault) }
@@ -32,7 +32,7 @@ pub fn tokens(alloc: Global, text: &[u8]) -> Result<Vec<Span>, LexFault>
     cut(alloc, text)
 }
 
-/// The tokens of a text whose bytes are all allowed.
+/// Returns the tokens of a text whose bytes are all allowed.
 fn cut(alloc: Global, text: &[u8]) -> Result<Vec<Span>, LexFault>
     requires { IsClean text.now }
     ensures tokens { IfOk result (λ spans. AreTokens text.now spans.items) }
@@ -65,7 +65,7 @@ fn cut(alloc: Global, text: &[u8]) -> Result<Vec<Span>, LexFault>
     Ok(spans)
 }
 
-/// Adds a token, unless a growth was refused before; answers whether one was.
+/// Appends a token, unless an allocation failed before; returns whether one failed.
 fn add_token(spans: &mut Vec<Span>, refused: bool, span: Span) -> bool
     ensures items { spans.new.items ≡ (if result then spans.old.items else spans.old.items ++ span ∷ []) }
     ensures stays { IsTrue refused → IsTrue result }
@@ -73,7 +73,7 @@ fn add_token(spans: &mut Vec<Span>, refused: bool, span: Span) -> bool
     refused || spans.push(span).is_err()
 }
 
-/// The first byte that no text may have. A text without one is read once, many bytes at a time.
+/// Returns the first byte that no text may have. A text without one is read once, many bytes at a time.
 pub fn first_bad_byte(text: &[u8]) -> Option<usize>
     ensures { result ≡ position (λ b. not (is_allowed b)) text.now }
 {
@@ -90,7 +90,7 @@ fn find_bad_byte(text: &[u8]) -> Option<usize>
         .position(|b| !(b.is_ascii_graphic() || b.is_ascii_whitespace()))
 }
 
-/// Whether a text may have all of these bytes.
+/// Returns whether a text may have all of these bytes.
 fn are_allowed(text: &[u8]) -> bool
     ensures { result ≡ list_all is_allowed text.now }
 {

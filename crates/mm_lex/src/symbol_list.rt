@@ -16,9 +16,9 @@ use crate::words::Words;
 use memchr::memchr;
 use std::alloc::{AllocError, Global};
 
-/// The symbols behind `from`, and the token behind them that is no symbol, or none at the end of the text.
+/// Returns the symbols after `from`, and the token after them that is no symbol, or none at the end of the text.
 ///
-/// Errors: `Comment`, where the comments behind `from` are at fault before that token; `Memory`. Cost: their own size.
+/// Errors: `Comment`, where the comments after `from` are at fault before that token; `Memory`. Cost: their own size.
 pub fn symbols(alloc: Global, text: &[u8], from: usize) -> Result<(Words, Option<Span>), LexFault>
     requires clean { IsClean text.now }
     requires place { from ≤ length text.now }
@@ -39,7 +39,7 @@ pub fn symbols(alloc: Global, text: &[u8], from: usize) -> Result<(Words, Option
     Ok((words, None))
 }
 
-/// Whether the word is a symbol, or a token of a proof.
+/// Returns whether the word is a symbol, or a token of a proof.
 pub fn is_symbol(word: &[u8]) -> bool
     requires { IsTrue (is_word word.now) }
     ensures { result ≡ is_symbol word.now }
@@ -47,7 +47,7 @@ pub fn is_symbol(word: &[u8]) -> bool
     !word.contains(&b'$')
 }
 
-/// No words, with room for those up to the next `$`.
+/// Returns an empty list with room for the words up to the next `$`.
 fn with_room(alloc: Global, text: &[u8]) -> Result<Words, AllocError>
     ensures { IfOk result (λ words. words ≡ []) }
 {
@@ -55,7 +55,7 @@ fn with_room(alloc: Global, text: &[u8]) -> Result<Words, AllocError>
     Words::with_capacity(alloc, room)
 }
 
-/// Adds symbols as long as they stand in pieces with one space between two; answers the place behind them.
+/// Appends symbols as long as they stand in pieces with one space between two; returns the place after them.
 fn push_pieces(words: &mut Words, text: &[u8], from: usize) -> Result<usize, AllocError>
     requires clean { IsClean text.now }
     requires place { from ≤ length text.now }
@@ -74,7 +74,7 @@ fn push_pieces(words: &mut Words, text: &[u8], from: usize) -> Result<usize, All
     Ok(at)
 }
 
-/// Whether no word goes on at a place.
+/// Returns whether no word goes on at a place.
 fn is_behind_word(text: &[u8], at: usize) -> bool
     requires { at ≤ length text.now }
     ensures { result ≡ starts_white (drop at text.now) }

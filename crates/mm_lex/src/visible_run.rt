@@ -7,7 +7,7 @@ ghost use Rattle.mm_lex.specs.Tokens.{opener, closer, IsClean};
 use crate::lanes::{count_visible, count_white};
 use crate::span::Span;
 
-/// The first run that begins at `at` or behind it.
+/// Returns the first run that begins at or after `at`.
 pub(crate) fn next_run(text: &[u8], at: usize) -> Option<Span>
     requires clean { IsClean text.now }
     requires place { at ≤ length text.now }
@@ -29,7 +29,7 @@ pub(crate) fn next_run(text: &[u8], at: usize) -> Option<Span>
     })
 }
 
-/// Where the first byte stands, at `at` or behind it, that is not white, or the end of the text.
+/// Returns where the first byte at or after `at` stands that is not white, or the end of the text.
 pub(crate) fn pass_white(text: &[u8], at: usize) -> usize
     requires clean { IsClean text.now }
     requires place { at ≤ length text.now }
@@ -41,14 +41,14 @@ pub(crate) fn pass_white(text: &[u8], at: usize) -> usize
     at + count_white(&text[at..])
 }
 
-/// Whether the word begins a comment.
+/// Returns whether the word begins a comment.
 pub(crate) fn is_opener(word: &[u8]) -> bool
     ensures { result ≡ name_eq word.now opener }
 {
     word == b"$(".as_slice()
 }
 
-/// Whether the word ends a comment.
+/// Returns whether the word ends a comment.
 pub(crate) fn is_closer(word: &[u8]) -> bool
     ensures { result ≡ name_eq word.now closer }
 {

@@ -8,9 +8,9 @@ use crate::fault::LexFault;
 use crate::span::Span;
 use crate::visible_run::{is_closer, is_opener, next_run};
 
-/// The next token at `at` or behind it, or none.
+/// Returns the next token at or after `at`, or `None`.
 ///
-/// Errors: `Comment`, where the comments behind `at` are at fault before another token.
+/// Errors: `Comment`, where the comments after `at` are at fault before another token.
 #[inline(always)]
 pub fn next_token(text: &[u8], at: usize) -> Result<Option<Span>, LexFault>
     requires clean { IsClean text.now }
@@ -36,9 +36,9 @@ pub fn next_token(text: &[u8], at: usize) -> Result<Option<Span>, LexFault>
     Ok(None)
 }
 
-/// How many tokens stand at `at` or behind it.
+/// Returns how many tokens stand at or after `at`.
 ///
-/// Errors: `Comment`, where the comments behind `at` are at fault. Cost: the size of the rest of the text.
+/// Errors: `Comment`, where the comments after `at` are at fault. Cost: the size of the rest of the text.
 pub fn count_tokens(text: &[u8], at: usize) -> Result<usize, LexFault>
     requires clean { IsClean text.now }
     requires place { at ≤ length text.now }

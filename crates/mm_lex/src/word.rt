@@ -37,7 +37,7 @@ impl Model for Word {
 }
 
 impl Word {
-    /// The word with these bytes. A word of at most 22 bytes takes no memory.
+    /// Makes the word with these bytes. Does not allocate for a word of at most 22 bytes.
     pub fn new(alloc: Global, bytes: &[u8]) -> Result<Word, AllocError>
         requires { IsTrue (is_word bytes.now) }
         ensures { IfOk result (λ word. word ≡ bytes.now) }
@@ -46,7 +46,7 @@ impl Word {
         Ok(Word { bytes })
     }
 
-    /// The word's bytes.
+    /// Returns the word's bytes.
     pub fn as_bytes(&self) -> &[u8]
         ensures bytes { result.now ≡ self.now }
         ensures word { IsTrue (is_word self.now) }
@@ -57,7 +57,7 @@ impl Word {
         }
     }
 
-    /// The same word again.
+    /// Copies the word.
     pub fn copy(&self, alloc: Global) -> Result<Word, AllocError>
         ensures { IfOk result (λ word. word ≡ self.now) }
     {
@@ -65,7 +65,7 @@ impl Word {
     }
 }
 
-/// A copy of the bytes.
+/// Returns a copy of the bytes.
 fn keep(alloc: Global, bytes: &[u8]) -> Result<WordBytes, AllocError>
     ensures bytes { IfOk result (λ kept. bytes_of kept ≡ bytes.now) }
     ensures counted { IfOk result AreCounted }

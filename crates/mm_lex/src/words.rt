@@ -24,7 +24,7 @@ impl Model for Words {
 }
 
 impl Words {
-    /// No words.
+    /// Returns an empty list.
     pub fn new(alloc: Global) -> Words
         ensures { result ≡ [] }
     {
@@ -33,7 +33,7 @@ impl Words {
         }
     }
 
-    /// No words, with room for a list whose text has `bytes` bytes.
+    /// Returns an empty list with room for words whose text has `bytes` bytes.
     pub fn with_capacity(alloc: Global, bytes: usize) -> Result<Words, AllocError>
         ensures { IfOk result (λ words. words ≡ []) }
     {
@@ -41,7 +41,7 @@ impl Words {
         Ok(Words { text })
     }
 
-    /// Adds a word at the end.
+    /// Appends a word.
     pub fn push(&mut self, word: &[u8]) -> Result<(), AllocError>
         requires { IsTrue (is_word word.now) }
         ensures ok { OnOk result (self.new ≡ self.old ++ word.now ∷ []) }
@@ -50,7 +50,7 @@ impl Words {
         push_words(&mut self.text, word)
     }
 
-    /// Adds the words of a text at the end, which has one space between two of them.
+    /// Appends the words of a text that has one space between two of them.
     pub fn push_text(&mut self, text: &[u8]) -> Result<(), AllocError>
         requires { AreWords (words_of text.now) }
         ensures ok { OnOk result (self.new ≡ self.old ++ words_of text.now) }
@@ -59,7 +59,7 @@ impl Words {
         push_words(&mut self.text, text)
     }
 
-    /// The words, with one space between two.
+    /// Returns the words, with one space between two.
     pub fn as_text(&self) -> &[u8]
         ensures text { result.now ≡ spaced self.now }
         ensures words { AreWords self.now }
@@ -67,7 +67,7 @@ impl Words {
         self.text.as_slice()
     }
 
-    /// The words in order.
+    /// Returns the words in order.
     pub fn iter(&self) -> WordIter<'_>
         ensures words { result ≡ self.now }
         ensures visible { AreWords self.now }
@@ -75,21 +75,21 @@ impl Words {
         WordIter::new(self.text.as_slice())
     }
 
-    /// How many words there are. Cost: the size of their text.
+    /// Returns how many words there are. Cost: the size of their text.
     pub fn len(&self) -> usize
         ensures { result ≡ length self.now }
     {
         count_words(self.text.as_slice())
     }
 
-    /// Whether there are no words.
+    /// Returns whether there are no words.
     pub fn is_empty(&self) -> bool
         ensures { IsTrue result ↔ (self.now ≡ []) }
     {
         self.text.is_empty()
     }
 
-    /// The same words again, in a buffer of their own size.
+    /// Copies the list into a buffer of its own size.
     pub fn copy(&self, alloc: Global) -> Result<Words, AllocError>
         ensures { IfOk result (λ words. words ≡ self.now) }
     {
@@ -98,7 +98,7 @@ impl Words {
     }
 }
 
-/// Adds the words of another text behind the others.
+/// Appends the words of another text.
 fn push_words(text: &mut Vec<u8>, more: &[u8]) -> Result<(), AllocError>
     requires words { AreWords (words_of text.old.items) }
     requires more { AreWords (words_of more.now) }
@@ -121,7 +121,7 @@ fn push_words(text: &mut Vec<u8>, more: &[u8]) -> Result<(), AllocError>
     added
 }
 
-/// How many words a text has: one more than its spaces, where it is not empty.
+/// Returns how many words a text has: one more than its spaces, where it is not empty.
 fn count_words(text: &[u8]) -> usize
     ensures { result ≡ length (words_of text.now) }
 {

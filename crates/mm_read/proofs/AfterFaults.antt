@@ -1,4 +1,4 @@
--- Why no statement stands behind a place: by the tokens that stand before it, and what the parts of the statement tell.
+-- Why no statement stands after a place: by the tokens that stand before it, and what the parts of the statement tell.
 use Rattle.std.specs.Prelude.{◌≡◌, ℕ, Bool, ◌+◌, ◌≤◌, true, false, List, [], ◌∷◌, ◌++◌, length, Some, None, codes}
 use Rattle.std.specs.List.{list_all}
 use Rattle.std.specs.Option.{option_and_then}
@@ -18,14 +18,14 @@ use Rattle.mm_read.proofs.PlacesOver.{go-label, go-proving}
 use Rattle.mm_read.proofs.ShapeFaults.{stops_at}
 use Rattle.mm_read.proofs.FrontFaults.{Stuck, stuck, list_stops, expr_stops, step-floating_symbol, step-floating_end, go-floating_one, go-floating_two}
 
--- behind a label and its keyword the machine is at the place of that keyword
+-- after a label and its keyword the machine is at the place of that keyword
 goes_on : (label : Name) → is_label label ≡ true → (k : Name) (p : Place) (ws : List Name) → step labelled k ≡ Some p → go between (label ∷ k ∷ ws) ≡ go p ws
 goes_on label is_one k p ws e = go-label label (k ∷ ws) is_one ∙ ap (option_and_then (λ q. go q ws)) e
 
 module _ (text : List ℕ) where
   -- ---- from a place back to an earlier one
 
-  -- a fault behind a place, after the tokens up to it, is one behind the earlier place
+  -- a fault after a place, after the tokens up to it, is one after the earlier place
   pub fault_back : {from at : ℕ} {ws : List Name} (before : List Name) → HasBetween text from at ws → (fault : ReadFault) → IsFaultAfter text (before ++ ws) at fault
       → IsFaultAfter text before from fault
   fault_back before has (Text fault) is = stops_behind has fault is
@@ -80,14 +80,14 @@ module _ (text : List ℕ) where
     expr_after goes (Shape token) is = λ tokens are. expr_stops done tokens number least long token goes (is.stops tokens are)
     expr_after goes Memory is = tt
 
-  -- ---- behind a label
+  -- ---- after a label
 
   module _ (at : ℕ) (label : Name) (is_one : is_label label ≡ true) where
-    -- a label with nothing behind it: the second token is missing
+    -- a label with nothing after it: the second token is missing
     pub label_alone : AreBehind text at [] → IsFaultAfter text (label ∷ []) at (Shape 2)
     label_alone none = none_after at (label ∷ []) labelled (go-label label [] is_one) (λ bad. cc) none
 
-    -- a label with another token behind it than a keyword of labelled statements
+    -- a label with another token after it than a keyword of labelled statements
     pub label_before : {end : ℕ} (t : Name) → HasBetween text at end (t ∷ []) → step labelled t ≡ None → IsFaultAfter text (label ∷ []) at (Shape 2)
     label_before t has stop = other_after at (label ∷ []) labelled (go-label label [] is_one) (λ bad. cc) t has stop
 
@@ -100,7 +100,7 @@ module _ (text : List ℕ) where
     constant_fault fault is =
         token_after at (label ∷ codes "$f" ∷ []) (floating 2) (goes_on label is_one (codes "$f") (floating 2) [] refl) (λ bad. cc) 3 is_symbol fault refl (λ t e. step-floating_symbol 1 t e) is
 
-    -- the constant is read, and no variable stands behind it
+    -- the constant is read, and no variable stands after it
     pub variable_fault : {after : ℕ} (c : Name) → is_symbol c ≡ true → HasBetween text at after (c ∷ []) → (fault : ReadFault) → IsTokenFault text after 4 is_symbol fault
         → IsFaultAfter text (label ∷ codes "$f" ∷ []) at fault
     variable_fault {after} c symbol has fault is =
@@ -108,7 +108,7 @@ module _ (text : List ℕ) where
         (token_after after (label ∷ codes "$f" ∷ c ∷ []) (floating 1) (goes_on label is_one (codes "$f") (floating 2) (c ∷ []) refl ∙ go-floating_one c symbol) (λ bad. cc) 4 is_symbol fault refl
         (λ t e. step-floating_symbol 0 t e) is)
 
-    -- both symbols are read, and no `$.` stands behind them
+    -- both symbols are read, and no `$.` stands after them
     pub end_fault : {after behind : ℕ} (c v : Name) → is_symbol c ≡ true → is_symbol v ≡ true → HasBetween text at after (c ∷ []) → HasBetween text after behind (v ∷ [])
         → (fault : ReadFault) → IsTokenFault text behind 5 (λ w. name_eq w (codes "$.")) fault → IsFaultAfter text (label ∷ codes "$f" ∷ []) at fault
     end_fault {after} {behind} c v symbol other has next fault is =
@@ -145,7 +145,7 @@ module _ (text : List ℕ) where
 pub first_misfit : (text : List ℕ) (at : ℕ) (t : Name) → step between t ≡ None → IsFaultAfter text (t ∷ []) at (Shape 1)
 first_misfit text at t stop = λ tokens are. stops_at [] tokens t between refl stop
 
--- `$c`, `$v` and `$d`: why no list stands behind the keyword
+-- `$c`, `$v` and `$d`: why no list stands after the keyword
 pub keyed_list : (text : List ℕ) (at : ℕ) (t k : Name) (least : ℕ) → t ≡ k → step between k ≡ Some (listing least) → (fault : ReadFault)
     → IsListFault text at 2 least (codes "$.") fault → IsFaultAfter text (t ∷ []) at fault
 keyed_list text at t k least same e fault is =

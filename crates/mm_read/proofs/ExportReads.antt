@@ -1,4 +1,4 @@
--- The export form of statements reads as these statements: it is their tokens, each with one white byte behind it, and no
+-- The export form of statements reads as these statements: it is their tokens, each with one white byte after it, and no
 -- token of a statement begins or ends a comment.
 use Rattle.std.specs.Prelude.{◌≡◌, ℕ, ◌+◌, ◌-◌, Bool, true, false, not, ◌&&◌, ◌||◌, cond, List, [], ◌∷◌, ◌++◌, length, take, map, codes}
 use Rattle.std.specs.List.{list_all}
@@ -20,7 +20,7 @@ use Rattle.mm_read.specs.Laws as laws
 use Rattle.mm_read.proofs.StatementsLemmas.{symbol_plain, label_plain, symbols_of, plain_is_no_key}
 use Rattle.mm_lex.proofs.VisibleRunLemmas.{white_run}
 
--- ---- the runs of words with a white byte behind each
+-- ---- the runs of words with a white byte after each
 
 -- no visible byte is white
 visible_not_white : (b : ℕ) → is_visible b ≡ true → is_white b ≡ false
@@ -55,7 +55,7 @@ runs-word at (c ∷ d ∷ w) b text h k =
     along : (m n : ℕ) → m ≡ n → span_of at m ∷ runs_from (m + 1) text ≡ span_of at n ∷ runs_from (n + 1) text
     along m n e = ap (λ x. span_of at x ∷ runs_from (x + 1) text) e
 
--- words, each with the white byte behind it
+-- words, each with the white byte after it
 abbrev Laid : Type 0
 Laid = List (Name × ℕ)
 
@@ -120,7 +120,7 @@ clean-laid (p ∷ laid) h =
 
 -- ---- the export form is so laid
 
--- words with a space behind each, and a line feed behind the last
+-- words with a space after each, and a line feed after the last
 laid_line : List Name → Laid
 laid_line [] = []
 laid_line (w ∷ []) = (w, 10) ∷ []
@@ -191,7 +191,7 @@ symbol_tokens (w ∷ ws) h =
     let parts : (is_symbol w ≡ true) × (list_all is_symbol ws ≡ true) = and_parts (is_symbol w) (list_all is_symbol ws) h in
     and_from (is_token w) (list_all is_token ws) (symbol_token w parts.0) (symbol_tokens ws parts.1)
 
--- symbols, and such tokens behind them
+-- symbols, and such tokens after them
 then_tokens : (ws rest : List Name) → list_all is_symbol ws ≡ true → list_all is_token rest ≡ true → list_all is_token (ws ++ rest) ≡ true
 then_tokens ws rest h k = list_all-append is_token ws rest ∙ and_from (list_all is_token ws) (list_all is_token rest) (symbol_tokens ws h) k
 
@@ -233,7 +233,7 @@ all_words (w ∷ ws) h =
 
 -- ---- together
 
--- a statement has a first token, and others behind it
+-- a statement has a first token, and others after it
 first_token : (s : Stmt) → (w : Name) × (ws : List Name) × (stmt_tokens s ≡ w ∷ ws)
 first_token Open = (codes "${", [], refl)
 first_token Close = (codes "$}", [], refl)

@@ -1,4 +1,4 @@
--- Where the tokens behind others stop being a statement, the machine of `Places` stops.
+-- Where the tokens after others stop being a statement, the machine of `Places` stops.
 use Rattle.std.specs.Prelude.{◌≡◌, ℕ, ◌+◌, ◌-◌, ◌<◌, ◌⊎◌, zero, suc, true, false, cond, List, [], ◌∷◌, ◌++◌, length, Some, None, codes}
 use Rattle.std.specs.List.{list_all}
 use Rattle.std.specs.Option.{option_and_then}
@@ -70,17 +70,17 @@ step-proving_none zero t no_symbol (inl few) = absurd (omega (arith, few))
 step-proving_none zero t no_symbol (inr other) = rw (no_symbol, other) refl
 step-proving_none (suc m) t no_symbol why = rw no_symbol refl
 
--- what ends no list stops the machine
+-- a token that ends no list stops the machine
 fewer : (least : ℕ) (ws : List Name) {P : Type 0} → (length ws < least) ⊎ P → (0 < least - length ws) ⊎ P
 fewer least ws (inl few) = inl (omega (arith, few))
 fewer least ws (inr other) = inr other
 
--- what ends no list up to `$.`
+-- a token that ends no list up to `$.`
 listing_stuck : (least : ℕ) (ws rest : List Name) → EndsNoList least (codes "$.") ws rest → Stuck (listing (least - length ws)) rest
 listing_stuck least ws [] why = tt
 listing_stuck least ws (t ∷ rest) why = step-listing_none (least - length ws) t why.0 (fewer least ws why.1)
 
--- what ends no expression up to `$=`
+-- a token that ends no expression up to `$=`
 proving_stuck : (least : ℕ) (ws rest : List Name) → EndsNoList least (codes "$=") ws rest → Stuck (proving (least - length ws)) rest
 proving_stuck least ws [] why = tt
 proving_stuck least ws (t ∷ rest) why = step-proving_none (least - length ws) t why.0 (fewer least ws why.1)
@@ -93,7 +93,7 @@ module _ (done tokens : List Name) (number least : ℕ) (long : number ≡ lengt
     split : done ++ tokens ≡ (done ++ s.ws) ++ s.rest
     split = ap (λ r. done ++ r) s.whole ∙ sym (append_assoc done s.ws s.rest)
 
-    -- the token that does not fit is the one behind those that are done and the symbols
+    -- the token that does not fit is the one after those that are done and the symbols
     counted : length (done ++ s.ws) + 1 ≡ token
     counted = omega (arith, s.place, long, length-append done s.ws)
 
@@ -127,11 +127,11 @@ go-floating_two c v e f = rw (e, f) refl
 
 -- ---- at a keyword
 
--- what is none of the keywords is none of them
+-- a token outside the keywords is none of them
 no_keyword : (t k : Name) (ks : List Name) → has_name t (k ∷ ks) ≡ false → (name_eq t k ≡ false) × (has_name t ks ≡ false)
 no_keyword t k ks e = or_parts (name_eq t k) (has_name t ks) e
 
--- behind a label the machine stops at what is none of `$f`, `$e`, `$a` and `$p`
+-- after a label the machine stops at what is none of `$f`, `$e`, `$a` and `$p`
 pub key_after_label : (k : Keyword) (t : Name) → IsKeyword k t → (k ≡ Float → ⊥) → (k ≡ Ess → ⊥) → (k ≡ Axiom → ⊥) → (k ≡ Prove → ⊥) → step labelled t ≡ None
 key_after_label Open t is no_float no_ess no_axiom no_prove = ap (step labelled) is
 key_after_label Close t is no_float no_ess no_axiom no_prove = ap (step labelled) is

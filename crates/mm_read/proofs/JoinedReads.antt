@@ -1,6 +1,6 @@
--- A text behind another writes what the one and then what the other writes, where no word goes on from the one into the
+-- Two joined texts write the statements of the first and then those of the second, if no word goes on from the first into the
 -- other: the runs of both are those of the one and then those of the other, runs with the same words are cut at the same
--- comments, and a cut may stand behind another.
+-- comments, and a cut may stand after another.
 use Rattle.std.specs.Prelude.{◌≡◌, ℕ, ◌+◌, ◌-◌, ◌<◌, suc, Bool, true, false, ◌||◌, if◌then◌else◌, List, [], ◌∷◌, ◌++◌, length, take, drop, Option, Some, None, Ok, Err, refl}
 use Rattle.std.specs.List.{list_all}
 use Rattle.std.proofs.Common.{sym, ◌∙◌, ap, arith, subst, true≢false}
@@ -50,7 +50,7 @@ abbrev StartsAt : ℕ → List Span → Type 0
 StartsAt at [] = Unit {0}
 StartsAt at (s ∷ spans) = (s.start ≡ at) × (at < s.end)
 
--- .. or ends behind it
+-- .. or ends after it
 abbrev EndsBehind : ℕ → List Span → Type 0
 EndsBehind at [] = Unit {0}
 EndsBehind at (s ∷ spans) = at < s.end
@@ -60,17 +60,17 @@ with-starts at true spans later = (refl, omega arith)
 with-starts at false [] later = (refl, omega arith)
 with-starts at false (s ∷ spans) later = (refl, omega (arith, later))
 
--- a first span that stands there ends behind it
+-- a first span that stands there ends after it
 ends_behind : (at : ℕ) (spans : List Span) → StartsAt at spans → EndsBehind at spans
 ends_behind at [] starts = tt
 ends_behind at (s ∷ spans) starts = starts.1
 
--- what ends behind a place ends behind the one before
+-- a run that ends after a place ends after the one before
 ends_earlier : (at : ℕ) (spans : List Span) → EndsBehind (at + 1) spans → EndsBehind at spans
 ends_earlier at [] later = tt
 ends_earlier at (s ∷ spans) later = omega (arith, later)
 
--- one byte more before runs: the first of them ends behind it
+-- one byte more before runs: the first of them ends after it
 ends_step : (at b : ℕ) (bytes : List ℕ) (t : Bool) → is_white b ≡ t → EndsBehind (at + 1) (runs_from (at + 1) bytes) → EndsBehind at (runs_from at (b ∷ bytes))
 ends_step at b bytes true e later = rw e (ends_earlier at (runs_from (at + 1) bytes) later)
 ends_step at b bytes false e later =
@@ -88,7 +88,7 @@ abbrev span_of : ℕ → ℕ → Span
 span_of start end = record { start = start; end = end }
 
 module _ (text : List ℕ) (at b : ℕ) (bytes : List ℕ) (here : drop at text ≡ b ∷ bytes) where
-  -- the bytes behind the first
+  -- the bytes after the first
   behind : drop (at + 1) text ≡ bytes
   behind = sym (drop-drop 1 at text ∙ ap (λ n. drop n text) (omega arith)) ∙ ap (drop 1) here
 
@@ -136,7 +136,7 @@ module _ (text other : List ℕ) where
     alike_more (Err m) (Ok us) are = are
     alike_more (Err m) (Err n) are = tt
 
-    -- outside of a comment both texts answer alike, whatever the run is
+    -- outside of a comment both texts have the same answer, whatever the run is
     alike_outside : (a b : Bool) (r t r' t' : Outcome) → Alike r t → Alike r' t' → Alike (outside a b s r r') (outside a b u t t')
     alike_outside true b r t r' t' opened rest = opened
     alike_outside false true r t r' t' opened rest = tt
@@ -155,7 +155,7 @@ module _ (text other : List ℕ) where
   BothOpen None (Some n) = ⊥
   BothOpen (Some m) None = ⊥
 
-  -- runs with the same words are scanned alike
+  -- runs with the same words are scanned in the same way
   scans_alike : (spans others : List Span) (from at : Option ℕ) → BothOpen from at → words text spans ≡ words other others
       → Alike (scan text spans from) (scan other others at)
   scans_alike [] [] None None state same = refl
@@ -205,13 +205,13 @@ module _ (text other : List ℕ) (apart : is_apart text other ≡ true) where
   front : words text (runs text) ≡ words both (runs text)
   front = words-runs text [] 0 text (sym (append-nil text)) ∙ sym (words-runs both other 0 text refl)
 
-  -- .. and those of the other's, moved behind it
+  -- .. and those of the other's, moved after it
   back : words other (runs other) ≡ words both later
   back =
       words-runs other [] 0 other (sym (append-nil other))
       ∙ sym (words-runs both [] (length text) other (drop-append_seam text other ∙ sym (append-nil other)))
 
-  -- the runs of both texts are those of the one and those of the other behind it
+  -- the runs of both texts are those of the one and those of the other after it
   whole : runs both ≡ runs text ++ later
   whole = let none : 0 + length text ≡ length text = omega arith in runs-apart 0 text other apart ∙ ap (λ n. runs text ++ runs_from n other) none
 
@@ -226,7 +226,7 @@ module _ (text other : List ℕ) (apart : is_apart text other ≡ true) where
       let second : words both two.0 ≡ us = two.2 ∙ also.2 in
       (one.0 ++ two.0, (clean, cut), map-append (word both) one.0 two.0 ∙ (ap (λ r. r ++ words both two.0) first ∙ ap (λ r. ts ++ r) second))
 
--- the law: a text behind another reads as what both read as
+-- the law: two joined texts read as both read
 pub joined_reads : laws.JoinedReads
 joined_reads text other S T reads also apart = record {
   shaped = list_all-append is_shaped S T ∙ and_from (list_all is_shaped S) (list_all is_shaped T) reads.shaped also.shaped;

@@ -85,14 +85,14 @@ module _ {text : List ℕ} where
       let all : AreBehind text 0 (spelled S) = behind_as 0 (append-nil (spelled S)) (behind_on are.between none) in
       record { shaped = are.shaped; tokens = (all.0, (clean, all.1), all.2) }
 
--- the tokens of the text are those of the statements and those behind them
+-- the tokens of the text are those of the statements and those after them
 pub count_before : (text : List ℕ) (at : ℕ) (S : Database) → AreBefore text at S → (n m : ℕ) → CountBehind text at n → CountBehind text 0 m → m ≡ length (spelled S) + n
 count_before text at S are n m rest all =
     let whole : AreBehind text 0 (spelled S ++ rest.0) = behind_on are.between rest.1 in
     let same : spelled S ++ rest.0 ≡ all.0 = behind_unique 0 whole all.1 in
     omega (arith, ap length same, length-append (spelled S) rest.0, rest.2, all.2)
 
--- what holds of a value that was answered gives what is to hold
+-- a property of a value that was returned gives the property that is to hold
 pub on_ok : {A E : Type 0} {P Q : A → Type 0} (r : Result A E) → ((x : A) → P x → Q x) → IfOk r P → IfOk r Q
 on_ok (Ok x) f h = f x h
 on_ok (Err x) f h = tt

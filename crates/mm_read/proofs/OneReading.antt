@@ -1,4 +1,4 @@
--- What reading answers is the one true answer: a text has tokens or one fault of the tokens, and its tokens write one list of
+-- Reading returns the one true answer: a text has tokens or one fault of the tokens, and its tokens write one list of
 -- statements or have one token that fits nowhere.
 use Rattle.std.specs.Prelude.{◌≡◌, ℕ, ◌⊎◌, List, Result, Ok, Err, MatchResult, IfOk, IfErr, IsErrAnd}
 use Rattle.std.proofs.Common.{sym, ◌∙◌, ap, refl, subst, inl, inr}
@@ -22,7 +22,7 @@ pub same_tokens : (text : List ℕ) (ts us : List Name) → HasTokens text ts �
 same_tokens text ts us has also = sym has.2 ∙ (ap (words text) (AreTokens-unique text has.0 also.0 has.1 also.1) ∙ also.2)
 
 module _ (text : List ℕ) (clean : IsClean text) where
-  -- the tokens behind the first place are the text's
+  -- the tokens after the first place are the text's
   all_tokens : (ts : List Name) → AreBehind text 0 ts → HasTokens text ts
   all_tokens ts are = (are.0, (clean, are.1), are.2)
 
@@ -30,7 +30,7 @@ module _ (text : List ℕ) (clean : IsClean text) where
   no_comment_fault : (ts : List Name) (offset : ℕ) → HasTokens text ts → IsCommentFault text offset → ⊥
   no_comment_fault ts offset has is = AreTokens-no_comment_fault text has.0 offset has.1 is
 
-  -- what a clean text is refused for is a fault of it
+  -- the reason why a clean text is refused is a fault of it
   pub fault_is : (fault : ReadFault) → IsFaultOf text fault → IsReadFault text fault
   fault_is (Text (lex.Text offset)) is = absurd is
   fault_is (Text (lex.Comment offset)) is = ((clean, is), λ e. cc)

@@ -1,4 +1,4 @@
--- The parts of a statement behind a place: what stands there when a part does not.
+-- The parts of a statement after a place: what stands there when a part does not.
 use Rattle.std.specs.Prelude.{◌≡◌, ℕ, Bool, ◌+◌, ◌<◌, ◌≤◌, ◌⊎◌, true, false, List, [], ◌∷◌, ◌++◌, length, Option, Some, None}
 use Rattle.std.specs.List.{list_all}
 use Rattle.std.proofs.Common.{sym, ◌∙◌, arith, refl, subst, append_assoc, length-append}

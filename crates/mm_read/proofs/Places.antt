@@ -14,7 +14,7 @@ use Rattle.mm_read.specs.Statements.{Database, AreShaped, is_shaped, stmt_tokens
 use Rattle.mm_read.specs.Reads.{CanGoOn}
 use Rattle.mm_read.proofs.StatementsLemmas.{append_middle, are_symbols_of, has_two_of}
 
--- what may follow: a statement, the keyword behind a label, at least (or exactly) so many symbols and then `$.`,
+-- the next expected part: a statement, the keyword after a label, at least (or exactly) so many symbols and then `$.`,
 -- at least so many symbols and then `$=`
 pub data Place : Type 0 where
   between : Place
@@ -56,7 +56,7 @@ go-append q (t ∷ xs) ys = by (λ p. go-append p xs ys) (step q t)
     by rest None = refl
     by rest (Some p) = rest p
 
--- ---- what can follow at a place
+-- ---- the tokens that can follow at a place
 
 abbrev pub CanFollow : Place → List Name → Type 0
 CanFollow between tokens = (S : Database) × AreShaped S × (spelled S ≡ tokens)
@@ -82,7 +82,7 @@ list_follows make k n tokens shaped tokens_of (ws, S, all, many, hS, e) =
     add (make ws) S (k ∷ tokens) (shaped ws all many) hS
     (ap (λ r. r ++ spelled S) (tokens_of ws) ∙ ap (λ r. k ∷ r) (append_middle ws (codes "$.") [] (spelled S) ∙ e))
 
--- the same behind a label
+-- the same after a label
 labelled_follows : (make : List Name → Stmt) (label k : Name) (tokens : List Name)
     → ((ws : List Name) → list_all is_symbol ws ≡ true → 1 ≤ length ws → is_shaped (make ws) ≡ true)
     → ((ws : List Name) → stmt_tokens (make ws) ≡ label ∷ k ∷ (ws ++ codes "$." ∷ []))
@@ -91,7 +91,7 @@ labelled_follows make label k tokens shaped tokens_of (ws, S, all, many, hS, e) 
     add (make ws) S (label ∷ k ∷ tokens) (shaped ws all many) hS
     (ap (λ r. r ++ spelled S) (tokens_of ws) ∙ ap (λ r. label ∷ k ∷ r) (append_middle ws (codes "$.") [] (spelled S) ∙ e))
 
--- `$f` behind a label, with two symbols
+-- `$f` after a label, with two symbols
 float_follows : (label : Name) (tokens : List Name) → is_label label ≡ true → CanFollow (floating 2) tokens → CanFollow between (label ∷ codes "$f" ∷ tokens)
 float_follows label tokens h ([], S, all, two, hS, e) = absurd (omega (arith, two))
 float_follows label tokens h (c ∷ [], S, all, two, hS, e) = absurd (omega (arith, two))
@@ -101,7 +101,7 @@ float_follows label tokens h (c ∷ v ∷ [], S, all, two, hS, e) =
     add (Float label c v) S (label ∷ codes "$f" ∷ tokens) (rw (h, c_parts.0) v_parts.0) hS (ap (λ r. label ∷ codes "$f" ∷ r) e)
 float_follows label tokens h (c ∷ v ∷ u ∷ ws, S, all, two, hS, e) = absurd (omega (arith, two))
 
--- `$p` behind a label, with an expression and a proof
+-- `$p` after a label, with an expression and a proof
 prove_follows : (label : Name) (tokens : List Name) → is_label label ≡ true → CanFollow (proving 1) tokens → CanFollow between (label ∷ codes "$p" ∷ tokens)
 prove_follows label tokens h (ws, proof, S, all, all_proof, many, hS, e) =
     add (Prove label ws proof) S (label ∷ codes "$p" ∷ tokens) (rw (h, are_symbols_of ws all many) all_proof) hS
@@ -166,7 +166,7 @@ float_ends tokens (S, hS, e) = ([], S, refl, refl, hS, ap (λ r. codes "$." ∷ 
 proof_begins : (tokens : List Name) → CanFollow (listing 0) tokens → CanFollow (proving 0) (codes "$=" ∷ tokens)
 proof_begins tokens (proof, S, all, many, hS, e) = ([], proof, S, refl, all, omega arith, hS, ap (λ r. codes "$=" ∷ r) e)
 
--- what can follow behind a token can follow before it, with the token in front
+-- tokens that can follow after a token can follow before it, with the token in front
 back : (q : Place) (t : Name) (p : Place) (tokens : List Name) → step q t ≡ Some p → CanFollow p tokens → CanFollow q (t ∷ tokens)
 back between t p tokens e after =
     keyword t p tokens after between (codes "${") between _ e (λ (S, hS, is). add Open S (codes "${" ∷ tokens) refl hS (ap (λ r. codes "${" ∷ r) is)) (λ e1.
@@ -194,7 +194,7 @@ back (proving zero) t p tokens e after =
     keyword t p tokens after (proving 0) (codes "$=") (listing 0) None e1 (proof_begins tokens) (no_place p))
 back (proving (suc n)) t p tokens e after = symbol t p tokens after (proving (suc n)) (proving n) None e (λ is. proving_more t tokens is n) (no_place p)
 
--- what follows the last of these tokens follows the first place
+-- tokens that follow the last of these tokens follow the first place
 pub go_back : (q : Place) (xs : List Name) (p : Place) (tokens : List Name) → go q xs ≡ Some p → CanFollow p tokens → CanFollow q (xs ++ tokens)
 go_back q [] p tokens e after = subst (λ x. CanFollow x tokens) (sym (same_Some q p e)) after
 go_back q (t ∷ xs) p tokens e after =
@@ -202,7 +202,7 @@ go_back q (t ∷ xs) p tokens e after =
 
 -- ---- every place can be left
 
--- as many symbols as asked for
+-- as many symbols as required
 symbols : ℕ → List Name
 symbols zero = []
 symbols (suc n) = codes "a" ∷ symbols n

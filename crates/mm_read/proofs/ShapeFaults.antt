@@ -15,7 +15,7 @@ use Rattle.mm_read.proofs.PlacesOver.{go-spelled}
 
 -- the machine goes on over the beginning of a list of statements
 module _ (xs rest : List Name) (S : Database) (shaped : list_all is_shaped S ≡ true) (whole : spelled S ≡ xs ++ rest) where
-  -- behind what it went over, the rest brings it to where statements may begin
+  -- after what it went over, the rest brings it to where statements may begin
   goes_over : option_and_then (λ p. go p rest) (go between xs) ≡ Some between
   goes_over = sym (go-append between xs rest) ∙ (ap (go between) (sym whole ∙ sym (append-nil (spelled S))) ∙ go-spelled S [] shaped)
 
@@ -26,7 +26,7 @@ module _ (xs rest : List Name) (S : Database) (shaped : list_all is_shaped S ≡
       none : ◌≡◌ {A = Option Place} (Some between) None → ⊥
       none bad = cc
 
--- a token behind those that are done, or before the rest
+-- a token after those that are done, or before the rest
 one_more : (done rest : List Name) (t : Name) → (done ++ t ∷ []) ++ rest ≡ done ++ t ∷ rest
 one_more done rest t = append_assoc done (t ∷ []) rest
 
@@ -63,7 +63,7 @@ ends_inside done p e inside = record {
 abbrev Answer : List Name → Type 0
 Answer tokens = ((S : Database) × AreShaped S × (spelled S ≡ tokens)) ⊎ ((token : ℕ) × IsShapeFault tokens token)
 
--- where the tokens end: statements, or a fault one behind the last
+-- where the tokens end: statements, or a fault one after the last
 at_end : (done : List Name) (p : Place) → go between done ≡ Some p → Answer done
 at_end done between e = let back = go_back between done between [] e ([], refl, refl) in inl (back.0, back.1, back.2 ∙ append-nil done)
 at_end done labelled e = inr (length done + 1, ends_inside done labelled e (λ bad. cc))
@@ -102,7 +102,7 @@ take_split {A} (suc t) (suc u) (x ∷ xs) h =
     let rest : (ys : List A) × (take u xs ≡ take t xs ++ ys) = take_split t u xs (omega (arith, h)) in
     (rest.0, ap (λ r. x ∷ r) rest.1)
 
--- of two such tokens neither is the earlier one
+-- neither of two such tokens is the earlier one
 not_earlier : (tokens : List Name) (t u : ℕ) → IsShapeFault tokens t → IsShapeFault tokens u → t < u → ⊥
 not_earlier tokens t u a b earlier = by_here a.here
   where

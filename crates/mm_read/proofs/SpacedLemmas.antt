@@ -19,23 +19,23 @@ spaced-before k (w ∷ ws) v vs h = ap (λ r. k ++ 32 ∷ r) (spaced-append w ws
 
 -- ---- the pieces of a line
 
--- a word and a text, with the end of the line behind them
+-- a word and a text, with the end of the line after them
 line_end : (k : Name) (text end : List ℕ) → (k ++ 32 ∷ (text ++ end)) ++ 10 ∷ [] ≡ k ++ 32 ∷ (text ++ (end ++ 10 ∷ []))
 line_end k text end = append_assoc k (32 ∷ (text ++ end)) (10 ∷ []) ∙ ap (λ r. k ++ 32 ∷ r) (append_assoc text end (10 ∷ []))
 
--- of `$c`, `$v`, `$d`
+-- for `$c`, `$v`, `$d`
 pub line-list : (k : Name) (ws : List Name) (text : List ℕ) → are_symbols ws ≡ true → text ≡ spaced ws
     → k ++ 32 ∷ (text ++ (codes " $." ++ 10 ∷ [])) ≡ spaced (k ∷ (ws ++ codes "$." ∷ [])) ++ 10 ∷ []
 line-list k ws text h e =
     ap (λ t. k ++ 32 ∷ (t ++ (codes " $." ++ 10 ∷ []))) e ∙ sym (ap (λ r. r ++ 10 ∷ []) (spaced-before k ws (codes "$.") [] h) ∙ line_end k (spaced ws) (codes " $."))
 
--- of `$e`, `$a`
+-- for `$e`, `$a`
 pub line-labelled : (label k : Name) (ws : List Name) (text : List ℕ) → are_symbols ws ≡ true → text ≡ spaced ws
     → label ++ 32 ∷ (k ++ 32 ∷ (text ++ (codes " $." ++ 10 ∷ []))) ≡ spaced (label ∷ k ∷ (ws ++ codes "$." ∷ [])) ++ 10 ∷ []
 line-labelled label k ws text h e =
     ap (λ r. label ++ 32 ∷ r) (line-list k ws text h e) ∙ sym (append_assoc label (32 ∷ spaced (k ∷ (ws ++ codes "$." ∷ []))) (10 ∷ []))
 
--- of `$p` with an empty proof
+-- for `$p` with an empty proof
 pub line-unproved : (label : Name) (ws : List Name) (text : List ℕ) → are_symbols ws ≡ true → text ≡ spaced ws
     → label ++ (codes " $p " ++ (text ++ (codes " $= $." ++ 10 ∷ []))) ≡ spaced (label ∷ codes "$p" ∷ (ws ++ codes "$=" ∷ codes "$." ∷ [])) ++ 10 ∷ []
 line-unproved label ws text h e =
@@ -43,7 +43,7 @@ line-unproved label ws text h e =
     ∙ (ap (λ r. label ++ 32 ∷ r) (sym (ap (λ r. r ++ 10 ∷ []) (spaced-before (codes "$p") ws (codes "$=") (codes "$." ∷ []) h) ∙ line_end (codes "$p") (spaced ws) (codes " $= $.")))
     ∙ sym (append_assoc label (32 ∷ spaced (codes "$p" ∷ (ws ++ codes "$=" ∷ codes "$." ∷ []))) (10 ∷ [])))
 
--- of `$p` with a proof
+-- for `$p` with a proof
 pub line-proved : (label : Name) (ws : List Name) (text : List ℕ) (w : Name) (proof : List Name) → are_symbols ws ≡ true → text ≡ spaced ws
     → label ++ (codes " $p " ++ (text ++ (codes " $= " ++ (spaced (w ∷ proof) ++ (codes " $." ++ 10 ∷ [])))))
     ≡ spaced (label ∷ codes "$p" ∷ (ws ++ codes "$=" ∷ (w ∷ proof ++ codes "$." ∷ []))) ++ 10 ∷ []
@@ -62,7 +62,7 @@ line-proved label ws text w proof h e =
         ∙ (line_end (codes "$p") (spaced ws) (codes " $= " ++ (spaced (w ∷ proof) ++ codes " $."))
         ∙ ap (λ r. codes "$p " ++ (spaced ws ++ (codes " $= " ++ r))) (append_assoc (spaced (w ∷ proof)) (codes " $.") (10 ∷ [])))
 
--- of `$p` with the proof's text, and a space before it where it is not empty
+-- for `$p` with the proof's text, and a space before it where it is not empty
 pub line-provable : (label : Name) (ws : List Name) (text gap proof : List ℕ) → are_symbols ws ≡ true → text ≡ spaced ws
     → gap ≡ (if is_empty proof then [] else codes " ")
     → label ++ (codes " $p " ++ (text ++ (codes " $=" ++ (gap ++ (proof ++ (codes " $." ++ 10 ∷ []))))))

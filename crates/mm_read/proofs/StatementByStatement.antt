@@ -1,4 +1,5 @@
--- A list of statements and what stands behind it: what fits there fits the whole, and what does not fit there does not fit the whole.
+-- A list of statements and what stands after it: what fits there fits the whole, and what does not fit there does not fit the
+-- whole.
 use Rattle.std.specs.Prelude.{◌≡◌, ℕ, ◌+◌, ◌-◌, ◌<◌, ◌⊎◌, suc, zero, true, List, [], ◌∷◌, ◌++◌, length, take}
 use Rattle.std.specs.List.{list_all}
 use Rattle.std.proofs.Common.{sym, ◌∙◌, ap, arith, refl, subst, inl, inr, append_assoc, length-append}
@@ -54,7 +55,7 @@ fault_some tokens zero fault = absurd (by fault.here)
 fault_some tokens (suc token) fault = omega arith
 
 module _ (S : Database) (shaped : list_all is_shaped S ≡ true) (rest : List Name) where
-  -- what can go on can go on behind statements
+  -- tokens that can go on can go on after statements
   forth : (ts : List Name) → CanGoOn ts → CanGoOn (spelled S ++ ts)
   forth ts on = record {
     statements = S ++ on.statements;
@@ -63,13 +64,13 @@ module _ (S : Database) (shaped : list_all is_shaped S ≡ true) (rest : List Na
     whole = spelled-append S on.statements ∙ (ap (λ r. spelled S ++ r) on.whole ∙ sym (append_assoc (spelled S) ts on.rest));
   }
 
-  -- what can go on behind statements can go on without them
+  -- tokens that can go on after statements can go on without them
   back : (ts : List Name) → CanGoOn (spelled S ++ ts) → CanGoOn ts
   back ts on =
       let found : (U : Database) × (list_all is_shaped U ≡ true) × (spelled U ≡ ts ++ on.rest) = cut S on.statements (ts ++ on.rest) shaped on.shaped (on.whole ∙ append_assoc (spelled S) ts on.rest) in
       record { statements = found.0; rest = on.rest; shaped = found.1; whole = found.2 }
 
-  -- a fault behind statements is a fault of the whole
+  -- a fault after statements is a fault of the whole
   pub fault_behind : (token : ℕ) → IsShapeFault rest token → IsShapeFault (spelled S ++ rest) (length (spelled S) + token)
   fault_behind token fault = record {
     none = λ T hT e. let found : (U : Database) × (list_all is_shaped U ≡ true) × (spelled U ≡ rest) = cut S T rest shaped hT e in fault.none found.0 found.1 found.2;

@@ -1,6 +1,6 @@
--- What stands in front behind a place of a text: a keyword, a list of symbols, one token, or what does not fit there.
+-- The front of the text after a place: a keyword, a list of symbols, one token, or something that does not fit there.
 -- Source: Metamath, 4.1 and appendix E.
--- The calls that read the parts of a statement meet these; `Reads` says the same of a whole text.
+-- The calls that read the parts of a statement meet these; `Reads` is the same for a whole text.
 use Rattle.std.specs.Prelude.{◌≡◌, ℕ, Bool, ◌+◌, ◌<◌, ◌≤◌, ◌⊎◌, IsTrue, IsFalse, List, [], ◌∷◌, ◌++◌, length, codes}
 use Rattle.std.specs.List.{list_all}
 use Rattle.mm_lex.specs.Alphabet.{Name, name_eq, has_name, is_symbol}
@@ -41,12 +41,12 @@ pub record StopsList (tokens : List Name) (number least : ℕ) (end : Name) (tok
   pub place : token ≡ number + length ws
   pub stop : EndsNoList least end ws rest
 
--- the tokens behind a place do so
+-- the tokens after a place do so
 pub record IsListStop (text : List ℕ) (at number least : ℕ) (end : Name) (token : ℕ) : Type 0 where
   pub few : token + at ≤ number + length text
   pub stops : (tokens : List Name) → AreBehind text at tokens → StopsList tokens number least end token
 
--- why no such list stands behind a place, or a growth was refused
+-- why no such list stands after a place, or an allocation failed
 abbrev pub IsListFault : List ℕ → ℕ → ℕ → ℕ → Name → ReadFault → Type 0
 IsListFault text at number least end (Text fault) = StopsBehind text at fault
 IsListFault text at number least end (Shape token) = IsListStop text at number least end token
@@ -57,7 +57,7 @@ abbrev pub StartsOtherwise : (Name → Bool) → List Name → Type 0
 StartsOtherwise fits [] = Unit {0}
 StartsOtherwise fits (t ∷ rest) = IsFalse (fits t)
 
--- why no token of a kind stands behind a place, or a growth was refused
+-- why no token of a kind stands after a place, or an allocation failed
 abbrev pub IsTokenFault : List ℕ → ℕ → ℕ → (Name → Bool) → ReadFault → Type 0
 IsTokenFault text at number fits (Text fault) = StopsBehind text at fault
 IsTokenFault text at number fits (Shape token) =

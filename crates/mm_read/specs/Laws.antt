@@ -30,6 +30,6 @@ is_apart [] other = true
 is_apart (b ∷ []) other = is_white b || starts_white other
 is_apart (b ∷ c ∷ text) other = is_apart (c ∷ text) other
 
--- a text behind another writes what the one and then what the other writes
+-- two joined texts write the statements of the first and then those of the second
 abbrev pub JoinedReads : Type 0
 JoinedReads = (text other : List ℕ) (S T : Database) → Reads text S → Reads other T → IsTrue (is_apart text other) → Reads (text ++ other) (S ++ T)

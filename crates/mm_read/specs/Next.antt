@@ -1,6 +1,6 @@
--- The statement behind a place of a text, by the tokens between that place and the end of the statement, or why there is none.
+-- The statement after a place of a text, by the tokens between that place and the end of the statement, or why there is none.
 -- Source: Metamath, 4.1.
--- The calls that read one statement meet these; `Reads` says the same of the whole text.
+-- The calls that read one statement meet these; `Reads` is the same for the whole text.
 use Rattle.std.specs.Prelude.{◌≡◌, ℕ, ◌<◌, List, [], ◌∷◌, ◌++◌, Option, Some, None}
 use Rattle.mm_lex.specs.Alphabet.{Name}
 use Rattle.mm_lex.specs.Between.{HasBetween, AreBehind, StopsBehind}
@@ -16,11 +16,11 @@ pub record IsNext (text : List ℕ) (at : ℕ) (s : Stmt) (next : ℕ) : Type 0 
   pub later : at < next
   pub between : HasBetween text at next (stmt_tokens s)
 
--- the same, where these tokens stand before `at`
+-- the statement stands there, where these tokens stand before `at`
 abbrev pub IsNextAfter : List ℕ → List Name → ℕ → Stmt → ℕ → Type 0
 IsNextAfter text before at s next = (from : ℕ) → from < at → HasBetween text from at before → IsNext text from s next
 
--- why no statement stands there: the comments behind `at` are at fault, or the tokens behind it, after these, begin none
+-- why no statement stands there: the comments after `at` are at fault, or the tokens after it, after these, begin none
 abbrev pub IsFaultAfter : List ℕ → List Name → ℕ → ReadFault → Type 0
 IsFaultAfter text before at (Text fault) = StopsBehind text at fault
 IsFaultAfter text before at (Shape token) = (tokens : List Name) → AreBehind text at tokens → IsShapeFault (before ++ tokens) token
@@ -42,7 +42,7 @@ pub record AreBefore (text : List ℕ) (at : ℕ) (S : Database) : Type 0 where
   pub shaped : AreShaped S
   pub between : HasBetween text 0 at (spelled S)
 
--- what a text without a bad byte is refused for: comments at fault, else a token that fits nowhere or want of memory
+-- why a text without a bad byte is refused: comments at fault, else a token that fits nowhere or out of memory
 abbrev pub IsFaultOf : List ℕ → ReadFault → Type 0
 IsFaultOf text (Text fault) = StopsBehind text 0 fault
 IsFaultOf text (Shape token) = (tokens : List Name) × AreBehind text 0 tokens × IsShapeFault tokens token

@@ -42,7 +42,7 @@ pub record IsShapeFault (tokens : List Name) (token : ℕ) : Type 0 where
 abbrev pub HasShapeFault : List ℕ → ℕ → Type 0
 HasShapeFault text token = (tokens : List Name) × HasTokens text tokens × IsShapeFault tokens token
 
--- what a fault says of the text
+-- the meaning of a fault of the text
 abbrev pub IsReadFault : List ℕ → ReadFault → Type 0
 IsReadFault text (Text fault) = IsLexFault text fault × (fault ≢ lex.Memory)
 IsReadFault text (Shape token) = HasShapeFault text token

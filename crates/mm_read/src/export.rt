@@ -10,7 +10,7 @@ use crate::stmt::Stmt;
 use mm_lex::{Word, Words};
 use std::alloc::{AllocError, Global};
 
-/// The statements as a text: each is its tokens with one space between two, and a line feed.
+/// Returns the statements as a text: each is its tokens with one space between two, and a line feed.
 ///
 /// Cost: the text's own size. Source: Metamath, 4.1; one space and one line feed are this project's choice.
 pub fn spell(alloc: Global, statements: &[Stmt]) -> Result<Vec<u8>, AllocError>
@@ -25,7 +25,7 @@ pub fn spell(alloc: Global, statements: &[Stmt]) -> Result<Vec<u8>, AllocError>
     Ok(text)
 }
 
-/// Adds the statement's line. After a refusal the text is as before.
+/// Appends the statement's line. On an error the text is as before.
 pub fn push_line(text: &mut Vec<u8>, statement: &Stmt) -> Result<(), AllocError>
     requires { IsShaped statement.now }
     ensures line { OnOk result (text.new.items ≡ text.old.items ++ line_of statement.now) }
@@ -48,7 +48,7 @@ pub fn push_line(text: &mut Vec<u8>, statement: &Stmt) -> Result<(), AllocError>
     }
 }
 
-/// Adds the statement's line with this word in place of its proof, where it has one. After a refusal the text is as before.
+/// Appends the statement's line with this word in place of its proof, if it has one. On an error the text is as before.
 pub fn push_line_with_proof(
     text: &mut Vec<u8>,
     statement: &Stmt,
@@ -66,7 +66,7 @@ pub fn push_line_with_proof(
     }
 }
 
-/// `$c`, `$v` and `$d`.
+/// Appends a `$c`, `$v` or `$d`.
 fn push_list(text: &mut Vec<u8>, keyword: &[u8], symbols: &Words) -> Result<(), AllocError>
     requires { IsTrue (are_symbols symbols.now) }
     ensures line { OnOk result (text.new.items
@@ -76,7 +76,7 @@ fn push_list(text: &mut Vec<u8>, keyword: &[u8], symbols: &Words) -> Result<(), 
     push_parts(text, &[keyword, b" ", symbols.as_text(), b" $.\n"])
 }
 
-/// `$e` and `$a`.
+/// Appends a `$e` or `$a`.
 fn push_labelled(
     text: &mut Vec<u8>,
     label: &Word,
@@ -101,7 +101,7 @@ fn push_labelled(
     )
 }
 
-/// `$f`.
+/// Appends a `$f`.
 fn push_floating(
     text: &mut Vec<u8>,
     label: &Word,
@@ -126,7 +126,7 @@ fn push_floating(
     )
 }
 
-/// `$p`, with the proof's tokens as a text.
+/// Appends a `$p`, with the proof's tokens as a text.
 fn push_provable(
     text: &mut Vec<u8>,
     label: &Word,
@@ -154,14 +154,14 @@ fn push_provable(
     )
 }
 
-/// A space, where words follow.
+/// Returns a space if words follow, else nothing.
 fn gap_before(text: &[u8]) -> &[u8]
     ensures { result.now ≡ (if is_empty text.now then [] else codes " ") }
 {
     if text.is_empty() { b"" } else { b" " }
 }
 
-/// Adds all of the parts, or nothing.
+/// Appends all of the parts, or nothing.
 fn push_parts(text: &mut Vec<u8>, parts: &[&[u8]]) -> Result<(), AllocError>
     ensures ok { OnOk result (text.new.items ≡ text.old.items ++ flat_map (λ part. part.now) parts.now) }
     ensures same { OnErr result (text.new.items ≡ text.old.items) }

@@ -12,7 +12,7 @@ pub enum ReadFault {
     /// The first token, counted from 1 with the comments taken out, after which no list of statements can go on; or the
     /// count of tokens plus 1.
     Shape { token: usize },
-    /// A growth was refused.
+    /// An allocation failed.
     Memory,
 }
 

@@ -21,7 +21,7 @@ pub enum Keyword {
     Other,
 }
 
-/// The keyword that this token is.
+/// Returns the keyword that this token is.
 pub fn keyword_of(token: &[u8]) -> Keyword
     ensures { IsKeyword result token.now }
 {
@@ -31,7 +31,7 @@ pub fn keyword_of(token: &[u8]) -> Keyword
     }
 }
 
-/// The keyword of `$` and this letter.
+/// Returns the keyword of `$` and this letter.
 fn keyword_of_letter(letter: u8) -> Keyword
     ensures { IsKeyword result (36 ∷ letter ∷ []) }
 {
@@ -49,7 +49,7 @@ fn keyword_of_letter(letter: u8) -> Keyword
     }
 }
 
-/// The token's bytes.
+/// Returns the token's bytes.
 pub fn token(text: &[u8], span: Span) -> &[u8]
     requires ordered { span.start ≤ span.end }
     requires within { span.end ≤ length text.now }

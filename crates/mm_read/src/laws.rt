@@ -21,7 +21,8 @@ pub fn export_reads()
     ensures { ExportReads }
 {}
 
-/// A text behind another writes what the one and then what the other writes, where no word goes on from the one into the other.
+/// Two joined texts write the statements of the first and then those of the second, if no word goes on from the first into the
+/// second.
 pub fn joined_reads()
     ensures { JoinedReads }
 {}

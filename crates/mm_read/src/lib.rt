@@ -1,7 +1,7 @@
 //! Statements of a Metamath text.
 //!
-//! `Stmt` is one of the eight shapes of a statement. `read` gives the one list of statements that a text writes, or says where
-//! the text stops being statements; `spell` writes statements in the export form. What a text writes is `specs/Reads`: the
+//! `Stmt` is one of the eight shapes of a statement. `read` returns the one list of statements that a text writes, or where
+//! the text stops being statements; `spell` writes statements in the export form. `specs/Reads` says what a text writes: the
 //! crates above rest on the clauses of `read`. Read `stmt`, `fault`,
 //! `parse`, `statement`, `part`, `keyword`, then `export` and `laws`.
 #![tactic(auto)]

@@ -13,26 +13,26 @@ use crate::stmt::Stmt;
 use mm_lex::{LexFault, count_tokens, first_bad_byte, next_token};
 use std::alloc::Global;
 
-/// How many bytes of text are read between two times that room is asked for.
+/// How many bytes of text are read between two requests for room.
 const STRETCH: usize = 90_000;
 
-/// How many bytes of room are asked for: more than the statements of a stretch mostly take.
+/// How many bytes of room are requested: more than the statements of a stretch mostly take.
 const ROOM: usize = 120_000;
 
-/// The statements that the text writes.
+/// Returns the statements that the text writes.
 ///
-/// Errors: `Text`, a fault of the tokens, found however little memory there is; else `Shape`, the first token that fits
+/// Errors: `Text`, a fault of the tokens, even if every allocation fails; else `Shape`, the first token that fits
 /// nowhere; `Memory` in place of that or of the statements. Cost: the size of the text.
 /// Source: Metamath, 4.1 and appendix E.
 pub fn read(alloc: Global, text: &[u8]) -> Result<Vec<Stmt>, ReadFault>
     ensures found { IfOk result (λ statements. Reads text.now statements.items) }
     ensures fault { IfErr result (IsReadFault text.now) }
 
-    // The statements are those that the text writes, or a growth was refused.
+    // The statements are those that the text writes, or an allocation failed.
     ensures statements { (S : Database) → Reads text.now S
         → MatchResult result (λ statements. statements.items ≡ S) (λ fault. fault ≡ ReadFault.Memory) }
 
-    // A fault of the tokens is answered also where every growth is refused.
+    // A fault of the tokens is returned even if every allocation fails.
     ensures text_fault { (offset : ℕ) → IsFirstBadByte text.now offset
         → result ≡ Err (ReadFault.Text (LexFault.Text offset)) }
     ensures comment_fault { (offset : ℕ) → IsCommentFault text.now offset
@@ -46,7 +46,7 @@ pub fn read(alloc: Global, text: &[u8]) -> Result<Vec<Stmt>, ReadFault>
     statements(alloc, text)
 }
 
-/// The statements that a text without a bad byte writes.
+/// Returns the statements that a text without a bad byte writes.
 fn statements(alloc: Global, text: &[u8]) -> Result<Vec<Stmt>, ReadFault>
     requires { IsClean text.now }
     ensures found { IfOk result (λ statements. Reads text.now statements.items) }
@@ -63,7 +63,7 @@ fn statements(alloc: Global, text: &[u8]) -> Result<Vec<Stmt>, ReadFault>
     }
 }
 
-/// Adds the next statement; answers the place behind it, or none where no token is left.
+/// Appends the next statement; returns the place after it, or `None` if no token is left.
 fn add_next(
     alloc: Global,
     statements: &mut Vec<Stmt>,
@@ -84,18 +84,18 @@ fn add_next(
     Ok(Some(next))
 }
 
-/// Asks for room and gives it back, once a stretch of the text. The pieces of the statements behind come out of it: so a heap
-/// that grows by no more than it must, as that of a thread may, grows once for some hundred of them. Where the room is
-/// refused nothing is lost.
+/// Requests room and releases it, once a stretch of the text. The pieces of later statements come out of it: so a heap
+/// that grows by no more than it must, as that of a thread may, grows once for some hundred of them. If the request
+/// fails, nothing is lost.
 fn ask_for_room(alloc: Global, at: usize, next: usize) {
     if at / STRETCH != next / STRETCH {
         let _ = Vec::<u8>::with_capacity(alloc, ROOM);
     }
 }
 
-/// What the whole text is refused for, where statements end at `at` and this hinders the next one.
+/// Returns why the whole text is refused, where statements end at `at` and this fault hinders the next one.
 ///
-/// Errors: the fault of the comments behind `at`, which comes first.
+/// Errors: the fault of the comments after `at`, which comes first.
 fn first_fault(text: &[u8], at: usize, fault: ReadFault) -> Result<ReadFault, LexFault>
     requires clean { IsClean text.now }
     requires place { at ≤ length text.now }

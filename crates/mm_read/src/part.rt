@@ -1,4 +1,4 @@
-//! The parts of a statement, each behind a place of the text.
+//! The parts of a statement, each after a place of the text.
 ghost use Rattle.std.specs.Prelude.{◌≡◌, ◌<◌, ◌≤◌, ◌∷◌, ◌++◌, [], length, nat_le, IsTrue, IfOk, IfErr};
 ghost use Rattle.std.specs.List.{list_all};
 ghost use Rattle.mm_lex.specs.Alphabet.{name_eq, is_symbol};
@@ -11,9 +11,9 @@ use crate::keyword::token;
 use mm_lex::{Word, Words, is_symbol, next_token, symbols};
 use std::alloc::Global;
 
-/// The symbols behind `at`, at least `least`, up to the token `end`, and the place of the byte behind that.
+/// Returns the symbols after `at`, at least `least`, up to the token `end`, and the place of the byte after that.
 ///
-/// `number` is that of the first token behind `at` in its statement. Errors: `Text`, where the comments are at fault
+/// `number` is that of the first token after `at` in its statement. Errors: `Text`, where the comments are at fault
 /// before the end of the list; the number of the token that does not fit; `Memory`.
 pub fn symbols_until(
     alloc: Global,
@@ -43,7 +43,7 @@ pub fn symbols_until(
     })
 }
 
-/// Whether there are so many words. Cost: none where up to one is asked for, and else the size of their text.
+/// Returns whether there are so many words. Cost: none for a count of up to one, else the size of their text.
 fn has_least(words: &Words, least: usize) -> bool
     ensures { result ≡ nat_le least (length words.now) }
 {
@@ -54,7 +54,7 @@ fn has_least(words: &Words, least: usize) -> bool
     }
 }
 
-/// The next token as a word, if it is a symbol, and the place of the byte behind it.
+/// Returns the next token as a word, if it is a symbol, and the place of the byte after it.
 ///
 /// `number` is that of the token in its statement.
 pub fn next_symbol(
@@ -79,7 +79,7 @@ pub fn next_symbol(
     Err(ReadFault::Shape { token: number })
 }
 
-/// The place behind the next token, if it is `end`.
+/// Returns the place after the next token, if that is `end`.
 ///
 /// `number` is that of the token in its statement.
 pub fn pass_token(text: &[u8], at: usize, number: usize, end: &[u8]) -> Result<usize, ReadFault>

@@ -12,7 +12,7 @@ use crate::stmt::Stmt;
 use mm_lex::{Span, Word, is_label, next_token};
 use std::alloc::Global;
 
-/// The statement whose first token stands at `first`, and the place of the byte behind it.
+/// Returns the statement whose first token stands at `first`, and the place of the byte after it.
 ///
 /// Errors: `Text`, where the comments are at fault before its end; the number from 1 of its token that fits nowhere;
 /// `Memory`. Cost: the statement's own size.
@@ -44,7 +44,7 @@ pub fn statement(alloc: Global, text: &[u8], first: Span) -> Result<(Stmt, usize
     }
 }
 
-/// The statement whose label ends before `at`.
+/// Returns the statement whose label ends before `at`.
 fn labelled(alloc: Global, text: &[u8], label: &[u8], at: usize) -> Result<(Stmt, usize), ReadFault>
     requires clean { IsClean text.now }
     requires place { at ≤ length text.now }
@@ -73,7 +73,7 @@ fn labelled(alloc: Global, text: &[u8], label: &[u8], at: usize) -> Result<(Stmt
     }
 }
 
-/// The `$f` whose keyword ends before `at`.
+/// Returns the `$f` whose keyword ends before `at`.
 fn floating(alloc: Global, text: &[u8], label: &[u8], at: usize) -> Result<(Stmt, usize), ReadFault>
     requires clean { IsClean text.now }
     requires place { at ≤ length text.now }
@@ -94,7 +94,7 @@ fn floating(alloc: Global, text: &[u8], label: &[u8], at: usize) -> Result<(Stmt
     Ok((statement, next))
 }
 
-/// The `$p` whose keyword ends before `at`.
+/// Returns the `$p` whose keyword ends before `at`.
 fn provable(alloc: Global, text: &[u8], label: &[u8], at: usize) -> Result<(Stmt, usize), ReadFault>
     requires clean { IsClean text.now }
     requires place { at ≤ length text.now }

@@ -46,7 +46,7 @@ place-at (y ∷ names) x (suc n) d h e =
     same : name_eq x y ≡ true → ⊥
     same q = true≢false (sym (has-at names x n (omega (arith, h)) e) ∙ (ap (λ z. has_name z names) (same_name x y q) ∙ d.0))
 
--- the number that a name stands at is its number, where the names are told apart
+-- the number that a name stands at is its number, where the names are distinct
 pub code-at : (names : List Name) (x : Name) (n : ℕ) → AreDistinct names → n < length names → name_at names n ≡ x → code_of names x ≡ Some n
 code-at names x n d h e =
     let t : nat_lt n (length names) ≡ true = grind (arith, h) in
@@ -76,12 +76,12 @@ code-absent names x none = by (code_of names x) refl
     by None e = e
     by (Some n) e = let p = code-name names x n e in absurd (none n p.0 p.1)
 
--- the name that was put last stands behind the others
+-- the name that was put last stands at the end
 pub name_at-last : (names : List Name) (x : Name) → name_at (names ++ x ∷ []) (length names) ≡ x
 name_at-last [] x = refl
 name_at-last (y ∷ names) x = name_at-last names x
 
--- .. and has the number behind theirs
+-- .. and has the number after theirs
 pub added-name : (old new : List Name) (x : Name) (n : ℕ) → n ≡ length old → new ≡ old ++ x ∷ [] → (n < length new) × (name_at new n ≡ x)
 added-name old new x n e h =
     let l = ap length h ∙ length-append old (x ∷ []) in

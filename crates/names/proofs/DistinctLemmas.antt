@@ -1,4 +1,4 @@
--- Names that stay apart: one more put last, or the first ones alone.
+-- Names that stay distinct: one more appended, or truncated to the first ones.
 use Rattle.std.specs.Prelude.{◌≡◌, ℕ, zero, suc, ◌+◌, ◌<◌, ◌≤◌, Bool, true, false, cond, List, [], ◌∷◌, ◌++◌, length, take, drop, refl}
 use Rattle.std.proofs.Common.{sym, ◌∙◌, ap, arith, length-append, add-one}
 use Rattle.std.proofs.lemmas.List.{take-append-drop}
@@ -44,7 +44,7 @@ distinct-push (y ∷ names) x d h =
     let p = or_parts (name_eq x y) (has_name x names) h in
     (has-push names x y d.0 (name_eq-comm y x ∙ p.0), distinct-push names x d.1 p.1)
 
--- names that are given codes one after another stay apart
+-- names that are given codes one after another stay distinct
 pub distinct-with_names : (names xs : List Name) → AreDistinct names → AreDistinct (with_names names xs)
 distinct-with_names names [] d = d
 distinct-with_names names (x ∷ xs) d = distinct-with_names (with_name names x) xs (by (has_name x names) refl)

@@ -1,4 +1,4 @@
--- Each name has its key or stands apart, also when names come and go.
+-- Each name has its key or is in the overflow, also when names come and go.
 use Rattle.std.specs.Prelude.{◌≡◌, ◌≢◌, ℕ, zero, suc, ◌+◌, ◌<◌, ◌≤◌, ◌⊎◌, List, [], ◌∷◌, ◌++◌, false, length, take, get_or, Some, Ok, Err, Result, OnOk, OnErr, refl}
 use Rattle.std.proofs.Common.{sym, ◌∙◌, ap, subst, arith, inl, inr, slice_set, length-append, true≢false}
 use Rattle.std.proofs.lemmas.Bool.{cases_lt, cases_eq}
@@ -31,7 +31,7 @@ kept-as a b x k lt e f h = record {
   apart = λ z. f ∙ h.apart (sym e ∙ z);
 }
 
--- what a call left of the one kind or of the other
+-- the result of a call of either kind
 pub either : {T E : Type 0} (r : Result T E) (P Q R : Type 0) → OnOk r P → OnOk r Q → OnErr r R → (X : Type 0) → (P → Q → X) → (R → X) → X
 either (Ok x) P Q R p q r X f g = f p q
 either (Err e) P Q R p q r X f g = g r
@@ -40,7 +40,7 @@ pub on-ok : {T E : Type 0} (r : Result T E) (P Q : Type 0) → OnOk r P → (P �
 on-ok (Ok x) P Q p f = f p
 on-ok (Err e) P Q p f = tt
 
--- one of the names is set apart
+-- one of the names goes into the overflow
 pub kept-apart : (a b : Kept) (names : List Name) (n : ℕ) → AreKept a names → AreDistinct names → n < length names → b.keys.items ≡ slice_set a.keys.items n APART
     → number_of b.overflow (name_at names n) ≡ Some n → ((x : Name) → AreBytes x → x ≢ name_at names n → number_of b.overflow x ≡ number_of a.overflow x) → AreKept b names
 kept-apart a b names n kept d lt keys own others k p = by (cases_eq k n)
@@ -69,7 +69,7 @@ fewer-apart a b n keys lt k ne = by (cases_eq k n)
     by (inl e) z = ne (ap (λ i. get_or b.keys.items i 0) e ∙ (ap (λ xs. get_or xs n 0) keys ∙ get_or-set_same a.keys.items n APART 0 lt))
     by (inr other) z = ne (ap (λ xs. get_or xs k 0) keys ∙ (get_or-set_other a.keys.items n k APART 0 other ∙ z))
 
--- and the names before it, and it, are in the table or stand apart
+-- and the names before it, and it, are in the table or in the overflow
 pub held-apart : (slots : List Slot) (a b : Kept) (names : List Name) (n : ℕ) → b.keys.items ≡ slice_set a.keys.items n APART → n < length a.keys.items → AreHeld n slots a names → AreHeld (n + 1) slots b names
 held-apart slots a b names n keys lt held k p ne = by (cases_eq k n)
   where
@@ -125,7 +125,7 @@ kept-last b names x n count kept last k p = by (cases_lt k (length names))
         let same : k ≡ n = omega (arith, p, q, l, count) in
         subst (λ i. IsKept b (name_at (names ++ x ∷ []) i) i) (sym same) (subst (λ y. IsKept b y n) (sym (ap (name_at (names ++ x ∷ [])) count ∙ name_at-last names x)) last)
 
--- the same of a name with its key
+-- the same for a name with its key
 pub kept-push : (a b : Kept) (names : List Name) (x : Name) (n key : ℕ) → n ≡ length names → AreKept a names → b.overflow ≡ a.overflow → ((k : ℕ) → k < n → get_or b.keys.items k 0 ≡ get_or a.keys.items k 0)
     → n < length b.keys.items → get_or b.keys.items n 0 ≡ key → key ≡ key_of x → key ≢ APART → AreBytes x → AreKept b (names ++ x ∷ [])
 kept-push a b names x n key count kept overflow same more last own other bytes =
@@ -138,7 +138,7 @@ kept-push a b names x n key count kept overflow same more last own other bytes =
       apart = λ z. absurd (other (sym last ∙ z));
     })
 
--- the same of a name that stands apart
+-- the same for a name in the overflow
 pub kept-push_apart : (a b : Kept) (names : List Name) (x : Name) (n : ℕ) → n ≡ length names → AreKept a names → has_name x names ≡ false → ((y : Name) → AreBytes y → y ≢ x → number_of b.overflow y ≡ number_of a.overflow y)
     → ((k : ℕ) → k < n → get_or b.keys.items k 0 ≡ get_or a.keys.items k 0) → n < length b.keys.items → get_or b.keys.items n 0 ≡ APART → number_of b.overflow x ≡ Some n → AreBytes x → AreKept b (names ++ x ∷ [])
 kept-push_apart a b names x n count kept fresh others same more last own bytes =
@@ -185,7 +185,7 @@ found slots a names t k lt = by (cases_eq (get_or a.keys.items k 0) APART)
     by (inl e) = inr ((t.kept k lt).apart e)
     by (inr ne) = inl (t.held k lt ne)
 
--- a table where only what lies behind the names changed
+-- a table where only what lies after the names changed
 pub table-same : (slots : List Slot) (a b : Kept) (names : List Name) → IsTable slots a names → length names ≤ length b.keys.items
     → ((k : ℕ) → k < length names → get_or b.keys.items k 0 ≡ get_or a.keys.items k 0) → ((k : ℕ) → k < length names → number_of b.overflow (name_at names k) ≡ number_of a.overflow (name_at names k))
     → IsTable slots b names

@@ -25,7 +25,7 @@ pub keeps : {K X : Type 0} (eq : K → K → Bool) (test : K → Bool) (old new 
 unfolding KeepsOthers
 keeps eq test old new h = h
 
--- what compares equal to the one text does not to another
+-- a text that compares equal to one text does not to another
 pub apart : (xs ys zs : List ℕ) → ys ≢ xs → is_eq (slice_cmp nat_cmp xs zs) ≡ true → is_eq (slice_cmp nat_cmp ys zs) ≡ false
 apart xs ys zs ne e = by (is_eq (slice_cmp nat_cmp ys zs)) (sym (is_eq-slice_cmp ys zs))
   where

@@ -27,7 +27,7 @@ passed-one slots names name key step t at taken other s g =
 no-name : (k n : ℕ) → k < n → n < 2 ^ 32 → k ≡ NO_NAME → ⊥
 no-name k n p q e = omega (arith, p, q, e)
 
--- the search met a slot without number, or each slot that it may, and the name does not stand apart: then no name is this one
+-- the search met a slot without number, or each slot that it may, and the name is not in the overflow: then no name is this one
 pub not-found : (slots : List Slot) (a : Overflow) (names : List Name) (name : Name) (key step : ℕ) → key ≡ key_of name → AreFound slots a names → length names < 2 ^ 32
     → ((i : ℕ) → i < step → IsPassed slots names name key i) → ((length slots ≤ step) ⊎ (REACH ≤ step)) ⊎ ((s : Slot) × slot_at slots key step s × (s.number ≡ NO_NAME))
     → ((k : ℕ) → k < length names → name_at names k ≡ name → number_of a name ≢ Some k) → code_of names name ≡ None
@@ -61,7 +61,7 @@ not-found slots a names name key step own found few passed end other = code-abse
                     let there : slot_at slots key step (slot_of key k) = subst (λ i. slot_at slots key i (slot_of key k)) same h.there in
                     no-name k (length names) lt few (ap (λ (u : Slot). u.number) (same-slot slots key step (slot_of key k) g.0 there g.1) ∙ g.2)
 
--- the same of what the overflow answers then
+-- the same for the answer of the overflow then
 pub ended : (slots : List Slot) (a : Overflow) (names : List Name) (name : Name) (key step : ℕ) (r : Option ℕ) → key ≡ key_of name → AreFound slots a names → length names < 2 ^ 32
     → ((i : ℕ) → i < step → IsPassed slots names name key i) → ((length slots ≤ step) ⊎ (REACH ≤ step)) ⊎ ((s : Slot) × slot_at slots key step s × (s.number ≡ NO_NAME))
     → IfSome r (λ n. code_of names name ≡ Some n) → (r ≡ None → (k : ℕ) → k < length names → name_at names k ≡ name → number_of a name ≢ Some k) → r ≡ code_of names name
@@ -131,7 +131,7 @@ put-new slots at key k f known =
       before = λ i p. taken-set slots at new key i known (f.before i p);
     }
 
--- slots that are all alike
+-- slots that are all equal
 pub unused : (slots old : List Slot) (m n : ℕ) (free : Slot) → old ≡ [] → slots ≡ take m old ++ replicate n free → free.number ≡ NO_NAME → AreUnused slots
 unused slots old m n free nothing e none i s g = alike (sym (ap (λ xs. slice_get xs i) (e ∙ (ap (λ xs. take m xs ++ replicate n free) nothing ∙ front m))) ∙ g)
   where

@@ -1,4 +1,4 @@
--- Texts one behind the other in one buffer.
+-- Texts one after the other in one buffer.
 use Rattle.std.specs.Prelude.{◌≡◌, ℕ, zero, suc, ◌+◌, ◌-◌, ◌<◌, ◌≤◌, List, [], ◌∷◌, ◌++◌, length, take, drop, slice_get, slice_range, Some, refl}
 use Rattle.std.proofs.Common.{◌∙◌, ap, sym, subst, arith}
 use Rattle.std.proofs.lemmas.List.{length-drop, length-take-le, take-append-le, drop-append-le, take-append-drop, take_all}
@@ -11,7 +11,7 @@ pub cut-length : (xs : List ℕ) (from : ℕ) (ends : List ℕ) → length (cut 
 cut-length xs from [] = refl
 cut-length xs from (to ∷ ends) = ap suc (cut-length xs to ends)
 
--- the last end is behind the others
+-- the last end is after the others
 laid-behind : (n from : ℕ) (ends : List ℕ) → AreLaid n from ends → from ≤ n
 laid-behind n from [] l = omega (arith, l)
 laid-behind n from (to ∷ ends) l = let r = laid-behind n to ends l.1 in let a = l.0 in omega (arith, a, r)
@@ -63,7 +63,7 @@ range-last xs ys from to p q =
     let k : to - from ≡ length ys = omega arith in
     ap (λ n. take n (drop from (xs ++ ys))) k ∙ (ap (λ n. take (length ys) (drop n (xs ++ ys))) p ∙ (ap (take (length ys)) (drop-append_seam xs ys) ∙ take_all (length ys) ys (omega arith)))
 
--- a text put behind the others
+-- a text put at the end
 pub push-text : (xs ys : List ℕ) (from : ℕ) (ends : List ℕ) (to : ℕ) → AreLaid (length xs) from ends → to ≡ length xs + length ys → cut (xs ++ ys) from (ends ++ to ∷ []) ≡ cut xs from ends ++ ys ∷ []
 push-text xs ys from [] to l q = ap (λ r. r ∷ []) (range-last xs ys from to (sym l) q)
 push-text xs ys from (t ∷ ends) to l q =

@@ -1,4 +1,4 @@
-//! The keys of names by number, and the names that stand apart from the table.
+//! The keys of names by number, and the overflow of names that found no slot in the table.
 ghost use Rattle.std.specs.Prelude.{◌≡◌, ◌≢◌, ℕ, ◌<◌, ◌≤◌, ◌^◌, length, get_or, slice_set, Some, IfOk, OnOk, OnErr, true};
 ghost use Rattle.mm_lex.specs.Alphabet.{Name};
 ghost use Rattle.names.specs.Codes.{name_at, AreDistinct};
@@ -12,8 +12,8 @@ use crate::overflow::Overflow;
 use crate::texts::Texts;
 use std::alloc::{AllocError, Global};
 
-/// The key of each name that stands in the table, and `APART` for one that stands in the overflow. What lies behind
-/// the last name has no meaning.
+/// The key of each name that stands in the table, and `APART` for one that stands in the overflow. Entries after
+/// the last name have no meaning.
 #[derive(Drop)]
 pub struct Kept {
     pub keys: Vec<u64>,
@@ -21,7 +21,7 @@ pub struct Kept {
 }
 
 impl Kept {
-    /// Nothing of no names.
+    /// Returns the keys of no names.
     pub(crate) fn new(alloc: Global) -> Kept {
         Kept {
             keys: Vec::new(alloc),
@@ -29,7 +29,7 @@ impl Kept {
         }
     }
 
-    /// The keys of texts, none of which stands apart.
+    /// Returns the keys of texts, none of which is in the overflow.
     pub(crate) fn of(alloc: Global, texts: &Texts) -> Result<Kept, AllocError>
         ensures { IfOk result (λ kept. AreKept kept texts.now) }
     {
@@ -40,7 +40,7 @@ impl Kept {
         Ok(kept)
     }
 
-    /// Whether the name of a number has this key, and stands in the table.
+    /// Returns whether the name of a number has this key, and stands in the table.
     pub(crate) fn has(&self, texts: &Texts, number: u32, key: u64) -> bool
         requires kept { AreKept self.now texts.now }
         requires own { key ≢ APART }
@@ -49,7 +49,7 @@ impl Kept {
         (number as usize) < texts.len() && self.keys[number as usize] == key
     }
 
-    /// Notes the key of the name that comes next.
+    /// Records the key of the next name.
     pub(crate) fn push(&mut self, code: usize, key: u64) -> Result<(), AllocError>
         requires { code ≤ length self.old.keys.items }
         ensures overflow { self.new.overflow ≡ self.old.overflow }
@@ -63,7 +63,7 @@ impl Kept {
         Ok(())
     }
 
-    /// Makes room for the keys of so many more names, where there is memory for it.
+    /// Makes room for the keys of so many more names, if allocation succeeds.
     pub(crate) fn reserve(&mut self, more: usize)
         ensures keys { self.new.keys.items ≡ self.old.keys.items }
         ensures overflow { self.new.overflow ≡ self.old.overflow }

@@ -1,4 +1,4 @@
-//! A name as a number of 64 bits, by which most names are told apart.
+//! A 64-bit key for each name, which distinguishes most names.
 ghost use Rattle.std.specs.Prelude.{◌≡◌, ◌≢◌, ◌+◌, ◌*◌, ◌^◌, ◌<◌, ◌≤◌, length};
 ghost use Rattle.names.specs.Stored.Keys.{AreBytes, digits, picked, eight, spread_of, mixed, key_of};
 
@@ -14,7 +14,7 @@ const FACTOR: u64 = 0x9e37_79b9_7f4a_7c15;
 /// No name has this key.
 pub(crate) const APART: u64 = 0x7fff_ffff_ffff_ffff;
 
-/// The key of a name.
+/// Returns the key of a name.
 pub(crate) fn key(name: &[u8]) -> u64
     ensures key { result ≡ key_of name.now }
     ensures bytes { AreBytes name.now }
@@ -27,7 +27,7 @@ pub(crate) fn key(name: &[u8]) -> u64
     }
 }
 
-/// The key of a name that has some bytes, and is not long.
+/// Returns the key of a name that has some bytes, and is not long.
 pub(crate) fn short_key(name: &[u8]) -> u64
     requires some { 1 ≤ length name.now }
     requires short { length name.now < LONG }
@@ -43,7 +43,7 @@ pub(crate) fn short_key(name: &[u8]) -> u64
     bytes * 8 + name.len() as u64
 }
 
-/// The first byte, the middle one and the last one, so that one, two and three bytes are read alike.
+/// Returns the first byte, the middle one and the last one, so that one, two and three bytes are read in the same way.
 fn few_bytes(name: &[u8]) -> u64
     requires some { 1 ≤ length name.now }
     requires few { length name.now < 4 }
@@ -54,7 +54,7 @@ fn few_bytes(name: &[u8]) -> u64
     digit(name[0], digit(name[len / 2], digit(name[len - 1], 0)))
 }
 
-/// The first four bytes and the last three.
+/// Returns the first four bytes and the last three.
 fn more_bytes(name: &[u8]) -> u64
     requires some { 4 ≤ length name.now }
     requires few { length name.now < 8 }
@@ -67,7 +67,7 @@ fn more_bytes(name: &[u8]) -> u64
     digit(name[0], digit(name[1], first))
 }
 
-/// Eight bytes from a place on.
+/// Returns the eight bytes from a place on.
 fn eight_bytes(name: &[u8], at: usize) -> u64
     requires { at + 8 ≤ length name.now }
     ensures { result ≡ digits (eight name.now at) }
@@ -77,7 +77,7 @@ fn eight_bytes(name: &[u8], at: usize) -> u64
     digit(name[at], digit(name[at + 1], digit(name[at + 2], middle)))
 }
 
-/// A byte below others.
+/// Returns a byte with other bytes above it.
 fn digit(byte: u8, above: u64) -> u64
     requires { above < 2 ^ 56 }
     ensures { result ≡ byte + 256 * above }
@@ -85,7 +85,7 @@ fn digit(byte: u8, above: u64) -> u64
     byte as u64 + 256 * above
 }
 
-/// The hint at a longer name: its length and its bytes by eights, of which the last may overlap those before them.
+/// Returns the hint at a longer name: its length and its bytes by eights, of which the last may overlap those before them.
 pub(crate) fn hint(name: &[u8]) -> u64
     requires { LONG ≤ length name.now }
     ensures key { result ≡ key_of name.now }
@@ -105,7 +105,7 @@ fn mix(hint: u64, bytes: u64) -> u64
     spread(hint.wrapping_add(bytes))
 }
 
-/// A number whose lowest bytes all bits of this one reach: the highest bytes of its product.
+/// Returns a number whose lowest bytes all bits of this one reach: the highest bytes of its product.
 pub(crate) fn spread(number: u64) -> u64
     ensures { result ≡ spread_of number }
 {

@@ -2,7 +2,7 @@
 //!
 //! The crates above use `NameTable::find`, `add` and `name`: a name's code is its place in the list, and the name of a code
 //! is the one that stands there. Read `names`; `texts` keeps the bytes, `table` finds a code by the key of its name, `keys`
-//! makes keys, `kept` has them by code, and `overflow` the names that stand apart from the table.
+//! makes keys, `kept` has them by code, and `overflow` has the names that found no slot in the table.
 #![tactic(auto)]
 
 mod kept;

@@ -13,13 +13,13 @@ use std::marker::Model;
 /// Names, none of them twice. The code of a name is its place, from 0. Contracts see the list.
 ///
 /// The bytes of all names stand in one buffer. A table tells a name's code by its key, which for a name
-/// of at most seven bytes no other name has. A name that finds no slot within few steps stands apart, in order.
+/// of at most seven bytes no other name has. A name that finds no slot within few steps goes into a sorted overflow.
 #[derive(Drop)]
 pub struct NameTable {
     texts: Texts,
     kept: Kept,
     slots: Vec<Slot>,
-    /// How many slots are taken at most, those of names that are gone with them.
+    /// An upper bound on the slots that are taken, with those of names that were removed.
     taken: usize,
 }
 
@@ -36,7 +36,7 @@ impl Model for NameTable {
 }
 
 impl NameTable {
-    /// No names.
+    /// Returns an empty table.
     pub fn new(alloc: Global) -> NameTable
         ensures { result ≡ [] }
     {
@@ -48,7 +48,7 @@ impl NameTable {
         }
     }
 
-    /// The same names.
+    /// Copies the table.
     pub fn copy(&self, alloc: Global) -> Result<NameTable, AllocError>
         ensures { IfOk result (λ names. names ≡ self.now) }
     {
@@ -64,15 +64,15 @@ impl NameTable {
         })
     }
 
-    /// How many names there are.
+    /// Returns how many names there are.
     pub fn len(&self) -> usize
         ensures { result ≡ length self.now }
     {
         self.texts.len()
     }
 
-    /// The code of a name that has one. Cost: one pass over the name and 32 looks at the table at most; where it is not
-    /// found there, the logarithm of how many names stand apart in comparisons.
+    /// Returns the code of a name that has one. Cost: one pass over the name and 32 looks at the table at most; where it is not
+    /// found there, the logarithm of the number of names in the overflow, in comparisons.
     #[inline(always)]
     pub fn find(&self, name: &[u8]) -> Option<usize>
         ensures code { result ≡ code_of self.now name.now }
@@ -83,7 +83,7 @@ impl NameTable {
         search(slots, &self.kept, &self.texts, name)
     }
 
-    /// The name of a code.
+    /// Returns the name of a code.
     pub fn name(&self, code: usize) -> &[u8]
         requires { code < length self.now }
         ensures { result.now ≡ name_at self.now code }
@@ -91,7 +91,7 @@ impl NameTable {
         self.texts.get(code)
     }
 
-    /// The code of a name, which is given one where it has none.
+    /// Returns the code of a name, giving it one if it has none.
     pub fn code(&mut self, alloc: Global, name: &[u8]) -> Result<usize, AllocError>
         ensures name { IfOk result (λ n. (n < length self.new) × (name_at self.new n ≡ name.now)) }
         ensures known { IfOk result (λ n. n < length self.old → self.new ≡ self.old) }
@@ -138,7 +138,7 @@ impl NameTable {
         Ok(code)
     }
 
-    /// Makes room for so many more names, where there is memory for it: no new table is made while they come.
+    /// Makes room for so many more names, if allocation succeeds: no new table is made while they are added.
     pub fn reserve(&mut self, alloc: Global, more: usize)
         ensures { self.new ≡ self.old }
     {
@@ -158,7 +158,7 @@ impl NameTable {
         Ok(())
     }
 
-    /// Only the first `len` names stay.
+    /// Truncates to the first `len` names.
     pub fn truncate(&mut self, len: usize)
         ensures { self.new ≡ take len self.old }
     {

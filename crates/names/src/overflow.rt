@@ -17,7 +17,7 @@ pub struct Overflow {
 }
 
 impl Overflow {
-    /// No names.
+    /// Returns an empty overflow.
     pub(crate) fn new(alloc: Global) -> Overflow {
         Overflow {
             short: BTreeMap::new(alloc),
@@ -25,14 +25,14 @@ impl Overflow {
         }
     }
 
-    /// Whether no name is there.
+    /// Returns whether no name is there.
     pub(crate) fn is_empty(&self) -> bool
         ensures { IsTrue result → (x : Name) → number_of self.now x ≡ None }
     {
         self.short.is_empty() && self.long.is_empty()
     }
 
-    /// The number of a name.
+    /// Returns the number of a name.
     pub(crate) fn get(&self, name: &[u8]) -> Option<u32>
         ensures { result ≡ number_of self.now name.now }
     {
@@ -43,7 +43,7 @@ impl Overflow {
         }
     }
 
-    /// Keeps a number for a name.
+    /// Records the number of a name.
     pub(crate) fn insert(
         &mut self,
         alloc: Global,
@@ -62,7 +62,7 @@ impl Overflow {
         Ok(())
     }
 
-    /// Takes a name away.
+    /// Removes a name.
     pub(crate) fn remove(&mut self, name: &[u8])
         ensures { (x : Name) → AreBytes x → x ≢ name.now → number_of self.new x ≡ number_of self.old x }
     {

@@ -14,7 +14,7 @@ use crate::overflow::Overflow;
 use crate::texts::{Texts, item};
 use std::alloc::{AllocError, Global};
 
-/// Stands in a slot that no name has.
+/// Marks a slot that no name has.
 pub(crate) const NO_NAME: u32 = 4294967295;
 
 /// How many slots are looked at for one name. A name that finds none of them free goes into the overflow.
@@ -33,14 +33,14 @@ pub struct Slot {
     pub number: u32,
 }
 
-/// The lower half of a key.
+/// Returns the lower half of a key.
 fn half(key: u64) -> u32
     ensures { result ≡ half_of key }
 {
     (key % HALVES) as u32
 }
 
-/// The slot of a name with this key.
+/// Returns the slot of a name with this key.
 pub(crate) fn make_slot(key: u64, number: u32) -> Slot
     ensures { result ≡ slot_of key number }
 {
@@ -50,7 +50,7 @@ pub(crate) fn make_slot(key: u64, number: u32) -> Slot
     }
 }
 
-/// Where to look in a step: first by the key's spread, and then one slot further on than the step before went. The
+/// Returns where to look in a step: first by the key's spread, and then one slot further on than the step before went. The
 /// length of a table is a power of two.
 fn place(key: u64, step: usize, len: usize) -> usize
     requires some { 0 < len }
@@ -61,7 +61,7 @@ fn place(key: u64, step: usize, len: usize) -> usize
     (spread(key) as usize).wrapping_add(step * (step + 1) / 2) & (len - 1)
 }
 
-/// How many steps a search takes at most.
+/// Returns how many steps a search takes at most.
 fn steps(len: usize) -> usize
     ensures within { result ≤ len }
     ensures near { result ≤ REACH }
@@ -70,7 +70,7 @@ fn steps(len: usize) -> usize
     if len < REACH { len } else { REACH }
 }
 
-/// The slot of a step.
+/// Returns the slot of a step.
 fn look(slots: &[Slot], key: u64, step: usize) -> Slot
     requires within { step < length slots.now }
     requires near { step < REACH }
@@ -79,7 +79,7 @@ fn look(slots: &[Slot], key: u64, step: usize) -> Slot
     item(slots, place(key, step, slots.len()))
 }
 
-/// The number of a name that has one. Most short names stand in the first slot, and no text is read.
+/// Returns the number of a name that has one. Most short names stand in the first slot, and no text is read.
 #[inline(always)]
 pub(crate) fn search(slots: &[Slot], kept: &Kept, texts: &Texts, name: &[u8]) -> Option<usize>
     requires found { AreFound slots.now kept.now.overflow texts.now }
@@ -102,7 +102,7 @@ pub(crate) fn search(slots: &[Slot], kept: &Kept, texts: &Texts, name: &[u8]) ->
     search_on(slots, kept, texts, name)
 }
 
-/// The same for all names, quickly for a long one that stands in the first slot.
+/// Returns the number of a name, quickly for a long one that stands in the first slot.
 #[inline(never)]
 fn search_long(slots: &[Slot], kept: &Kept, texts: &Texts, name: &[u8]) -> Option<usize>
     requires found { AreFound slots.now kept.now.overflow texts.now }
@@ -125,7 +125,7 @@ fn search_long(slots: &[Slot], kept: &Kept, texts: &Texts, name: &[u8]) -> Optio
     search_on(slots, kept, texts, name)
 }
 
-/// The same for all names, slot by slot.
+/// Returns the number of a name, searching slot by slot.
 #[inline(never)]
 fn search_on(slots: &[Slot], kept: &Kept, texts: &Texts, name: &[u8]) -> Option<usize>
     requires found { AreFound slots.now kept.now.overflow texts.now }
@@ -148,14 +148,14 @@ fn search_on(slots: &[Slot], kept: &Kept, texts: &Texts, name: &[u8]) -> Option<
     search_apart(&kept.overflow, texts, name)
 }
 
-/// Whether no name that meets this slot first has a number.
+/// Returns whether no name that meets this slot first has a number.
 fn is_end(slot: Slot, kept: &Kept) -> bool
     ensures { result ≡ true → (slot.number ≡ NO_NAME) × ((x : Name) → number_of kept.now.overflow x ≡ None) }
 {
     slot.number == NO_NAME && kept.overflow.is_empty()
 }
 
-/// The number of a name that stands apart.
+/// Returns the number of a name in the overflow.
 fn search_apart(overflow: &Overflow, texts: &Texts, name: &[u8]) -> Option<usize>
     requires { AreDistinct texts.now }
     ensures some { IfSome result (λ n. code_of texts.now name.now ≡ Some n) }
@@ -170,7 +170,7 @@ fn search_apart(overflow: &Overflow, texts: &Texts, name: &[u8]) -> Option<usize
     }
 }
 
-/// Whether a number is that of the name with this key. The key of a short name tells that it is.
+/// Returns whether a number is that of the name with this key. The key of a short name tells that it is.
 fn is_name(kept: &Kept, texts: &Texts, number: u32, key: u64, name: &[u8]) -> bool
     requires kept { AreKept kept.now texts.now }
     requires key { key ≡ key_of name.now }
@@ -184,7 +184,7 @@ fn is_name(kept: &Kept, texts: &Texts, number: u32, key: u64, name: &[u8]) -> bo
     is_text(texts, number, name)
 }
 
-/// Whether the text of a number is the name.
+/// Returns whether the text of a number is the name.
 fn is_text(texts: &Texts, number: u32, name: &[u8]) -> bool
     ensures yes { result ≡ true → (number < length texts.now) × (name_at texts.now number ≡ name.now) }
     ensures no { result ≡ false → number < length texts.now → name_at texts.now number ≡ name.now → ⊥ }
@@ -192,7 +192,7 @@ fn is_text(texts: &Texts, number: u32, name: &[u8]) -> bool
     (number as usize) < texts.len() && texts.get(number as usize) == name
 }
 
-/// The first slot for this key that no name has.
+/// Returns the first slot for this key that no name has.
 pub(crate) fn free_place(slots: &[Slot], key: u64) -> Option<usize>
     ensures { IfSome result (IsFree slots.now key) }
 {
@@ -204,7 +204,7 @@ pub(crate) fn free_place(slots: &[Slot], key: u64) -> Option<usize>
     None
 }
 
-/// New slots for the texts, with room for as many again, and for `more`. A text that stands apart stays there.
+/// Makes new slots for the texts, with room for as many again, and for `more`. A text in the overflow stays there.
 pub(crate) fn table(
     alloc: Global,
     texts: &Texts,
@@ -225,7 +225,7 @@ pub(crate) fn table(
     Ok(slots)
 }
 
-/// Finds a slot for a text, or sets it apart.
+/// Finds a slot for a text, or puts it into the overflow.
 fn settle(
     alloc: Global,
     slots: &mut Vec<Slot>,
@@ -255,7 +255,7 @@ fn settle(
     }
 }
 
-/// So many slots that no name has.
+/// Returns so many slots that no name has.
 fn free_slots(alloc: Global, count: usize) -> Result<Vec<Slot>, AllocError>
     ensures { IfOk result (λ slots. AreUnused slots.items) }
 {
@@ -265,7 +265,7 @@ fn free_slots(alloc: Global, count: usize) -> Result<Vec<Slot>, AllocError>
     Ok(slots)
 }
 
-/// The length of a table of which so many texts and as many again, or `more` where that is more, take at most seven
+/// Returns the length of a table of which so many texts and as many again, or `more` where that is more, take at most seven
 /// eighths.
 fn slots_for(count: usize, more: usize) -> usize {
     let texts = count.saturating_add(count.max(more));

@@ -1,4 +1,4 @@
-//! Texts by number, one behind the other in one buffer.
+//! Texts by number, one after the other in one buffer.
 ghost use Rattle.std.specs.Prelude.{◌≡◌, ◌+◌, ◌<◌, ◌≤◌, [], ◌∷◌, ◌++◌, take, length, slice_get, Some, IfOk, OnOk, OnErr};
 ghost use Rattle.names.specs.Codes.{name_at};
 ghost use Rattle.names.specs.Stored.Texts.{cut, start_of, AreLaid};
@@ -25,7 +25,7 @@ impl Model for Texts {
 }
 
 impl Texts {
-    /// No texts.
+    /// Returns an empty list.
     pub(crate) fn new(alloc: Global) -> Texts
         ensures { result ≡ [] }
     {
@@ -35,7 +35,7 @@ impl Texts {
         }
     }
 
-    /// The same texts.
+    /// Copies the texts.
     pub(crate) fn copy(&self, alloc: Global) -> Result<Texts, AllocError>
         ensures { IfOk result (λ texts. texts ≡ self.now) }
     {
@@ -44,14 +44,14 @@ impl Texts {
         Ok(Texts { bytes, ends })
     }
 
-    /// How many there are.
+    /// Returns how many there are.
     pub(crate) fn len(&self) -> usize
         ensures { result ≡ length self.now }
     {
         self.ends.len()
     }
 
-    /// The text of a number.
+    /// Returns the text of a number.
     pub(crate) fn get(&self, number: usize) -> &[u8]
         requires { number < length self.now }
         ensures { result.now ≡ name_at self.now number }
@@ -59,7 +59,7 @@ impl Texts {
         part(self.bytes.as_slice(), self.ends.as_slice(), number)
     }
 
-    /// Gives the next number to a text.
+    /// Appends a text, which gets the next number.
     pub(crate) fn push(&mut self, text: &[u8]) -> Result<(), AllocError>
         ensures ok { OnOk result (self.new ≡ self.old ++ text.now ∷ []) }
         ensures err { OnErr result (self.new ≡ self.old) }
@@ -75,14 +75,14 @@ impl Texts {
         Ok(())
     }
 
-    /// Makes room for so many more, where there is memory for it, but for their bytes.
+    /// Makes room for so many more texts, though not for their bytes, if allocation succeeds.
     pub(crate) fn reserve(&mut self, more: usize)
         ensures { self.new ≡ self.old }
     {
         let _ = self.ends.reserve(more);
     }
 
-    /// Keeps the first `len` texts.
+    /// Truncates to the first `len` texts.
     pub(crate) fn truncate(&mut self, len: usize)
         ensures { self.new ≡ take len self.old }
     {
@@ -94,7 +94,7 @@ impl Texts {
     }
 }
 
-/// The text of a number.
+/// Returns the text of a number.
 fn part<'a>(bytes: &'a [u8], ends: &[usize], number: usize) -> &'a [u8]
     requires number { number < length ends.now }
     requires laid { AreLaid (length bytes.now) 0 ends.now }
@@ -105,7 +105,7 @@ fn part<'a>(bytes: &'a [u8], ends: &[usize], number: usize) -> &'a [u8]
     &bytes[from..to]
 }
 
-/// Where the text of a number begins.
+/// Returns where the text of a number begins.
 fn start(ends: &[usize], number: usize) -> usize
     requires { number ≤ length ends.now }
     ensures { result ≡ start_of 0 ends.now number }
@@ -117,7 +117,7 @@ fn start(ends: &[usize], number: usize) -> usize
     }
 }
 
-/// The item at an index.
+/// Returns the item at an index.
 pub(crate) fn item<T: Copy>(items: &[T], index: usize) -> T
     requires { index < length items.now }
     ensures { slice_get items.now index ≡ Some result }

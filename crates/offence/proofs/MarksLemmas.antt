@@ -73,12 +73,12 @@ pub map-same : (f g : Name → Bool) → ((x : Name) → f x ≡ g x) → (names
 map-same f g same [] = refl
 map-same f g same (x ∷ names) = ap (λ b. b ∷ map f names) (same x) ∙ ap (λ l. g x ∷ l) (map-same f g same names)
 
--- marks that are all alike, as a map
+-- equal marks, as a map
 all_alike : (b : Bool) (names : List Name) → replicate (length names) b ≡ map (λ (x : Name). b) names
 all_alike b [] = refl
 all_alike b (x ∷ names) = ap (λ l. b ∷ l) (all_alike b names)
 
--- one test from marks that are all alike, and two
+-- one test from equal marks, and two
 pub marked-once : (p f : Name → Bool) (v b : Bool) (names : List Name) (marks : List Bool) → marks ≡ replicate (length names) b → ((x : Name) → cond (p x) v b ≡ f x)
     → marked p v names marks ≡ map f names
 marked-once p f v b names marks e same =
@@ -140,7 +140,7 @@ got_before [] ys n h = absurd (omega (arith, h))
 got_before (x ∷ X) ys zero h = refl
 got_before (x ∷ X) ys (suc n) h = got_before X ys n (omega (arith, h))
 
--- the first element behind a list, by the length of that list
+-- the first element after a list, by the length of that list
 got_behind : (X rest : List Name) (w : Name) → slice_get (X ++ w ∷ rest) (length X) ≡ Some w
 got_behind [] rest w = refl
 got_behind (x ∷ X) rest w = got_behind X rest w

@@ -58,7 +58,7 @@ some_witness Q R P not on (Some w) told = on w told
 contradict : {b : Bool} → b ≡ true → b ≡ false → ⊥
 contradict t f = true≢false (sym t ∙ f)
 
--- of what stands twice
+-- for a symbol that stands twice
 by_twice : {E : Type 0} (names : List Name) (r : Result (Option Witness) E) (P : Witness → Type 0) → (all_different names ≡ true → ⊥) → ((j k : ℕ) → IsTwice names j k → P (Twice j k))
     → IfOk r (λ found. MatchOption found (all_different names ≡ true) (IsRepeated names)) → IfOk r (λ found. IsSomeAnd found P)
 by_twice names r P not is = IfOk-weaker r _ _ (some_witness (all_different names ≡ true) (IsRepeated names) P not on)
@@ -70,7 +70,7 @@ by_twice names r P not is = IfOk-weaker r _ _ (some_witness (all_different names
     on (Earlier k i) h = absurd h
     on (Label i) h = absurd h
 
--- of a symbol of a list that fails a test, which all would pass where the rule is kept
+-- for a symbol of a list that fails a test, which all would pass where the rule is kept
 by_symbol : {E : Type 0} (S : Database) (s : Stmt) (rule : Rule) (t : Test) (pass : Name → Bool) (expr : Expr) (r : Result (Option Witness) E)
     → keeps S s rule ≡ list_all pass expr → ((x : Name) → pass x ≡ not (fails S t x)) → ((k : ℕ) → Among expr k (λ x. IsTrue (fails S t x)) → Offends S s rule (Symbol k))
     → IfOk r (λ found. MatchOption found (list_any (fails S t) expr ≡ false) (IsSymbolOf expr (fails S t)))
@@ -88,7 +88,7 @@ by_symbol S s rule t pass expr r keeps_is same is told broken =
     on (Earlier k i) h = absurd h
     on (Label i) h = absurd h
 
--- of G2, where no constant is an earlier name: one stands twice
+-- for G2, where no constant is an earlier name: one stands twice
 pub G2_twice : {E : Type 0} (S : Database) (names : List Name) (r : Result (Option Witness) E) → list_any (fails S test.Named) names ≡ false
     → IfOk r (λ found. MatchOption found (all_different names ≡ true) (IsRepeated names))
     → keeps S (Const names) G2 ≡ false → IfOk r (λ found. IsSomeAnd found (Offends S (Const names) G2))
@@ -96,7 +96,7 @@ G2_twice S names r none told broken =
     by_twice names r (Offends S (Const names) G2)
     (λ differ. contradict (and_from _ _ (none_all (fails S test.Named) (λ x. not (was_symbol S x || was_label S x)) (λ x. ap not (named_is S x)) names none) differ) broken) (λ j k h. h) told
 
--- of G3, where no variable is an earlier constant or label or an active variable: one stands twice
+-- for G3, where no variable is an earlier constant or label or an active variable: one stands twice
 pub G3_twice : {E : Type 0} (S : Database) (names : List Name) (r : Result (Option Witness) E) → list_any (fails S test.Taken) names ≡ false
     → IfOk r (λ found. MatchOption found (all_different names ≡ true) (IsRepeated names))
     → keeps S (Var names) G3 ≡ false → IfOk r (λ found. IsSomeAnd found (Offends S (Var names) G3))
@@ -107,7 +107,7 @@ G3_twice S names r none told broken =
     same : (x : Name) → not (is_variable S x || is_constant S x || was_label S x) ≡ not (fails S test.Taken x)
     same x = ap not (or_assoc (is_variable S x) (is_constant S x) (was_label S x) ∙ ap (λ b. is_variable S x || b) (fixed_is S x))
 
--- of G8, where each is an active variable: one stands twice
+-- for G8, where each is an active variable: one stands twice
 pub G8_twice : {E : Type 0} (S : Database) (names : List Name) (r : Result (Option Witness) E) → list_any (fails S test.Inactive) names ≡ false
     → IfOk r (λ found. MatchOption found (all_different names ≡ true) (IsRepeated names))
     → keeps S (Disj names) G8 ≡ false → IfOk r (λ found. IsSomeAnd found (Offends S (Disj names) G8))

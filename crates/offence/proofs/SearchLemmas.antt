@@ -1,4 +1,4 @@
--- What is active, from the end back, and the places of names in a list.
+-- Active statements, searched from the end back, and the places of names in a list.
 use Rattle.std.proofs.Common.{◌≡◌, ℕ, zero, suc, ◌+◌, ◌-◌, ◌<◌, ◌≤◌, Bool, true, false, not, ◌&&◌, ◌||◌, cond, List, [], ◌∷◌, length, drop, get_or, refl, sym, ◌∙◌, ap, arith, Some, slice_get, add-one}
 use Rattle.std.specs.Prelude.{nat_le, Option, None, MatchOption, is_some}
 use Rattle.std.proofs.Math.Bool.{or-true}
@@ -74,11 +74,11 @@ module _ (S : Database) (i h : ℕ) (s : Stmt) (closed : ℕ) (t : Stmt → Bool
   after_is : suc i ≡ h
   after_is = omega (arith, next)
 
-  -- the statements from this one on are this one and those behind it
+  -- the statements from this one on are this one and those after it
   opened : drop i S ≡ s ∷ drop h S
   opened = drop-cons S i s inside ∙ (ap (λ x. x ∷ drop (suc i) S) (sym here) ∙ ap (λ k. s ∷ drop k S) after_is)
 
-  -- the statement is active where nothing behind it closes its block
+  -- the statement is active where nothing after it closes its block
   stays : stays_open 0 (drop h S) ≡ (closed == 0)
   stays = stays_open-closed 0 (drop h S) ∙ (zero_closed (closed_behind (drop h S)) ∙ ap (λ n. n == 0) (sym behind))
 
@@ -86,7 +86,7 @@ module _ (S : Database) (i h : ℕ) (s : Stmt) (closed : ℕ) (t : Stmt → Bool
   pub closed_on : closed_by s closed ≡ closed_behind (drop i S)
   closed_on = ap (closed_by s) behind ∙ ap closed_behind (sym opened)
 
-  -- a statement that has it, where no block is closed behind, is active and has it
+  -- a statement that has it, where no block is closed later, is active and has it
   pub found_active : (closed == 0 && t s) ≡ true → IsActiveAt S (i + 1) t
   found_active h =
       let parts : ((closed == 0) ≡ true) × (t s ≡ true) = and_parts (closed == 0) (t s) h in
@@ -99,7 +99,7 @@ module _ (S : Database) (i h : ℕ) (s : Stmt) (closed : ℕ) (t : Stmt → Bool
         stays = ap (λ k. stays_open 0 (drop k S)) (sym next) ∙ (stays ∙ parts.0);
       }
 
-  -- what is active from there on has it where this statement does, or what is active behind it
+  -- an active statement from there on has it where this statement does, or where one after it does
   pub active_back : list_any (λ p. t p.1) (active_from (i + 1) (drop i S)) ≡ ((closed == 0 && t s) || list_any (λ p. t p.1) (active_from (h + 1) (drop h S)))
   active_back =
       ap (λ T. list_any (λ p. t p.1) (active_from (i + 1) T)) opened
@@ -111,11 +111,11 @@ module _ (S : Database) (i h : ℕ) (s : Stmt) (closed : ℕ) (t : Stmt → Bool
       by true es = refl
       by false es = refl
 
-  -- where neither those behind nor this one have it, none has from here on
+  -- where neither those after nor this one have it, none has from here on
   pub none_back : list_any (λ p. t p.1) (active_from (h + 1) (drop h S)) ≡ false → (closed == 0 && t s) ≡ false → list_any (λ p. t p.1) (active_from (i + 1) (drop i S)) ≡ false
   none_back none not = active_back ∙ (ap (λ b. b || list_any (λ p. t p.1) (active_from (h + 1) (drop h S))) not ∙ none)
 
--- nothing is active at the end, and nothing closed behind it
+-- nothing is active at the end, and nothing is closed after it
 all_gone : (S : Database) → drop (length S) S ≡ []
 all_gone [] = refl
 all_gone (s ∷ S) = all_gone S
@@ -128,17 +128,17 @@ none_active t S = ap (λ T. list_any t (active_from (length S + 1) T)) (all_gone
 pub none_closed : (S : Database) → closed_behind (drop (length S) S) ≡ 0
 none_closed S = ap closed_behind (all_gone S)
 
--- what is found first
+-- the first that is found
 pub found_at : (S : Database) (i : ℕ) (s : Stmt) (t : Stmt → Bool) → slice_get S i ≡ Some s → t s ≡ true → IsAt S (i + 1) t
 found_at S i s t e passes = record { stmt = s; stands = ap (stmt_at S) (add-one i) ∙ e; passes = passes }
 
--- the first of the rest decides, or what is behind it
+-- the first of the rest decides, or what is after it
 pub rest_is : {A : Type 0} (t : A → Bool) (xs : List A) (i : ℕ) (x : A) → i < length xs → x ≡ get_or xs i x → list_any t (drop i xs) ≡ (t x || list_any t (drop (i + 1) xs))
 rest_is t xs i x inside is =
     ap (list_any t) (drop-cons xs i x inside)
     ∙ (ap (λ y. t y || list_any t (drop (suc i) xs)) (sym is) ∙ ap (λ k. t x || list_any t (drop k xs)) (sym (add-one i)))
 
--- where the first fails the test, what is behind it decides
+-- where the first fails the test, what is after it decides
 pub rest_decides : {A : Type 0} (t : A → Bool) (xs : List A) (i : ℕ) (x : A) → i < length xs → x ≡ get_or xs i x → t x ≡ false
     → list_any t (drop i xs) ≡ list_any t (drop (i + 1) xs)
 rest_decides t xs i x inside is not = rest_is t xs i x inside is ∙ ap (λ b. b || list_any t (drop (i + 1) xs)) not

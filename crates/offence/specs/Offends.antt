@@ -1,6 +1,6 @@
--- What breaks a rule: a witness for each of the ten.
+-- Witnesses of broken rules, one for each of the ten.
 -- Source: Metamath, 4.2; the rules are those of the crate scope.
--- The code looks for the first such symbol; here each witness is told apart from the search for it.
+-- The code looks for the first such symbol; here a witness is defined without the search for it.
 use Rattle.std.specs.Prelude.{◌≡◌, ℕ, ◌<◌, Bool, false, ◌⊎◌, List, [], ◌∷◌, Some, slice_get, IsTrue, IsFalse}
 use Rattle.mm_lex.specs.Alphabet.{Name}
 use Rattle.mm_read.specs.declared.stmt.Stmt.{Stmt}
@@ -15,7 +15,7 @@ use Rattle.offence.specs.declared.witness.Witness.{Witness}
 use Rattle.offence.specs.declared.witness.Witness.TheVariants.{Statement, Symbol, Twice, Earlier, Label}
 use Rattle.offence.specs.Search.{meets, IsAt, IsActiveAt}
 
--- of these symbols the one at an index, from 0, is so
+-- the one of these symbols at an index, from 0, is so
 pub record Among (names : List Name) (index : ℕ) (P : Name → Type 0) : Type 0 where
   pub name : Name
   pub stands : slice_get names index ≡ Some name
@@ -46,12 +46,12 @@ typed_expr (Axiom label expr) = expr
 typed_expr (Prove label expr proof) = expr
 typed_expr s = []
 
--- the variable that a `$f` types, behind its constant
+-- the variable that a `$f` types, after its constant
 abbrev pub float_expr : Stmt → Expr
 float_expr (Float label constant variable) = constant ∷ variable ∷ []
 float_expr s = []
 
--- the statement breaks the rule behind S by this
+-- the statement breaks the rule after S by this
 abbrev pub Offends : Database → Stmt → Rule → Witness → Type 0
 -- a `$c` inside a block, or a `$}` that closes none
 Offends S s G1 Statement = keeps S s G1 ≡ false

@@ -1,6 +1,6 @@
 -- Earlier statements that have to do with a name, and those of them that are active.
 -- Source: Metamath, 4.2.8.
--- The code goes back from the end and counts the blocks that are closed behind; active is told as in the crate scope.
+-- The code goes back from the end and counts the blocks that are closed later; active is told as in the crate scope.
 use Rattle.std.specs.Prelude.{◌≡◌, ℕ, suc, ◌-◌, Bool, ◌||◌, ◌&&◌, not, List, [], ◌∷◌, drop, Some, slice_get, IsTrue}
 use Rattle.std.specs.List.{list_any}
 use Rattle.mm_lex.specs.Alphabet.{Name, has_name}
@@ -28,12 +28,12 @@ pub record IsAt (S : Database) (i : ℕ) (test : Stmt → Bool) : Type 0 where
   pub stands : stmt_at S i ≡ Some stmt
   pub passes : IsTrue (test stmt)
 
--- .. and is active behind S
+-- .. and is active after S
 pub record IsActiveAt (S : Database) (i : ℕ) (test : Stmt → Bool) : Type 0 where
   pub at : IsAt S i test
   pub stays : IsTrue (stays_open 0 (drop i S))
 
--- how many `$}` close a block that was open before the statement and those behind it, of which so many do
+-- how many `$}` close a block that was open before the statement and those after it, of which so many do
 abbrev pub closed_by : Stmt → ℕ → ℕ
 closed_by Open n = n - 1
 closed_by Close n = suc n
@@ -43,7 +43,7 @@ abbrev pub closed_behind : Database → ℕ
 closed_behind [] = 0
 closed_behind (s ∷ S) = closed_by s (closed_behind S)
 
--- what may be wrong with a symbol behind S
+-- the faults of a symbol after S
 abbrev pub fails : Database → Test → Name → Bool
 fails S Again x = list_any (meets Named x) S
 fails S Taken x = is_variable S x || list_any (meets Fixed x) S
@@ -51,7 +51,7 @@ fails S Unknown x = not (is_constant S x || is_variable S x)
 fails S Inactive x = not (is_variable S x)
 fails S Untyped x = is_variable S x && not (has_float S x)
 
--- of the names this one, at an index from 0, passes the test
+-- the one of these names at an index, from 0, passes the test
 pub record IsSymbolAt (names : List Name) (test : Name → Bool) (index : ℕ) (name : Name) : Type 0 where
   pub stands : slice_get names index ≡ Some name
   pub passes : IsTrue (test name)

@@ -1,7 +1,7 @@
-//! What in a statement breaks a rule, and which earlier statement it breaks it with.
+//! Finds which part of a statement breaks a rule, and the earlier statement that it breaks it with.
 //!
-//! `witness_of` gives the witness of a broken rule: which symbol of the statement, and which earlier statement. What a witness
-//! says is `specs/Offends`. It runs over the statements themselves, after a refusal. Read `witness`, `search`, `marks`,
+//! `witness_of` returns the witness of a broken rule: which symbol of the statement, and which earlier statement. `specs/Offends`
+//! gives witnesses their meaning. It runs over the statements themselves, after a refusal. Read `witness`, `search`, `marks`,
 //! `symbol_search`, `offence`.
 #![tactic(auto)]
 

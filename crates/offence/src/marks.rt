@@ -13,7 +13,7 @@ use mm_read::Stmt;
 use names::NameTable;
 use std::alloc::{AllocError, Global};
 
-/// The words, each once.
+/// Returns the words, each once.
 pub(crate) fn names_of(alloc: Global, words: &Words) -> Result<NameTable, AllocError>
     ensures { IfOk result (λ names. AreNamed names words.now) }
 {
@@ -60,7 +60,7 @@ pub(crate) fn mark_active(
     }
 }
 
-/// The same by one statement, behind which so many blocks are closed.
+/// Gives the mark to each name that one statement has in that part, if it is active with so many blocks closed later.
 fn mark_where_active(
     closed: usize,
     names: &NameTable,
@@ -161,7 +161,7 @@ fn mark_word(names: &NameTable, word: &[u8], mark: bool, marks: &mut [bool])
     }
 }
 
-/// The mark of a name.
+/// Returns the mark of a name.
 pub(crate) fn mark_of(names: &NameTable, marks: &[bool], name: &[u8]) -> bool
     requires count { length marks.now ≡ length names.now }
     requires named { has_name name.now names.now ≡ true }

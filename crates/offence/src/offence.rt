@@ -16,7 +16,7 @@ use mm_read::Stmt;
 use scope::Rule;
 use std::alloc::{AllocError, Global};
 
-/// What breaks the rule in a statement behind the earlier ones, which it does not keep.
+/// Returns what breaks the rule in a statement after the earlier ones, which does not keep it.
 ///
 /// Cost: few passes over the earlier statements, with a look-up of each name that they have among those of the statement.
 pub fn witness_of(
@@ -87,7 +87,7 @@ fn of_label(earlier: &[Stmt], stmt: &Stmt) -> Option<Witness>
     }
 }
 
-/// The first statement that carries or declares the label.
+/// Returns the first statement that carries or declares the label.
 fn carried(earlier: &[Stmt], label: &Word) -> Option<Witness>
     ensures { MatchOption result (list_any (meets part.Named label.now) earlier.now ≡ false) (IsLabelOf earlier.now label.now) }
 {
@@ -116,7 +116,7 @@ fn of_expression(
     }
 }
 
-/// The first of the symbols with which this is wrong.
+/// Returns the first of the symbols with this fault.
 fn symbol_of(
     alloc: Global,
     earlier: &[Stmt],
@@ -169,7 +169,7 @@ fn of_typed(alloc: Global, earlier: &[Stmt], stmt: &Stmt) -> Result<Option<Witne
     }
 }
 
-/// The last `${` that no statement closes, by its position from 1.
+/// Returns the last `${` that no statement closes, by its position from 1.
 pub fn never_closed(statements: &[Stmt]) -> Option<usize>
     ensures { IfSome result (λ i. IsActiveAt statements.now i is_open) }
 {
@@ -184,7 +184,7 @@ pub fn never_closed(statements: &[Stmt]) -> Option<usize>
     None
 }
 
-/// Whether so many blocks are closed behind that the statement is active, and it is a `${`.
+/// Returns whether the statement is a `${` and active with so many blocks closed later.
 fn is_active_open(closed: usize, stmt: &Stmt) -> bool
     ensures { result ≡ (closed == 0 && is_open stmt.now) }
 {

@@ -23,7 +23,7 @@ pub(crate) enum Part {
     Float,
 }
 
-/// The first statement that has to do with the name, by its position from 1.
+/// Returns the first statement that has to do with the name, by its position from 1.
 pub(crate) fn find(earlier: &[Stmt], part: Part, name: &[u8]) -> Option<usize>
     ensures { MatchOption result (list_any (meets part name.now) earlier.now ≡ false)
         (λ i. IsAt earlier.now i (meets part name.now)) }
@@ -37,7 +37,7 @@ pub(crate) fn find(earlier: &[Stmt], part: Part, name: &[u8]) -> Option<usize>
     None
 }
 
-/// The last active statement that has to do with the name, by its position from 1.
+/// Returns the last active statement that has to do with the name, by its position from 1.
 pub(crate) fn find_active(earlier: &[Stmt], part: Part, name: &[u8]) -> Option<usize>
     ensures { MatchOption result (list_any (λ p. meets part name.now p.1) (active earlier.now) ≡ false)
         (λ i. IsActiveAt earlier.now i (meets part name.now)) }
@@ -53,14 +53,14 @@ pub(crate) fn find_active(earlier: &[Stmt], part: Part, name: &[u8]) -> Option<u
     None
 }
 
-/// Whether so many blocks are closed behind that the statement is active, and it has to do with the name.
+/// Returns whether the statement has to do with the name and is active with so many blocks closed later.
 fn is_active_match(closed: usize, stmt: &Stmt, part: Part, name: &[u8]) -> bool
     ensures { result ≡ (closed == 0 && meets part name.now stmt.now) }
 {
     closed == 0 && meets(stmt, part, name)
 }
 
-/// How many blocks that were open before the statement are closed by it or behind it.
+/// Returns how many blocks that were open before the statement are closed by it or after it.
 pub(crate) fn closed_by(stmt: &Stmt, closed: usize) -> usize
     requires { closed + 1 < 2 ^ 64 }
     ensures { result ≡ closed_by stmt.now closed }
@@ -72,7 +72,7 @@ pub(crate) fn closed_by(stmt: &Stmt, closed: usize) -> usize
     }
 }
 
-/// Whether the statement has to do with the name.
+/// Returns whether the statement has to do with the name.
 fn meets(stmt: &Stmt, part: Part, name: &[u8]) -> bool
     ensures { result ≡ meets part name.now stmt.now }
 {
@@ -132,7 +132,7 @@ fn is(word: &Word, name: &[u8]) -> bool
     name == word.as_bytes()
 }
 
-/// Whether the name is among these.
+/// Returns whether the name is among these.
 fn has(names: &Words, name: &[u8]) -> bool
     ensures { result ≡ has_name name.now names.now }
 {

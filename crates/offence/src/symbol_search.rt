@@ -17,7 +17,7 @@ use mm_read::Stmt;
 use names::NameTable;
 use std::alloc::{AllocError, Global};
 
-/// What may be wrong with a symbol.
+/// A fault of a symbol.
 #[derive(Clone, Copy, Drop)]
 pub(crate) enum Test {
     /// An earlier statement carries or declares it.
@@ -32,7 +32,7 @@ pub(crate) enum Test {
     Untyped,
 }
 
-/// The first of the words with which this is wrong, and its index.
+/// Returns the first of the words with this fault, and its index.
 ///
 /// Cost: one or two passes over the statements, with a look-up of each name that they have.
 pub(crate) fn first<'a>(
@@ -50,14 +50,14 @@ pub(crate) fn first<'a>(
     Ok(first_marked(&names, &marks, words))
 }
 
-/// Whether this is wrong with a name that no statement has.
+/// Returns whether a name that no statement has has this fault.
 fn is_wrong_unseen(test: Test) -> bool
     ensures { result ≡ is_wrong_unseen test }
 {
     matches!(test, Test::Unknown | Test::Inactive)
 }
 
-/// Marks the names with which this is wrong.
+/// Marks the names with this fault.
 fn mark_wrong(names: &NameTable, earlier: &[Stmt], test: Test, marks: &mut [bool])
     requires { marks.old ≡ replicate (length names.now) (is_wrong_unseen test) }
     ensures { marks.new ≡ map (fails earlier.now test) names.now }
@@ -80,7 +80,7 @@ fn mark_wrong(names: &NameTable, earlier: &[Stmt], test: Test, marks: &mut [bool
     }
 }
 
-/// The first of the words that has a mark, and its index.
+/// Returns the first of the words that has a mark, and its index.
 fn first_marked<'a>(
     names: &NameTable,
     marks: &[bool],
@@ -103,7 +103,7 @@ fn first_marked<'a>(
     None
 }
 
-/// Whether the name is a constant or an active variable.
+/// Returns whether the name is a constant or an active variable.
 pub(crate) fn is_symbol(earlier: &[Stmt], name: &[u8]) -> bool
     ensures { result ≡ (is_constant earlier.now name.now || is_variable earlier.now name.now) }
 {
@@ -122,7 +122,7 @@ fn is_variable(earlier: &[Stmt], name: &[u8]) -> bool
     find_active(earlier, Part::Variable, name).is_some()
 }
 
-/// The first word that stands twice.
+/// Returns the first word that stands twice.
 pub(crate) fn twice(alloc: Global, words: &Words) -> Result<Option<Witness>, AllocError>
     ensures { IfOk result (λ found. MatchOption found (all_different words.now ≡ true) (IsRepeated words.now)) }
 {

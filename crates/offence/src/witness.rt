@@ -1,6 +1,7 @@
-//! What breaks a rule.
+//! The witness of a broken rule.
 
-/// What in a statement breaks a rule. Symbols are indexed from 0 among those of the statement, statements are positions from 1.
+/// The part of a statement that breaks a rule. Symbols are indexed from 0 among those of the statement, statements are positions
+/// from 1.
 #[derive(Clone, Copy, Debug, Drop, PartialEq, Eq)]
 pub enum Witness {
     /// The statement as it stands.

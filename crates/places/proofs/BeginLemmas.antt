@@ -7,7 +7,7 @@ use Rattle.mm_lex.specs.Alphabet.{Name, word}
 use Rattle.places.specs.Places.{ends}
 use Rattle.places.specs.CommentFaults.{BeginsStatement}
 
--- behind a token that ends a statement the next statement begins
+-- after a token that ends a statement the next statement begins
 pub statement_here : (tokens : List Name) (i : ℕ) → IsTrue (ends (get_or tokens i [])) → BeginsStatement tokens (i + 1) (i + 1)
 statement_here tokens i is = record {
   before = omega arith;
@@ -16,7 +16,7 @@ statement_here tokens i is = record {
   none = λ k a b. absurd (omega (arith, a, b));
 }
 
--- behind any other token it is the statement that began before
+-- after any other token it is the statement that began before
 pub statement_on : (tokens : List Name) (i start : ℕ) → BeginsStatement tokens i start → IsFalse (ends (get_or tokens i [])) → BeginsStatement tokens (i + 1) start
 statement_on tokens i start b not = record {
   before = let h : start ≤ i = b.before in omega arith;

@@ -80,7 +80,7 @@ module _ (n : ℕ) (ws : List Name) where
       let last = past_list proof p in
       ap (behind_ends (suc n)) whole ∙ omega (arith, passed, one, last, length-append expr (codes "$=" ∷ rest))
 
-  -- behind a statement that is well shaped
+  -- after a statement that is well shaped
   past_statement : (s : Stmt) → is_shaped s ≡ true → behind_ends (suc n) (stmt_tokens s ++ ws) ≡ length (stmt_tokens s) + behind_ends n ws
   past_statement Open h = past_end (codes "${") refl ∙ omega arith
   past_statement Close h = past_end (codes "$}") refl ∙ omega arith
@@ -107,7 +107,7 @@ module _ (n : ℕ) (ws : List Name) where
       let parts : (is_label label ≡ true) × (are_symbols expr ≡ true) = and_parts (is_label label) (are_symbols expr) both.0 in
       past_labelled label (codes "$p") (expr ++ codes "$=" ∷ (proof ++ codes "$." ∷ [])) parts.0 refl (past_proof expr proof (symbols_of expr parts.1) both.1)
 
--- behind so many statements
+-- after so many statements
 past_statements : (n : ℕ) (S : Database) → AreShaped S → n ≤ length S → behind_ends n (spelled S) ≡ length (spelled (take n S))
 past_statements zero S h within = refl
 past_statements (suc n) [] h within = absurd (omega (arith, within))
@@ -118,7 +118,7 @@ past_statements (suc n) (s ∷ S) h within =
 
 -- ---- the search for it
 
--- the words behind a place are that of its token and those behind it
+-- the words after a place are that of its token and those after it
 words_drop : (text : List ℕ) (spans : List Span) (i : ℕ) (d : Span) → i < length spans → words text (drop i spans) ≡ word text (get_or spans i d) ∷ words text (drop (suc i) spans)
 words_drop text spans i d h = ap (words text) (drop-cons spans i d h)
 
@@ -137,7 +137,7 @@ one_token text spans i (suc left) next d h some e =
     opened ∙ (ap (λ k. suc (behind_ends k (words text (drop (suc i) spans)))) (sym is) ∙ ap (λ k. suc (behind_ends next (words text (drop k spans)))) after) in
     omega (arith, step)
 
--- the tokens of a statement stand behind those before it
+-- the tokens of a statement stand after those before it
 room_for : (n : ℕ) (S : Database) (s : Stmt) → slice_get S n ≡ Some s → length (spelled (take n S)) + length (stmt_tokens s) ≤ length (spelled S)
 room_for n [] s e = absurd (none_is e)
   where

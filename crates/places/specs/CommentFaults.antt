@@ -1,4 +1,4 @@
--- What is wrong with a comment, and where that began; the first token of the statement in which a token stands.
+-- Faults of comments, and where a comment begins; the first token of the statement in which a token stands.
 -- Source: Metamath, 4.1.2 (comments do not nest) and 4.1 (each statement ends with `$.`, but for `${` and `$}`).
 -- The code looks at the text up to the fault alone.
 use Rattle.std.specs.Prelude.{ℕ, ◌-◌, ◌<◌, ◌≤◌, List, IsTrue, IsFalse, take, slice_index_or, []}
@@ -17,7 +17,7 @@ IsCommentCase text offset Stray = IsStrayCloser text (runs text) offset
 IsCommentCase text offset (Inside outer) = IsCommentFault (take offset text) outer
 IsCommentCase text offset Unclosed = (tokens : List Span) × AreTokens (take offset text) tokens
 
--- the statement of this token, from 0, begins here: at the first token or behind one that ends a statement, and none of
+-- the statement of this token, from 0, begins here: at the first token or after one that ends a statement, and none of
 -- those between ends one
 pub record BeginsStatement (tokens : List Name) (token start : ℕ) : Type 0 where
   pub before : start ≤ token

@@ -1,6 +1,6 @@
 -- The place of a token of a statement in a text that reads as statements.
 -- Source: Metamath, 4.1 and appendix E.
--- The code passes the tokens that end a statement; here the statements before are written out.
+-- The code passes the tokens that end a statement; here the earlier statements are written out.
 use Rattle.std.specs.Prelude.{◌≡◌, ℕ, zero, suc, ◌+◌, ◌-◌, ◌≤◌, Bool, ◌||◌, if◌then◌else◌, List, [], ◌∷◌, length, take, Some, slice_get, codes}
 use Rattle.mm_lex.specs.declared.span.Span.{Span}
 use Rattle.mm_lex.specs.Alphabet.{Name, name_eq}
@@ -27,11 +27,11 @@ pub record IsPlaceOf (text : List ℕ) (S : Database) (statement token : ℕ) (p
   pub written : words text tokens ≡ spelled S
   pub here : slice_get tokens (index_of S statement token) ≡ Some place
 
--- no statement goes on behind this token
+-- no statement goes on after this token
 abbrev pub ends : Name → Bool
 ends w = name_eq w (codes "$.") || name_eq w (codes "${") || name_eq w (codes "$}")
 
--- the index of the first token behind so many tokens that end a statement
+-- the index of the first token after so many tokens that end a statement
 abbrev pub behind_ends : ℕ → List Name → ℕ
 behind_ends zero ws = 0
 behind_ends (suc n) [] = 0

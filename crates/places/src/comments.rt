@@ -1,10 +1,10 @@
-//! What is wrong with a comment.
+//! Faults of comments.
 ghost use Rattle.mm_lex.specs.TextFaults.{IsCommentFault};
 ghost use Rattle.places.specs.CommentFaults.{IsCommentCase};
 
 use mm_lex::{LexFault, count_tokens};
 
-/// What is wrong with a comment.
+/// The fault of a comment.
 #[derive(Clone, Copy, Debug, Drop, PartialEq, Eq)]
 pub enum CommentFault {
     /// A `$)` stands outside a comment.
@@ -15,9 +15,9 @@ pub enum CommentFault {
     Unclosed,
 }
 
-/// What is wrong with the comment at the offset at which the text's comments are at fault.
+/// Returns the fault of the comment at the offset at which the text's comments are at fault.
 ///
-/// Takes no memory. Cost: the size of the text before the offset.
+/// Does not allocate. Cost: the size of the text before the offset.
 pub fn comment_fault(text: &[u8], offset: usize) -> CommentFault
     requires { IsCommentFault text.now offset }
     ensures { IsCommentCase text.now offset result }

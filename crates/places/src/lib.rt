@@ -1,4 +1,4 @@
-//! Where something stands in a text.
+//! Finds places in a text.
 //!
 //! `line_and_column` counts lines and columns up to an offset. `place_of` gives the place of a token of a statement in a text
 //! that reads as statements, `statement_at` the statement in which a token stands. `comment_fault` says what is wrong with a

@@ -9,7 +9,7 @@ pub struct Position {
     pub column: usize,
 }
 
-/// The line and the column of an offset. Cost: the size of the text before it.
+/// Returns the line and the column of an offset. Cost: the size of the text before it.
 pub fn line_and_column(text: &[u8], offset: usize) -> Position
     requires { offset ≤ length text.now }
     ensures line { result.line ≡ line_of text.now offset }

@@ -11,7 +11,7 @@ ghost use Rattle.places.specs.CommentFaults.{BeginsStatement};
 use mm_lex::{LexFault, Span, tokens};
 use std::alloc::Global;
 
-/// The place of a token of a statement, both counted from 1, in a text that reads as statements.
+/// Returns the place of a token of a statement, both counted from 1, in a text that reads as statements.
 ///
 /// Errors: those of a text without tokens. Cost: the size of the text.
 pub fn place_of(
@@ -30,7 +30,7 @@ pub fn place_of(
     Ok(place_within(text, spans.as_slice(), statement, token))
 }
 
-/// The same among the places of the text's tokens.
+/// Returns the place of a token of a statement, among the places of the text's tokens.
 pub fn place_within(text: &[u8], spans: &[Span], statement: usize, token: usize) -> Option<Span>
     requires words { All (IsWordAt text.now) spans.now }
     requires some { (1 ≤ statement) × (1 ≤ token) }
@@ -41,7 +41,7 @@ pub fn place_within(text: &[u8], spans: &[Span], statement: usize, token: usize)
     rest.get(token - 1).copied()
 }
 
-/// Which token is the first of the statement of this number, from 1; tokens count from 0.
+/// Returns which token is the first of the statement of this number, from 1; tokens count from 0.
 pub fn first_token(text: &[u8], spans: &[Span], statement: usize) -> usize
     requires words { All (IsWordAt text.now) spans.now }
     requires some { 1 ≤ statement }
@@ -60,14 +60,14 @@ pub fn first_token(text: &[u8], spans: &[Span], statement: usize) -> usize
     spans.len()
 }
 
-/// Whether no statement goes on behind this token.
+/// Returns whether no statement goes on after this token.
 fn ends(word: &[u8]) -> bool
     ensures { result ≡ ends word.now }
 {
     word == b"$.".as_slice() || word == b"${".as_slice() || word == b"$}".as_slice()
 }
 
-/// Which token is the first of the statement in which the token at an index stands; tokens count from 0.
+/// Returns which token is the first of the statement in which the token at an index stands; tokens count from 0.
 pub fn statement_at(text: &[u8], spans: &[Span], token: usize) -> usize
     requires words { All (IsWordAt text.now) spans.now }
     requires within { token ≤ length spans.now }

@@ -16,7 +16,7 @@ count_below (suc n) = count_below n + count_of_size n
 abbrev row : ℕ → ℕ → List (Option ℕ)
 row from count = map Some (range_with_len from count)
 
--- two rows one behind the other
+-- two rows one after the other
 row-append : (a m n b c : ℕ) → b ≡ a + m → c ≡ m + n → row a m ++ row b n ≡ row a c
 row-append a zero n b c e f =
     let first : b ≡ a = omega arith in
@@ -25,7 +25,7 @@ row-append a zero n b c e f =
 row-append a (suc m) n b zero e f = absurd (omega arith)
 row-append a (suc m) n b (suc c) e f = ap (λ r. Some a ∷ r) (row-append (a + 1) m n b c (omega arith) (omega arith))
 
--- what stands at a place of a row
+-- the number at a place of a row
 row-get : (a m k : ℕ) (x : Option ℕ) → slice_get (row a m) k ≡ Some x → x ≡ Some (a + k)
 row-get a zero k x h = absurd (none-some x h)
 row-get a (suc m) zero x h = sym (same_Some (Some a) x h) ∙ ap Some (omega arith)
@@ -57,7 +57,7 @@ behind letter words = map (λ word. letter ∷ word) words
 pub is_first-true : (c : ℕ) → 85 ≤ c → c ≤ 89 → is_first c ≡ true
 is_first-true c low high = grind (arith, nat_tests)
 
--- words of one size behind some letters in a row, where they count a row of `size` numbers wherever they stand
+-- words of one size after some letters in a row, where they count a row of `size` numbers wherever they stand
 numbers_of_first : (words : List Name) (size below d e a k : ℕ) → e ≡ 5 * d + (a - 84) → 85 ≤ a → a + k ≤ 90 → ((e : ℕ) → map (number_from e) words ≡ row (suc (e * size + below)) size)
     → map (number_from d) (flat_map (λ letter. behind letter words) (range_with_len a k)) ≡ row (suc (e * size + below)) (k * size)
 numbers_of_first words size below d e a zero is low high counted = let none : 0 ≡ 0 * size = omega arith in ap (row (suc (e * size + below))) none

@@ -18,12 +18,12 @@ class-space b e = rw (eqb-true b 32 e) refl
 label-no_space : (b : ℕ) → is_label_byte b ≡ true → (b == 32) ≡ false
 label-no_space b h = false_from_ne_true (b == 32) (λ e. true≢false (sym (rw (eqb-true b 32 e) at h)))
 
--- what a byte of a class does
+-- the effect of a byte of a class
 counted-at : (fresh : Bool) (b : ℕ) (text : List ℕ) (class : ℕ) → class_of b ≡ class
     → counted fresh (b ∷ text) ≡ cond (class == 0) (counted false text) (cond (class == 1) (more_labels 1 (counted true text)) (behind_none fresh (letters_from (b ∷ text))))
 counted-at fresh b text class h = ap (λ c. cond (c == 0) (counted false text) (cond (c == 1) (more_labels 1 (counted true text)) (behind_none fresh (letters_from (b ∷ text))))) h
 
--- ---- a word, and what stands behind it
+-- ---- a word, and what stands after it
 
 abbrev behind : List Name → List ℕ
 behind [] = []
@@ -145,7 +145,7 @@ abbrev spaces_in : List ℕ → ℕ
 spaces_in [] = 0
 spaces_in (b ∷ bytes) = cond (b == 32) (1 + spaces_in bytes) (spaces_in bytes)
 
--- whether a word begins behind the bytes
+-- whether a word begins after the bytes
 abbrev begins : Bool → List ℕ → Bool
 begins fresh [] = fresh
 begins fresh (b ∷ bytes) = begins (b == 32) bytes
@@ -189,7 +189,7 @@ module _ (text : List ℕ) (at count last : ℕ) (same : counted true text ≡ m
       ∙ (ap (λ fresh. more_labels (count + spaces) (counted fresh (drop 16 (drop at text)))) last_is
       ∙ ap (λ r. more_labels (count + spaces) (counted (slice_index_or text (at + 16 - 1) 0 == 32) r)) (drop-drop 16 at text))))))
 
--- ---- what it tells
+-- ---- the answer
 
 told-none : (o : Option Header) → told o ≡ None → o ≡ None
 told-none None e = refl

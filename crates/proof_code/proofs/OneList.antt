@@ -11,7 +11,7 @@ use Rattle.proof_code.proofs.WritesLemmas.{without_header, row_behind, written_b
 abbrev Written : (List Item → Type 0) → Type 0
 Written W = ((items : List Item) × W items × ((other : List Item) → W other → other ≡ items)) ⊎ ((items : List Item) → W items → ⊥)
 
--- where two ways write alike, what is known of the one is known of the other
+-- where two ways write the same, a property of the one holds for the other
 carried : {V W : List Item → Type 0} → ((items : List Item) → V items → W items) → ((items : List Item) → W items → V items) → Written V → Written W
 carried to from (inl v) = inl (v.0, to v.0 v.1, λ other w. v.2 other (from other w))
 carried to from (inr none) = inr (λ items w. none items (from items w))
@@ -38,7 +38,7 @@ row_or_not labels letters = by (starts_with_mark letters) refl (numbers_from (le
           sym read.are ∙ ap (items_of labels) (same_Some read.numbers numbers (sym read.read ∙ r)),
     )
 
--- what stands behind the first token of a compressed proof
+-- the tokens after the first one of a compressed proof
 abbrev behind_first : List Name → List Name
 behind_first [] = []
 behind_first (token ∷ tokens) = tokens

@@ -35,7 +35,7 @@ module _ (labels : ℕ) (text : List ℕ) (limit digits : ℕ) (numbers : List �
       read ∙ (ap (λ rest. before_rest numbers (numbers_from limit digits (letters_of rest))) (drop_more text index 0 within)
       ∙ (ap (before_rest numbers) (goes rest) ∙ before-more numbers more (numbers_from limit' digits' (letters_of rest))))
 
--- a letter A to Z with which the word comes to more than the limit however it ends: a mark does behind digits
+-- a letter A to Z with which the word comes to more than the limit however it ends: a mark does after digits
 pub over_limit : (limit most digits letter value : ℕ) (ends : Bool) → IsLetter letter digits value ends → 65 ≤ letter → letter ≤ 90 → limit < 20 * most + 20 → cond ends limit most < value
     → (text : List ℕ) → numbers_from limit digits (letters_of (letter ∷ text)) ≡ None
 over_limit limit most digits letter value ends is low high room over text =
@@ -68,14 +68,14 @@ module _ (tokens before : List Name) (letters : List ℕ) (count : ℕ) (starts 
   is : IsHeader before header
   is = header-read before header found.1
 
-  -- what follows the `)` are words
+  -- the tokens after the `)` are words
   rest_visible : list_all is_word header.rest ≡ true
   rest_visible =
       let all : list_all is_word (header.listed ++ finish ∷ header.rest) ≡ true = sym (ap (λ ws. list_all is_word (begin ∷ ws)) is.whole) ∙ (sym (ap (list_all is_word) starts) ∙ visible) in
       (and_parts (list_all is_word header.listed) (list_all is_word header.rest) (sym (list_all-append is_word header.listed (finish ∷ header.rest)) ∙ all)).1
 
   module _ (mandatory limit : ℕ) (limit_is : limit ≡ mandatory + count) where
-    -- the bytes of the letters are those of the words behind the `)`, joined
+    -- the bytes of the letters are those of the words after the `)`, joined
     letters_are : letters_of letters ≡ joined header.rest
     letters_are = ap letters_of (sym found.2) ∙ letters_of-spaced header.rest rest_visible
 
@@ -87,7 +87,7 @@ module _ (tokens before : List Name) (letters : List ℕ) (count : ℕ) (starts 
     numbered : (labels : List Name) → length labels ≡ mandatory → length (labels ++ header.listed) ≡ limit
     numbered labels long = omega (arith, length-append labels header.listed, found.3, limit_is, long)
 
-    -- whatever is written behind the header is read as a row
+    -- whatever is written after the header is read as a row
     is_row : (labels : List Name) (items : List Item) → WritesCompressed tokens labels items → RowIsRead (labels ++ header.listed) (joined header.rest) items
     is_row labels items w = read-WritesRow (labels ++ header.listed) (joined header.rest) items (row_behind tokens before starts header found.1 labels items w).1
 

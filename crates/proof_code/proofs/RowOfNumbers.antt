@@ -8,7 +8,7 @@ joined row = flat_map (λ word. word) row
 
 -- ---- one letter
 
--- what holds of the numbers, whatever letter comes first
+-- the property of the numbers, whatever letter comes first
 pub by_letter : (P : Option (List ℕ) → Type 0) (limit digits letter : ℕ) (letters : List ℕ)
     → (is_first letter ≡ true → P (numbers_from limit (5 * digits + (letter - 84)) letters))
     → (is_first letter ≡ false → is_last letter ≡ true → P (with_number limit (20 * digits + (letter - 64)) (numbers_from limit 0 letters)))
@@ -19,13 +19,13 @@ by_letter P limit digits letter letters first last marks none =
     (λ m. let parts : ((letter == 90) ≡ true) × ((digits == 0) ≡ true) = and_parts (letter == 90) (digits == 0) m in marks (eqb-true letter 90 parts.0) (eqb-true digits 0 parts.1))
     (λ m. none f l)))
 
--- ---- what a number means
+-- ---- the meaning of a number
 
 -- a number within those of the labels cites the label at that place
 pub item-cite : (labels : List Name) (n k : ℕ) → n ≡ suc k → k < length labels → item_of labels n ≡ Cite (get_or labels k [])
 item-cite labels n k e h = ap (item_of labels) e ∙ ap (λ b. cond b (Cite (get_or labels k [])) (Recall (suc (k - length labels)))) (lt-ltb k (length labels) h)
 
--- a number behind those of the labels recalls a mark
+-- a number after those of the labels recalls a mark
 pub item-recall : (labels : List Name) (n k : ℕ) → n ≡ suc k → length labels ≤ k → item_of labels n ≡ Recall (suc (k - length labels))
 item-recall labels n k e h = ap (item_of labels) e ∙ ap (λ b. cond b (Cite (get_or labels k [])) (Recall (suc (k - length labels)))) (le-ltb k (length labels) h)
 

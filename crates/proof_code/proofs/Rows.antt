@@ -15,7 +15,7 @@ last_of_one_letter = refl
 first_of_two_letters : IsNumber (codes "UA") 21
 first_of_two_letters = refl
 
--- behind U stand the next twenty words
+-- after U stand the next twenty words
 last_behind_u : IsNumber (codes "UT") 40
 last_behind_u = refl
 
@@ -45,7 +45,7 @@ cut_word_has_no_number = refl
 
 -- ---- letters
 
--- a space between two words and one inside a word are alike
+-- a space between two words and one inside a word have the same effect
 spaces_cut_letters_anywhere : numbers_from 130 0 (letters_of (codes "TU AYTU UA")) ≡ Some (20 ∷ 21 ∷ 120 ∷ 121 ∷ [])
 spaces_cut_letters_anywhere = refl
 
@@ -61,7 +61,7 @@ mark_gives_one_number_more = refl
 recall_before_its_mark : numbers_from 1 0 (codes "ABZ") ≡ None
 recall_before_its_mark = refl
 
--- a Z may not stand behind a U
+-- a Z may not stand after a U
 mark_inside_a_word : numbers_from 130 0 (codes "AUZA") ≡ None
 mark_inside_a_word = refl
 

@@ -24,7 +24,7 @@ step-read place i at few h is =
 abbrev value : ℕ → ℕ → ℕ → ℕ
 value digits factor digit = (digits * factor) % 2 ^ 64 + digit
 
--- what a letter makes of the digits by four numbers, and how many numbers it ends
+-- the effect of a letter on the digits by four numbers, and how many numbers it ends
 abbrev Makes : ℕ → ℕ → ℕ → ℕ → ℕ → ℕ → Type 0
 Makes letter digits factor digit kept ends =
     (value digits factor digit < 2 ^ 64) × IsLetter letter digits (value digits factor digit) (ends == 1)

@@ -1,4 +1,4 @@
--- What is read from left to right is what the tokens write.
+-- Reading from left to right gives the items that the tokens write.
 use Rattle.proof_code.proofs.Words.{◌≡◌, ℕ, true, false, List, [], ◌∷◌, ◌++◌, Option, Some, None, MatchOption, refl, list_all, option_map, sym, ◌∙◌, ap, true≢false, inl, inr, none-some, same_Some, bytes_eq-Decides, and_from, and_parts, cases_Bool, false_from_ne_true, Name, name_eq, is_label, spaced, is_word, Item, share_label, Header, with_label, header_of, starts_with_mark, begin, finish, is_compressed, WritesRow, WritesCompressed}
 use Rattle.std.proofs.Common.{Bor}
 use Rattle.proof_code.proofs.RowOfNumbers.{joined}
@@ -54,7 +54,7 @@ starts_with_mark-spaced ((b ∷ word) ∷ []) h = refl
 starts_with_mark-spaced ((b ∷ word) ∷ next ∷ words) h = refl
 
 module _ (tokens before : List Name) (starts : tokens ≡ begin ∷ before) where
-  -- what is written has the header that is read
+  -- written tokens have the header that is read
   header-is : (labels : List Name) (items : List Item) (w : WritesCompressed tokens labels items) → header_of before ≡ Some (record { listed = w.listed; rest = w.rest })
   header-is labels items w =
       let same : before ≡ w.listed ++ finish ∷ w.rest = cc (starts, w.whole) in
@@ -65,7 +65,7 @@ module _ (tokens before : List Name) (starts : tokens ≡ begin ∷ before) wher
   without_header none labels items w = none-some (record { listed = w.listed; rest = w.rest }) (sym none ∙ header-is labels items w)
 
   module _ (header : Header) (read : header_of before ≡ Some header) where
-    -- behind the header that is read a row is written, and it lists no mandatory label
+    -- after the header that is read a row is written, and it lists no mandatory label
     pub row_behind : (labels : List Name) (items : List Item) → WritesCompressed tokens labels items → (share_label labels header.listed ≡ false) × WritesRow (labels ++ header.listed) (joined header.rest) items
     row_behind labels items w =
         rw (← same_Some (record { listed = w.listed; rest = w.rest }) header (sym (header-is labels items w) ∙ read)) (w.apart, w.letters)

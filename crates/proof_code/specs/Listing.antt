@@ -17,7 +17,7 @@ is_listed b = is_label_byte b || (b == 32)
 abbrev pub are_listed : List ℕ → Bool
 are_listed bytes = list_all is_listed bytes
 
--- the letters behind the word `)`
+-- the letters after the word `)`
 abbrev pub letters_from : List ℕ → Option (List ℕ)
 letters_from [] = None
 letters_from (b ∷ []) = if b == 41 then Some [] else None
@@ -30,7 +30,7 @@ more_labels n found = option_map (λ f. (n + f.0, f.1)) found
 abbrev pub behind_none : Bool → Option (List ℕ) → Option (ℕ × List ℕ)
 behind_none fresh letters = if fresh then option_map (λ l. (0, l)) letters else None
 
--- how many labels there are, and the letters behind them; `fresh` tells whether a word begins here
+-- how many labels there are, and the letters after them; `fresh` tells whether a word begins here
 abbrev pub counted : Bool → List ℕ → Option (ℕ × List ℕ)
 counted fresh [] = None
 counted fresh (b ∷ text) =

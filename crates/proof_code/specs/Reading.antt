@@ -20,12 +20,12 @@ abbrev pub ended : Option Letter → List ℕ
 ended None = []
 ended (Some letter) = if letter.ends == 1 then letter.value ∷ [] else []
 
--- what one byte does between two places, and the numbers that it ends, whatever text follows
+-- the effect of one byte between two places, and the numbers that it ends, whatever text follows
 abbrev pub Goes : ℕ → ℕ → ℕ → List ℕ → ℕ → ℕ → Type 0
 Goes limit digits byte numbers limit' digits' =
     (text : List ℕ) → numbers_from limit digits (letters_of (byte ∷ text)) ≡ before_rest numbers (numbers_from limit' digits' (letters_of text))
 
--- the digits before a letter A to Z come to this value with it, and it may end a number: a mark comes to 0, and behind
+-- the digits before a letter A to Z come to this value with it, and it may end a number: a mark comes to 0, and after
 -- digits to more than any limit
 pub record IsLetter (letter digits value : ℕ) (ends : Bool) : Type 0 where
   pub last : letter ≤ 84 → (value ≡ 20 * digits + (letter - 64)) × (ends ≡ true)

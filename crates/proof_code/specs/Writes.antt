@@ -16,7 +16,7 @@ question_mark = 63
 abbrev pub is_unfinished : List Name → Bool
 is_unfinished tokens = list_any (has_byte question_mark) tokens
 
--- what begins and ends the listed labels, and the letter that marks
+-- the parentheses around the listed labels, and the letter that marks
 abbrev pub begin : Name
 begin = codes "("
 

@@ -9,17 +9,17 @@ use mm_lex::{WordIter, Words};
 use std::alloc::{AllocError, Global};
 use std::collections::HashSet;
 
-/// Whether the tokens are those of a compressed proof: the first one is `(`.
+/// Returns whether the tokens are those of a compressed proof: the first one is `(`.
 pub fn is_compressed(tokens: &Words) -> bool
     ensures { result ≡ is_compressed tokens.now }
 {
     matches!(tokens.iter().next(), Some([b'(']))
 }
 
-/// The items of a compressed proof, where `mandatory` are the labels of the mandatory hypotheses in frame order.
+/// Returns the items of a compressed proof, where `mandatory` are the labels of the mandatory hypotheses in frame order.
 ///
-/// Errors: `Unfinished` where a token has the byte `?`, else `Malformed` where the tokens write no items, both also
-/// where every growth is refused. Cost: the sizes of the tokens and of the mandatory labels (where there is no memory
+/// Errors: `Unfinished` if a token has the byte `?`, else `Malformed` if the tokens write no items, both even
+/// if every allocation fails. Cost: the sizes of the tokens and of the mandatory labels (if no memory is left
 /// to hash mandatory labels, each listed label is looked for among them). Source: Metamath, appendix B.
 pub fn packed(alloc: Global, tokens: &Words, mandatory: &Words) -> Result<Items, CodeFault>
     requires { IsTrue (is_compressed tokens.now) }
@@ -44,7 +44,7 @@ pub fn packed(alloc: Global, tokens: &Words, mandatory: &Words) -> Result<Items,
     }
 }
 
-/// How many labels there are, each with a byte or more and a space behind it.
+/// Returns how many labels there are, each with a byte or more and a space after it.
 fn count_labels(labels: &Words) -> usize
     ensures count { result ≡ length labels.now }
     ensures few { result ≤ 2 ^ 62 }
@@ -55,7 +55,7 @@ fn count_labels(labels: &Words) -> usize
     labels.len()
 }
 
-/// Whether one of the first `count` words is a mandatory label.
+/// Returns whether one of the first `count` words is a mandatory label.
 fn shares_label(alloc: Global, mandatory: &Words, words: WordIter<'_>, count: usize) -> bool
     ensures { result ≡ share_label mandatory.now (take count words.entry) }
 {
@@ -66,14 +66,14 @@ fn shares_label(alloc: Global, mandatory: &Words, words: WordIter<'_>, count: us
     }
 }
 
-/// Whether it is one of the labels.
+/// Returns whether it is one of the labels.
 fn is_among(label: &[u8], labels: &Words) -> bool
     ensures { result ≡ has_name label.now labels.now }
 {
     labels.iter().any(|other| label == other)
 }
 
-/// The names of the labels, `None` where a growth was refused. Cost: the size of the labels.
+/// Returns the names of the labels, or `None` if an allocation failed. Cost: the size of the labels.
 #[tactic(auto, using(crate::proofs::LabelNameLemmas::names_more))]
 fn names_of<'a>(alloc: Global, labels: &'a Words) -> Option<HashSet<&'a [u8]>>
     ensures { IfSome result (λ names. AreNames names labels.entry.now) }
@@ -88,7 +88,7 @@ fn names_of<'a>(alloc: Global, labels: &'a Words) -> Option<HashSet<&'a [u8]>>
     Some(names)
 }
 
-/// The mandatory labels and then those that the tokens list, `count` of them.
+/// Returns the mandatory labels and then those that the tokens list, `count` of them.
 fn table_of(
     alloc: Global,
     tokens: &Words,

@@ -13,11 +13,11 @@ pub enum CodeFault {
     Unfinished,
     /// No token has, and the tokens write no list of items.
     Malformed,
-    /// A growth was refused.
+    /// An allocation failed.
     Memory,
 }
 
-/// Whether some token has the byte `?`.
+/// Returns whether some token has the byte `?`.
 #[tactic(auto, using(crate::proofs::AnswersLemmas::is_unfinished_text))]
 pub fn is_unfinished(tokens: &Words) -> bool
     ensures { result ≡ is_unfinished tokens.now }
@@ -25,7 +25,7 @@ pub fn is_unfinished(tokens: &Words) -> bool
     tokens.as_text().contains(&b'?')
 }
 
-/// The items, or none where the tokens write none. Errors: want of memory, where the reader answered that.
+/// Returns the items, or `None` if the tokens write none. Errors: out of memory, if the reader reported that.
 pub fn written(items: Result<Items, CodeFault>) -> Result<Option<Items>, AllocError>
     ensures found { IfOk result (λ found. MatchOption found
         ((items ≡ Err CodeFault.Unfinished) ⊎ (items ≡ Err CodeFault.Malformed)) (λ found. items ≡ Ok found)) }

@@ -23,7 +23,7 @@ impl Model for Items {
     ghost view = { λ a. items_of a.labels a.numbers.items };
 }
 
-/// What `Items` keeps: the labels that may be cited, and for each item its number.
+/// The contents of `Items`: the labels that may be cited, and for each item its number.
 ///
 /// 0 marks, a number up to the count of the labels cites the label of that number, counted from 1, and a greater
 /// one recalls. For a compressed proof the labels are the mandatory ones and then the listed ones, and the
@@ -37,14 +37,14 @@ pub struct Parts<'a> {
 }
 
 impl Items {
-    /// The items that these labels and numbers are.
+    /// Returns the items that these labels and numbers write.
     pub fn from_parts(labels: Words, numbers: Vec<u32>) -> Items
         ensures { result ≡ items_of labels numbers.items }
     {
         Items { labels, numbers }
     }
 
-    /// The labels and the numbers.
+    /// Returns the labels and the numbers.
     pub fn parts(&self) -> Parts<'_>
         ensures { items_of result.labels.now result.numbers.now ≡ self.now }
     {

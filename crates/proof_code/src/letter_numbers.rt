@@ -1,14 +1,14 @@
 //! The letters of a compressed proof, and the numbers that they write.
 //!
-//! Which letter comes next cannot be foreseen, so no branch depends on it: a table has the numbers by which a letter
+//! The next letter cannot be foreseen, so no branch depends on it: a table has the numbers by which a letter
 //! changes what stands before it, and the one test of each is whether a number is over the limit.
 ghost use Rattle.std.specs.Prelude.{◌≡◌, ◌==◌, if◌then◌else◌, ◌+◌, ◌*◌, ◌^◌, ◌<◌, ◌≤◌, ◌∷◌, ℕ, List, length, take, max, None, Some, IfNone, IfSome, MatchOption};
 ghost use Rattle.{proof_code.specs.Text.letters_of, proof_code.specs.Text.numbers_from, proof_code.specs.Text.starts_with_mark, proof_code.specs.Reading.Goes, proof_code.specs.Reading.IsLetter, proof_code.specs.Reading.ended};
 
-/// What a letter makes of the digits before it.
+/// The effect of a letter on the digits before it.
 #[derive(Clone, Copy)]
 struct Letter {
-    /// What they come to with it; a mark comes to 0, and behind digits to more than any limit.
+    /// Their value with the letter; a mark gives 0, and after digits more than any limit.
     value: usize,
     /// The digits before the next letter.
     digits: usize,
@@ -16,7 +16,7 @@ struct Letter {
     ends: usize,
 }
 
-/// Of each letter four numbers: by what the digits before it are multiplied (for a mark they are taken from 0), what is
+/// Four numbers for each letter: by what the digits before it are multiplied (for a mark they are taken from 0), what is
 /// added, which bits of that are the digits before the next letter, and how many numbers the letter ends.
 const STEPS: [usize; 104] = [
     20, 1, 0, 1, 20, 2, 0, 1, 20, 3, 0, 1, 20, 4, 0, 1, 20, 5, 0, 1, 20, 6, 0, 1, 20, 7, 0, 1, 20,
@@ -28,7 +28,7 @@ const STEPS: [usize; 104] = [
 /// All bits.
 const ALL: usize = usize::MAX;
 
-/// What a letter A to Z makes of the digits before it.
+/// Returns the effect of a letter A to Z on the digits before it.
 #[inline(always)]
 fn letter_behind(byte: u8, digits: usize) -> Letter
     requires first { 65 ≤ byte }
@@ -47,17 +47,17 @@ fn letter_behind(byte: u8, digits: usize) -> Letter
     }
 }
 
-/// What stands between two bytes of the letters.
+/// The state between two bytes of the letters.
 #[derive(Clone, Copy)]
 struct Word {
     /// The greatest number that is possible here.
     limit: usize,
-    /// What the letters U to Y of the word that is begun come to, each counting 1 to 5 in base 5.
+    /// The value of the letters U to Y of the word that is begun, each counting 1 to 5 in base 5.
     digits: usize,
 }
 
 impl Word {
-    /// Goes over one byte, where digits over `most` come to more than the limit however the word ends; `None` where the
+    /// Reads one byte, where digits over `most` come to more than the limit however the word ends; `None` if the
     /// letters write nothing with it, whatever follows.
     ///
     /// A space is no letter and is passed over.
@@ -87,10 +87,10 @@ impl Word {
     }
 }
 
-/// Writes the numbers of the letters of a text, where `labels` labels are numbered, and tells how many there are;
-/// `None` where the letters write none. Spaces may cut the letters anywhere.
+/// Writes the numbers of the letters of a text, where `labels` labels are numbered, and returns how many there are;
+/// `None` if the letters write none. Spaces may cut the letters anywhere.
 ///
-/// What the word comes to is written for each letter, and counts where the letter ends a number.
+/// The value of the word is written for each letter, and counts where the letter ends a number.
 #[inline(never)]
 pub(crate) fn write_numbers(text: &[u8], labels: usize, numbers: &mut [u32]) -> Option<usize>
     requires small { labels + length text.now < 2 ^ 32 }
@@ -115,7 +115,7 @@ pub(crate) fn write_numbers(text: &[u8], labels: usize, numbers: &mut [u32]) -> 
     if word.digits == 0 { Some(count) } else { None }
 }
 
-/// Goes over the letters in the same way, and writes nothing.
+/// Reads the letters in the same way, without writing.
 pub(crate) fn pass_letters(text: &[u8], labels: usize) -> Option<()>
     requires { labels + length text.now < 3 * 2 ^ 62 }
     ensures { MatchOption result (numbers_from labels 0 (letters_of text.now) ≡ None)
@@ -132,7 +132,7 @@ pub(crate) fn pass_letters(text: &[u8], labels: usize) -> Option<()>
     if word.digits == 0 { Some(()) } else { None }
 }
 
-/// Whether the letters begin with a mark.
+/// Returns whether the letters begin with a mark.
 pub(crate) fn starts_with_mark(letters: &[u8]) -> bool
     ensures { result ≡ starts_with_mark letters.now }
 {

@@ -1,7 +1,7 @@
 //! From the tokens of a Metamath proof to its items: citations, recalls and marks.
 //!
-//! The crate above uses `normal` and `packed`: an `Ok` holds the items that the tokens write, and where they write
-//! none the fault is `Unfinished` exactly where a token has the byte `?`, else `Malformed`. `Items` is seen as the
+//! The crate above uses `normal` and `packed`: an `Ok` holds the items that the tokens write, and if they write
+//! none the fault is `Unfinished` exactly if a token has the byte `?`, else `Malformed`. `Items` is seen as the
 //! list of items, and gives its labels once each and a number for each item. `Reader::read` does so of one compressed
 //! proof after another, for mandatory labels that the caller knows otherwise.
 //!

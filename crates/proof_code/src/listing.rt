@@ -8,7 +8,7 @@ use std::simd::prelude::*;
 /// How many bytes are looked at together.
 const LANES: usize = 16;
 
-/// Counts the labels of a text up to the word `)`, and gives the letters behind it; `None` where this is missing or where
+/// Counts the labels of a text up to the word `)`, and returns the letters after it; `None` if this is missing or if
 /// a word before it is no label.
 pub(crate) fn count_listed(text: &[u8]) -> Option<(usize, &[u8])>
     ensures counted { MatchOption result (counted true text.now ≡ None) (λ r. counted true text.now ≡ Some (r.0, r.1.now)) }
@@ -29,7 +29,7 @@ pub(crate) fn count_listed(text: &[u8]) -> Option<(usize, &[u8])>
     Some((count + more, letters))
 }
 
-/// Counts them byte by byte, where `last` is the byte before the text.
+/// Counts the labels byte by byte, where `last` is the byte before the text.
 fn count_by_byte(text: &[u8], last: u8) -> Option<(usize, &[u8])>
     ensures counted { MatchOption result (counted (last == 32) text.now ≡ None) (λ r. counted (last == 32) text.now ≡ Some (r.0, r.1.now)) }
     ensures within { IfSome result (λ r. r.0 + length r.1.now ≤ length text.now) }
@@ -54,7 +54,7 @@ fn count_by_byte(text: &[u8], last: u8) -> Option<(usize, &[u8])>
     None
 }
 
-/// How many spaces are among the first bytes, where all are bytes of labels or spaces.
+/// Returns how many spaces are among the first bytes, where all are bytes of labels or spaces.
 fn count_in_lanes(text: &[u8]) -> Option<usize>
     requires room { 16 ≤ length text.now }
     ensures listed { IfSome result (λ spaces. are_listed (take 16 text.now) ≡ true) }
@@ -75,10 +75,10 @@ fn count_in_lanes(text: &[u8]) -> Option<usize>
     Some(spaces.to_bitmask().count_ones() as usize)
 }
 
-/// The class of the bytes that neither a label has nor a space is.
+/// The class of a byte that is neither a byte of a label nor a space.
 const OTHER: u8 = 2;
 
-/// The class of a byte: 0 where a label may have it, 1 for a space, 2 for the others.
+/// Returns the class of a byte: 0 where a label may have it, 1 for a space, 2 for the others.
 fn class_of(byte: u8) -> u8
     ensures class { result ≡ class_of byte }
     ensures bound { result ≤ 2 }

@@ -7,10 +7,10 @@ use crate::items::Items;
 use mm_lex::{Words, is_label};
 use std::alloc::{AllocError, Global};
 
-/// The items of a normal proof: a citation for each token.
+/// Returns the items of a normal proof: a citation for each token.
 ///
-/// Errors: `Unfinished` where a token has the byte `?`, else `Malformed` where a token is no label, both also where
-/// every growth is refused. Cost: the size of the tokens. Source: Metamath, 4.3.
+/// Errors: `Unfinished` if a token has the byte `?`, else `Malformed` if a token is no label, both even if
+/// every allocation fails. Cost: the size of the tokens. Source: Metamath, 4.3.
 pub fn normal(alloc: Global, tokens: &Words) -> Result<Items, CodeFault>
     ensures items { IfOk result (λ items. WritesPlain tokens.now items) }
     ensures unfinished { (result ≡ Err CodeFault.Unfinished) ↔ IsTrue (is_unfinished tokens.now) }
@@ -34,7 +34,7 @@ fn are_labels(tokens: &Words) -> bool
     tokens.iter().all(|token| is_label(token))
 }
 
-/// A citation of each of these labels.
+/// Returns a citation of each of these labels.
 fn cite_all(alloc: Global, labels: &Words) -> Result<Items, AllocError>
     ensures { IfOk result (λ items. items ≡ map (λ label. Cite label) labels.now) }
 {

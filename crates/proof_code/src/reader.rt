@@ -8,13 +8,13 @@ use mm_lex::{WordIter, Words};
 use std::alloc::{AllocError, Global};
 use std::marker::Model;
 
-/// The most labels and the most letters of one proof; more are answered as want of memory.
+/// The largest number of labels and of letters of one proof; more are reported as out of memory.
 pub const MOST_LETTERS: usize = 1 << 30;
 
 /// Reads compressed proofs, one after another. Contracts see the numbers of the last one.
 #[derive(Drop)]
 pub struct Reader {
-    /// The numbers, and behind them room that counts for nothing.
+    /// The numbers, followed by room that counts for nothing.
     buffer: Vec<u32>,
     /// How many numbers there are.
     count: usize,
@@ -40,7 +40,7 @@ pub struct Heading<'a> {
 }
 
 impl Reader {
-    /// A reader with an empty buffer. Takes no memory.
+    /// Returns a reader with an empty buffer. Does not allocate.
     pub fn new(alloc: Global) -> Reader
         ensures { result ≡ [] }
     {
@@ -50,7 +50,7 @@ impl Reader {
         }
     }
 
-    /// The numbers of the last proof that was read, as `Parts` has them.
+    /// Returns the numbers of the last proof that was read, as `Parts` has them.
     pub fn numbers(&self) -> &[u32]
         ensures { result.now ≡ self.now }
     {
@@ -61,7 +61,7 @@ impl Reader {
     /// numbers of its items. `None` where it writes no items, whatever the mandatory labels are.
     ///
     /// It writes items where no listed label is a mandatory one, which is left to the caller.
-    /// Errors: a growth was refused; the numbers are those of before then.
+    /// Errors: an allocation fails; the numbers are those of before then.
     /// Cost: the size of the tokens. Source: Metamath, appendix B.
     pub fn read<'a>(
         &mut self,
@@ -84,7 +84,7 @@ impl Reader {
         Ok(Some(heading))
     }
 
-    /// Reads in the same way, and tells whether the numbers were kept. `None` comes whatever memory there is.
+    /// Reads in the same way, and returns whether the numbers were kept. `None` is returned however little memory there is.
     pub(crate) fn find<'a>(
         &mut self,
         tokens: &'a Words,
@@ -114,7 +114,7 @@ impl Reader {
         Some((heading, Ok(())))
     }
 
-    /// The numbers of the last proof that was read, in a buffer of their own.
+    /// Returns the numbers of the last proof that was read, in a buffer of their own.
     pub(crate) fn into_numbers(self) -> Vec<u32>
         ensures { result.items ≡ self }
     {
@@ -124,7 +124,7 @@ impl Reader {
     }
 }
 
-/// Makes room for a number for each of so many letters. Errors: a growth was refused, or there are too many of them or
+/// Makes room for a number for each of so many letters. Errors: an allocation fails, or there are too many of them or
 /// of the labels.
 fn make_room(buffer: &mut Vec<u32>, labels: usize, letters: usize) -> Result<(), AllocError>
     ensures room { OnOk result (letters ≤ length buffer.new.items) }

@@ -1,4 +1,4 @@
--- What is written for bytes reads as these bytes.
+-- The escaped form of bytes reads as these bytes.
 use Rattle.std.specs.Prelude.{◌≡◌, ℕ, Bool, true, false, if◌then◌else◌, List, [], ◌∷◌, ◌++◌}
 use Rattle.std.proofs.Common.{sym, subst, refl}
 use Rattle.proof_pages.specs.Escapes.{is_markup, reference, html_byte, html_text, ReadsAs, reads_none, reads_plain, reads_reference}

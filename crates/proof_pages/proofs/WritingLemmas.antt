@@ -7,14 +7,14 @@ use Rattle.steps.specs.Rows.{Row, no_row}
 use Rattle.proof_pages.specs.StepLines.{texts_from}
 use Rattle.proof_pages.specs.Writing.{Wrote}
 
--- what is written after what was written before
+-- a text that is written after another
 pub appends_on : (a b c : Option (List ℕ)) (x y : List ℕ) → Appends a b x → Appends b c y → Appends a c (x ++ y)
 appends_on None b c x y h k = tt
 appends_on (Some xs) None c x y h k = absurd h
 appends_on (Some xs) (Some ys) None x y h k = absurd k
 appends_on (Some xs) (Some ys) (Some zs) x y h k = k ∙ (ap (λ s. s ++ y) h ∙ append_assoc xs x y)
 
--- a text, and more behind it, part of which may be written
+-- a text, and more after it, part of which may be written
 pub wrote_on : (a b c : Option (List ℕ)) (held text later more : List ℕ) → Wrote a b held text → Wrote b c later (held ++ more) → Wrote a c later (text ++ more)
 wrote_on a b c held text later more w v = record {
   done = w.done ++ v.done;
@@ -22,7 +22,7 @@ wrote_on a b c held text later more w v = record {
   whole = append_assoc w.done v.done later ∙ (ap (λ s. w.done ++ s) v.whole ∙ (sym (append_assoc w.done held more) ∙ ap (λ s. s ++ more) w.whole));
 }
 
--- what is held back is written: the text is written
+-- the part that is held back is written: the text is written
 pub wrote_all : (a b c : Option (List ℕ)) (held text : List ℕ) → Wrote a b held text → Appends b c held → Appends a c text
 wrote_all a b c held text w h = subst (λ s. Appends a c s) w.whole (appends_on a b c w.done held w.written h)
 

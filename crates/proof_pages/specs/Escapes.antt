@@ -17,13 +17,13 @@ html_byte b = if is_markup b then reference b else b ∷ []
 abbrev pub html_text : List ℕ → List ℕ
 html_text text = flat_map html_byte text
 
--- what is written reads as the text: bytes that are none of the four as themselves, references as what they stand for
+-- the escaped text reads as the text: bytes that are none of the four as themselves, references as what they stand for
 pub data ReadsAs : List ℕ → List ℕ → Type 0 where
   reads_none : ReadsAs [] []
   reads_plain : (b : ℕ) (written text : List ℕ) → is_markup b ≡ false → ReadsAs written text → ReadsAs (b ∷ written) (b ∷ text)
   reads_reference : (b : ℕ) (written text : List ℕ) → is_markup b ≡ true → ReadsAs written text → ReadsAs (reference b ++ written) (b ∷ text)
 
--- `"` and `\` behind a `\`
+-- `"` and `\` after a `\`
 abbrev pub quoted_byte : ℕ → List ℕ
 quoted_byte b = if b == 34 || b == 92 then 92 ∷ b ∷ [] else b ∷ []
 

@@ -21,7 +21,7 @@ abbrev pub taken_text : List ℕ → List ℕ
 taken_text [] = codes "-"
 taken_text (place ∷ places) = number_text place ++ flat_map behind_comma places
 
--- a symbol behind a space
+-- a symbol after a space
 abbrev pub symbol_text : List Name → ℕ → List ℕ
 symbol_text names symbol = codes " " ++ name_at names symbol
 

@@ -18,14 +18,14 @@ variable_html class name = codes "<var class=\"k" ++ decimal class ++ codes "\">
 abbrev pub coloured : ℕ → Name → List ℕ
 coloured class name = if class == 0 then html_text name else variable_html class name
 
--- a symbol behind a space, in the colour of its class
+-- a symbol after a space, in the colour of its class
 abbrev pub symbol_html : List Name → List ℕ → ℕ → List ℕ
 symbol_html names classes symbol = codes " " ++ coloured (get_or classes symbol 0) (name_at names symbol)
 
 abbrev pub expr_html : List Name → List ℕ → List ℕ → List ℕ
 expr_html names classes expr = flat_map (symbol_html names classes) expr
 
--- a link to the row of a step, behind a space; the names of the rows of one table begin with the same mark
+-- a link to the row of a step, after a space; the names of the rows of one table begin with the same mark
 unfoldable pub link_html : List ℕ → ℕ → List ℕ
 link_html mark place = codes " <a href=\"#" ++ mark ++ number_text place ++ codes "\">" ++ number_text place ++ codes "</a>"
 

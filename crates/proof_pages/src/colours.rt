@@ -1,9 +1,9 @@
-//! The colours of variables: one for each constant of a `$f`.
+//! The colours of variables: one for each typecode of a `$f`.
 use frame::Frames;
 use mm_read::Stmt;
 use std::alloc::{AllocError, Global};
 
-/// The class of each symbol, 0 where it has none, and the constant of each class from 1.
+/// The class of each symbol, 0 where it has none, and the typecode of each class from 1.
 #[derive(Drop)]
 pub struct Colours {
     pub classes: Vec<u32>,
@@ -11,7 +11,7 @@ pub struct Colours {
 }
 
 impl Colours {
-    /// No symbol has a class.
+    /// Returns colours in which no symbol has a class.
     pub fn new(alloc: Global) -> Colours {
         Colours {
             classes: Vec::new(alloc),
@@ -19,7 +19,7 @@ impl Colours {
         }
     }
 
-    /// Gives the variable of the statement at a position the class of its constant, where that is a `$f`.
+    /// Gives the variable of the statement at a position the class of its typecode, if that statement is a `$f`.
     pub fn note(
         &mut self,
         statements: &[Stmt],
@@ -39,7 +39,7 @@ impl Colours {
         Ok(())
     }
 
-    /// The class of the variables of a constant, made if there is none yet.
+    /// Returns the class of the variables of a typecode, made if there is none yet.
     fn class_of(&mut self, constant: u32) -> Result<u32, AllocError> {
         let place = match self.constants.iter().position(|known| *known == constant) {
             Some(place) => place,

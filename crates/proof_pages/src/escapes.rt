@@ -4,7 +4,7 @@ ghost use Rattle.proof_pages.specs.Escapes.{html_byte, html_text, ReadsAs, quote
 
 use std::alloc::AllocError;
 
-/// Adds the bytes as text of a page: none of them can be read as markup.
+/// Appends the bytes as text of a page: none of them can be read as markup.
 pub fn push_html(page: &mut Vec<u8>, bytes: &[u8]) -> Result<(), AllocError>
     ensures written { OnOk result (page.new.items ≡ page.old.items ++ html_text bytes.now) }
     ensures reads { ReadsAs (html_text bytes.now) bytes.now }
@@ -31,7 +31,7 @@ fn push_html_byte(page: &mut Vec<u8>, byte: u8) -> Result<(), AllocError>
     }
 }
 
-/// Adds the bytes as text between quotes.
+/// Appends the bytes as text between quotes.
 pub fn push_quoted(picture: &mut Vec<u8>, bytes: &[u8]) -> Result<(), AllocError>
     ensures { OnOk result (picture.new.items ≡ picture.old.items ++ quoted_text bytes.now) }
 {

@@ -9,7 +9,7 @@ use frame::Frames;
 use std::alloc::AllocError;
 use steps::ProofTable;
 
-/// Adds the first line of the picture of a theorem.
+/// Appends the first line of the picture of a theorem.
 pub fn push_head(text: &mut Vec<u8>, label: &[u8]) -> Result<(), AllocError>
     ensures { OnOk result (text.new.items ≡ text.old.items ++ picture_head label.now) }
 {
@@ -38,7 +38,7 @@ fn push_quoted_others(
     Ok(())
 }
 
-/// Adds the symbols of an expression as text between quotes, a space between two.
+/// Appends the symbols of an expression as text between quotes, with a space between two.
 fn push_quoted_expr(text: &mut Vec<u8>, frames: &Frames, expr: &[u32]) -> Result<(), AllocError>
     ensures { OnOk result (text.new.items ≡ text.old.items ++ quoted_expr frames.now.names expr.now) }
 {
@@ -86,7 +86,7 @@ fn push_node_line(
     text.extend_from_slice(b"\"];\n")
 }
 
-/// Adds the step at a place as a node, with an arrow from each step that it takes.
+/// Appends the step at a place as a node, with an arrow from each step that it takes.
 pub fn push_node(
     text: &mut Vec<u8>,
     frames: &Frames,

@@ -10,7 +10,7 @@ use outline::push_number;
 use std::alloc::AllocError;
 use steps::ProofTable;
 
-/// Adds a name in the colour of its class; 0 is no class.
+/// Appends a name in the colour of its class; 0 is no class.
 pub fn push_coloured(page: &mut Vec<u8>, class: u32, name: &[u8]) -> Result<(), AllocError>
     ensures { OnOk result (page.new.items ≡ page.old.items ++ coloured class name.now) }
 {
@@ -31,7 +31,7 @@ fn push_variable(page: &mut Vec<u8>, class: u32, name: &[u8]) -> Result<(), Allo
     page.extend_from_slice(b"</var>")
 }
 
-/// Adds a symbol behind a space, in the colour of its class.
+/// Appends a symbol after a space, in the colour of its class.
 pub fn push_html_symbol(
     page: &mut Vec<u8>,
     frames: &Frames,
@@ -48,7 +48,7 @@ pub fn push_html_symbol(
     push_coloured(page, class, frames.symbol(symbol))
 }
 
-/// Adds the symbols of an expression.
+/// Appends the symbols of an expression.
 pub fn push_html_expr(
     page: &mut Vec<u8>,
     frames: &Frames,
@@ -83,7 +83,7 @@ fn push_links(page: &mut Vec<u8>, mark: &[u8], places: &[usize]) -> Result<(), A
     Ok(())
 }
 
-/// Adds the step at a place as a row: its number, links to the rows of the steps that it takes, its label, its
+/// Appends the step at a place as a row: its number, links to the rows of the steps that it takes, its label, its
 /// expression. The names of the rows of one table begin with the same mark.
 pub fn push_html_step(
     page: &mut Vec<u8>,

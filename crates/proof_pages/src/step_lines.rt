@@ -10,7 +10,7 @@ use outline::push_number;
 use std::alloc::AllocError;
 use steps::ProofTable;
 
-/// The label of the statement at a position, empty where it has none.
+/// Returns the label of the statement at a position, empty if it has none.
 pub fn label_at(frames: &Frames, position: usize) -> &[u8]
     ensures { result.now ≡ label_or_none (stmt_at frames.now.statements position) }
 {
@@ -23,7 +23,7 @@ pub fn label_at(frames: &Frames, position: usize) -> &[u8]
     }
 }
 
-/// Adds the number of the step at a place.
+/// Appends the number of the step at a place.
 pub fn push_place(text: &mut Vec<u8>, place: usize) -> Result<(), AllocError>
     ensures { OnOk result (text.new.items ≡ text.old.items ++ number_text place) }
 {
@@ -47,7 +47,7 @@ fn push_others(text: &mut Vec<u8>, places: &[usize]) -> Result<(), AllocError>
     Ok(())
 }
 
-/// Adds the numbers of the steps that are taken, or `-`.
+/// Appends the numbers of the steps that are taken, or `-`.
 fn push_taken(text: &mut Vec<u8>, places: &[usize]) -> Result<(), AllocError>
     ensures { OnOk result (text.new.items ≡ text.old.items ++ taken_text places.now) }
 {
@@ -67,7 +67,7 @@ fn push_symbol(text: &mut Vec<u8>, frames: &Frames, symbol: u32) -> Result<(), A
     text.extend_from_slice(frames.symbol(symbol))
 }
 
-/// Adds the symbols of an expression, each behind a space.
+/// Appends the symbols of an expression, each after a space.
 fn push_expr(text: &mut Vec<u8>, frames: &Frames, expr: &[u32]) -> Result<(), AllocError>
     ensures { OnOk result (text.new.items ≡ text.old.items ++ expr_text frames.now.names expr.now) }
 {
@@ -77,7 +77,7 @@ fn push_expr(text: &mut Vec<u8>, frames: &Frames, expr: &[u32]) -> Result<(), Al
     Ok(())
 }
 
-/// Adds the step at a place as a line: its number, the numbers of the steps that it takes, its label, its expression.
+/// Appends the step at a place as a line: its number, the numbers of the steps that it takes, its label, its expression.
 pub fn push_step(
     text: &mut Vec<u8>,
     frames: &Frames,

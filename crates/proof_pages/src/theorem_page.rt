@@ -16,13 +16,13 @@ use std::alloc::{AllocError, Global};
 use std::io::Write;
 use steps::ProofTable;
 
-/// What a page tells of a theorem.
+/// The contents of a page on a theorem.
 #[derive(Drop)]
 pub struct Theorem<'a> {
     /// The statements that the frames are of.
     pub statements: &'a [Stmt],
     pub frames: &'a Frames,
-    /// Where it stands.
+    /// The position of the theorem.
     pub at: usize,
     /// All its steps.
     pub steps: &'a ProofTable,
@@ -34,7 +34,7 @@ pub struct Theorem<'a> {
     pub users: &'a [Word],
 }
 
-/// Writes a page that stands alone: the theorem with its hypotheses and the variables that it keeps apart, its essential
+/// Writes a page that stands alone: the theorem with its hypotheses and its disjoint variables, its essential
 /// steps, all steps where they are wanted, the axioms that it rests on, and the theorems that cite it.
 ///
 /// Errors: `Memory`, `Output`; some of the page may be written then. Cost: the size of the page; 64 KiB and one part
@@ -61,7 +61,7 @@ pub fn write_page<W: Write>(
     )
 }
 
-/// Writes the parts of the page one after another; `page` is what is held back.
+/// Writes the parts of the page one after another; `page` is the part that is held back.
 fn write_parts<W: Write>(
     alloc: Global,
     out: &mut W,
@@ -93,7 +93,7 @@ fn write_parts<W: Write>(
     write_rest(out, page)
 }
 
-/// The mandatory hypotheses of the theorem at a position, by position.
+/// Returns the mandatory hypotheses of the theorem at a position, by position.
 fn hypotheses_of(alloc: Global, frames: &Frames, at: usize) -> Result<Vec<u32>, AllocError>
     requires { (s : Statement) × IsProvable frames.now.statements at s }
 {
@@ -102,7 +102,7 @@ fn hypotheses_of(alloc: Global, frames: &Frames, at: usize) -> Result<Vec<u32>, 
     Ok(hypotheses)
 }
 
-/// The colours of the variables of its hypotheses and of its steps.
+/// Returns the colours of the variables of its hypotheses and of its steps.
 fn colours_of(
     alloc: Global,
     theorem: &Theorem<'_>,
@@ -119,7 +119,7 @@ fn colours_of(
     Ok(colours)
 }
 
-/// Adds what stands before the theorem.
+/// Appends the start of the page, before the theorem.
 fn push_head(page: &mut Vec<u8>, label: &[u8]) -> Result<(), AllocError> {
     page.extend_from_slice(HEAD)?;
     push_html(page, label)?;
@@ -131,7 +131,7 @@ fn push_head(page: &mut Vec<u8>, label: &[u8]) -> Result<(), AllocError> {
     page.extend_from_slice(b"</h1>\n")
 }
 
-/// Adds what the theorem says.
+/// Appends the theorem's expression.
 fn push_theorem(
     page: &mut Vec<u8>,
     theorem: &Theorem<'_>,
@@ -145,7 +145,7 @@ fn push_theorem(
     page.extend_from_slice(b"</p>\n")
 }
 
-/// Adds the hypotheses, a row each.
+/// Appends the hypotheses, a row each.
 fn push_hypotheses(
     page: &mut Vec<u8>,
     frames: &Frames,
@@ -178,7 +178,7 @@ fn push_hypothesis(
     page.extend_from_slice(b"</td></tr>\n")
 }
 
-/// Adds the groups of variables each two of which are kept apart.
+/// Appends the groups of variables each two of which must be disjoint.
 fn push_apart(
     alloc: Global,
     page: &mut Vec<u8>,
@@ -214,7 +214,7 @@ fn push_groups(
     page.extend_from_slice(b"</ul>\n")
 }
 
-/// Adds which constants the colours stand for.
+/// Appends which typecodes the colours stand for.
 fn push_legend(page: &mut Vec<u8>, frames: &Frames, colours: &Colours) -> Result<(), AllocError> {
     if colours.constants.is_empty() {
         return Ok(());
@@ -249,7 +249,7 @@ fn write_steps<W: Write>(
     Ok(())
 }
 
-/// Adds labels as a list.
+/// Appends labels as a list.
 fn push_labels(page: &mut Vec<u8>, labels: &[Word]) -> Result<(), AllocError> {
     if labels.is_empty() {
         return page.extend_from_slice(b"<p>None</p>\n");

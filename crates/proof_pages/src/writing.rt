@@ -1,4 +1,4 @@
-//! A proof written step by step, so that a long one takes no more memory than its table.
+//! Writes a proof step by step, so that a long one needs no more memory than its table.
 ghost use Rattle.std.specs.Prelude.{◌≡◌, [], codes, OnOk};
 ghost use Rattle.std.specs.Io.KnownBytes.{Appends};
 ghost use Rattle.proof_pages.specs.StepLines.{step_line, texts_from};
@@ -15,7 +15,7 @@ use steps::ProofTable;
 /// Why a proof was not written to its end.
 #[derive(Debug, Drop, PartialEq, Eq)]
 pub enum WriteFault {
-    /// A growth was refused.
+    /// An allocation failed.
     Memory,
     /// A write failed.
     Output,
@@ -30,7 +30,7 @@ impl From<AllocError> for WriteFault {
 /// How many bytes are put together before they are written.
 const PART: usize = 65_536;
 
-/// Writes what is held back, if that is much.
+/// Writes the text that is held back, if it is long.
 pub(crate) fn write_part<W: Write>(out: &mut W, text: &mut Vec<u8>) -> Result<(), WriteFault>
     ensures { OnOk result (Wrote (W.contents out.old) (W.contents out.new) text.new.items text.old.items) }
 {
@@ -42,7 +42,7 @@ pub(crate) fn write_part<W: Write>(out: &mut W, text: &mut Vec<u8>) -> Result<()
     Ok(())
 }
 
-/// Writes what is held back.
+/// Writes the text that is held back.
 pub(crate) fn write_rest<W: Write>(out: &mut W, text: &[u8]) -> Result<(), WriteFault>
     ensures { OnOk result (Appends (W.contents out.old) (W.contents out.new) text.now) }
 {

@@ -11,7 +11,7 @@ use scope::Scope;
 use std::alloc::Global;
 use verify::{Answer, Tree, TreeFault, check, derivation};
 
-/// What met no memory is answered when it is asked again: run with each allocation refused in turn.
+/// A call that ran out of memory answers when it is repeated: run with each allocation refused in turn.
 #[test]
 fn right_after_a_refused_growth(rt: HostRuntime) {
     for text in [NORMAL, PACKED] {
@@ -23,7 +23,7 @@ fn right_after_a_refused_growth(rt: HostRuntime) {
     }
 }
 
-/// How many nodes the tree of the last proof has: 0 where it is wrong; nothing where there is no memory.
+/// Returns the number of nodes of the tree of the last proof: 0 if it is wrong; nothing if memory runs out.
 fn nodes_of(alloc: Global, text: &[u8]) -> Option<usize> {
     match (read(alloc, text), read(alloc, b"$c tt $.")) {
         (Ok(statements), Ok(labels)) => match labels.first() {
@@ -34,7 +34,7 @@ fn nodes_of(alloc: Global, text: &[u8]) -> Option<usize> {
     }
 }
 
-/// The same of these statements, where the last theorem has these mandatory labels.
+/// Returns the number of nodes for these statements, where the last theorem has these mandatory labels.
 fn last_nodes(alloc: Global, statements: &[Stmt], mandatory: &Words) -> Option<usize>
     requires { AreShaped statements.now }
 {
@@ -47,7 +47,7 @@ fn last_nodes(alloc: Global, statements: &[Stmt], mandatory: &Words) -> Option<u
     nodes
 }
 
-/// The same with this scope and these frames, of nothing yet.
+/// Returns the number of nodes by a scope and frames without statements.
 fn nodes_in(
     alloc: Global,
     statements: &[Stmt],
@@ -62,7 +62,7 @@ fn nodes_in(
     nodes_at(alloc, frames, last, mandatory)
 }
 
-/// The same of the statement that was pushed last.
+/// Returns the number of nodes for the statement that was pushed last.
 fn nodes_at(alloc: Global, frames: &Frames, stmt: &Stmt, mandatory: &Words) -> Option<usize>
     requires { (S : Database) × (frames.now.statements ≡ S ++ bare stmt.now ∷ []) }
 {
@@ -83,7 +83,7 @@ fn nodes_at(alloc: Global, frames: &Frames, stmt: &Stmt, mandatory: &Words) -> O
     }
 }
 
-/// How many nodes a tree has.
+/// Returns how many nodes a tree has.
 fn count(tree: &Tree) -> usize {
     match tree {
         Tree::Hyp(_) => 1,

@@ -1,4 +1,5 @@
-//! Tests of `verify`, `steps` and `verify_pool`: items judged, made a tree and a table, the least bad job by several workers, workers side by side.
+//! Tests of `verify`, `steps` and `verify_pool`: items judged, made a tree and a table, the least bad job by several workers, in
+//! parallel.
 #![tactic(auto)]
 
 #[cfg(test)]

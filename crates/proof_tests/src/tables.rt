@@ -14,7 +14,7 @@ use std::alloc::{AllocError, Global};
 use steps::{ProofTable, essential_table, proof_table};
 use verify::{Answer, check};
 
-/// A text, whether the essential steps alone are wanted, and of each step what it cites, by position, and the steps that it
+/// A text, whether only the essential steps are wanted, and for each step what it cites, by position, and the steps that it
 /// takes, by place.
 #[derive(Drop)]
 struct Row {
@@ -60,7 +60,7 @@ const ROWS: [Row; 3] = [
     },
 ];
 
-/// What met no memory is answered when it is asked again: run with each allocation refused in turn.
+/// A call that ran out of memory answers when it is repeated: run with each allocation refused in turn.
 #[test]
 fn steps_after_a_refused_growth(rt: HostRuntime) {
     for row in ROWS {
@@ -72,7 +72,7 @@ fn steps_after_a_refused_growth(rt: HostRuntime) {
     }
 }
 
-/// Whether the last proof has the steps of the row, none where it is wrong; nothing where there is no memory.
+/// Returns whether the last proof has the steps of the row, none if it is wrong; nothing if memory runs out.
 fn shows(alloc: Global, row: &Row) -> Option<bool> {
     match (read(alloc, row.text), read(alloc, b"$c tt $.")) {
         (Ok(statements), Ok(labels)) => match labels.first() {
@@ -85,7 +85,7 @@ fn shows(alloc: Global, row: &Row) -> Option<bool> {
     }
 }
 
-/// The same of these statements, where the last theorem has these mandatory labels.
+/// Returns whether it has them for these statements, where the last theorem has these mandatory labels.
 fn last_shows(alloc: Global, statements: &[Stmt], mandatory: &Words, row: &Row) -> Option<bool>
     requires { AreShaped statements.now }
 {
@@ -98,7 +98,7 @@ fn last_shows(alloc: Global, statements: &[Stmt], mandatory: &Words, row: &Row) 
     shown
 }
 
-/// The same with this scope and these frames, of nothing yet.
+/// Returns whether it has them by a scope and frames without statements.
 fn shows_in(
     alloc: Global,
     statements: &[Stmt],
@@ -114,7 +114,7 @@ fn shows_in(
     shows_at(alloc, frames, last, mandatory, row)
 }
 
-/// The same of the statement that was pushed last.
+/// Returns whether the statement that was pushed last has them.
 fn shows_at(
     alloc: Global,
     frames: &Frames,
@@ -136,7 +136,7 @@ fn shows_at(
     }
 }
 
-/// The same of the items of a right proof.
+/// Returns whether the items of a right proof have them.
 fn table_shows(
     alloc: Global,
     frames: &Frames,
@@ -155,7 +155,7 @@ fn table_shows(
     Ok(has_steps(&steps, row.steps))
 }
 
-/// Whether the steps of the table cite these positions and take these steps.
+/// Returns whether the steps of the table cite these positions and take these steps.
 fn has_steps(table: &ProofTable, steps: &[(usize, &[usize])]) -> bool {
     if table.len() != steps.len() {
         return false;

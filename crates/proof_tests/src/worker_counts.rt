@@ -1,4 +1,4 @@
-//! The least bad job by one, two and sixteen workers, and two workers side by side.
+//! The least bad job by one, two and sixteen workers, and two workers in parallel.
 ghost use Rattle.std.specs.Prelude.{◌≡◌, ◌≤◌, ◌∷◌, ◌++◌, [], IsTrue};
 ghost use Rattle.mm_read.specs.Statements.{Database, AreShaped, IsShaped};
 ghost use Rattle.scope.specs.Active.{bare};
@@ -54,7 +54,7 @@ fn is_least_by_each<R: Threads + Sync>(
         && answer_of(rt, alloc, text, 16, &OpenGate) == Some(least)
 }
 
-/// A second call answers where memory was refused once.
+/// A second call answers after an allocation failed once.
 #[test]
 fn answered_after_a_refused_growth(rt: HostRuntime) {
     let mut answer = answer_of(&rt, rt.alloc(), TWO, 2, &OpenGate);
@@ -64,7 +64,7 @@ fn answered_after_a_refused_growth(rt: HostRuntime) {
     assert_eq!(rt; answer, Some(None));
 }
 
-/// Each of the first two jobs waits at the gate for the other, so two workers run side by side.
+/// Each of the first two jobs waits at the gate for the other, so two workers run in parallel.
 #[test]
 fn gate_two_jobs(rt: HostRuntime) {
     let meeting = Meeting {
@@ -90,7 +90,7 @@ struct Meeting {
 }
 
 impl Meeting {
-    /// Tells that the one has come, and waits for the other.
+    /// Records that a job has come, and waits for the other.
     fn meet(&self, comes: &AtomicBool, other: &AtomicBool) {
         comes.store(true, Ordering::SeqCst);
         for _turn in 0..TURNS {
@@ -112,7 +112,7 @@ impl Gate for Meeting {
     }
 }
 
-/// What is answered of the proofs of a text; nothing where the text is no legal database or there is no memory.
+/// Returns the answer for the proofs of a text; nothing if the text is no legal database or memory runs out.
 fn answer_of<G: Gate + Sync, R: Threads + Sync>(
     rt: &R,
     alloc: Global,
@@ -128,7 +128,7 @@ fn answer_of<G: Gate + Sync, R: Threads + Sync>(
     }
 }
 
-/// What is answered of the proofs of these statements.
+/// Returns the answer for the proofs of these statements.
 fn judge<G: Gate + Sync, R: Threads + Sync>(
     rt: &R,
     alloc: Global,
@@ -148,7 +148,7 @@ fn judge<G: Gate + Sync, R: Threads + Sync>(
     least
 }
 
-/// The same with these jobs and these frames, of which there are none yet.
+/// Returns the answer by empty lists of jobs and frames.
 fn judge_in<G: Gate + Sync, R: Threads + Sync>(
     rt: &R,
     alloc: Global,
@@ -170,7 +170,7 @@ fn judge_in<G: Gate + Sync, R: Threads + Sync>(
     }
 }
 
-/// The least bad of the jobs. Where a growth is refused, it is asked again.
+/// Returns the least bad job. If an allocation fails, the call is repeated.
 fn checked_again<G: Gate + Sync, R: Threads + Sync>(
     rt: &R,
     alloc: Global,
@@ -240,7 +240,7 @@ fn push_one(
     push_job(alloc, frames, stmt, jobs).is_some()
 }
 
-/// The items of a normal proof, asked once more where there was no memory.
+/// Returns the items of a normal proof; the call is repeated if memory ran out.
 fn items_again(alloc: Global, tokens: &Words) -> Result<Items, CodeFault> {
     match normal(alloc, tokens) {
         Err(CodeFault::Memory) => normal(alloc, tokens),
@@ -248,7 +248,7 @@ fn items_again(alloc: Global, tokens: &Words) -> Result<Items, CodeFault> {
     }
 }
 
-/// Adds the job of the statement that was pushed last, where it is a `$p`.
+/// Adds the job of the statement that was pushed last, if it is a `$p`.
 fn push_job(alloc: Global, frames: &Frames, stmt: &Stmt, jobs: &mut Vec<Job>) -> Option<()>
     requires { (S : Database) × (frames.now.statements ≡ S ++ bare stmt.now ∷ []) × AreJobs S jobs.old.items }
     ensures { AreJobs frames.now.statements jobs.new.items }

@@ -1,6 +1,6 @@
 -- Two lists of statements as one.
 -- Source: none; for a private function of `halves`.
--- The code moves the second list behind the first.
+-- The code moves the second list after the first.
 use Rattle.std.specs.Prelude.{◌≡◌, ◌++◌, Option, Some, None, Vec}
 use Rattle.std.specs.declared.alloc.Global.{Global}
 use Rattle.mm_read.specs.declared.stmt.Stmt.{Stmt}

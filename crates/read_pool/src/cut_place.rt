@@ -1,13 +1,13 @@
-//! Where a text may be cut.
+//! Finds places where a text may be cut.
 ghost use Rattle.std.specs.Prelude.{◌+◌, ◌<◌, ◌≤◌, drop, length, IfSome, IsTrue};
 ghost use Rattle.mm_lex.specs.Alphabet.{starts_white};
 ghost use Rattle.read_pool.specs.Place.{IsPlace};
 
-/// How many bytes are looked through for a place, and the least that make a part.
+/// How many bytes are searched for a place, and the least that make a part.
 pub(crate) const STRETCH: usize = 1 << 20;
 
-/// A place at `near` or behind it that no word goes over: the end of a `$.` that seems to stand outside of comments, since
-/// no `$)` follows it before a `$(`. Where no such place is found it is the end of the text.
+/// Returns a place at or after `near` that no word crosses: the end of a `$.` that seems to stand outside of comments, since
+/// no `$)` follows it before a `$(`. If no such place is found, it is the end of the text.
 pub(crate) fn place_near(text: &[u8], near: usize) -> usize
     ensures { IsPlace text.now result }
 {
@@ -31,7 +31,7 @@ pub(crate) fn place_near(text: &[u8], near: usize) -> usize
     found.unwrap_or(text.len())
 }
 
-/// This place, where a white byte stands there.
+/// Returns this place, if a white byte stands there.
 fn end_at(text: &[u8], at: usize) -> Option<usize>
     requires { at < length text.now }
     ensures { IfSome result (IsPlace text.now) }

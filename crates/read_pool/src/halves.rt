@@ -12,12 +12,12 @@ use mm_read::{ReadFault, Stmt, read};
 use std::alloc::Global;
 use std::thread::{Threads, join};
 
-/// The statements that the text writes, as `mm_read::read` answers them, read by so many workers.
+/// Returns the statements that the text writes, as `mm_read::read` returns them, read by so many workers.
 ///
-/// A large text is cut into as many parts as there are workers, each of a MiB or more, where a statement seems to end. Where
-/// a part does not read, or a growth is refused, the calling thread reads the whole text; so no answer depends on the
+/// A large text is cut into as many parts as there are workers, each of a MiB or more, where a statement seems to end. If
+/// a part does not read, or an allocation fails, the calling thread reads the whole text; so no answer depends on the
 /// workers or on the places.
-/// Errors: those of `read`. Cost: the size of the text, over the workers; twice that of `read` where the text is refused.
+/// Errors: those of `read`. Cost: the size of the text, over the workers; twice that of `read` if the text is refused.
 pub fn read_by<R: Threads + Sync>(
     rt: &R,
     alloc: Global,
@@ -27,11 +27,11 @@ pub fn read_by<R: Threads + Sync>(
     ensures found { IfOk result (λ statements. Reads text.now statements.items) }
     ensures fault { IfErr result (IsReadFault text.now) }
 
-    // The statements are those that the text writes, or a growth was refused.
+    // The statements are those that the text writes, or an allocation failed.
     ensures statements { (S : Database) → Reads text.now S
         → MatchResult result (λ statements. statements.items ≡ S) (λ fault. fault ≡ ReadFault.Memory) }
 
-    // A fault of the tokens is answered also where every growth is refused.
+    // A fault of the tokens is returned even if every allocation fails.
     ensures text_fault { (offset : ℕ) → IsFirstBadByte text.now offset
         → result ≡ Err (ReadFault.Text (LexFault.Text offset)) }
     ensures comment_fault { (offset : ℕ) → IsCommentFault text.now offset
@@ -48,7 +48,7 @@ pub fn read_by<R: Threads + Sync>(
     read(alloc, text)
 }
 
-/// The statements that the text writes, read in so many parts; none where a part does not read or a growth was refused.
+/// Returns the statements that the text writes, read in so many parts; none if a part does not read or an allocation failed.
 #[cycle(halves)]
 fn read_parts<R: Threads + Sync>(
     rt: &R,
@@ -76,7 +76,7 @@ fn read_parts<R: Threads + Sync>(
     both(first, second)
 }
 
-/// The statements of the one list and then those of the other; none where a list is wanting or the growth was refused.
+/// Returns the statements of the first list and then those of the second; none if a list is missing or the allocation failed.
 fn both(first: Option<Vec<Stmt>>, second: Option<Vec<Stmt>>) -> Option<Vec<Stmt>>
     ensures { IfSome result (λ statements. AreBoth first second statements.items) }
 {

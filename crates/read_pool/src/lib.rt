@@ -1,6 +1,6 @@
-//! A text read side by side, with the answer of one thread.
+//! Reads a text in parallel, with the answer of one thread.
 //!
-//! The crate above uses one contract: `read_by` answers what `mm_read::read` answers, whatever the number of workers. Reading
+//! The crate above uses one contract: `read_by` returns what `mm_read::read` returns, whatever the number of workers. Reading
 //! order: `cut_place` (where a text is cut), `halves`.
 #![tactic(auto)]
 

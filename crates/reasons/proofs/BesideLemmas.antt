@@ -27,12 +27,12 @@ pub below_front : (n : ℕ) (images : List Image) (group : List ℕ) (x : ℕ) (
 below_front n images group x before behind h below b =
     subst (λ e. AreBelow n e) (sym b.front) (apply-below n images (take b.place group) h (below-take n b.place group below))
 
--- and so have the images behind it
+-- and so have the images after it
 pub below_rest : (n : ℕ) (images : List Image) (group : List ℕ) (x : ℕ) (before behind : List ℕ) → AreImages n images → AreBelow n group → AreBeside (code_images images) group x before behind → AreBelow n behind
 below_rest n images group x before behind h below b =
     subst (λ e. AreBelow n e) (sym b.rest) (apply-below n images (drop (suc b.place) group) h (below-drop n (suc b.place) group below))
 
--- ---- apart from a whole is apart from its parts
+-- ---- disjoint from a whole is disjoint from its parts
 
 all-parts : {A : Type 0} (p : A → Bool) (xs ys : List A) → list_all p (xs ++ ys) ≡ true → (list_all p xs ≡ true) × (list_all p ys ≡ true)
 all-parts p [] ys h = (refl, h)
@@ -50,7 +50,7 @@ apart-parts S (u ∷ e) f g h =
     (ap (λ b. b && are_apart S e f) here.0 ∙ rest.0, ap (λ b. b && are_apart S e g) here.1 ∙ rest.1)
 
 module _ (S : Database) (names : List Name) (distinct : AreDistinct names) (σ : CodeImages) (variables : AreVariables (length names) σ) (x : ℕ) (inside : x < length names) where
-  -- apart from the images of all of these
+  -- disjoint from the images of all of these
   all_others : (group : List ℕ) → AreBelow (length names) group → are_apart S (decode names (code_image σ x)) (decode names (code_apply σ group)) ≡ true
       → list_all (is_other_apart S (named_images names σ) (name_at names x)) (decode names group) ≡ true
   all_others [] below h = refl
@@ -65,7 +65,7 @@ module _ (S : Database) (names : List Name) (distinct : AreDistinct names) (σ :
       ap (λ b. (name_eq (name_at names x) (name_at names y) || b) && list_all (is_other_apart S images (name_at names x)) (decode names group)) own
       ∙ (ap (λ b. b && list_all (is_other_apart S images (name_at names x)) (decode names group)) (or-true (name_eq (name_at names x) (name_at names y))) ∙ all_others group below.1 parts.1)
 
-  -- before it, itself, and behind it
+  -- before it, itself, and after it
   beside_all : (p : Name → Bool) (group : List ℕ) (k : ℕ) → k < length group → list_all p (decode names (take k group)) ≡ true → p (name_at names (get_or group k 0)) ≡ true
       → list_all p (decode names (drop (suc k) group)) ≡ true → list_all p (decode names group) ≡ true
   beside_all p [] k h front here rest = absurd (omega (arith, h))
@@ -74,11 +74,11 @@ module _ (S : Database) (names : List Name) (distinct : AreDistinct names) (σ :
       let parts : (p (name_at names y) ≡ true) × (list_all p (decode names (take k group)) ≡ true) = and_parts (p (name_at names y)) (list_all p (decode names (take k group))) front in
       ap (λ b. b && list_all p (decode names group)) parts.0 ∙ beside_all p group k (omega (arith, h)) parts.1 here rest
 
-  -- a variable need not be kept apart from itself
+  -- a variable need not be disjoint from itself
   itself : (y : Name) → is_other_apart S (named_images names σ) y y ≡ true
   itself y = ap (λ c. c || are_apart S (image (named_images names σ) y) (image (named_images names σ) y)) (name_same y)
 
-  -- an image apart from those before it and those behind it is apart from the image of each other variable
+  -- an image that is disjoint from those before it and those after it is disjoint from the image of each other variable
   pub apart_beside : (group before behind image : List ℕ) → AreBelow (length names) group → image ≡ code_image σ x → AreBeside σ group x before behind
       → are_apart S (decode names image) (decode names before) ≡ true → are_apart S (decode names image) (decode names behind) ≡ true
       → list_all (is_other_apart S (named_images names σ) (name_at names x)) (decode names group) ≡ true
@@ -99,14 +99,14 @@ take_past [] ys n m e = let same : m ≡ n = omega (arith, e) in ap (λ k. take 
 take_past (x ∷ xs) ys n zero e = absurd (omega (arith, e))
 take_past (x ∷ xs) ys n (suc m) e = ap (λ l. x ∷ l) (take_past xs ys n m (omega (arith, e)))
 
--- what is left behind such a front is left of the second list
+-- the rest after such a front is the rest of the second list
 drop_past : (xs ys : List ℕ) (n m : ℕ) → m ≡ length xs + n → drop m (xs ++ ys) ≡ drop n ys
 drop_past [] ys n m e = let same : m ≡ n = omega (arith, e) in ap (λ k. drop k ys) same
 drop_past (x ∷ xs) ys n zero e = absurd (omega (arith, e))
 drop_past (x ∷ xs) ys n (suc m) e = drop_past xs ys n m (omega (arith, e))
 
 module _ (σ : CodeImages) where
-  -- an image, behind those before it, ends within the images of all
+  -- an image, after those before it, ends within the images of all
   lies_within : (group : List ℕ) (k : ℕ) → k < length group → length (code_apply σ (take k group)) + length (code_image σ (get_or group k 0)) ≤ length (code_apply σ group)
   lies_within [] k h = absurd (omega (arith, h))
   lies_within (y ∷ group) zero h = omega (arith, length-append (code_image σ y) (code_apply σ group))
@@ -132,7 +132,7 @@ module _ (σ : CodeImages) where
       (length-append (code_image σ y) (code_apply σ (take k group)))
       ∙ ap (λ e. code_image σ y ++ e) (cut_before group k)
 
-  -- from where an image ends stand the images behind it
+  -- from where an image ends stand the images after it
   pub cut_behind : (group : List ℕ) (k : ℕ) → k < length group
       → drop (length (code_apply σ (take k group)) + length (code_image σ (get_or group k 0))) (code_apply σ group) ≡ code_apply σ (drop (suc k) group)
   cut_behind [] k h = absurd (omega (arith, h))
@@ -148,7 +148,7 @@ pub image_within : (σ : CodeImages) (group joined : List ℕ) (k start len : �
     → len ≡ length (code_image σ (get_or group k 0)) → start + len ≤ length joined
 image_within σ group joined k start len whole h s l = omega (arith, lies_within σ group k h, ap length whole, s, l)
 
--- what stands before and behind an image are the images of the variables beside its own
+-- the images before and after an image are those of the variables beside its own
 pub image_beside : (σ : CodeImages) (group joined : List ℕ) (k start end : ℕ) → joined ≡ code_apply σ group → k < length group → start ≡ length (code_apply σ (take k group))
     → end ≡ start + length (code_image σ (get_or group k 0)) → AreBeside σ group (get_or group k 0) (take start joined) (take (length joined - end) (drop end joined))
 image_beside σ group joined k start end whole h s l = record {

@@ -1,4 +1,4 @@
--- Hypotheses that ask for other results.
+-- Hypotheses that require other results.
 use Rattle.std.proofs.Common.{◌≡◌, ℕ, ◌+◌, ◌<◌, List, [], ◌∷◌, ◌++◌, length, take, get_or, map, refl, sym, ◌∙◌, ap, subst, add-one, Some, slice_get}
 use Rattle.std.specs.Prelude.{Bool, true, false, not, bytes_eq}
 use Rattle.std.proofs.lemmas.Slice.Eq.{bytes_eq-Decides}
@@ -58,7 +58,7 @@ module _ (S : Database) (names : List Name) (σ : Images) (ps : List ℕ) (resul
       ∙ (ap (λ l. l ++ asks S σ (get_or ps k 0) ∷ []) before
       ∙ (ap (λ x. take k (named names results) ++ x ∷ []) e ∙ sym last_is))))
 
-  -- or it asks for another
+  -- or it requires another
   pub other_here : (asked : List ℕ) → AreDistinct names → AreBelow (length names) asked → AreBelow (length names) r.items → decode names asked ≡ asks S σ (get_or ps k 0) → (r.items ≡ asked → ⊥)
       → IsOther S σ ps (named names results) k (get_or ps k 0) (decode names asked) (decode names r.items)
   other_here asked distinct low below is differ = record {
@@ -69,7 +69,7 @@ module _ (S : Database) (names : List Name) (σ : Images) (ps : List ℕ) (resul
     before = before;
   }
 
--- what is said of it
+-- the fault of the result
 module _ (S : Database) (names : List Name) (distinct : AreDistinct names) (p head : ℕ) (kind : Hypothesis) (is : IsAsked S names p head kind) where
   -- an expression that does not begin with this number does not begin with its name
   begins_other : (c : Name) (e : List ℕ) → head < length names → name_at names head ≡ c → AreBelow (length names) e → StartsOther head e → BeginsOther c (decode names e)
@@ -99,13 +99,13 @@ module _ (S : Database) (names : List Name) (distinct : AreDistinct names) (p he
       by (stmt.Prove l w r) (hypothesis.Float x) first of float = absurd of
       by (stmt.Prove l w r) (hypothesis.Essential q) first of float = absurd float
 
--- what a hypothesis asks for, by number
+-- the result that a hypothesis requires, by number
 pub asked_is : (S : Database) (names : List Name) → AreDistinct names → (σ : CodeImages) → AreVariables (length names) σ → (p : ℕ) (s : Stmt) → stmt_at S p ≡ Some s
     → (e : List ℕ) → decode names e ≡ expr_of s → AreBelow (length names) e → (asked : List ℕ) → asked ≡ code_apply σ e → decode names asked ≡ asks S (named_images names σ) p
 asked_is S names distinct σ variables p s stands e is below asked same =
     ap (decode names) same ∙ (apply_same names distinct σ e variables below ∙ ap (λ x. applied (named_images names σ) x) (is ∙ sym (expr_is S p s stands)))
 
--- what is said is a mismatch
+-- the fault is a mismatch
 pub mismatch_is : (S : Database) (names : List Name) (a : ℕ) (s : Stmt) (rs : List Expr) (kind : Hypothesis) (head p k : ℕ) (asked there : Vec ℕ) (fault : Fault)
     → IsSaid kind head a p asked there fault
     → IsOther S (images_read S (hypotheses (before S a) s) rs) (hypotheses (before S a) s) rs k p (decode names asked.items) (decode names there.items)
@@ -133,7 +133,7 @@ mismatch_is S names a s rs kind head p k asked there (Together b x y u v) said o
 mismatch_is S names a s rs kind head p k asked there Heavy said other constant = absurd said
 mismatch_is S names a s rs kind head p k asked there Unmarked said other constant = absurd said
 
--- what a test of two lists tells
+-- the result of a test of two lists
 pub not_ne : (b : Bool) (xs ys : List ℕ) → b ≡ not (bytes_eq xs ys) → b ≡ false → xs ≡ ys
 not_ne b xs ys e f = (bytes_eq-Decides xs ys).0 (not-false (bytes_eq xs ys) (sym e ∙ f))
 

@@ -13,7 +13,7 @@ use Rattle.names.specs.Codes.{name_at, decode}
 use Rattle.names.proofs.CodesLemmas.{name_same}
 
 module _ (names : List Name) (p : Name → Bool) (xs : List ℕ) (i : ℕ) where
-  -- what passes leaves the test to those behind it
+  -- an element that passes leaves the test to those after it
   pub all_step : i < length xs → p (name_at names (get_or xs i 0)) ≡ true → list_all p (decode names (drop i xs)) ≡ list_all p (decode names (drop (i + 1) xs))
   all_step inside e =
       ap (λ l. list_all p (decode names l)) (drop-cons xs i 0 inside)
@@ -27,7 +27,7 @@ has_at names (x ∷ xs) (suc i) h =
     let y = name_at names (get_or xs i 0) in
     ap (λ b. name_eq y (name_at names x) || b) (has_at names xs i (omega (arith, h))) ∙ or-true (name_eq y (name_at names x))
 
--- numbers that are not equal are told apart by the test
+-- the test distinguishes numbers that are not equal
 pub numbers_differ : (m n : ℕ) → (n ≡ m → ⊥) → nat_eq m n ≡ false
 numbers_differ m n h = by (nat_eq m n) refl
   where
@@ -38,7 +38,7 @@ numbers_differ m n h = by (nat_eq m n) refl
 -- ---- the lists
 
 module _ {A : Type 0} (p : List Name → Bool) (f : A → List Name) where
-  -- a list that passes leaves the test to those behind it
+  -- a list that passes leaves the test to those after it
   pub groups_step : (xs : List A) (k : ℕ) (x : A) → slice_get xs k ≡ Some x → p (f x) ≡ true → list_all p (map f (drop k xs)) ≡ list_all p (map f (drop (k + 1) xs))
   groups_step xs k x e h = go xs k e ∙ ap (λ n. list_all p (map f (drop n xs))) (sym (add-one k))
     where
@@ -47,7 +47,7 @@ module _ {A : Type 0} (p : List Name → Bool) (f : A → List Name) where
       go (y ∷ xs) zero e = let same : y ≡ x = cc in ap (λ b. b && list_all p (map f xs)) (ap (λ z. p (f z)) same ∙ h)
       go (y ∷ xs) (suc k) e = go xs k e
 
-  -- behind the last list nothing is left to test
+  -- after the last list nothing is left to test
   pub groups_end : (xs : List A) (k : ℕ) → length xs ≤ k → list_all p (map f (drop k xs)) ≡ true
   groups_end [] zero h = refl
   groups_end [] (suc k) h = refl

@@ -1,4 +1,4 @@
--- What a citation comes to, from what its parts tell.
+-- The outcome of a citation, from its parts.
 use Rattle.std.proofs.Common.{◌≡◌, ℕ, List, length, sym, ◌∙◌, ap, subst, true}
 use Rattle.std.proofs.lemmas.List.{length-map}
 use Rattle.mm_lex.specs.Alphabet.{Name}
@@ -38,7 +38,7 @@ module _ {T S : Database} {ns names : List Name} {σ τ : Images} {gs hs : List 
       (subst (λ n. IsClash S n σ gs c) named
       (subst (λ D. IsClash D ns σ gs c) same is)))
 
-  -- what is kept apart stays so where statements, images and lists are equal
+  -- disjoint variables stay so where statements, images and lists are equal
   pub apart_moved : are_groups_apart T σ gs ≡ true → are_groups_apart S τ hs ≡ true
   apart_moved is =
       sym (ap (λ D. are_groups_apart D σ gs) same ∙ (ap (λ i. are_groups_apart S i gs) images ∙ ap (λ l. are_groups_apart S τ l) lists)) ∙ is

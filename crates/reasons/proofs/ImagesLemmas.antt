@@ -10,7 +10,7 @@ use Rattle.reasons.specs.Stored.Vectors.{code_images, AreImages}
 
 -- the entry at i decides where it is for the symbol ..
 module _ (images : List Image) (i : ℕ) (x : Image) (symbol : ℕ) (inside : i < length images) (is : x ≡ get_or images i x) where
-  -- what is left from i on is the entry at i and those behind it
+  -- the entries left from i on are the one at i and those after it
   opened : drop i images ≡ x ∷ drop (i + 1) images
   opened = drop-cons images i x inside ∙ (ap (λ y. y ∷ drop (suc i) images) (sym is) ∙ ap (λ k. x ∷ drop k images) (sym (add-one i)))
 
@@ -18,7 +18,7 @@ module _ (images : List Image) (i : ℕ) (x : Image) (symbol : ℕ) (inside : i 
   pub image_here : nat_eq symbol x.variable ≡ true → code_image (code_images (drop i images)) symbol ≡ x.symbols.items
   image_here e = ap (λ d. code_image (code_images d) symbol) opened ∙ ap (λ b. cond b x.symbols.items (code_image (code_images (drop (i + 1) images)) symbol)) e
 
-  -- .. and else those behind it
+  -- .. and else those after it
   pub image_behind : nat_eq symbol x.variable ≡ false → code_image (code_images (drop i images)) symbol ≡ code_image (code_images (drop (i + 1) images)) symbol
   image_behind e = ap (λ d. code_image (code_images d) symbol) opened ∙ ap (λ b. cond b x.symbols.items (code_image (code_images (drop (i + 1) images)) symbol)) e
 

@@ -31,13 +31,13 @@ named-append names [] ys = refl
 named-append names (x ∷ xs) ys = ap (λ l. decode names x.items ∷ l) (named-append names xs ys)
 
 module _ {A : Type 0} where
-  -- of a list that is empty nothing is taken
+  -- nothing is taken of an empty list
   none_taken : (k : ℕ) (xs : List A) → xs ≡ [] → take k xs ≡ []
   none_taken zero xs e = refl
   none_taken (suc k) [] e = refl
   none_taken (suc k) (x ∷ xs) e = cc
 
-  -- what is taken from the front and all that is left are the list
+  -- the front that is taken and the rest are the list
   take_drop : (n : ℕ) (xs : List A) → take n xs ++ take (length xs - n) (drop n xs) ≡ xs
   take_drop zero xs = take_all (length xs - 0) xs (omega arith)
   take_drop (suc n) [] = none_taken (0 - suc n) [] refl
@@ -84,7 +84,7 @@ gives_is S at a s rs stack below e earlier stands variable taken whole is =
     })
     (whole ∙ ap (λ r. below ++ r) (sym taken.fit)) is
 
--- what is held, as a function of its parts
+-- the state, as a function of its parts
 make : List Expr → List Expr → ℕ → Held
 make stack marked weight = record { stack = stack; marked = marked; weight = weight }
 
@@ -104,7 +104,7 @@ pushed_to names old mid new v below stays marked weight is =
     (ap (named names) (is.marked ∙ marked))
     (is.weight ∙ (ap (λ n. n + length v.items) weight ∙ ap (λ n. old.weight + n) (sym (length-map v.items (name_at names)))))
 
--- what a push comes to
+-- the outcome of a push
 pub pushed_told : (S : Database) (names : List Name) (at i : ℕ) (s : Stmt) (old mid new : State) (v : Vec ℕ) (below : List Expr) (res : Result (Option Fault) AllocError)
     → IfOk res (λ r. MatchOption r (IsPushed mid new v) (λ f. (f ≡ Heavy) × (SYMBOLS_LIMIT < mid.weight + length v.items)))
     → named names mid.stack.items ≡ below → mid.marked.items ≡ old.marked.items → mid.weight ≡ old.weight → Gives S at i s (held names old).stack below (decode names v.items)

@@ -52,7 +52,7 @@ module _ (names : List Name) (distinct : AreDistinct names) where
 
 -- ---- the images that are read
 
--- what one hypothesis reads off a result is the same by number and by name
+-- one hypothesis reads the same off a result by number and by name
 image_is : (S : Database) (names : List Name) (p : ℕ) (s : Stmt) (h : Hypothesis) (e : List ℕ) → stmt_at S p ≡ Some s → IsOf names p s h
     → (named_images names (code_at h e) ≡ image_at (stmt_at S p) (decode names e)) × AreVariables (length names) (code_at h e)
 image_is S names p (stmt.Float l c v) (Float x) e stands is =
@@ -79,7 +79,7 @@ variables-append : (n : ℕ) (σ τ : CodeImages) → AreVariables n σ → AreV
 variables-append n [] τ h k = k
 variables-append n (p ∷ σ) τ h k = (h.0, variables-append n σ τ h.1 k)
 
--- what all hypotheses read off the results is the same by number and by name
+-- all hypotheses read the same off the results by number and by name
 pub images_are : (S : Database) (names : List Name) (ps heads : List ℕ) (hs : List Hypothesis) (es : List (List ℕ)) → AreAsked S names ps heads hs
     → (named_images names (codes_read hs es) ≡ images_read S ps (map (decode names) es)) × AreVariables (length names) (codes_read hs es)
 images_are S names [] [] [] es asked = (refl, tt)
@@ -100,7 +100,7 @@ images_are S names (p ∷ ps) (x ∷ heads) (h ∷ hs) (e ∷ es) asked =
 
 -- ---- reading one result more
 
--- what is left to read is what this result gives, and what those behind it give
+-- the images left to read are those of this result and of those after it
 read_step : (kinds : List Hypothesis) (results : List (Vec ℕ)) (k : ℕ) (h : Hypothesis) → k < length kinds → k < length results
     → get_or kinds k (Float 0) ≡ h → (r : Vec ℕ) → r ≡ get_or results k r
     → codes_read (drop k kinds) (codes (drop k results)) ≡ code_at h r.items ++ codes_read (drop (suc k) kinds) (codes (drop (suc k) results))

@@ -37,7 +37,7 @@ found-length S labels positions are = sym are.count
 pub found-at : (S : Database) (labels : List Name) (positions : List (Option ℕ)) (k : ℕ) → ArePositions S labels positions → k < length positions → IsPosition S (get_or labels k []) (get_or positions k None)
 found-at S labels positions k are less = are.each k (let c = are.count in omega (arith, less, c))
 
--- ---- what a number means
+-- ---- the meaning of a number
 
 -- a greater number recalls
 pub recall_item : (labels : List Name) (number : ℕ) → length labels < number → item_of labels number ≡ Recall (suc (number - length labels - 1))
@@ -92,7 +92,7 @@ cited_fails S names at h i s label (Together b x y u v) carries fails = (i, s, c
 cited_fails S names at h i s label Heavy carries fails = (i, s, carries, fails)
 cited_fails S names at h i s label Unmarked carries fails = absurd fails
 
--- what is told of the statement that carries the label is told of the item
+-- the result for the statement that carries the label is that for the item
 pub cite_told : (S : Database) (names : List Name) (at i : ℕ) (s : Stmt) (label : Name) (old new : State) (item : Item) (res : Result (Option Fault) AllocError) → item ≡ Cite label → Carries S i s label
     → IfOk res (λ r. MatchOption r (CitesTo S at i s (held names old) (held names new)) (FailsAt S names at (held names old) i s))
     → IfOk res (λ r. MatchOption r (Steps S at (held names old) item (held names new)) (Fails S names at (held names old) item))

@@ -20,11 +20,11 @@ module _ {A : Type 0} where
       let inside : length xs - 1 < length xs = omega arith in
       sym (take_all (suc (length xs - 1)) xs (omega (arith, all))) ∙ (take-suc xs (length xs - 1) x inside ∙ ap (λ y. take (length xs - 1) xs ++ y ∷ []) (sym is))
 
-  -- where the growth was not refused, the element is added
+  -- where the allocation did not fail, the element is added
   pub added : (new old : List A) (x : A) (b r : Bool) → b ≡ not r → r ≡ false → new ≡ cond b (old ++ x ∷ []) old → new ≡ old ++ x ∷ []
   added new old x b r n f e = e ∙ ap (λ c. cond c (old ++ x ∷ []) old) (n ∙ ap not f)
 
--- what is told of the push of a copy is told of the recall
+-- the result of the push of a copy is that of the recall
 pub recalled_told : (old new : State) (index : ℕ) (one copy : Vec ℕ) (res : Result (Option Fault) AllocError)
     → IfOk res (λ r. MatchOption r (IsPushed old new copy) (λ f. (f ≡ Heavy) × (SYMBOLS_LIMIT < old.weight + length copy.items)))
     → slice_get old.marked.items index ≡ Some one → copy.items ≡ one.items

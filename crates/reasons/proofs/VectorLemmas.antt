@@ -38,7 +38,7 @@ symbols-at n [] i v h l e = absurd (omega (arith, l))
 symbols-at n (w ∷ vs) zero v h l e = subst (λ u. AreBelow n u.items) (sym e) h.0
 symbols-at n (w ∷ vs) (suc i) v h l e = symbols-at n vs i v h.1 (omega (arith, l)) e
 
--- what an assertion asks, hypothesis by hypothesis
+-- the results that an assertion requires, hypothesis by hypothesis
 module _ (S : Database) (names : List Name) where
   pub asked-heads : (ps heads : List ℕ) (hs : List Hypothesis) → AreAsked S names ps heads hs → length heads ≡ length ps
   asked-heads [] [] [] h = refl

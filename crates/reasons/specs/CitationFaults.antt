@@ -1,4 +1,4 @@
--- What may fail where an assertion is cited: a hypothesis that asks for another result.
+-- Faults where an assertion is cited: a hypothesis that requires another result.
 -- Source: Metamath, 4.2.6.
 -- The code compares numbers; here are expressions, with the images that the results themselves give put in.
 use Rattle.std.specs.Prelude.{◌≡◌, ◌≢◌, ℕ, length, List, [], ◌∷◌, map, take, Option, Some, slice_get}
@@ -21,15 +21,15 @@ use Rattle.reasons.specs.declared.named_images.Image.{Image}
 use Rattle.reasons.specs.Stored.Vectors.{named, code_images}
 use Rattle.reasons.specs.ReadImages.{images_read, named_images, AreVariables}
 
--- what the hypothesis at p asks for, the images put in
+-- the result that the hypothesis at p requires, the images substituted
 abbrev pub asks : Database → Images → ℕ → Expr
 asks S σ p = applied σ (expr_at S p)
 
--- these hypotheses ask for just these results
+-- these hypotheses require just these results
 abbrev pub AllFit : Database → Images → List ℕ → List Expr → Type 0
 AllFit S σ ps rs = map (asks S σ) ps ≡ rs
 
--- the k-th hypothesis, at p, asks for another result than the one that is there; those before it have theirs
+-- the k-th hypothesis, at p, requires another result than the one that is there; those before it have theirs
 pub record IsOther (S : Database) (σ : Images) (ps : List ℕ) (rs : List Expr) (k p : ℕ) (asked there : Expr) : Type 0 where
   pub hypothesis : slice_get ps k ≡ Some p
   pub result : slice_get rs k ≡ Some there
@@ -46,7 +46,7 @@ abbrev pub IsOtherConstant : Option Stmt → Expr → Type 0
 IsOtherConstant (Some (stmt.Float label constant variable)) e = BeginsOther constant e
 IsOtherConstant s e = ⊥
 
--- the first of the mandatory hypotheses of the assertion s at a that asks for another result than the one that is there, where
+-- the first of the mandatory hypotheses of the assertion s at a that requires another result than the one that is there, where
 -- the images are those that the results give
 abbrev pub IsMismatch : Database → List Name → ℕ → Stmt → List Expr → Fault → Type 0
 IsMismatch S names a s rs (Expression b p asked there) =
@@ -56,7 +56,7 @@ IsMismatch S names a s rs (Constant b p there) =
     × IsOtherConstant (stmt_at S p) (decode names there.items))
 IsMismatch S names a s rs fault = ⊥
 
--- what is said of a result that is not what a hypothesis of that kind, with that first symbol, asks for
+-- the fault of a result that is not the one that a hypothesis of that kind, with that typecode, requires
 abbrev pub StartsOther : ℕ → List ℕ → Type 0
 StartsOther head [] = Unit {0}
 StartsOther head (x ∷ e) = x ≢ head
@@ -70,7 +70,7 @@ IsSaid kind head a p asked there (Constant b q r) = (b ≡ a) × (q ≡ p) × (r
 IsSaid kind head a p asked there (Expression b q e r) = (b ≡ a) × (q ≡ p) × (e ≡ asked) × (r ≡ there)
 IsSaid kind head a p asked there fault = ⊥
 
--- the results are what the hypotheses of the assertion s at a ask for, where the images are those that they give
+-- the results are those that the hypotheses of the assertion s at a require, where the images are those that they give
 abbrev pub FitsAll : Numbered → ℕ → Stmt → List (Vec ℕ) → Type 0
 FitsAll f a s results =
     AllFit f.statements (images_read f.statements (hypotheses (before f.statements a) s) (named f.names results)) (hypotheses (before f.statements a) s) (named f.names results)

@@ -1,5 +1,5 @@
--- Two variables of an assertion whose images are not kept apart.
--- Source: Metamath, 4.2.6 (the pair clause).
+-- Two variables of an assertion whose images are not disjoint.
+-- Source: Metamath, 4.2.6 (the disjoint variable condition).
 -- The code tests images by number; here are names.
 use Rattle.std.specs.Prelude.{◌≡◌, ℕ, suc, ◌<◌, Bool, not, ◌||◌, List, length, take, drop, get_or, IsTrue, IsFalse}
 use Rattle.mm_lex.specs.Alphabet.{Name, name_eq, has_name}
@@ -32,7 +32,7 @@ pub record AreShared (S : Database) (u v : Name) (e f : Expr) : Type 0 where
   pub second : IsTrue (has_name v f)
   pub unpaired : IsUnpaired S u v
 
--- the image of x is apart from that of y, where y is another
+-- the image of x is disjoint from that of y, where y is another
 abbrev pub is_other_apart : Database → Images → Name → Name → Bool
 is_other_apart S σ x y = name_eq x y || are_apart S (image σ x) (image σ y)
 
@@ -53,7 +53,7 @@ pub record IsClashIn (S : Database) (names : List Name) (σ : Images) (group : L
   pub first : IsTrue (has_name (name_at names c.first) group)
   pub second : IsClashWith S names σ (name_at names c.first) group c
 
--- x stands in the list, and these are the images of those before and behind it, one after another
+-- x stands in the list, and these are the images of those before and after it, one after another
 pub record AreBeside (σ : CodeImages) (group : List ℕ) (x : ℕ) (before behind : List ℕ) : Type 0 where
   pub place : ℕ
   pub within : place < length group

@@ -1,4 +1,4 @@
--- What a citation of an assertion comes to, in place of results, one for each of its mandatory hypotheses.
+-- The outcome of a citation of an assertion, in place of results, one for each of its mandatory hypotheses.
 -- Source: Metamath, 4.2.6.
 -- The code reads the images off the results, tests them, and puts them into the assertion's expression.
 use Rattle.std.specs.Prelude.{◌≡◌, ℕ, ◌<◌, ◌≤◌, IsTrue, List, length}
@@ -23,16 +23,16 @@ use Rattle.reasons.specs.CitationFaults.{AllFit, IsMismatch}
 abbrev pub images_of : Database → ℕ → Stmt → List Expr → Images
 images_of S a s rs = images_read S (hypotheses (before S a) s) rs
 
--- each hypothesis asks for the result that is there
+-- each hypothesis requires the result that is there
 abbrev pub DoFit : Database → ℕ → Stmt → List Expr → Type 0
 DoFit S a s rs = AllFit S (images_of S a s rs) (hypotheses (before S a) s) rs
 
--- .. and the images are kept apart
+-- .. and the images are disjoint
 pub record AreTaken (S : Database) (at a : ℕ) (s : Stmt) (rs : List Expr) : Type 0 where
   pub fit : DoFit S a s rs
   pub apart : IsTrue (are_groups_apart (before S at) (images_of S a s rs) (mandatory_groups (before S a) s))
 
--- what is wrong with the results: the first mismatch; else two variables that are not kept apart; else there is no room
+-- the fault of the results: the first mismatch; else two variables that are not disjoint; else there is no room
 abbrev pub IsWrong : Database → List Name → ℕ → ℕ → Stmt → List Expr → ℕ → Fault → Type 0
 IsWrong S names at a s rs room (Constant b p there) = IsMismatch S names a s rs (Constant b p there)
 IsWrong S names at a s rs room (Expression b p asked there) = IsMismatch S names a s rs (Expression b p asked there)
@@ -42,7 +42,7 @@ IsWrong S names at a s rs room (Together b x y u v) =
 IsWrong S names at a s rs room Heavy = AreTaken S at a s rs × (room < length (applied (images_of S a s rs) (expr_of s)))
 IsWrong S names at a s rs room fault = ⊥
 
--- what they come to
+-- the outcome of these results
 abbrev pub IsConcluded : Database → List Name → ℕ → ℕ → Stmt → List Expr → ℕ → Concluded → Type 0
 IsConcluded S names at a s rs room (Wrong fault) = IsWrong S names at a s rs room fault
 IsConcluded S names at a s rs room (Right e) = AreTaken S at a s rs × (decode names e.items ≡ applied (images_of S a s rs) (expr_of s)) × (length e.items ≤ room)

@@ -35,7 +35,7 @@ pub record IsHeavy (S : Database) (at : ℕ) (h : Held) (i : ℕ) (s : Stmt) : T
   pub gives : Gives S at i s h.stack below result
   pub heavy : SYMBOLS_LIMIT < h.weight + length result
 
--- what fails where the statement s at i is cited
+-- the fault where the statement s at i is cited
 abbrev pub FailsAt : Database → List Name → ℕ → Held → ℕ → Stmt → Fault → Type 0
 FailsAt S names at h i s (Inactive j) = (j ≡ i) × (i < at) × (IsHypothesis S at i s → ⊥) × (is_assertion s ≡ true → ⊥)
 FailsAt S names at h i s (Later j) = (j ≡ i) × (at ≤ i)
@@ -46,7 +46,7 @@ FailsAt S names at h i s (Together b x y u v) = AreWrong S names at h i s (Toget
 FailsAt S names at h i s Heavy = IsHeavy S at h i s
 FailsAt S names at h i s fault = ⊥
 
--- what fails at an item: a label that no statement carries; what fails where its statement is cited; a recall of what is not
+-- the fault of an item: a label that no statement carries; the fault where its statement is cited; a recall of what is not
 -- marked, or too heavy; a mark of nothing
 abbrev pub FailsCited : Database → List Name → ℕ → Held → Name → Fault → Type 0
 FailsCited S names at h label Unknown = (i : ℕ) (s : Stmt) → Carries S i s label → ⊥

@@ -23,7 +23,7 @@ images_read S [] rs = []
 images_read S (p ∷ ps) [] = []
 images_read S (p ∷ ps) (e ∷ rs) = image_at (stmt_at S p) e ++ images_read S ps rs
 
--- the same by numbers
+-- the images, by numbers
 abbrev pub code_at : Hypothesis → List ℕ → CodeImages
 code_at (Float x) e = (x, drop 1 e) ∷ []
 code_at (Essential q) e = []

@@ -22,7 +22,7 @@ pub record Held : Type 0 where
 abbrev pub nothing : Held
 nothing = record { stack = []; marked = []; weight = 0 }
 
--- what the code keeps
+-- the state of the code
 abbrev pub held : List Name → State → Held
 held names st = record { stack = named names st.stack.items; marked = named names st.marked.items; weight = st.weight }
 

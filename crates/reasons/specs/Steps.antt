@@ -1,4 +1,4 @@
--- What one item does to the results so far.
+-- The effect of one item on the results so far.
 -- Source: Metamath, 4.2.6 (the stack of a proof) and appendix B (marked results).
 -- The code keeps vectors of numbers; here are expressions.
 use Rattle.std.specs.Prelude.{◌≡◌, ℕ, ◌+◌, ◌<◌, ◌≤◌, List, [], ◌∷◌, ◌++◌, length, Some, slice_get}

@@ -1,4 +1,4 @@
-//! Two variables whose images are not kept apart.
+//! Two variables whose images are not disjoint.
 ghost use Rattle.std.specs.Prelude.{◌≡◌, ◌<◌, length, map, true, IfOk, MatchOption};
 ghost use Rattle.std.specs.List.{list_all};
 ghost use Rattle.names.specs.Codes.{AreDistinct, name_at, decode};
@@ -23,7 +23,7 @@ pub struct Clash {
     pub other: u32,
 }
 
-/// The first clash of the images of variables that stand together in one of the lists.
+/// Returns the first clash of the images of variables that stand together in one of the lists.
 pub fn find_clash(
     alloc: Global,
     pairs: &Pairs<'_>,
@@ -47,8 +47,8 @@ pub fn find_clash(
     Ok(None)
 }
 
-/// The first clash of the images of variables of one list. All images are written one after another, and those of the
-/// others are held against each at once; only where these are not apart the clash is sought.
+/// Returns the first clash of the images of variables of one list. All images are written one after another, and those of the
+/// others are compared with each at once; the clash is searched only if these are not disjoint.
 fn clash_in(
     alloc: Global,
     pairs: &Pairs<'_>,
@@ -82,8 +82,8 @@ fn clash_in(
     Ok(None)
 }
 
-/// The first clash of the image of a variable with those of the others of a list, which stand one after another before
-/// and behind it.
+/// Returns the first clash of the image of a variable with those of the others of a list, which stand one after another before
+/// and after it.
 fn clash_beside(
     pairs: &Pairs<'_>,
     images: &[Image],
@@ -110,7 +110,7 @@ fn clash_beside(
     clash_with(pairs, images, first, group)
 }
 
-/// The first clash of the image of a variable with those of the others of a list.
+/// Returns the first clash of the image of a variable with those of the others of a list.
 fn clash_with(pairs: &Pairs<'_>, images: &[Image], first: u32, group: &[u32]) -> Option<Clash>
     requires first { first < length pairs.now.names }
     requires group { AreBelow (length pairs.now.names) group.now }
@@ -141,7 +141,7 @@ fn clash_with(pairs: &Pairs<'_>, images: &[Image], first: u32, group: &[u32]) ->
     None
 }
 
-/// A variable of the one expression and one of the other, which are the same or stand together in no active `$d`.
+/// Returns a variable of the one expression and one of the other, which are the same or stand together in no active `$d`.
 fn shared(pairs: &Pairs<'_>, left: &[u32], right: &[u32]) -> Option<(u32, u32)>
     requires left { AreBelow (length pairs.now.names) left.now }
     requires right { AreBelow (length pairs.now.names) right.now }
@@ -160,7 +160,7 @@ fn shared(pairs: &Pairs<'_>, left: &[u32], right: &[u32]) -> Option<(u32, u32)>
     None
 }
 
-/// A variable of the expression that is this one or stands with it in no active `$d`, where this is a variable.
+/// Returns a variable of the expression that is this one or stands with it in no active `$d`, where this is a variable.
 fn not_with(pairs: &Pairs<'_>, one: u32, right: &[u32]) -> Option<u32>
     requires one { one < length pairs.now.names }
     requires right { AreBelow (length pairs.now.names) right.now }

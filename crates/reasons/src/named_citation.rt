@@ -22,7 +22,7 @@ use frame::{Frames, Gathered, Meaning};
 use std::alloc::{AllocError, Global};
 use subst::SYMBOLS_LIMIT;
 
-/// Cites the statement at a position: what it gives stands in place of what it takes.
+/// Cites the statement at a position: its result replaces the results that it takes.
 pub fn cite(
     alloc: Global,
     frames: &Frames,
@@ -83,7 +83,7 @@ fn cite_assertion(
     cite_parts(alloc, frames, at, a, mandatory.as_slice(), &cited, state)
 }
 
-/// The same by its mandatory hypotheses and its parts.
+/// Cites an earlier assertion, by its mandatory hypotheses and its parts.
 fn cite_parts(
     alloc: Global,
     frames: &Frames,
@@ -137,16 +137,16 @@ fn cite_parts(
     }
 }
 
-/// What a citation comes to.
+/// The outcome of a citation.
 #[derive(Drop)]
 pub(crate) enum Concluded {
-    /// What fails.
+    /// The fault.
     Wrong(Fault),
     /// The result.
     Right(Vec<u32>),
 }
 
-/// What an assertion gives in place of these results, one for each of its hypotheses.
+/// Returns the result of an assertion for these results, one for each of its hypotheses.
 fn conclude(
     alloc: Global,
     frames: &Frames,
@@ -190,7 +190,7 @@ fn conclude(
     }
 }
 
-/// The first hypothesis that asks for another result than the one that stands there.
+/// Returns the first hypothesis that requires another result than the one that stands there.
 fn find_other(
     alloc: Global,
     frames: &Frames,
@@ -232,7 +232,7 @@ fn find_other(
     Ok(None)
 }
 
-/// What is said of a result that is not what the hypothesis asks for.
+/// Returns the fault of a result that is not the one that the hypothesis requires.
 fn other(
     kind: Hypothesis,
     head: u32,

@@ -1,4 +1,4 @@
-//! The images that the results for `$f` give to variables, put into an expression.
+//! The images that the results for `$f` give to variables, substituted in an expression.
 ghost use Rattle.std.specs.Prelude.{◌≡◌, ℕ, ◌<◌, ◌≤◌, ◌+◌, ◌^◌, ◌∷◌, [], length, drop, IfOk, MatchOption};
 ghost use Rattle.frame.specs.Below.{AreBelow};
 ghost use Rattle.frame.specs.Substitution.{code_image, code_apply};
@@ -8,14 +8,14 @@ ghost use Rattle.reasons.specs.ReadImages.{codes_read};
 use entries::{Hypotheses, Hypothesis};
 use std::alloc::{AllocError, Global};
 
-/// What a variable stands for.
+/// The image of a variable.
 #[derive(Drop)]
 pub struct Image {
     pub variable: u32,
     pub symbols: Vec<u32>,
 }
 
-/// The images that results give: the result for a `$f`, without its constant, is that of its variable.
+/// Returns the images that results give: the result for a `$f`, without its constant, is that of its variable.
 pub fn read_images(
     alloc: Global,
     kinds: &Hypotheses<'_>,
@@ -35,7 +35,7 @@ pub fn read_images(
     Ok(images)
 }
 
-/// What stands behind the first symbol.
+/// Returns the symbols after the first one.
 fn behind_first(expr: &[u32]) -> &[u32]
     ensures { result.now ≡ drop 1 expr.now }
 {
@@ -45,7 +45,7 @@ fn behind_first(expr: &[u32]) -> &[u32]
     &expr[1..]
 }
 
-/// The image of a symbol, where it has one.
+/// Returns the image of a symbol, where it has one.
 pub fn image_of<'a>(images: &'a [Image], symbol: u32) -> Option<&'a [u32]>
     ensures { MatchOption result (code_image (code_images images.entry.now) symbol ≡ symbol ∷ [])
         (λ r. r.now ≡ code_image (code_images images.entry.now) symbol) }
@@ -58,7 +58,7 @@ pub fn image_of<'a>(images: &'a [Image], symbol: u32) -> Option<&'a [u32]>
     None
 }
 
-/// The image of a symbol, or itself, which is handed in.
+/// Returns the image of a symbol, or the symbol itself, which is handed in.
 pub fn image_or<'a>(images: &'a [Image], symbol: u32, own: &'a [u32]) -> &'a [u32]
     requires { own.now ≡ symbol ∷ [] }
     ensures { result.now ≡ code_image (code_images images.entry.now) symbol }
@@ -69,7 +69,7 @@ pub fn image_or<'a>(images: &'a [Image], symbol: u32, own: &'a [u32]) -> &'a [u3
     }
 }
 
-/// The expression with the images put in, where it has no more symbols than there is room for.
+/// Returns the expression with the images substituted, if it has no more symbols than there is room for.
 pub fn apply(
     alloc: Global,
     images: &[Image],

@@ -11,7 +11,7 @@ pub enum Reason {
     Theorem { proved: Vec<u32> },
 }
 
-/// What fails at an item.
+/// A fault at an item.
 #[derive(Debug, Drop)]
 pub enum Fault {
     /// No statement has the label.
@@ -20,7 +20,7 @@ pub enum Fault {
     Inactive {
         hypothesis: usize,
     },
-    /// The statement stands at the theorem or behind it.
+    /// The statement is the theorem or stands after it.
     Later {
         statement: usize,
     },
@@ -30,20 +30,20 @@ pub enum Fault {
         takes: usize,
         there: usize,
     },
-    /// The result for a `$f` begins with another constant.
+    /// The result for a `$f` has another typecode.
     Constant {
         assertion: usize,
         hypothesis: usize,
         result: Vec<u32>,
     },
-    /// The result is not what a hypothesis asks for, its images put in.
+    /// The result is not the hypothesis with the images substituted.
     Expression {
         assertion: usize,
         hypothesis: usize,
         asked: Vec<u32>,
         result: Vec<u32>,
     },
-    /// Two variables of the assertion have to be kept apart, and `one` stands in the image of `first`, `other` in that of
+    /// Two variables of the assertion must be disjoint, and `one` stands in the image of `first`, `other` in that of
     /// `second`, where no active `$d` has these two together; they may be the same.
     Together {
         assertion: usize,

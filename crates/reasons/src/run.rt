@@ -17,8 +17,8 @@ use frame::Frames;
 use proof_code::Items;
 use std::alloc::{AllocError, Global};
 
-/// The first fault of the run over the items of a proof of the `$p` at a position, or none where it goes through to what
-/// the theorem says.
+/// Returns the first fault of the run over the items of the proof of the `$p` at a position, or `None` if it ends with
+/// the theorem's expression.
 ///
 /// Cost: the sum of the lengths of all results.
 pub fn first_fault(
@@ -51,7 +51,7 @@ pub fn first_fault(
     end(alloc, frames.expr(at), state.stack.as_slice())
 }
 
-/// One item: 0 marks, a number up to the count of the labels cites, a greater one recalls.
+/// Runs one item: 0 marks, a number up to the count of the labels cites, a greater one recalls.
 fn step(
     alloc: Global,
     frames: &Frames,
@@ -84,7 +84,7 @@ fn step(
     }
 }
 
-/// What is wrong with the results at the end, where one has to be left.
+/// Returns the fault of the results at the end, where one must be left.
 fn end(alloc: Global, says: &[u32], stack: &[Vec<u32>]) -> Result<Option<Reason>, AllocError>
     ensures { IfOk result (λ r. MatchOption r (IsAlone says.now stack.now) (IsEndFault says.now stack.now)) }
 {

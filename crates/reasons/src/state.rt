@@ -1,4 +1,4 @@
-//! What a run keeps.
+//! The state of a run.
 ghost use Rattle.std.specs.Prelude.{◌≡◌, ℕ, ◌<◌, ◌≤◌, ◌+◌, [], length, IfOk, OnErr, MatchOption};
 ghost use Rattle.reasons.specs.declared.reason.Fault.TheVariants.{Heavy, Unmarked};
 ghost use Rattle.subst.specs.declared.buffer.TheConstants.{SYMBOLS_LIMIT};
@@ -7,7 +7,7 @@ use crate::reason::Fault;
 use std::alloc::{AllocError, Global};
 use subst::SYMBOLS_LIMIT;
 
-/// The results that wait, the last on top, the marked ones, and the weight so far: the sum of the lengths of what its
+/// The results on the stack, the last on top, the marked ones, and the weight so far: the sum of the lengths of what its
 /// citations and recalls give, at most `SYMBOLS_LIMIT`.
 #[derive(Drop)]
 pub struct State {
@@ -21,7 +21,7 @@ impl State {
     ghost use Rattle.reasons.specs.Stored.Vectors.{AreSymbols};
     ghost use Rattle.reasons.specs.Steps.{IsPushed, IsMarkedOf, IsRecalled, FailsToRecall};
 
-    /// Nothing yet.
+    /// Returns an empty state.
     pub fn new(alloc: Global) -> State
         ensures stack { result.stack.items ≡ [] }
         ensures marked { result.marked.items ≡ [] }
@@ -34,7 +34,7 @@ impl State {
         }
     }
 
-    /// Adds a result, unless it makes the proof too heavy.
+    /// Pushes a result, unless it makes the proof too heavy.
     pub fn push(&mut self, expr: Vec<u32>) -> Result<Option<Fault>, AllocError>
         requires { self.old.weight ≤ SYMBOLS_LIMIT }
         ensures pushed { IfOk result (λ r. MatchOption r (IsPushed self.old self.new expr)
@@ -74,7 +74,7 @@ impl State {
         Ok(None)
     }
 
-    /// Adds a marked result again, by its index from 0.
+    /// Pushes a marked result again, by its index from 0.
     pub fn recall(&mut self, alloc: Global, index: usize) -> Result<Option<Fault>, AllocError>
         requires { self.old.weight ≤ SYMBOLS_LIMIT }
         ensures weight { self.new.weight ≤ SYMBOLS_LIMIT }

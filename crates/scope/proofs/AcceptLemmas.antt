@@ -50,7 +50,7 @@ with_kinds-more names kind (x ∷ xs) =
 plus_zero : (n : ℕ) → n + 0 ≡ n
 plus_zero n = omega arith
 
--- of no names each is among the names
+-- each of no names is among the names
 no_names : (names : List Name) → AreNamed names []
 no_names names x h = absurd (true≢false (sym h))
 
@@ -158,7 +158,7 @@ bare-rule S (Float label constant variable) = refl
 bare-rule S (Ess label expr) = refl
 bare-rule S (Axiom label expr) = refl
 
--- what holds where a call succeeds, where it has not failed
+-- the property of a call's success, where it has not failed
 pub ok_of : {A B : Type 0} {P : Type 0} (r : Result A B) → is_err r ≡ false → OnOk r P → P
 ok_of (Ok x) h p = p
 ok_of (Err e) h p = cc

@@ -1,4 +1,4 @@
--- What a statement more does to what is active.
+-- The effect of one more statement on the active ones.
 use Rattle.std.specs.Prelude.{◌≡◌, ℕ, zero, suc, ◌+◌, ◌-◌, ◌≤◌, Bool, true, false, cond, List, [], ◌∷◌, ◌++◌, length, take, refl}
 use Rattle.std.specs.List.{flat_map}
 use Rattle.std.proofs.Common.{◌∙◌, ap, sym, arith, true≢false}
@@ -118,13 +118,13 @@ count-append p (s ∷ S) T = by (p s) (count-append p S T)
     by true e = omega arith
     by false e = e
 
--- ---- what a `$}` leaves: what stands before the last open block
+-- ---- the statements that a `$}` leaves: those before the last open block
 
 abbrev pub from_open : List (ℕ × Stmt) → List (ℕ × Stmt)
 from_open [] = []
 from_open (p ∷ es) = cond (has_open es) (from_open es) (p ∷ es)
 
--- what is active stands before the last open block, or from its start on
+-- an active statement stands before the last open block, or from its start on
 pub split_open : (es : List (ℕ × Stmt)) → es ≡ before_open es ++ from_open es
 split_open [] = refl
 split_open (p ∷ es) = by (has_open es) (split_open es)
@@ -214,7 +214,7 @@ active_from-close at (s ∷ S) =
     ∙ (close_step (stays_open 0 S) (has_open (active_from (at + 1) S)) (at, s) (at + 1 + length S, Close) (active_from (at + 1) S) _ refl (active_from-close (at + 1) S)
     ∙ ap (λ n. before_open (active_from at (s ∷ S)) ++ (n, Close) ∷ []) (place at (length S)))
 
--- what a list of one kind loses at a `$}`
+-- the statements that a list of one kind loses at a `$}`
 pub flat_map-taken : {A : Type 0} (f : ℕ × Stmt → List A) (es : List (ℕ × Stmt)) → take (length (flat_map f (before_open es))) (flat_map f es) ≡ flat_map f (before_open es)
 flat_map-taken f es =
     ap (take (length (flat_map f (before_open es)))) (ap (flat_map f) (split_open es) ∙ flat_map-append f (before_open es) (from_open es))

@@ -13,7 +13,7 @@ use Rattle.scope.specs.Symbols.{symbols_by}
 use Rattle.scope.specs.Declares.{declared_with}
 use Rattle.scope.specs.declared.rule.Rule.TheVariants.{G1, G2, G3, G4, G5, G6, G7, G8, G9, G10}
 
--- what does not look at a proof is the same of a statement without one
+-- a property that ignores proofs is that of the statement without one
 pub bare-same : {A : Type 0} (f : Stmt → A) → ((label : Name) (expr : Expr) (proof : List Name) → f (Prove label expr []) ≡ f (Prove label expr proof)) → (s : Stmt) → f (bare s) ≡ f s
 bare-same f h (Prove label expr proof) = h label expr proof
 bare-same f h Open = refl
@@ -95,7 +95,7 @@ module _ (S : Database) where
   floats : (x : Name) → has_float (bares S) x ≡ has_float S x
   floats x = any-active (is_float_of x) (bare-same (is_float_of x) (λ l e p. refl)) 1 S
 
-  -- an axiom breaks the same rule behind them
+  -- an axiom breaks the same rule after them
   labelled : (label : Name) (expr : Expr) → broken_rule (bares S) (Axiom label expr) ≡ broken_rule S (Axiom label expr)
   labelled label [] = λ j.
       cond (not (not (labels label j || symbols label j))) (Some G4) None

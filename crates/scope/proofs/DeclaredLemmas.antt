@@ -1,4 +1,4 @@
--- What a statement more declares.
+-- The declarations of one more statement.
 use Rattle.std.specs.Prelude.{◌≡◌, ℕ, Bool, true, false, ◌||◌, List, [], ◌∷◌, ◌++◌, Option, Some, None, refl}
 use Rattle.std.specs.List.{list_any}
 use Rattle.std.proofs.Common.{◌∙◌, ap, sym, subst, true≢false}
@@ -25,7 +25,7 @@ use Rattle.scope.proofs.AcceptLemmas.{with_kinds-more}
 use Rattle.scope.proofs.GoingBackLemmas.{all-has, fresh-none, inactive-free}
 use Rattle.scope.proofs.LegalLemmas.{legal-constants, legal-variables, legal-label}
 
--- ---- what a statement more declares
+-- ---- the declarations of one more statement
 
 any-append : (p : Stmt → Bool) (S : Database) (s : Stmt) → list_any p (S ++ s ∷ []) ≡ (list_any p S || p s)
 any-append p S s = list_any-append p S (s ∷ []) ∙ ap (λ b. list_any p S || b) (or-false (p s))
@@ -178,7 +178,7 @@ declared_with-more names Open = ([], sym (append-nil names))
 declared_with-more names Close = ([], sym (append-nil names))
 declared_with-more names (Disj xs) = ([], sym (append-nil names))
 
--- what is noted of a legal statement stands for its symbols
+-- the recorded numbers of a legal statement stand for its symbols
 pub noted-after : (S : Database) (s : Stmt) (names : Declared) (old new : Option (List ℕ)) → broken_rule S s ≡ None → IsNumberingOf S names → IsNotedBy (declared_with names s) s old new
     → AreNoted (symbols_after S s) (symbols_in s) old → AreNoted (symbols_after S s) (symbols_in s) new
 noted-after S (Const xs) names old new legal k is noted = subst (λ (N : List Name). AreNoted N xs new) ((numbering-constants S names xs legal k).symbols ∙ symbols_of-append S (Const xs)) is

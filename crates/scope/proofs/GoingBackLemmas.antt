@@ -59,7 +59,7 @@ stack-back f S M T stack e below known is =
     ∙ (ap (numbers_in (symbols_of S)) (take_at A (flat_map f (active_from (1 + length M) T)) (length A) refl)
     ∙ (ap (λ ns. numbers_in ns A) (ap symbols_of e ∙ more.1) ∙ numbers_in-more (symbols_of M) more.0 A known))))
 
--- what stands at the mark is the first of what stood
+-- the statements that stand at the mark are the first of those that stood
 pub standing-back : (S M : Database) (vs ts : List ℕ) (n : ℕ) (blocks : List StackHeights) (mark : StackHeights) → IsKept S M vs ts n blocks mark → take (length (standing_of M)) (standing_of S) ≡ standing_of M
 standing-back S M vs ts n blocks mark k =
     let f : ℕ × Stmt → List Standing = λ p. stands_at p.0 p.1 in
@@ -101,7 +101,7 @@ kept-back S M vs ts n blocks mark k =
         by : (l : ℕ) → left_open M ≡ l → l ≡ 0
         by l e = same l (ap (λ n. n == 0) (sym e) ∙ (sym (closed-left M never) ∙ closed))
 
--- ---- what the rules say of the names to be declared
+-- ---- the consequences of the rules for the names to be declared
 
 pub all-has : (p : Name → Bool) (x : Name) (xs : List Name) → list_all p xs ≡ true → has_name x xs ≡ true → p x ≡ true
 all-has p x [] h k = cc

@@ -55,7 +55,7 @@ labels_of-append (t ∷ S) T = ap (option_list (label_of t)) (labels_of-append S
     by None = refl
     by (Some l) = refl
 
--- ---- what is active was declared
+-- ---- an active symbol was declared
 
 pub active-was : (at : ℕ) (S : Database) (x : Name) → has_name x (flat_map (λ p. variables p.1) (active_from at S)) ≡ true → was_variable S x ≡ true
 active-was at [] x h = cc

@@ -20,7 +20,7 @@ order x y = slice_cmp nat_cmp x.now y.now
 abbrev pub names_of : List (Bor Name) → List Name
 names_of = map (λ w. w.now)
 
--- a word that is apart from others is none of them
+-- a word that differs from others is none of them
 none-of : (w : Bor Name) (ws : List (Bor Name)) → AllByRecursion (λ y. eq_by_cmp order w y ≡ false) ws → has_name w.now (names_of ws) ≡ false
 none-of w [] h = refl
 none-of w (x ∷ ws) h = ap (λ b. b || has_name w.now (names_of ws)) (sym (is_eq-slice_cmp w.now x.now) ∙ h.0) ∙ none-of w ws h.1
@@ -31,7 +31,7 @@ unfolding IsDistinct
 different-from_distinct [] d = refl
 different-from_distinct (w ∷ ws) d = ap (λ b. not b && all_different (names_of ws)) (none-of w ws d.0) ∙ different-from_distinct ws d.1
 
--- a name that is none of others is apart from each
+-- a name that is none of others differs from each
 apart-from_none : (w : Bor Name) (ws : List (Bor Name)) → has_name w.now (names_of ws) ≡ false → AllByRecursion (λ y. eq_by_cmp order w y ≡ false) ws
 apart-from_none w [] h = tt
 apart-from_none w (x ∷ ws) h = by (name_eq w.now x.now) refl h (apart-from_none w ws)
@@ -55,7 +55,7 @@ distinct-from_different (w ∷ ws) d = by (has_name w.now (names_of ws)) refl d 
 flips : (x y : Bor Name) → eq_by_cmp order x y ≡ eq_by_cmp order y x
 flips x y = is_eq-slice_cmp x.now y.now ∙ (name_eq-comm x.now y.now ∙ sym (is_eq-slice_cmp y.now x.now))
 
--- what does not fall and differs rises
+-- a list that does not fall and has no equal neighbours rises
 rises : (r : Ordering) (s : Ordering) → s ≡ ordering_reverse r → is_lt r ≡ false → is_eq s ≡ false → s ≡ Less
 rises Less s e l d = absurd (true≢false l)
 rises Equal s e l d = absurd (true≢false (sym (ap is_eq e) ∙ d))
@@ -84,7 +84,7 @@ same-in_order ws os moved twice = by (all_different (names_of ws)) refl
         sym twice.same ∙ (sym (is_eq-slice_cmp (get_or os twice.place twice.other).now (get_or os (twice.place + 1) twice.other).now) ∙ apart_from_distinct (eq_by_cmp order) os twice.place (twice.place + 1) twice.other distinct (omega arith) within)
     by false e = refl
 
--- what the neighbours of the words in order tell of the words
+-- the neighbours of the words in order tell whether a word stands twice
 pub differ-told : (words : List Name) (ws os : List (Bor Name)) (told : Bool) → names_of ws ≡ words → IsPermutation ws os → IsSorted order os → (told ≡ true → DifferNext os (length os)) → (told ≡ false → IsTwice os)
     → told ≡ all_different words
 differ-told words ws os true is moved sorted differ twice = sym (ap all_different (sym is) ∙ differ-in_order ws os moved sorted (differ refl))

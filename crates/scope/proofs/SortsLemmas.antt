@@ -1,4 +1,4 @@
--- What a look-up says of a symbol.
+-- The result of a look-up of a symbol.
 use Rattle.std.specs.Prelude.{◌≡◌, ℕ, ◌+◌, ◌==◌, Bool, true, false, not, ◌||◌, ◌&&◌, List, [], ◌∷◌, ◌++◌, length, Option, Some, None, is_some, refl, option_map}
 use Rattle.std.specs.List.{list_any, flat_map}
 use Rattle.std.proofs.Common.{sym, ◌∙◌, ap, arith, true≢false, take, ◌<◌, append_assoc, length-append}
@@ -21,7 +21,7 @@ use Rattle.names.proofs.AddedNames.{has_name-append, number_in-same}
 use Rattle.names.proofs.CodesLemmas.{same_name, name_eq-comm}
 use Rattle.scope.proofs.NamesLemmas.{active-was}
 
--- ---- what is active, as lists of names
+-- ---- the active symbols, as lists of names
 
 pub any-variables : (es : List (ℕ × Stmt)) (x : Name) → list_any (λ p. has_name x (variables p.1)) es ≡ has_name x (flat_map (λ p. variables p.1) es)
 any-variables [] x = refl
@@ -82,7 +82,7 @@ numbers-has names x (y ∷ xs) h = ap (λ b. b || list_any (λ n. n == number_in
 
 -- ---- sorts
 
--- what was never declared as a variable is no active one
+-- a name that was never declared as a variable is no active one
 not_active : (S : Database) (x : Name) → was_variable S x ≡ false → is_variable S x ≡ false
 not_active S x h = false_from_ne_true (is_variable S x) (λ e. true≢false (sym (active-was 1 S x (sym (is_variable-active S x) ∙ e)) ∙ h))
 

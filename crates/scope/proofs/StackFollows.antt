@@ -58,7 +58,7 @@ marked-more S M s mark h k = record {
   typed_known = k.typed_known;
 }
 
--- what stands, after a statement that closes nothing
+-- the standing statements, after a statement that closes nothing
 pub standing-more : (S : Database) (s : Stmt) → is_close s ≡ false → standing_of (S ++ s ∷ []) ≡ standing_of S ++ stands_at (1 + length S) s
 standing-more S s h = flat_map-more (λ p. stands_at p.0 p.1) S s h
 

@@ -23,7 +23,7 @@ no_member (x ∷ xs) n none = by (x == n) refl (no_member xs n (λ k h. none (su
     by true e rest = absurd (none 0 (ap Some (eqb-true x n e)))
     by false e rest = rest
 
--- what stands there is not what is absent
+-- a number that stands there is not an absent one
 pub other : (xs : List ℕ) (k n m : ℕ) → list_any (λ y. y == m) xs ≡ false → slice_get xs k ≡ Some n → n ≡ m → ⊥
 other xs k n m absent h e = true≢false (sym (member xs k m (h ∙ ap Some e)) ∙ absent)
 

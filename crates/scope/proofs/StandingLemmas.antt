@@ -15,7 +15,7 @@ use Rattle.scope.proofs.ActiveLemmas.{flat_map-taken}
 use Rattle.scope.proofs.BareLemmas.{bare-same}
 use Rattle.scope.proofs.StackFollows.{flat_map-close, standing-more}
 
--- what stands behind one statement more: the first of what stood and of what stands by it
+-- the standing statements after one statement more: the first of those before and the ones that it adds
 pub standing-after : (S : Database) (s : Stmt) → take (length (standing_of (S ++ s ∷ []))) (standing_of S ++ stands_at (length S + 1) s) ≡ standing_of (S ++ s ∷ [])
 standing-after S s = by (is_close s) refl
   where
@@ -69,7 +69,7 @@ standing-fewer S = let one = stand (active S) in let all = active-fewer 1 S in o
         one true h = omega (arith, h)
         one false h = omega (arith, h)
 
--- what stands there is copied whole
+-- a statement that stands there is copied whole
 pub stands-again : (es : List (ℕ × Stmt)) → flat_map (λ e. stands_at e.at e.stmt) (flat_map (λ p. stands_at p.0 p.1) es) ≡ flat_map (λ p. stands_at p.0 p.1) es
 stands-again [] = refl
 stands-again (p ∷ es) =

@@ -128,7 +128,7 @@ number-at own (p ∷ names) x (suc n) k lt e first h is =
     by true is = let lt = is.0 in (omega (arith, lt), is.1)
     by false is = is
 
--- ---- numbers that are noted
+-- ---- numbers that are recorded
 
 -- one symbol more
 pub noted-more : (symbols : List Name) (xs : Expr) (x : Name) (n : ℕ) (old new : Option (List ℕ)) → IsNumberOf symbols x n → IsAppended n old new → AreNoted symbols xs old → AreNoted symbols (xs ++ x ∷ []) new
@@ -161,6 +161,6 @@ noted-later symbols more xs (Some numbers) are = (codes numbers are.0, same numb
         let p = and_parts (nat_lt n (length symbols)) (list_all (λ m. nat_lt m (length symbols)) ns) h in
         ap (λ x. x ∷ decode (symbols ++ more) ns) (name_at-more symbols more n (ltb-true n (length symbols) p.0)) ∙ ap (λ r. name_at symbols n ∷ r) (same ns p.1)
 
--- what was noted stands for the first of the symbols, and the rest is to come
+-- the recorded numbers stand for the first of the symbols, and the rest is to come
 abbrev pub AreDone : List Name → Expr → Expr → Option (List ℕ) → Type 0
 AreDone symbols all rest noted = (done : Expr) × (done ++ rest ≡ all) × AreNoted symbols done noted

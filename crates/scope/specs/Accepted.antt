@@ -1,4 +1,5 @@
--- What contracts see of a scope: the statements accepted, and those of them that stood there at the last mark, all without their proofs.
+-- The view of a scope in contracts: the statements accepted, and those of them that stood there at the last mark, all without
+-- their proofs.
 -- Source: this project's profile; a library goes back to its mark where a text is refused.
 -- The code stores no statement: it has numbers, kinds, stacks and the places where blocks start.
 use Rattle.mm_read.specs.Statements.{Database}

@@ -1,4 +1,4 @@
--- What is active behind a list of statements. Positions count from 1.
+-- The statements that are active after a list of statements. Positions count from 1.
 -- Source: Metamath, 4.2.8 (scoping statements) and 4.2.
 -- The code keeps stacks and the places where blocks start; the model counts brackets in what follows a statement.
 use Rattle.std.specs.Prelude.{ℕ, zero, suc, ◌+◌, ◌-◌, Bool, true, false, ◌&&◌, ◌||◌, ◌==◌, nat_le, nat_lt, if◌then◌else◌, List, [], ◌∷◌, take, drop, map, Option, Some, None, slice_get}
@@ -26,7 +26,7 @@ stays_open zero (Close ∷ S) = false
 stays_open (suc depth) (Close ∷ S) = stays_open depth S
 stays_open depth (s ∷ S) = stays_open depth S
 
--- what is active behind the statements, the first of them standing at `at`: each whose block none of the later ones closes
+-- the statements that are active after these, the first of them standing at `at`: each whose block none of the later ones closes
 abbrev pub active_from : ℕ → Database → List (ℕ × Stmt)
 active_from at [] = []
 active_from at (s ∷ S) =

@@ -1,4 +1,4 @@
--- What a statement declares in the numbering, by its shape.
+-- The declarations of a statement in the numbering, by its shape.
 -- Source: this project's form; what declares a name is Metamath, 4.2.
 use Rattle.std.specs.Prelude.{◌≡◌, ℕ, true, false, List, Option, None}
 use Rattle.mm_lex.specs.Alphabet.{Name, has_name}
@@ -8,7 +8,7 @@ use Rattle.scope.specs.Kinds.{Declared, declared_symbols, kind_in, is_label_kind
 use Rattle.scope.specs.Stored.Noted.{AreNoted}
 use Rattle.scope.specs.declared.numbering.NameKind.TheVariants.{Label, Constant, Variable}
 
--- the names behind the statement
+-- the names after the statement
 abbrev pub declared_with : Declared → Stmt → Declared
 declared_with names (Const xs) = with_kinds names Constant xs
 declared_with names (Var xs) = with_kinds names Variable xs
@@ -28,7 +28,7 @@ MayDeclare names (Axiom label expr) = kind_in names label ≡ None
 MayDeclare names (Prove label expr proof) = kind_in names label ≡ None
 MayDeclare names s = Unit {0}
 
--- the numbers of the symbols that a `$c` or a `$v` declares are noted; those of another statement stay as they were
+-- the numbers of the symbols that a `$c` or a `$v` declares are recorded; those of another statement stay as they were
 abbrev pub IsNotedBy : Declared → Stmt → Option (List ℕ) → Option (List ℕ) → Type 0
 IsNotedBy names (Const xs) old new = AreNoted (declared_symbols names) xs new
 IsNotedBy names (Var xs) old new = AreNoted (declared_symbols names) xs new

@@ -1,4 +1,4 @@
--- What a name was declared as.
+-- The kinds of declarations of names.
 -- Source: Metamath, 4.2.
 -- The code keeps a name's kind beside its number; the model looks through the statements.
 use Rattle.std.specs.Prelude.{◌≡◌, ◌<◌, Bool, true, false, List, [], ◌∷◌, ◌++◌, map, length, take, ℕ, Option, Some, None, is_some, if◌then◌else◌}

@@ -1,4 +1,4 @@
--- The ten rules of a statement, behind the statements before it.
+-- The ten rules of a statement, after the earlier statements.
 -- Source: Metamath, 4.2 (declarations, hypotheses, assertions, scoping) and appendix E; the numbering is this project's.
 -- The code looks each name up once and stops at the least rule broken; the model tests rule by rule.
 use Rattle.std.specs.Prelude.{◌≡◌, ℕ, ◌+◌, Bool, true, not, ◌&&◌, ◌||◌, nat_lt, if◌then◌else◌, List, [], ◌∷◌, ◌++◌, find, Option, Some, None}
@@ -29,7 +29,7 @@ is_fresh_label S (Some x) = not (was_label S x || was_symbol S x)
 abbrev pub are_typed : Database → Expr → Bool
 are_typed S expr = list_all (λ x. not (is_variable S x) || has_float S x) expr
 
--- whether the statement keeps the rule, behind S
+-- whether the statement keeps the rule, after S
 abbrev pub keeps : Database → Stmt → Rule → Bool
 keeps S (Const names) G1 = is_closed S
 keeps S s G2 = list_all (λ x. not (was_symbol S x || was_label S x)) (constants s) && all_different (constants s)
@@ -67,7 +67,8 @@ abbrev pub or_later : ℕ → Option Rule → Option (ℕ × Rule) → Option (�
 or_later at None later = later
 or_later at (Some rule) later = Some (at, rule)
 
--- the first of the statements T, behind S, that breaks a rule, with its number counted from `at` and its least rule; an open block at the end counts as one more statement
+-- the first of the statements T, after S, that breaks a rule, with its number counted from `at` and its least rule; an open
+-- block at the end counts as one more statement
 abbrev pub first_broken : ℕ → Database → Database → Option (ℕ × Rule)
 first_broken at S [] = numbered at (end_rule S)
 first_broken at S (s ∷ T) = or_later at (broken_rule S s) (first_broken (at + 1) (S ++ s ∷ []) T)

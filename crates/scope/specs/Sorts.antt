@@ -1,4 +1,5 @@
--- What a name is behind the statements: a constant, an active variable with or without an active `$f`, a label, or none of these.
+-- The sort of a name after the statements: a constant, an active variable with or without an active `$f`, a label, or none of
+-- these.
 -- Source: Metamath, 4.2.
 -- The code looks a name up once; each rule on expressions is said by what it is.
 use Rattle.std.specs.Prelude.{◌≡◌, Bool, true, false, not, ◌||◌, ◌&&◌, Option, Some, None, if◌then◌else◌}

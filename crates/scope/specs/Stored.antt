@@ -1,4 +1,5 @@
--- How a scope is kept: its stacks and counts, the kinds of names, what it notes, and words in order. No public clause cites it but for `AreNoted` and `IsAppended`.
+-- How a scope is kept: its stacks and counts, the kinds of names, the numbers that it records, and words in order. No public
+-- clause cites it but for `AreNoted` and `IsAppended`.
 pub mod Stacks
 pub mod KindCounts
 pub mod Noted

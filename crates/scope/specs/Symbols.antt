@@ -37,7 +37,8 @@ symbols_in s = []
 abbrev pub AreNumbers : List Name → Expr → List ℕ → Type 0
 AreNumbers symbols xs numbers = AreCodes symbols numbers × (decode symbols numbers ≡ xs)
 
--- the numbers stand for the variables that a `$v` declares, or for the two symbols of a `$f`; of another statement nothing is asked
+-- the numbers stand for the variables that a `$v` declares, or for the two symbols of a `$f`; for another statement nothing is
+-- required
 abbrev pub AreVariableNumbers : List Name → Stmt → List ℕ → Type 0
 AreVariableNumbers symbols (Var xs) numbers = AreNumbers symbols xs numbers
 AreVariableNumbers symbols (Float label constant variable) numbers = AreNumbers symbols (constant ∷ variable ∷ []) numbers
@@ -47,7 +48,7 @@ AreVariableNumbers symbols s numbers = Unit {0}
 abbrev pub symbols_after : Database → Stmt → List Name
 symbols_after S s = with_names (symbols_of S) (symbols_by s)
 
--- what is in an option, before a list
+-- the content of an option, before a list
 abbrev pub option_list : {A : Type 0} → Option A → List A → List A
 option_list None xs = xs
 option_list (Some x) xs = x ∷ xs

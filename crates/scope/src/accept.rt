@@ -1,4 +1,4 @@
-//! What a legal statement changes in the state of the rules.
+//! The changes that a legal statement makes in the state of the rules.
 ghost use Rattle.std.specs.Prelude.{◌≡◌, ◌+◌, ◌<◌, ◌≤◌, ◌^◌, ◌++◌, ◌∷◌, [], ℕ, List, length, get_or, true, OnOk, OnErr};
 ghost use Rattle.mm_read.specs.declared.stmt.Stmt.TheVariants as shape;
 ghost use Rattle.scope.specs.Active.{bare};
@@ -112,7 +112,7 @@ impl Rules {
     }
 }
 
-/// The second of at least two numbers.
+/// Returns the second of at least two numbers.
 fn second(numbers: &[u32]) -> u32
     requires { 1 < length numbers.now }
     ensures { result ≡ get_or numbers.now 1 0 }

@@ -1,4 +1,4 @@
-//! What a legal statement declares, in the numbering.
+//! The declarations of a legal statement in the numbering.
 ghost use Rattle.std.specs.Prelude.{◌≡◌, ◌++◌, None, true, false, IfOk, OnOk, OnErr};
 ghost use Rattle.mm_lex.specs.Alphabet.{Name, has_name};
 ghost use Rattle.scope.specs.Kinds.{Declared, IsNumberOf, declared_symbols, is_label_kind, is_symbol_kind, kind_in, with_kind, with_kinds};
@@ -12,9 +12,9 @@ use mm_lex::{Word, Words};
 use mm_read::Stmt;
 use std::alloc::{AllocError, Global};
 
-/// Declares what a legal statement declares. The numbers of the symbols of a `$c` and a `$v` are noted.
+/// Declares what a legal statement declares. The numbers of the symbols of a `$c` and a `$v` are recorded.
 ///
-/// Where a growth is refused, the names that were there stay the first ones.
+/// If an allocation fails, the earlier names stay the first ones.
 pub fn declare_names(
     names: &mut Numbering,
     alloc: Global,
@@ -49,7 +49,7 @@ fn declare_label(names: &mut Numbering, alloc: Global, label: &Word) -> Result<(
     Ok(())
 }
 
-/// Gives a kind to each of the symbols that has none, and notes their numbers.
+/// Gives a kind to each of the symbols that has none, and records their numbers.
 fn declare_symbols(
     names: &mut Numbering,
     alloc: Global,
@@ -71,7 +71,7 @@ fn declare_symbols(
     Ok(())
 }
 
-/// Gives a kind to a symbol that has none, and tells its number. A variable may have had it before, in a block that is
+/// Gives a kind to a symbol that has none, and returns its number. A variable may have had it before, in a block that is
 /// closed.
 fn declare_symbol(
     names: &mut Numbering,

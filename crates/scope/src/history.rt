@@ -21,21 +21,21 @@ impl Model for History {
 unsafe impl Send for History {}
 
 impl History {
-    /// No statement.
+    /// Returns an empty history.
     pub fn new() -> History
         ensures { result.statements ≡ [] }
     {
         History {}
     }
 
-    /// The statements with one more.
+    /// Returns the statements with one more.
     pub fn after(_before: &History, _stmt: &Stmt) -> History
         ensures { result.statements ≡ _before.now.statements ++ bare _stmt.now ∷ [] }
     {
         History {}
     }
 
-    /// The same statements.
+    /// Returns the same statements.
     pub fn same(_of: &History) -> History
         ensures { result.statements ≡ _of.now.statements }
     {

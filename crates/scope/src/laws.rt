@@ -6,17 +6,17 @@ pub fn active_by_sentence()
     ensures { ActiveBySentence }
 {}
 
-/// What is active after one more statement that closes no block.
+/// States which statements are active after one more statement that closes no block.
 pub fn active_more()
     ensures { ActiveMore }
 {}
 
-/// What is active after a `$}`.
+/// States which statements are active after a `$}`.
 pub fn active_closed()
     ensures { ActiveClosed }
 {}
 
-/// What is active after later statements that close none of the earlier blocks.
+/// States which statements are active after later statements that close none of the earlier blocks.
 pub fn active_later()
     ensures { ActiveLater }
 {}

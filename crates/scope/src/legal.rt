@@ -24,7 +24,7 @@ use std::marker::Model;
 /// Lists of fewer words are compared pair by pair.
 const FEW: usize = 16;
 
-/// What a name is: a constant, an active variable with or without an active `$f`, a label, or
+/// The sort of a name: a constant, an active variable with or without an active `$f`, a label, or
 /// none of these.
 #[derive(Clone, Copy, Debug, Drop, PartialEq, Eq)]
 pub(crate) enum Sort {
@@ -35,7 +35,7 @@ pub(crate) enum Sort {
     Inactive,
 }
 
-/// What judges the next statement: the state of the rules, and the numbering of the names. Contracts see the statements
+/// The judge of the next statement: the state of the rules, and the numbering of the names. Contracts see the statements
 /// accepted so far.
 #[derive(Drop)]
 pub(crate) struct Judge<'a> {
@@ -56,10 +56,10 @@ impl<'a> Model for Judge<'a> {
 }
 
 impl<'a> Judge<'a> {
-    /// The least rule that the statement would break as the next one.
+    /// Returns the least rule that the statement would break as the next one.
     ///
-    /// Where it breaks none and the notes have begun, they are the numbers of its symbols, or taken away where a growth
-    /// is refused; for `$c` and `$v` they are taken away.
+    /// If it breaks none and recording has begun, the recorded numbers are those of its symbols, or are discarded if an
+    /// allocation fails; for `$c` and `$v` they are discarded.
     pub(crate) fn broken_rule(&self, stmt: &Stmt, noted: &mut Noted) -> Option<Rule>
         requires { AreNoted (symbols_of self.now.statements) [] noted.old }
         ensures rule { result ≡ broken_rule self.now.statements stmt.now }
@@ -177,7 +177,7 @@ impl<'a> Judge<'a> {
         None
     }
 
-    /// Whether each symbol is a constant or an active variable, and then whether the first is a
+    /// Returns whether each symbol is a constant or an active variable, and then whether the first is a
     /// constant, and each variable has an active `$f`.
     fn are_symbols(&self, expr: &Words, noted: &mut Noted) -> Option<(bool, bool)>
         requires { AreNoted (symbols_of self.now.statements) [] noted.old }
@@ -229,7 +229,7 @@ impl<'a> Judge<'a> {
         true
     }
 
-    /// Whether no symbol stands twice in the list. Where it is short the numbers that were noted tell it.
+    /// Returns whether no symbol stands twice in the list. A short list is judged by the recorded numbers.
     fn are_apart(&self, symbols: &Words, noted: &Noted) -> bool
         requires { AreNoted (symbols_of self.now.statements) symbols.now noted.now }
         ensures { result ≡ all_different symbols.now }
@@ -242,14 +242,14 @@ impl<'a> Judge<'a> {
         are_different(self.alloc, symbols)
     }
 
-    /// What a name is.
+    /// Returns what a name is.
     pub(crate) fn sort(&self, name: &[u8]) -> Sort
         ensures { IsSort self.now.statements name.now result }
     {
         self.look_up(name).0
     }
 
-    /// What a name is. The number of a symbol is noted.
+    /// Returns what a name is, and records the number of a symbol.
     #[inline(always)]
     fn sort_and_note(&self, name: &[u8], noted: &mut Noted) -> Sort
         ensures sort { IsSort self.now.statements name.now result }
@@ -260,7 +260,7 @@ impl<'a> Judge<'a> {
         sort
     }
 
-    /// What a name is, with its number among the symbols where it is one.
+    /// Returns what a name is, with its number among the symbols where it is one.
     #[inline(always)]
     fn look_up(&self, name: &[u8]) -> (Sort, u32)
         ensures sort { IsSort self.now.statements name.now result.0 }
@@ -274,14 +274,14 @@ impl<'a> Judge<'a> {
         }
     }
 
-    /// Whether a name was never declared, as a label or as a symbol.
+    /// Returns whether a name was never declared, as a label or as a symbol.
     fn is_fresh(&self, name: &[u8]) -> bool
         ensures { result ≡ not (was_symbol self.now.statements name.now || was_label self.now.statements name.now) }
     {
         self.names.find(name).is_none()
     }
 
-    /// Whether a name may be declared as a variable.
+    /// Returns whether a name may be declared as a variable.
     fn is_inactive(&self, name: &[u8]) -> bool
         ensures { result ≡ not (is_variable self.now.statements name.now || is_constant self.now.statements name.now || was_label self.now.statements name.now) }
     {
@@ -289,7 +289,7 @@ impl<'a> Judge<'a> {
     }
 }
 
-/// What the two symbols of a `$f` break, by what they are.
+/// Returns what the two symbols of a `$f` break, by what they are.
 fn broken_by_sorts(constant: Sort, variable: Sort) -> Option<Rule>
     ensures { result ≡ sorts_rule constant variable }
 {
@@ -308,7 +308,7 @@ fn broken_by_sorts(constant: Sort, variable: Sort) -> Option<Rule>
     None
 }
 
-/// Whether no number stands twice. Cost: the square of their count.
+/// Returns whether no number stands twice. Cost: the square of their count.
 fn numbers_differ(numbers: &[u32]) -> bool
     ensures { result ≡ numbers_differ numbers.now }
 {
@@ -322,7 +322,7 @@ fn numbers_differ(numbers: &[u32]) -> bool
     true
 }
 
-/// Whether no word stands twice in the list. Cost: where memory can be had, that of putting the list in order.
+/// Returns whether no word stands twice in the list. Cost: if allocation succeeds, that of sorting the list.
 fn are_different(alloc: Global, words: &Words) -> bool
     ensures { result ≡ all_different words.now }
 {
@@ -335,7 +335,7 @@ fn are_different(alloc: Global, words: &Words) -> bool
     }
 }
 
-/// The same by the words in order, where one that stands twice is next to itself.
+/// Returns whether no word stands twice in the list, by the sorted words, where equal words are neighbours.
 fn differ_by_order(alloc: Global, words: &Words) -> Result<bool, AllocError>
     ensures { IfOk result (λ differ. differ ≡ all_different words.now) }
 {
@@ -347,7 +347,7 @@ fn differ_by_order(alloc: Global, words: &Words) -> Result<bool, AllocError>
     Ok(differ_next(&ordered))
 }
 
-/// Whether no word is the one before it.
+/// Returns whether no word is the one before it.
 fn differ_next(words: &[&[u8]]) -> bool
     ensures yes { result ≡ true → DifferNext words.now (length words.now) }
     ensures no { result ≡ false → IsTwice words.now }
@@ -360,7 +360,7 @@ fn differ_next(words: &[&[u8]]) -> bool
     true
 }
 
-/// The same without memory; the cost is the square of the count of words.
+/// Returns whether no word stands twice in the list, without allocating; the cost is the square of the count of words.
 fn differ_pair_by_pair(words: &Words) -> bool
     ensures { result ≡ all_different words.now }
 {
@@ -375,7 +375,7 @@ fn differ_pair_by_pair(words: &Words) -> bool
     true
 }
 
-/// Whether a word is among the first `end` ones.
+/// Returns whether a word is among the first `end` ones.
 fn stands_before(words: &Words, end: usize, word: &[u8]) -> bool
     ensures { result ≡ has_name word.now (take end words.now) }
 {

@@ -1,6 +1,6 @@
-//! May this statement come next, and what is active behind it: the rules G1 to G10.
+//! Decides whether a statement may come next, and what is active after it: the rules G1 to G10.
 //!
-//! The crates above use two contracts: `Scope::add` accepts exactly the legal next statement, and else answers the least rule
+//! The crates above use two contracts: `Scope::add` accepts exactly the legal next statement, and else returns the least rule
 //! that it breaks; `Rules` does the same with a numbering that is lent to it, so that one table of names serves rules and frames.
 //! Read `rule`, `standing` and `steps`, then `scope` and `reading` (what it tells) and `rules`; `legal` decides the rules,
 //! `accept` has what a statement changes in their state and `declare` what it declares in the numbering; `numbering`, `stack`,

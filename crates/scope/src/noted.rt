@@ -1,11 +1,11 @@
-//! The numbers of a statement's symbols, noted while it is judged.
+//! The numbers of a statement's symbols, recorded while it is judged.
 ghost use Rattle.std.specs.Prelude.{◌≡◌, None, Some, [], IfSome, is_some};
 ghost use Rattle.scope.specs.Stored.Noted.{IsAppended};
 
 use std::alloc::Global;
 use std::marker::Model;
 
-/// Numbers of symbols, or none where they are not noted. Contracts see an option.
+/// Numbers of symbols, or nothing while they are not recorded. Contracts see an option.
 ///
 /// The buffer is kept from statement to statement.
 #[derive(Drop)]
@@ -23,7 +23,7 @@ impl Model for Noted {
 }
 
 impl Noted {
-    /// Nothing is noted, until it begins.
+    /// Returns an empty buffer; nothing is recorded until it begins.
     pub fn new(alloc: Global) -> Noted
         ensures { result ≡ None }
     {
@@ -41,14 +41,14 @@ impl Noted {
         self.whole = true;
     }
 
-    /// Takes the notes away.
+    /// Discards the recorded numbers.
     pub fn forget(&mut self)
         ensures { self.new ≡ None }
     {
         self.whole = false;
     }
 
-    /// Notes one number more. Where a growth is refused the notes are taken away.
+    /// Records one more number. If an allocation fails, the recorded numbers are discarded.
     #[inline(always)]
     pub fn note(&mut self, number: u32)
         ensures { IsAppended number self.old self.new }
@@ -58,7 +58,7 @@ impl Noted {
         }
     }
 
-    /// The numbers, where they were noted.
+    /// Returns the numbers, if they were recorded.
     pub fn numbers(&self) -> Option<&[u32]>
         ensures some { is_some result ≡ is_some self.now }
         ensures numbers { IfSome result (λ numbers. self.now ≡ Some numbers.now) }

@@ -7,7 +7,7 @@ use names::NameTable;
 use std::alloc::{AllocError, Global};
 use std::marker::Model;
 
-/// What a name was declared as. It is never declared as anything else.
+/// The kind of a name's declaration. A name is never declared as anything else.
 #[derive(Clone, Copy, Debug, Drop, PartialEq, Eq)]
 pub enum NameKind {
     Label,
@@ -15,7 +15,7 @@ pub enum NameKind {
     Variable,
 }
 
-/// A kind, and how many of the names before are symbols.
+/// A kind, and how many of the earlier names are symbols.
 #[derive(Clone, Copy, Debug, Drop, PartialEq, Eq)]
 pub struct CountedKind {
     pub kind: NameKind,
@@ -51,7 +51,7 @@ impl Model for Numbering {
 }
 
 impl Numbering {
-    /// No names.
+    /// Returns an empty numbering.
     pub fn new(alloc: Global) -> Numbering
         ensures { result ≡ [] }
     {
@@ -63,7 +63,7 @@ impl Numbering {
         }
     }
 
-    /// The same names.
+    /// Copies the numbering.
     pub fn copy(&self, alloc: Global) -> Result<Numbering, AllocError>
         ensures { IfOk result (λ names. names ≡ self.now) }
     {
@@ -79,28 +79,28 @@ impl Numbering {
         })
     }
 
-    /// How many names there are.
+    /// Returns how many names there are.
     pub fn len(&self) -> usize
         ensures { result ≡ length self.now }
     {
         self.names.len()
     }
 
-    /// How many symbols there are.
+    /// Returns how many symbols there are.
     pub fn symbol_count(&self) -> usize
         ensures { result ≡ length (declared_symbols self.now) }
     {
         self.symbols.len()
     }
 
-    /// How many labels there are.
+    /// Returns how many labels there are.
     pub fn label_count(&self) -> usize
         ensures { result ≡ length (declared_labels self.now) }
     {
         self.labels.len()
     }
 
-    /// What a name was declared as, with its number among the symbols or among the labels. Cost: that of
+    /// Returns what a name was declared as, with its number among the symbols or among the labels. Cost: that of
     /// `NameTable::find`.
     #[inline(always)]
     pub fn find(&self, name: &[u8]) -> Option<(u32, NameKind)>
@@ -116,7 +116,7 @@ impl Numbering {
         }
     }
 
-    /// The symbol of a number.
+    /// Returns the symbol of a number.
     pub fn symbol(&self, number: u32) -> &[u8]
         requires { number < length (declared_symbols self.now) }
         ensures { result.now ≡ name_at (declared_symbols self.now) number }
@@ -124,7 +124,7 @@ impl Numbering {
         self.names.name(self.symbols[number as usize] as usize)
     }
 
-    /// The label of a number.
+    /// Returns the label of a number.
     pub fn label(&self, number: u32) -> &[u8]
         requires { number < length (declared_labels self.now) }
         ensures { result.now ≡ name_at (declared_labels self.now) number }
@@ -132,7 +132,7 @@ impl Numbering {
         self.names.name(self.labels[number as usize] as usize)
     }
 
-    /// Puts a name that is not yet declared behind the others, and tells its number.
+    /// Appends a name that is not yet declared, and returns its number.
     pub fn declare(&mut self, alloc: Global, name: &[u8], kind: NameKind) -> Result<u32, AllocError>
         requires { kind_in self.old name.now ≡ None }
         ensures ok { OnOk result (self.new ≡ self.old ++ (name.now, kind) ∷ []) }
@@ -156,7 +156,7 @@ impl Numbering {
         Ok(number_at(entry, place as u32))
     }
 
-    /// Makes room for so many more labels, where there is memory for it.
+    /// Makes room for so many more labels, if allocation succeeds.
     pub fn reserve(&mut self, alloc: Global, labels: usize)
         ensures { self.new ≡ self.old }
     {
@@ -165,7 +165,7 @@ impl Numbering {
         let _ = self.labels.reserve(labels);
     }
 
-    /// Keeps the first `len` names.
+    /// Truncates to the first `len` names.
     pub fn truncate(&mut self, len: usize)
         ensures { self.new ≡ take len self.old }
     {
@@ -180,7 +180,7 @@ impl Numbering {
     }
 }
 
-/// The number among the symbols or among the labels of the name at a place, by its entry.
+/// Returns the number among the symbols or among the labels of the name at a place, by its entry.
 #[inline(always)]
 fn number_at(entry: CountedKind, place: u32) -> u32
     requires { entry.before ≤ place }
@@ -193,7 +193,7 @@ fn number_at(entry: CountedKind, place: u32) -> u32
     }
 }
 
-/// The entry at an index.
+/// Returns the entry at an index.
 fn entry_at(entries: &[CountedKind], index: usize) -> CountedKind
     requires { index < length entries.now }
     ensures { slice_get entries.now index ≡ Some result }
@@ -201,7 +201,7 @@ fn entry_at(entries: &[CountedKind], index: usize) -> CountedKind
     entries[index]
 }
 
-/// Puts an entry behind the others, and its place behind those of the names of its kind.
+/// Appends an entry, and its place among the names of its kind.
 fn push_entry(
     entries: &mut Vec<CountedKind>,
     symbols: &mut Vec<u32>,
@@ -223,7 +223,7 @@ fn push_entry(
     }
 }
 
-/// Puts an entry and its place behind the others.
+/// Appends an entry and its place.
 fn push_both(
     entries: &mut Vec<CountedKind>,
     places: &mut Vec<u32>,

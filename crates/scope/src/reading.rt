@@ -1,4 +1,4 @@
-//! What a scope tells the crates above: what is active.
+//! Reading calls of a scope, which tell the crates above what is active.
 ghost use Rattle.std.specs.Prelude.{◌≡◌, ◌==◌, length};
 ghost use Rattle.scope.specs.Active.{is_constant, is_variable};
 ghost use Rattle.scope.specs.Standing.{standing_of};
@@ -8,35 +8,35 @@ use crate::scope::Scope;
 use crate::standing::Standing;
 
 impl Scope {
-    /// How many statements were accepted.
+    /// Returns how many statements were accepted.
     pub fn len(&self) -> usize
         ensures { result ≡ length self.now.statements }
     {
         self.count
     }
 
-    /// Whether no statement was accepted.
+    /// Returns whether no statement was accepted.
     pub fn is_empty(&self) -> bool
         ensures { result ≡ (length self.now.statements == 0) }
     {
         self.len() == 0
     }
 
-    /// Whether a `$c` has it.
+    /// Returns whether a `$c` has the symbol.
     pub fn is_constant(&self, name: &[u8]) -> bool
         ensures { result ≡ is_constant self.now.statements name.now }
     {
         matches!(self.judge().sort(name), Sort::Constant)
     }
 
-    /// Whether an active `$v` has it.
+    /// Returns whether an active `$v` has the symbol.
     pub fn is_variable(&self, name: &[u8]) -> bool
         ensures { result ≡ is_variable self.now.statements name.now }
     {
         matches!(self.judge().sort(name), Sort::Typed | Sort::Untyped)
     }
 
-    /// The active `$f`, `$e` and `$d` in order, with their positions.
+    /// Returns the active `$f`, `$e` and `$d` in order, with their positions.
     pub fn standing(&self) -> &[Standing]
         ensures { result.now ≡ standing_of self.now.statements }
     {

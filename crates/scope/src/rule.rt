@@ -1,6 +1,6 @@
 //! The ten rules of a statement.
 
-/// A rule that a statement breaks, or want of memory.
+/// A rule that a statement breaks, or out of memory.
 #[derive(Clone, Copy, Debug, Drop, PartialEq, Eq)]
 pub enum Rule {
     /// `$c` stands in the outermost block.
@@ -23,6 +23,6 @@ pub enum Rule {
     G9,
     /// `$}` closes an open block; at the end of the text no block is open.
     G10,
-    /// A growth was refused.
+    /// An allocation failed.
     Memory,
 }

@@ -22,7 +22,7 @@ use mm_read::Stmt;
 use std::alloc::{AllocError, Global};
 use std::marker::Model;
 
-/// What the rules know of the statements accepted so far, and of those that are marked: their stacks, by the
+/// The state of the rules for the statements accepted so far, and for those that are marked: their stacks, by the
 /// numbers of symbols. The numbering itself is lent to them, so that others use it too. Contracts see the statements.
 #[derive(Drop)]
 pub struct Rules {
@@ -47,7 +47,7 @@ impl Model for Rules {
 }
 
 impl Rules {
-    /// No statement yet, marked there.
+    /// Returns rules without statements, marked there.
     pub fn new(alloc: Global) -> Rules
         ensures statements { result.statements ≡ [] }
         ensures marked { result.marked ≡ [] }
@@ -67,7 +67,7 @@ impl Rules {
         }
     }
 
-    /// Marks the statements accepted so far. It takes no memory.
+    /// Marks the statements accepted so far. Does not allocate.
     pub fn mark(&mut self)
         requires { IsTrue (is_closed self.old.statements) }
         ensures statements { self.new.statements ≡ self.old.statements }
@@ -77,11 +77,11 @@ impl Rules {
         self.marked = History::same(&self.accepted);
     }
 
-    /// Goes back to the marked statements. It takes no memory.
+    /// Goes back to the marked statements. Does not allocate.
     pub fn back(&mut self)
         ensures statements { self.new.statements ≡ self.old.marked }
         ensures marked { self.new.marked ≡ self.old.marked }
-        // What stands at the mark is the first of what stood.
+        // The statements that stand at the mark are the first of those that stood.
         ensures standing { take (length (standing_of self.old.marked)) (standing_of self.old.statements) ≡ standing_of self.old.marked }
     {
         self.variables.truncate(self.mark.variables);
@@ -91,7 +91,7 @@ impl Rules {
         self.accepted = History::same(&self.marked);
     }
 
-    /// The same statements, marked there.
+    /// Returns the same statements, marked there.
     pub fn copy(&self, alloc: Global) -> Result<Rules, AllocError>
         ensures { IfOk result (λ rules. rules ≡ self.now) }
     {
@@ -106,7 +106,7 @@ impl Rules {
         })
     }
 
-    /// Whether no block is open.
+    /// Returns whether no block is open.
     pub fn is_closed(&self) -> bool
         ensures closed { result ≡ is_closed self.now.statements }
         ensures open { nat_lt (count is_close self.now.statements) (count is_open self.now.statements) ≡ not result }
@@ -114,7 +114,7 @@ impl Rules {
         self.blocks.is_empty()
     }
 
-    /// What the end of the text breaks: G10 where a block is open. It takes no memory.
+    /// Returns what the end of the text breaks: G10 if a block is open. Does not allocate.
     pub fn close_at_end(&self) -> Result<(), Rule>
         ensures ok { OnOk result (IsTrue (is_closed self.now.statements)) }
         ensures open { IfSome (end_rule self.now.statements) (λ rule. result ≡ Err rule) }
@@ -127,12 +127,12 @@ impl Rules {
         }
     }
 
-    /// The least rule that a statement would break as the next one, by the numbering of the names so far.
+    /// Returns the least rule that a statement would break as the next one, by the numbering of the names so far.
     ///
-    /// Where it breaks none and the notes have begun, they are the numbers of its symbols, or taken away where a growth
-    /// is refused; for `$c` and `$v` they are taken away. Memory is taken for notes that have begun, and for the call
-    /// where a list of names is long; no answer depends on it. Cost: the statement's own size, and of a long list of
-    /// names that of putting it in order, or without memory the square of their count.
+    /// If it breaks none and recording has begun, the recorded numbers are those of its symbols, or are discarded if an
+    /// allocation fails; for `$c` and `$v` they are discarded. Memory is used for recording that has begun, and for the call
+    /// if a list of names is long; no answer depends on it. Cost: the statement's own size, and for a long list of
+    /// names that of sorting it, or without memory the square of their count.
     /// Source: Metamath, chapter 4; the rules are `specs/Legal.antt`.
     pub fn broken_rule<'a>(
         &'a self,
@@ -154,14 +154,14 @@ impl Rules {
         judge.broken_rule(stmt, noted)
     }
 
-    /// How many `$f`, `$e` and `$d` are active.
+    /// Returns how many `$f`, `$e` and `$d` are active.
     pub(crate) fn standing(&self) -> usize
         ensures { result ≡ length (standing_of self.now.statements) }
     {
         self.standing
     }
 
-    /// What a variable is that was declared, by its number among the symbols.
+    /// Returns what a variable is that was declared, by its number among the symbols.
     #[inline(always)]
     pub(crate) fn sort_of_variable(&self, number: u32) -> Sort
         ensures { result ≡ sort_by (list_any (λ n. n == number) (numbers_in (symbols_of self.now.statements) (active_variables self.now.statements))) (list_any (λ n. n == number) (numbers_in (symbols_of self.now.statements) (typed_variables self.now.statements))) }
@@ -175,7 +175,7 @@ impl Rules {
         }
     }
 
-    /// How high the stacks stand.
+    /// Returns how high the stacks stand.
     pub(crate) fn sizes(&self) -> StackHeights
         ensures { result ≡ sizes_of (active self.now.statements) }
     {

@@ -1,4 +1,4 @@
-//! The statements accepted so far, and what is active behind them.
+//! The statements accepted so far, and what is active after them.
 ghost use Rattle.std.specs.Prelude.{◌≡◌, ◌+◌, ◌<◌, ◌^◌, ◌++◌, ◌∷◌, [], List, length, OnOk, OnErr, IfOk, IfErr, IfSome, IsTrue, None};
 ghost use Rattle.mm_read.specs.Statements.{IsShaped};
 ghost use Rattle.scope.specs.Active.{bare, is_closed};
@@ -47,7 +47,7 @@ impl Model for Scope {
 }
 
 impl Scope {
-    /// No statement yet, marked there.
+    /// Returns a scope without statements, marked there.
     pub fn new(alloc: Global) -> Scope
         ensures statements { result.statements ≡ [] }
         ensures marked { result.marked ≡ [] }
@@ -64,17 +64,17 @@ impl Scope {
         }
     }
 
-    /// Adds the next statement, where it breaks none of the rules G1 to G10.
+    /// Appends the next statement if it breaks none of the rules G1 to G10.
     ///
     /// Errors: the least rule that it breaks, or `Memory` where it breaks none; the scope is then as
-    /// before. Cost: that of `Rules::broken_rule`; one step is counted, whatever is answered.
+    /// before. Cost: that of `Rules::broken_rule`; one step is counted, whatever the outcome.
     /// Source: Metamath, chapter 4; the rules are `specs/Legal.antt`.
     pub fn add(&mut self, stmt: &Stmt, steps: &mut Steps) -> Result<(), Rule>
         requires { IsShaped stmt.now }
         ensures added { OnOk result (self.new.statements ≡ self.old.statements ++ bare stmt.now ∷ []) }
         ensures legal { OnOk result (IsLegal self.old.statements stmt.now) }
 
-        // A broken rule is answered also where every growth is refused.
+        // A broken rule is returned even if every allocation fails.
         ensures broken { IfSome (broken_rule self.old.statements stmt.now) (λ rule. result ≡ Err rule) }
         ensures only_memory { IsLegal self.old.statements stmt.now → IfErr result (λ rule. rule ≡ Rule.Memory) }
         ensures same { OnErr result (self.new.statements ≡ self.old.statements) }
@@ -112,7 +112,7 @@ impl Scope {
         Ok(())
     }
 
-    /// What judges the next statement.
+    /// Returns the judge of the next statement.
     pub(crate) fn judge(&self) -> Judge<'_>
         ensures { result ≡ self.now }
     {
@@ -123,8 +123,8 @@ impl Scope {
         }
     }
 
-    /// The least rule that the statement would break as the next one. A long list of names takes memory for the call, where
-    /// there is some; no answer depends on it.
+    /// Returns the least rule that the statement would break as the next one. Allocates for the call if a list of names is
+    /// long; no answer depends on whether that succeeds.
     ///
     /// Cost: that of `Rules::broken_rule`. Source: Metamath, chapter 4; the rules are
     /// `specs/Legal.antt`.
@@ -136,7 +136,7 @@ impl Scope {
             .broken_rule(&self.names, self.alloc, stmt, &mut unnoted)
     }
 
-    /// What the end of the text breaks: G10 where a block is open. It takes no memory.
+    /// Returns what the end of the text breaks: G10 if a block is open. Does not allocate.
     pub fn close_at_end(&self) -> Result<(), Rule>
         ensures ok { OnOk result (IsTrue (is_closed self.now.statements)) }
         ensures open { IfSome (end_rule self.now.statements) (λ rule. result ≡ Err rule) }
@@ -145,7 +145,7 @@ impl Scope {
         self.rules.close_at_end()
     }
 
-    /// Makes room for so many more labels, where there is memory for it: statements that carry them are then added
+    /// Makes room for so many more labels, if allocation succeeds: statements that carry them are then added
     /// faster.
     pub fn reserve(&mut self, labels: usize)
         ensures { self.new ≡ self.old }
@@ -153,7 +153,7 @@ impl Scope {
         self.names.reserve(self.alloc, labels);
     }
 
-    /// Marks the statements accepted so far. It takes no memory.
+    /// Marks the statements accepted so far. Does not allocate.
     pub fn mark(&mut self)
         requires { IsTrue (is_closed self.old.statements) }
         ensures statements { self.new.statements ≡ self.old.statements }
@@ -164,7 +164,7 @@ impl Scope {
         self.marked_count = self.count;
     }
 
-    /// Goes back to the marked statements. It takes no memory.
+    /// Goes back to the marked statements. Does not allocate.
     pub fn back(&mut self)
         ensures statements { self.new.statements ≡ self.old.marked }
         ensures marked { self.new.marked ≡ self.old.marked }
@@ -175,7 +175,7 @@ impl Scope {
         self.count = self.marked_count;
     }
 
-    /// The same scope.
+    /// Returns the same scope.
     pub fn copy(&self) -> Result<Scope, AllocError>
         ensures { IfOk result (λ scope. scope ≡ self.now) }
     {
@@ -192,9 +192,9 @@ impl Scope {
     }
 }
 
-/// Takes a legal statement in, by the numbers that were noted of its symbols.
+/// Accepts a legal statement, by the recorded numbers of its symbols.
 ///
-/// Where a growth is refused the rules are as before, and the names and what stood are the first ones.
+/// If an allocation fails, the rules are as before, and the names and what stood are the first ones.
 fn take_in(
     alloc: Global,
     rules: &mut Rules,

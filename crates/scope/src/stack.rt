@@ -26,7 +26,7 @@ impl Model for Stack {
 }
 
 impl Stack {
-    /// No numbers.
+    /// Returns an empty stack.
     pub fn new(alloc: Global) -> Stack
         ensures { result ≡ [] }
     {
@@ -36,7 +36,7 @@ impl Stack {
         }
     }
 
-    /// The same numbers.
+    /// Copies the stack.
     pub(crate) fn copy(&self, alloc: Global) -> Result<Stack, AllocError>
         ensures { IfOk result (λ stack. stack ≡ self.now) }
     {
@@ -45,21 +45,21 @@ impl Stack {
         Ok(Stack { numbers, places })
     }
 
-    /// How many numbers there are.
+    /// Returns how many numbers there are.
     pub(crate) fn len(&self) -> usize
         ensures { result ≡ length self.now }
     {
         self.numbers.len()
     }
 
-    /// The numbers in order.
+    /// Returns the numbers in order.
     pub(crate) fn as_slice(&self) -> &[u32]
         ensures { result.now ≡ self.now }
     {
         self.numbers.as_slice()
     }
 
-    /// Where a number stands.
+    /// Returns where a number stands.
     pub fn place(&self, number: u32) -> Option<usize>
         ensures found { IfSome result (λ k. slice_get self.now k ≡ Some number) }
         ensures member { is_some result ≡ list_any (λ n. n == number) self.now }
@@ -75,7 +75,7 @@ impl Stack {
         if there == number { Some(place) } else { None }
     }
 
-    /// Puts a number at the end.
+    /// Appends a number.
     pub fn push(&mut self, number: u32) -> Result<(), AllocError>
         requires { list_any (λ n. n == number) self.old ≡ false }
         ensures ok { OnOk result (self.new ≡ self.old ++ number ∷ []) }
@@ -87,7 +87,7 @@ impl Stack {
         Ok(())
     }
 
-    /// Keeps the first `len` numbers.
+    /// Truncates to the first `len` numbers.
     pub fn truncate(&mut self, len: usize)
         ensures { self.new ≡ take len self.old }
     {
@@ -95,7 +95,7 @@ impl Stack {
     }
 }
 
-/// Notes where a number stands.
+/// Records where a number stands.
 fn note_place(places: &mut Vec<usize>, number: u32, place: usize) -> Result<(), AllocError>
     ensures noted { OnOk result (slice_get places.new.items number ≡ Some place) }
     ensures others { (n k : ℕ) → n ≢ number → slice_get places.old.items n ≡ Some k → slice_get places.new.items n ≡ Some k }

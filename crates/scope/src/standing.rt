@@ -13,7 +13,7 @@ pub struct Standing {
     pub stmt: Stmt,
 }
 
-/// Puts a copy of a `$f`, `$e` or `$d` on the stack; other statements do not stand there.
+/// Appends a copy of a `$f`, `$e` or `$d`; other statements are not listed.
 pub(crate) fn push_standing(
     standing: &mut Vec<Standing>,
     alloc: Global,
@@ -57,7 +57,7 @@ pub(crate) fn push_standing(
     Ok(())
 }
 
-/// The same statements again.
+/// Returns the same statements.
 pub(crate) fn copy_standing(
     alloc: Global,
     standing: &[Standing],

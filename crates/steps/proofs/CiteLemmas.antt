@@ -1,4 +1,4 @@
--- What a citation adds to a table, where a run takes the same step.
+-- The step that a citation adds to a table, where a run takes the same step.
 use Rattle.std.specs.Prelude.{◌≡◌, ℕ, zero, suc, ◌-◌, ◌<◌, ◌≤◌, List, [], ◌∷◌, ◌++◌, length, map, drop, get_or, slice_get, Some, refl}
 use Rattle.std.proofs.Common.{sym, ◌∙◌, ap, subst, arith, inl, inr}
 use Rattle.std.proofs.lemmas.List.{length-map, map-append}
@@ -55,7 +55,7 @@ codes-named S at names rows (k ∷ ks) are b = (one rows k are b.0, codes-named 
     one : (rs : List Row) (k : ℕ) → AreRows S at names rs → k < length rs → AreBelow (length names) (get_or rs k no_row).expr
     one rs k are h = let r = there rs k h in subst (λ x. AreBelow (length names) x.expr) (sym (get_or_from_slice_get rs k r.0 no_row r.1)) ((are k r.0 r.1).named)
 
--- the citation is noted, and the results of the run are the expressions of the rows
+-- the citation is recorded, and the results of the run are the expressions of the rows
 abbrev IsNoted : Database → ℕ → List Name → TableDraft → Name → TableDraft → State → Type 0
 IsNoted S at names d label new next = Notes S at (progress_of d) (Cite label) (progress_of new) × IsTied names new next
 
@@ -73,7 +73,7 @@ module _ (S : Database) (at : ℕ) (names : List Name) (legal : AreLegal S names
         let same : t ≡ s = some-same (subst (λ x. stmt_at S x.position ≡ Some t) e fits.stands) active.stands in
         absurd (not_both s active.kind (ap is_assertion (sym same) ∙ fits.assertion))
 
-    -- what the run gives is the hypothesis
+    -- the result of the run is the hypothesis
     run-hypothesis : (b : List Expr) (f : Expr) → Cites S at label st.stack b f → (st.stack ≡ b) × (f ≡ expr_of s)
     run-hypothesis b f (of_hypothesis j t carries' active' same whole) = (whole, same ∙ ap expr_of (some-same (carries'.stands) (ap (stmt_at S) (legal.once j i t s label carries' carries) ∙ carries.stands)))
     run-hypothesis b f (of_assertion a t σ carries' fits whole gives) =
@@ -137,7 +137,7 @@ module _ (S : Database) (at : ℕ) (names : List Name) (legal : AreLegal S names
     cites' : Cites S at label (map (decode names) results.stack) run.0 run.1
     cites' = subst (λ x. Cites S at label x run.0 run.1) (sym (map-map d.stack.items ∙ tied.stack)) run.2
 
-    -- so the codes on the stack meet what the assertion asks
+    -- so the codes on the stack are those that the assertion requires
     meets' : Meets S names at a c results.stack run.1
     meets' = meets-step S names at a s c legal bound cited results label run.0 run.1 are_named carries has cites'
 
@@ -148,7 +148,7 @@ module _ (S : Database) (at : ℕ) (names : List Name) (legal : AreLegal S names
     top-codes : top n results.stack ≡ map (codes_in d) (top n d.stack.items)
     top-codes = top-map (codes_in d) n d.stack.items
 
-    -- the code for a `$f` begins with the symbol that it asks for
+    -- the code for a `$f` begins with its typecode
     pub typed : (k x : ℕ) → slice_get c.hypotheses k ≡ Some (Float x) → IsTyped (get_or c.heads.now k 0) (get_or (map (codes_in d) (top n d.stack.items)) k [])
     typed k x kind = subst (λ es. IsTyped (get_or c.heads.now k 0) (get_or es k [])) top-codes (meets'.typed k x kind)
 
@@ -165,7 +165,7 @@ module _ (S : Database) (at : ℕ) (names : List Name) (legal : AreLegal S names
       takes : map (expr_in names rows') (top n d.stack.items) ≡ premises S a s images
       gives : run.1 ≡ applied images (expr_of s)
 
-    -- what cites this label is an instance of this assertion
+    -- a citation of this label is an instance of this assertion
     instance' : (b : List Expr) (f : Expr) → Cites S at label st.stack b f → (σ : Images) × IsInstance S at a s σ × (st.stack ≡ b ++ premises S a s σ) × (f ≡ applied σ (expr_of s))
     instance' b f (of_hypothesis i t carries' active same whole) =
         let e : t ≡ s = some-same carries'.stands (ap (stmt_at S) (legal.once i a t s label carries' carries) ∙ carries.stands) in
@@ -231,7 +231,7 @@ module _ (S : Database) (at : ℕ) (names : List Name) (legal : AreLegal S names
     assertion-draft new (inl finds) = found-draft S at names legal d new is a_step (below n d.stack.items) run.1 finds low_rest assertion-same
     assertion-draft new (inr (ρ, read, makes)) = made-draft S at names legal d new is a_step (below n d.stack.items) (code_apply ρ c.conclusion.now) makes low_rest low_top (made-follows ρ read) (made-coded ρ read)
 
-    -- a step found or made notes the citation, with what the run gives
+    -- a step found or made records the citation, with what the run gives
     done' : (new : TableDraft) → GivesAssertion d new a c → IsNoted S at names d label new (with_result st run.0 run.1)
     done' new (inl finds) = (
       (below n d.stack.items, a_step, finds.place, makes-step, found-placed S at names legal d new is a_step (below n d.stack.items) run.1 finds low_rest assertion-same, finds.stack, finds.saved),

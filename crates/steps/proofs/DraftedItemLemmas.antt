@@ -1,4 +1,4 @@
--- What one item does to a draft.
+-- The effect of one item on a draft.
 use Rattle.std.specs.Prelude.{◌≡◌, ℕ, zero, suc, ◌-◌, ◌<◌, List, [], ◌∷◌, ◌++◌, length, map, get_or, slice_get, Option, Some, None, refl}
 use Rattle.std.proofs.Common.{sym, ◌∙◌, ap, subst, arith, length-append}
 use Rattle.std.proofs.lemmas.List.{length-map, map_push}
@@ -123,7 +123,7 @@ module _ (S : Database) (at : ℕ) (names : List Name) (d : TableDraft) (is : Is
               (ap (map f) stack ∙ (map_push f d.stack.items p ∙ (ap (λ r. r ++ f p ∷ []) tied.stack ∙ ap (λ x. st.stack ++ x ∷ []) (sym one)))) (ap (map f) same_saved ∙ tied.saved)),
         )
 
--- what may be cited is not nothing
+-- a statement that may be cited is not nothing
 pub never-nothing : (S : Database) (names : List Name) (at i : ℕ) (s : Stmt) (label : Name) (stack b : List Expr) (e : Expr) → AreLegal S names → Carries S i s label → IsMeaning S names at i Nothing
     → Cites S at label stack b e → ⊥
 never-nothing S names at i s label stack b e legal carries none (of_hypothesis j t carries' active same whole) =

@@ -38,7 +38,7 @@ module _ (marks : List Bool) where
   abbrev IsNumbered : ℕ → ℕ → ℕ → Type 0
   IsNumbered i n k = (k < i) × HasMark marks k × (n ≡ number_of marks k)
 
-  -- what is numbered before i is numbered before the next
+  -- a place that is numbered before i is numbered before the next
   wider : (i n k : ℕ) → IsNumbered i n k → IsNumbered (suc i) n k
   wider i n k r = (let l = r.0 in omega (arith, l), r.1, r.2)
 
@@ -46,7 +46,7 @@ module _ (marks : List Bool) where
   number-last i n k t before (inl e) = wider i n k (before e)
   number-last i n k t before (inr (e, same)) = subst (λ x. IsNumbered (suc i) n x) (sym same) (omega arith, t, e)
 
-  -- what stands at a number is a marked place that has it
+  -- the place at a number is a marked place that has it
   pub has-number : (i n k : ℕ) → slice_get (marked_before marks i) n ≡ Some k → (k < i) × HasMark marks k × (n ≡ number_of marks k)
   has-number zero n k h = cc
   has-number (suc i) n k h = by (has-number i n k) (cases_Bool (get_or marks i false))
@@ -137,7 +137,7 @@ module _ (S : Database) (rows : List Row) (marks : List Bool) (are : AreMarks S 
   step-of : (k : ℕ) → k < length rows → slice_get (steps_of rows) k ≡ Some (get_or rows k no_row).step
   step-of k l = step-at rows k (get_or rows k no_row) (slice_get-get_or rows k no_row l)
 
-  -- what a marked step takes for a `$e` is kept, at its number
+  -- a step that a marked step takes for a `$e` is kept, at its number
   numbered : (k : ℕ) → HasMark marks k → (i x : ℕ) → slice_get (essential_of S (get_or rows k no_row).step) i ≡ Some x → slice_get kept (number_of marks x) ≡ Some x
   numbered k h i x e =
       let taken : IsEssential S (steps_of rows) x = is_taken k (get_or rows k no_row).step ((are.exact k).0 h) (step-of k (within k h)) (i, e) in

@@ -1,4 +1,4 @@
--- What a step takes for a `$e`, by its assertion's hypotheses.
+-- The places that a step takes for a `$e`, by its assertion's hypotheses.
 use Rattle.std.specs.Prelude.{◌≡◌, ℕ, zero, suc, ◌+◌, ◌<◌, Bool, true, false, if◌then◌else◌, List, [], ◌∷◌, ◌++◌, length, drop, get_or, Some, refl}
 use Rattle.std.proofs.Common.{sym, ◌∙◌, ap, subst, arith, append_assoc}
 use Rattle.std.proofs.lemmas.List.{length-map}
@@ -50,7 +50,7 @@ premises-by S names (p ∷ ps) (c ∷ heads) (h ∷ hs) (k ∷ taken) a =
 
 -- ---- one hypothesis after another
 
--- what is taken for one hypothesis
+-- the place that is taken for one hypothesis
 abbrev pub taken_for : Hypothesis → ℕ → List ℕ
 taken_for (Float x) t = []
 taken_for (Essential p) t = t ∷ []

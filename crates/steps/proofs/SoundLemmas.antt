@@ -1,4 +1,4 @@
--- What holds of the steps of items, whatever the items are.
+-- Properties of the steps of items, whatever the items are.
 use Rattle.std.specs.Prelude.{◌≡◌, ℕ, zero, suc, ◌-◌, ◌<◌, ◌⊎◌, List, [], ◌∷◌, ◌++◌, length, slice_get, Some, refl}
 use Rattle.std.proofs.Common.{sym, ◌∙◌, ap, subst, arith, length-append, inl, inr}
 use Rattle.std.proofs.lemmas.Option.{slice_get_within}
@@ -24,7 +24,7 @@ pub below-split : (n : ℕ) (xs ys : List ℕ) → AreBelow n (xs ++ ys) → Are
 below-split n [] ys b = (tt, b)
 below-split n (x ∷ xs) ys b = let r = below-split n xs ys b.1 in ((b.0, r.0), r.1)
 
--- a place of two lists one behind the other
+-- a place of two lists one after the other
 some-split : (xs ys : List ℕ) (k x : ℕ) → slice_get (xs ++ ys) k ≡ Some x → (slice_get xs k ≡ Some x) ⊎ ((j : ℕ) × (slice_get ys j ≡ Some x))
 some-split [] ys k x h = inr (k, h)
 some-split (y ∷ xs) ys zero x h = inl h
@@ -54,7 +54,7 @@ module _ (p q : Progress) (is : IsSound p) (below : List ℕ) (step : Step) (n :
               let y = slice_get_within p.steps n step h in
               absurd (omega (arith, x, y, e))
 
-  -- with a new step behind all others all stays sound
+  -- with a new step after all others all stays sound
   added : ((k : ℕ) → slice_get p.steps k ≡ Some step → ⊥) → n ≡ length p.steps → q.steps ≡ p.steps ++ step ∷ [] → IsSound q
   added fresh place more =
       let len : length q.steps ≡ suc (length p.steps) = (let l = length-append p.steps (step ∷ []) in let m = ap length more in omega (arith, l, m)) in

@@ -80,7 +80,7 @@ module _ (S : Database) where
   unfolded-at : (steps : List Step) (n : ℕ) (step : Step) → slice_get steps n ≡ Some step → AreBelow n step.taken → pick (unfolded S steps) n ≡ citation_over S (unfolded S steps) step
   unfolded-at steps n step h b = let e : 0 + n ≡ n = omega arith in ap (pick (unfolded S steps)) (sym e) ∙ behind-at [] steps n step h (subst (λ k. AreBelow k step.taken) (sym e) b)
 
-  -- ---- the machine over derivations does what is noted
+  -- ---- the machine over derivations does the items that are recorded
 
   abbrev seen : Progress → Trees
   seen p = trees (map (pick (unfolded S p.steps)) p.stack) (map (pick (unfolded S p.steps)) p.saved)

@@ -15,7 +15,7 @@ abbrev pub is_premise : Option Stmt → Bool
 is_premise None = false
 is_premise (Some s) = is_essential s
 
--- of what is taken for these hypotheses, what is taken for a `$e`
+-- the places that are taken for a `$e`, among those that are taken for these hypotheses
 abbrev pub for_premises : Database → List ℕ → List ℕ → List ℕ
 for_premises S [] taken = []
 for_premises S (p ∷ ps) [] = []

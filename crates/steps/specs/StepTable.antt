@@ -12,7 +12,7 @@ use Rattle.proof_code.specs.declared.item.Item.{Item}
 use Rattle.proof_code.specs.declared.item.Item.TheVariants.{Cite, Recall, Mark}
 use Rattle.verify.specs.Spells.{IsCitable}
 
--- what is cited, by position, and the steps whose results it takes, by their places in the table from 0
+-- the position that is cited, and the steps whose results it takes, by their places in the table from 0
 pub record Step : Type 0 where
   pub position : ℕ
   pub taken : List ℕ
@@ -42,7 +42,7 @@ abbrev pub IsMarked : List ℕ → ℕ → ℕ → Type 0
 IsMarked saved zero n = ⊥
 IsMarked saved (suc k) n = slice_get saved k ≡ Some n
 
--- what one item does: a citation makes its step, a recall and a mark make none
+-- the effect of one item: a citation makes its step, a recall and a mark make none
 abbrev pub Notes : Database → ℕ → Progress → Item → Progress → Type 0
 Notes S at old (Cite label) new =
     (below : List ℕ) × (step : Step) × (n : ℕ) × Makes S at label old.stack below step × IsPlaced old.steps step new.steps n

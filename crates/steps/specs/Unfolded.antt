@@ -17,7 +17,7 @@ has_assertion (Some s) = is_assertion s
 abbrev pub citation_over : Database → List Derivation → Step → Derivation
 citation_over S ts step = if has_assertion (stmt_at S step.position) then apply step.position (from_list (map (pick ts) step.taken)) else hyp step.position
 
--- the derivations of steps, behind those that stand already
+-- the derivations of steps, after those that stand already
 abbrev pub unfolded_behind : Database → List Derivation → List Step → List Derivation
 unfolded_behind S ts [] = ts
 unfolded_behind S ts (step ∷ steps) = unfolded_behind S (ts ++ citation_over S ts step ∷ []) steps

@@ -1,4 +1,4 @@
-//! What an assertion concludes from the results that it takes.
+//! The conclusion that an assertion draws from the results that it takes.
 ghost use Rattle.std.specs.Prelude.{◌≡◌, ℕ, ◌++◌, [], List, Some, OnOk, IfOk, length, map, get_or, slice_get};
 ghost use Rattle.entries.specs.declared.cited_parts.Hypothesis.TheVariants.{Float};
 ghost use Rattle.frame.specs.Substitution.{CodeImages, code_apply};
@@ -10,7 +10,7 @@ use std::alloc::AllocError;
 use subst::{Buffer, ExpressionPlace, ImagePlaces, SYMBOLS_LIMIT, place_between};
 use verify::read_off;
 
-/// Writes behind the symbols what the assertion concludes from the results at these places, and tells where it lies.
+/// Appends to the symbols the conclusion of the assertion from the results at these places, and returns where it lies.
 ///
 /// Cost: one look at each result, and the symbols written.
 pub fn conclude(

@@ -11,7 +11,7 @@ use entries::{Hypotheses, Hypothesis};
 use frame::{Frames, Gathered, Meaning};
 use std::alloc::{AllocError, Global};
 
-/// Those of the places that are taken for a `$e`.
+/// Returns the places that are taken for a `$e`.
 fn premises_among(
     alloc: Global,
     hypotheses: &Hypotheses<'_>,
@@ -30,7 +30,7 @@ fn premises_among(
     Ok(list)
 }
 
-/// The places of the steps that the step at a place takes for a `$e`.
+/// Returns the places of the steps that the step at a place takes for a `$e`.
 fn premises_of(
     alloc: Global,
     frames: &Frames,
@@ -65,7 +65,7 @@ fn mark_all(list: &[usize], marks: &mut [bool])
     }
 }
 
-/// Marks what the step at a place takes for a `$e`, if the step is kept.
+/// Marks the steps that the step at a place takes for a `$e`, if that step is kept.
 fn mark_step(
     alloc: Global,
     frames: &Frames,
@@ -88,7 +88,7 @@ fn mark_step(
     Ok(())
 }
 
-/// A mark at the last of so many steps alone.
+/// Returns a mark at the last of so many steps alone.
 fn last_marked(alloc: Global, count: usize) -> Result<Vec<bool>, AllocError>
     ensures { IfOk result (λ marks. marks.items ≡ mark_last count) }
 {
@@ -99,7 +99,7 @@ fn last_marked(alloc: Global, count: usize) -> Result<Vec<bool>, AllocError>
     Ok(marks)
 }
 
-/// Of each step, whether it is kept: the last, and those that a kept step takes for a `$e`. A step takes earlier ones, so
+/// Returns for each step whether it is kept: the last, and those that a kept step takes for a `$e`. A step takes earlier ones, so
 /// they are walked down.
 fn marks_of(
     alloc: Global,
@@ -120,7 +120,7 @@ fn marks_of(
     Ok(marks)
 }
 
-/// The number of a place.
+/// Returns the number of a place.
 fn number_at(numbers: &[usize], place: usize) -> usize
     requires { place < length numbers.now }
     ensures { result ≡ get_or numbers.now place 0 }
@@ -128,7 +128,7 @@ fn number_at(numbers: &[usize], place: usize) -> usize
     numbers[place]
 }
 
-/// The numbers of these places.
+/// Returns the numbers of these places.
 fn renumbered(alloc: Global, list: &[usize], numbers: &[usize]) -> Result<Vec<usize>, AllocError>
     requires { AreBelow (length numbers.now) list.now }
     ensures { IfOk result (λ taken. taken.items ≡ map (λ k. get_or numbers.now k 0) list.now) }
@@ -140,8 +140,8 @@ fn renumbered(alloc: Global, list: &[usize], numbers: &[usize]) -> Result<Vec<us
     Ok(taken)
 }
 
-/// The last step of a table of the `$p` at a position, and with each step those that it takes for a `$e`; numbered anew, and of
-/// what each takes only those.
+/// Returns the last step of a table of the `$p` at a position, and with each step those that it takes for a `$e`; numbered anew,
+/// and each with only those as the steps that it takes.
 ///
 /// Cost: the table's own size, and the hypotheses of the assertions cited. Source: Metamath, 4.2.6.
 pub fn essential_table(

@@ -1,11 +1,11 @@
-//! Steps found again, by what they cite and what they take.
+//! Finds a step again by what it cites and what it takes.
 ghost use Rattle.std.specs.Prelude.{◌≡◌, ◌≢◌, ℕ, ◌∷◌, List, None, Some, IfOk, OnOk};
 ghost use Rattle.steps.specs.Stored.Drafted.{place_of};
 
 use std::alloc::{AllocError, Global};
 use std::collections::BTreeMap;
 
-/// The position that is cited, and then the places of the steps that are taken.
+/// Returns the position that is cited, followed by the places of the steps that are taken.
 pub fn key(alloc: Global, position: usize, taken: &[usize]) -> Result<Vec<usize>, AllocError>
     ensures { IfOk result (λ key. key.items ≡ position ∷ taken.now) }
 {
@@ -15,14 +15,14 @@ pub fn key(alloc: Global, position: usize, taken: &[usize]) -> Result<Vec<usize>
     Ok(key)
 }
 
-/// The place of the step with that key, if it stands already.
+/// Returns the place of the step with that key, if there is one.
 pub fn find(known: &BTreeMap<Vec<usize>, usize>, key: &[usize]) -> Option<usize>
     ensures { result ≡ place_of known.now key.now }
 {
     known.get(key).copied()
 }
 
-/// Keeps the place of a step.
+/// Records the place of a step.
 pub fn keep(
     known: &mut BTreeMap<Vec<usize>, usize>,
     key: Vec<usize>,

@@ -1,8 +1,8 @@
-//! The steps of a proof as a table: none twice, each with its expression, the last the theorem's.
+//! The steps of a proof as a table without duplicates, each step with its expression, the last the theorem's.
 //!
-//! The crates above use two contracts: `proof_table` gives the steps of the items of a right proof, of each what its citation
-//! concludes from those that it takes, in the order in which the items make them; `essential_table` gives of such a table the
-//! steps that a mathematician reads.
+//! The crates above use two contracts: `proof_table` returns the steps of the items of a right proof, each with what its citation
+//! concludes from those that it takes, in the order in which the items make them; `essential_table` returns the steps of such a
+//! table that a mathematician reads.
 //!
 //! Reading order: `steps_table` (the table, and the call), `noting` (one item), `table_draft` (one citation), `concluding` (one
 //! conclusion), `known` (steps found again), `essential` (the steps that a mathematician reads), `laws`.

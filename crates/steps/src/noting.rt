@@ -16,7 +16,7 @@ use entries::Cited;
 use frame::{Frames, Gathered, Meaning};
 use std::alloc::{AllocError, Global};
 
-/// The parts of the assertion at a position, by lists that are made for it where they are long.
+/// Returns the parts of the assertion at a position, by lists that are made for it if they are long.
 pub fn cited_at<'a>(
     frames: &'a Frames,
     position: usize,
@@ -46,7 +46,7 @@ fn mark(frames: &Frames, at: usize, draft: &mut TableDraft) -> Result<(), AllocE
     Ok(())
 }
 
-/// Puts the result that was marked as number `k` from 0 on top.
+/// Pushes the result that was marked as number `k` from 0.
 fn recall(frames: &Frames, at: usize, k: usize, draft: &mut TableDraft) -> Result<(), AllocError>
     requires draft { IsDraft frames.now.statements at frames.now.names draft.old }
     requires can { CanDo frames.now.statements at frames.now.names draft.old (Recall (suc k)) }
@@ -58,7 +58,7 @@ fn recall(frames: &Frames, at: usize, k: usize, draft: &mut TableDraft) -> Resul
     Ok(())
 }
 
-/// Cites what stands at a position: an active hypothesis, or an earlier assertion.
+/// Cites the statement at a position: an active hypothesis, or an earlier assertion.
 fn cite(
     alloc: Global,
     frames: &Frames,
@@ -86,7 +86,7 @@ fn cite(
     }
 }
 
-/// Notes what an item does, by its number.
+/// Records the effect of an item, by its number.
 pub fn note(
     alloc: Global,
     frames: &Frames,

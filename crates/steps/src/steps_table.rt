@@ -15,7 +15,7 @@ use std::alloc::{AllocError, Global};
 use std::marker::Model;
 use subst::{Buffer, SYMBOLS_LIMIT, place_between, symbols_at};
 
-/// The steps of a proof, none twice, each after those that it takes. Contracts see the list of rows.
+/// The steps of a proof without duplicates, each after those that it takes. Contracts see the list of rows.
 #[derive(Drop)]
 pub struct ProofTable {
     placed: Vec<PlacedStep>,
@@ -35,7 +35,7 @@ impl Model for ProofTable {
 }
 
 impl ProofTable {
-    /// No steps.
+    /// Returns a table without steps.
     pub(crate) fn new(alloc: Global) -> ProofTable
         ensures { result ≡ [] }
     {
@@ -45,7 +45,7 @@ impl ProofTable {
         }
     }
 
-    /// Adds a step with its expression.
+    /// Appends a step with its expression.
     pub(crate) fn push(
         &mut self,
         position: usize,
@@ -68,14 +68,14 @@ impl ProofTable {
         Ok(())
     }
 
-    /// How many steps there are.
+    /// Returns how many steps there are.
     pub fn len(&self) -> usize
         ensures { result ≡ length self.now }
     {
         self.placed.len()
     }
 
-    /// What the step at a place, from 0, cites, by position.
+    /// Returns the position that the step at a place, from 0, cites.
     pub fn position(&self, place: usize) -> usize
         requires { place < length self.now }
         ensures { result ≡ (get_or self.now place no_row).step.position }
@@ -83,7 +83,7 @@ impl ProofTable {
         self.placed[place].position
     }
 
-    /// The places of the steps whose results it takes, in the order of the hypotheses.
+    /// Returns the places of the steps whose results it takes, in the order of the hypotheses.
     pub fn taken(&self, place: usize) -> &[usize]
         requires { place < length self.now }
         ensures { result.now ≡ (get_or self.now place no_row).step.taken }
@@ -91,7 +91,7 @@ impl ProofTable {
         self.placed[place].taken.as_slice()
     }
 
-    /// The numbers of the symbols of its expression.
+    /// Returns the numbers of the symbols of its expression.
     pub fn expr(&self, place: usize) -> &[u32]
         requires { place < length self.now }
         ensures { result.now ≡ (get_or self.now place no_row).expr }
@@ -100,7 +100,7 @@ impl ProofTable {
     }
 }
 
-/// The steps of the items of a right proof of the `$p` at that position, with what each concludes.
+/// Returns the steps of the items of a right proof of the `$p` at that position, with what each concludes.
 ///
 /// Cost: that of the proof, and of looking each citation up among the steps. There is no limit on the steps.
 /// Source: Metamath, 4.2.6 and appendix B.

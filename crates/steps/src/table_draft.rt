@@ -1,4 +1,4 @@
-//! A table while it is made: what a citation adds.
+//! A table that is being made, by the citations of a proof.
 ghost use Rattle.std.specs.Prelude.{◌≡◌, ℕ, ◌<◌, ◌≤◌, ◌∷◌, [], List, Some, OnOk, length, map, get_or, slice_get};
 ghost use Rattle.mm_lex.specs.Alphabet.{Name};
 ghost use Rattle.mm_read.specs.declared.stmt.Stmt.{Stmt as Statement};
@@ -18,7 +18,7 @@ use subst::{Buffer, ExpressionPlace, ImagePlaces, SYMBOLS_LIMIT, place_between};
 /// A step, and where its expression lies.
 #[derive(Drop)]
 pub struct PlacedStep {
-    /// What is cited, by position.
+    /// The position that is cited.
     pub position: usize,
     /// The places in the table of the steps whose results it takes.
     pub taken: Vec<usize>,
@@ -26,7 +26,7 @@ pub struct PlacedStep {
     pub place: ExpressionPlace,
 }
 
-/// The steps so far, those of the results that wait and of those that were marked, and buffers.
+/// The steps so far, those of the results on the stack and of those that were marked, and buffers.
 #[derive(Drop)]
 pub struct TableDraft {
     pub placed: Vec<PlacedStep>,
@@ -39,7 +39,7 @@ pub struct TableDraft {
 }
 
 impl TableDraft {
-    /// No steps.
+    /// Returns a draft without steps.
     pub fn new(alloc: Global) -> TableDraft
         ensures draft { (S : List Statement) (at : ℕ) (names : List Name) → IsDraft S at names result }
         ensures empty { (result.placed.items ≡ []) × (result.stack.items ≡ []) × (result.saved.items ≡ []) }
@@ -56,7 +56,7 @@ impl TableDraft {
     }
 }
 
-/// Adds a step that does not stand yet, and puts its result on top.
+/// Appends a step that is not there yet, and pushes its result.
 fn add_step(draft: &mut TableDraft, key: Vec<usize>, step: PlacedStep) -> Result<(), AllocError>
     requires { key.items ≡ step.position ∷ step.taken.items }
     ensures { OnOk result (Adds draft.old draft.new step) }
@@ -100,7 +100,7 @@ pub fn cite_hypothesis(
     )
 }
 
-/// Where the expression of the step at a place lies.
+/// Returns where the expression of the step at a place lies.
 fn place_at(placed: &[PlacedStep], number: usize) -> ExpressionPlace
     requires { number < length placed.now }
     ensures { result ≡ place_in placed.now number }

@@ -28,7 +28,7 @@ fn reads<R: Threads + Sync>(rt: &R, alloc: Global, workers: usize) -> bool {
     }
 }
 
-/// The last statement has no end.
+/// Returns whether a text whose last statement has no end is refused.
 fn is_refused<R: Threads + Sync>(rt: &R, alloc: Global, workers: usize) -> bool {
     let Ok(mut text) = lines(alloc) else {
         return false;

@@ -4,7 +4,7 @@ use mm_read::{Stmt, read};
 use proof_code::{CodeFault, Items, is_compressed, normal, packed};
 use std::alloc::{AllocError, Global};
 
-/// The tokens behind the labels h1 to h130, and the numbers of their items.
+/// The tokens after the labels h1 to h130, and the numbers of their items.
 const NUMBERS: [(&[u8], &[u32]); 4] = [
     (b"( ) TUAYTUUA", &[20, 21, 120, 121]),
     (b"( b ) A BZ U A U B ZC", &[1, 2, 0, 21, 22, 0, 3]),
@@ -26,7 +26,7 @@ fn has_numbers(alloc: Global, tokens: &[u8], want: &[u32]) -> bool {
     }
 }
 
-/// The tokens behind the same labels, and why they write no items.
+/// The tokens after the same labels, and why they write no items.
 const FAULTS: [(&[u8], CodeFault); 9] = [
     (b"( ) AU", CodeFault::Malformed),
     (b"( ) ZA", CodeFault::Malformed),
@@ -74,7 +74,7 @@ fn has_fault(alloc: Global, tokens: &[u8], want: CodeFault) -> bool {
     }
 }
 
-/// The items that these tokens write behind the labels h1 to h130.
+/// Returns the items that these tokens write after the labels h1 to h130.
 fn items_of(alloc: Global, tokens: &[u8]) -> Result<Items, CodeFault> {
     let Ok(text) = text_of(alloc, tokens) else {
         return Err(CodeFault::Memory);
@@ -96,7 +96,7 @@ fn items_behind(alloc: Global, mandatory: &Words, tokens: &Words) -> Result<Item
     }
 }
 
-/// A statement of the labels, and one with the tokens as its proof.
+/// Returns a statement of the labels, and one with the tokens as its proof.
 fn text_of(alloc: Global, tokens: &[u8]) -> Result<Vec<u8>, AllocError> {
     let mut labels = String::from_str(alloc, "$c ")?;
     for number in 1..131u8 {

@@ -1,4 +1,4 @@
-//! What is submitted at one node is added and listed at each, whichever node leads; what is answered after the stop; a desk in
+//! A text submitted at one node is added and listed at each, whichever node leads; answers after the stop; a desk in
 //! another thread.
 use crate::three::{EntryKeep, added_by_all, everywhere, open, text};
 use cluster::Ahead;
@@ -40,7 +40,7 @@ fn agree<R: Threads + Wait + Clock + Copy + Send + Sync + Drop + 'static>(
     works(rt, alloc, &mut cluster, leader)
 }
 
-/// Whether the cluster serves, and then stops.
+/// Returns whether the cluster serves, and then stops.
 fn works<R: Threads + Wait + Clock>(
     rt: &R,
     alloc: Global,
@@ -63,7 +63,7 @@ fn works_at<R: Threads + Wait + Clock>(
     Ok(served? && stopped?)
 }
 
-/// Whether what is submitted at the leader is added and listed at each, and no other node is known.
+/// Returns whether a text submitted at the leader is added and listed at each, and no other node is known.
 fn serves<R: Wait + Clock>(
     rt: &R,
     alloc: Global,
@@ -80,7 +80,7 @@ fn serves<R: Wait + Clock>(
     )
 }
 
-/// Whether node 2 has the text again once it has restarted, by what the others answer it.
+/// Returns whether node 2 has the text again once it has restarted, by what the others answer it.
 fn comes_back<R: Wait + Clock>(
     rt: &R,
     desk: &Desk<OpenGate, EntryKeep>,
@@ -89,7 +89,7 @@ fn comes_back<R: Wait + Clock>(
     added_by_all(rt, desk, 1)
 }
 
-/// Whether the cluster stops, two nodes of three having had events, and takes nothing more then.
+/// Returns whether the cluster stops, two nodes of three having had events, and takes nothing more then.
 fn stops<R: Threads + Wait>(
     rt: &R,
     alloc: Global,
@@ -101,7 +101,7 @@ fn stops<R: Threads + Wait>(
     Ok(report.handled.len() == 3 && worked >= 2 && has_stopped(rt, alloc, cluster, desk)?)
 }
 
-/// Whether node 1 lists the axiom p alone, and no node is ahead.
+/// Returns whether node 1 lists the axiom p alone, and no node is ahead.
 fn lists_alike<R: Wait>(rt: &R, desk: &Desk<OpenGate, EntryKeep>) -> Result<bool, StepFault> {
     let list = desk.list(rt, 1)?;
     let listed = match list.as_slice() {
@@ -111,7 +111,7 @@ fn lists_alike<R: Wait>(rt: &R, desk: &Desk<OpenGate, EntryKeep>) -> Result<bool
     Ok(listed && desk.compare(rt, 0, 1)? == Ahead::Same && desk.compare(rt, 2, 1)? == Ahead::Same)
 }
 
-/// Whether each call at that node answers that there is none.
+/// Returns whether each call at that node answers that there is none.
 fn knows_no_node<R: Wait>(
     rt: &R,
     alloc: Global,
@@ -125,7 +125,7 @@ fn knows_no_node<R: Wait>(
     )
 }
 
-/// Whether a cluster that was stopped takes nothing more, and still answers.
+/// Returns whether a cluster that was stopped takes nothing more, and still answers.
 fn has_stopped<R: Threads + Wait>(
     rt: &R,
     alloc: Global,
@@ -155,7 +155,7 @@ fn submits_elsewhere<R: Threads + Wait + Clock + Copy + Send + Sync + Drop + 'st
     adds_and_stops(rt, alloc, &mut cluster)
 }
 
-/// Whether each node adds what another thread submits, and the cluster stops then.
+/// Returns whether each node adds what another thread submits, and the cluster stops then.
 fn adds_and_stops<R: Threads + Wait + Clock + Copy + Send + Sync + Drop + 'static>(
     rt: &R,
     alloc: Global,
@@ -166,7 +166,7 @@ fn adds_and_stops<R: Threads + Wait + Clock + Copy + Send + Sync + Drop + 'stati
     added
 }
 
-/// Whether each node adds what another thread submits.
+/// Returns whether each node adds what another thread submits.
 fn adds_theirs<R: Threads + Wait + Clock + Copy + Send + Sync + Drop + 'static>(
     rt: &R,
     alloc: Global,

@@ -1,4 +1,4 @@
-//! Two nodes side by side: each waits before an entry for the other.
+//! Two nodes in parallel: each waits before an entry for the other.
 use crate::three::{EntryKeep, added_by_all, everywhere, submit_one, three};
 use net::StepFault;
 use nodes::{Clear, Cluster, Desk};
@@ -49,7 +49,7 @@ fn gate_two_nodes(rt: HostRuntime) {
     assert!(rt; meet(&rt, rt.alloc()) == Ok(true));
 }
 
-/// Whether the first two nodes, which wait for one another, both add a text.
+/// Returns whether the first two nodes, which wait for one another, both add a text.
 fn meet<R: Threads + Wait + Clock + Copy + Send + Sync + Drop + 'static>(
     rt: &R,
     alloc: Global,
@@ -66,7 +66,7 @@ fn meet<R: Threads + Wait + Clock + Copy + Send + Sync + Drop + 'static>(
     Ok(added? && !gate.missed.load(Ordering::SeqCst))
 }
 
-/// Whether three nodes add a text, whose gate this is.
+/// Returns whether three nodes add a text, whose gate this is.
 fn meet_at<R: Threads + Wait + Clock + Copy + Send + Sync + Drop + 'static>(
     rt: &R,
     alloc: Global,

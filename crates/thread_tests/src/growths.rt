@@ -1,4 +1,4 @@
-//! A text is decided after any one growth that is refused.
+//! A text is decided after any one allocation that fails.
 use crate::three::{EntryKeep, everywhere, open, settled, text};
 use library::Verdict;
 use net::StepFault;
@@ -10,7 +10,7 @@ use std::time::Clock;
 use synod::Weights;
 use verify_pool::{Gate, OpenGate};
 
-/// Want of memory at one growth is answered by `start`, `desk`, `submit` or `stop`, or loses a packet, or leaves an entry to a
+/// A failed allocation is reported by `start`, `desk`, `submit` or `stop`, or loses a packet, or leaves an entry to a
 /// later hint, or fails a keep, whose node is down then until it restarts.
 #[test]
 fn decides_after_a_refused_growth(rt: HostRuntime) {
@@ -21,7 +21,7 @@ fn decides_after_a_refused_growth(rt: HostRuntime) {
     assert!(rt; verdict == Ok(Some(Verdict::Added)));
 }
 
-/// The verdict at node 0 of new nodes, which have stopped then.
+/// Returns the verdict at node 0 of new nodes, which have stopped then.
 fn decided_by_three<R: Threads + Wait + Clock + Copy + Send + Sync + Drop + 'static>(
     rt: &R,
     alloc: Global,
@@ -31,7 +31,7 @@ fn decided_by_three<R: Threads + Wait + Clock + Copy + Send + Sync + Drop + 'sta
     decided_and_stopped(rt, alloc, &mut cluster)
 }
 
-/// The verdict at node 0 of that cluster, which has stopped then.
+/// Returns the verdict at node 0 of that cluster, which has stopped then.
 fn decided_and_stopped<R: Threads + Wait + Clock>(
     rt: &R,
     alloc: Global,
@@ -47,8 +47,8 @@ fn decided_and_stopped<R: Threads + Wait + Clock>(
     verdict
 }
 
-/// The verdict at node 0 on a text that is submitted there again and again, each time after a new ballot: what was lost for want
-/// of memory is made good by what is posted then.
+/// Returns the verdict at node 0 on a text that is submitted there again and again, each time after a new ballot: the packets that
+/// a failed allocation lost are made good by those that are posted then.
 fn decided<G: Gate, R: Wait + Clock>(
     rt: &R,
     alloc: Global,

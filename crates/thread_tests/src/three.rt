@@ -1,4 +1,4 @@
-//! What the tests share: three nodes with keeps in memory, texts, and a desk that is asked until it answers.
+//! Three nodes with keeps in memory, texts, and a desk that is polled until it answers, which the tests share.
 ghost use Rattle.std.specs.Prelude.{◌≡◌, length, IfOk};
 
 use bytes::Bytes;
@@ -17,7 +17,7 @@ use world::Carried;
 
 pub type EntryKeep = MemoryKeep<Carried>;
 
-/// A text of author 7.
+/// Returns a text of author 7.
 pub fn text(alloc: Global, serial: u64, text: &[u8]) -> Result<Entry, AllocError> {
     Ok(Entry::Text(Submission {
         author: 7,
@@ -26,7 +26,7 @@ pub fn text(alloc: Global, serial: u64, text: &[u8]) -> Result<Entry, AllocError
     }))
 }
 
-/// Three nodes with keeps in memory, and two workers each.
+/// Starts three nodes with keeps in memory, and two workers each.
 pub fn three<
     G: Gate + Send + Sync + Drop + 'static,
     W: Weather + Send + Drop + 'static,
@@ -51,7 +51,7 @@ pub fn three<
     start(rt, alloc, weights, Workers::of(2), gate, weathers, keeps)
 }
 
-/// Three nodes of that weather, at which nothing waits before an entry.
+/// Starts three nodes of that weather, at which nothing waits before an entry.
 pub fn open<
     W: Weather + Send + Drop + 'static,
     R: Threads + Wait + Copy + Send + Sync + Drop + 'static,
@@ -82,7 +82,7 @@ pub fn submit_one<G: Gate, R: Wait>(
     desk.submit(rt, 0, entry)
 }
 
-/// The same weather at each node.
+/// Returns the same weather at each node.
 pub fn everywhere<W: Weather + Copy>(alloc: Global, weather: W) -> Result<Vec<W>, AllocError>
     ensures { IfOk result (λ weathers. length weathers.items ≡ 3) }
 {
@@ -93,7 +93,7 @@ pub fn everywhere<W: Weather + Copy>(alloc: Global, weather: W) -> Result<Vec<W>
     Ok(weathers)
 }
 
-/// The verdict at node `k` on the text of that number, asked each millisecond, so often at most, until it is known.
+/// Returns the verdict at node `k` on the text of that number, polled each millisecond, so often at most, until it is known.
 pub fn settled<G: Gate, R: Wait + Clock>(
     rt: &R,
     desk: &Desk<G, EntryKeep>,
@@ -111,10 +111,10 @@ pub fn settled<G: Gate, R: Wait + Clock>(
     Ok(None)
 }
 
-/// How often a desk is asked for a verdict: 20 seconds.
+/// How often a desk is polled for a verdict: 20 seconds.
 pub const OFTEN: u32 = 20_000;
 
-/// Whether each node adds the text of that number.
+/// Returns whether each node adds the text of that number.
 pub fn added_by_all<G: Gate, R: Wait + Clock>(
     rt: &R,
     desk: &Desk<G, EntryKeep>,

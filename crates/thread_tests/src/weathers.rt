@@ -50,7 +50,7 @@ fn served_by_all(rt: HostRuntime) {
     assert!(rt; serve_as_one(&rt, rt.alloc()) == Ok(true));
 }
 
-/// Whether each node answers as one library that is given the texts in order, also after a restart.
+/// Returns whether each node answers as one library that is given the texts in order, also after a restart.
 fn serve_as_one<R: Threads + Wait + Clock + Copy + Send + Sync + Drop + 'static>(
     rt: &R,
     alloc: Global,
@@ -62,7 +62,7 @@ fn serve_as_one<R: Threads + Wait + Clock + Copy + Send + Sync + Drop + 'static>
     served
 }
 
-/// The same of that library, which is new.
+/// Returns whether each node answers as a new library.
 fn serve_as<R: Threads + Wait + Clock + Copy + Send + Sync + Drop + 'static>(
     rt: &R,
     alloc: Global,
@@ -84,7 +84,7 @@ fn apply_one(library: &mut Library, entry: &Entry) -> Result<(), AllocError> {
     Ok(())
 }
 
-/// Whether each of three nodes answers as that library, also after a restart.
+/// Returns whether each of three nodes answers as that library, also after a restart.
 fn serve_like<R: Threads + Wait + Clock + Copy + Send + Sync + Drop + 'static>(
     rt: &R,
     alloc: Global,
@@ -95,7 +95,7 @@ fn serve_like<R: Threads + Wait + Clock + Copy + Send + Sync + Drop + 'static>(
     serves_and_stops(rt, alloc, &mut cluster, library)
 }
 
-/// The same of that cluster, which stops then.
+/// Returns whether the nodes of this cluster answer as the library, and stops it.
 fn serves_and_stops<R: Threads + Wait + Clock>(
     rt: &R,
     alloc: Global,
@@ -136,7 +136,7 @@ fn serve_at<R: Wait + Clock>(
     serves(rt, desk, 2, library)
 }
 
-/// Whether the first node and the last list nothing.
+/// Returns whether the first node and the last list nothing.
 fn is_new<R: Wait>(rt: &R, desk: &Desk<OpenGate, EntryKeep>) -> Result<bool, StepFault> {
     Ok(desk.list(rt, 0)?.is_empty() && desk.list(rt, 2)?.is_empty())
 }
@@ -154,7 +154,7 @@ fn submit_all<G: Gate, R: Wait>(
     Ok(())
 }
 
-/// Whether node `k` has the verdicts and the assertions of that library.
+/// Returns whether node `k` has the verdicts and the assertions of that library.
 fn serves<G: Gate, R: Wait + Clock>(
     rt: &R,
     desk: &Desk<G, EntryKeep>,
@@ -207,8 +207,8 @@ fn a_filled_gap_is_applied(rt: HostRuntime) {
     assert!(rt; fills_its_gap(&rt, rt.alloc()) == Ok(true));
 }
 
-/// Whether node 2, to which nothing of the first text comes, and which cannot ask for it while it learns of the next four, applies
-/// all six texts once it learns of the sixth: it asks for the first then, and one answer gives it all.
+/// Returns whether node 2, to which nothing of the first text comes, and which cannot ask for it while it learns of the next
+/// four, applies all six texts once it learns of the sixth: it asks for the first then, and one answer gives it all.
 fn fills_its_gap<R: Threads + Wait + Clock + Copy + Send + Sync + Drop + 'static>(
     rt: &R,
     alloc: Global,
@@ -224,7 +224,7 @@ fn fills_its_gap<R: Threads + Wait + Clock + Copy + Send + Sync + Drop + 'static
     learns_and_stops(rt, alloc, &mut cluster, &first, &last)
 }
 
-/// Whether node 2 of that cluster applies all texts; the cluster stops then.
+/// Returns whether node 2 of that cluster applies all texts; the cluster stops then.
 fn learns_and_stops<R: Threads + Wait + Clock>(
     rt: &R,
     alloc: Global,

@@ -1,4 +1,4 @@
--- Jobs stay jobs where statements are added behind; the last `$p` is the next job.
+-- Jobs stay jobs when statements are appended; the last `$p` is the next job.
 use Rattle.verify_pool.proofs.Words.{◌≡◌, ℕ, zero, suc, ◌++◌, ◌⊎◌, inl, inr, List, [], ◌∷◌, length, slice_get, Some, IsTrue, arith, sym, subst, ap, ◌∙◌, same_Some, none-some, Database, Job, IsJob, AreJobs}
 use Rattle.std.proofs.lemmas.List.{length-append}
 use Rattle.mm_read.specs.declared.stmt.Stmt.{Stmt}
@@ -12,7 +12,7 @@ get_added [] x y (suc k) e = absurd (none-some y e)
 get_added (z ∷ xs) x y zero e = inl e
 get_added (z ∷ xs) x y (suc k) e = get_added xs x y k e
 
--- a statement keeps its position where others come behind
+-- a statement keeps its position when others are appended
 pub stmt_stays : (S more : Database) (at : ℕ) (s : Stmt) → stmt_at S at ≡ Some s → stmt_at (S ++ more) at ≡ Some s
 stmt_stays S more zero s e = absurd (none-some s e)
 stmt_stays S more (suc n) s e = get-more S more n s e

@@ -15,7 +15,7 @@ module _ (S : Database) (jobs : List Job) where
   there_right : (k : ℕ) (job : Job) → slice_get jobs k ≡ Some job → IsRightJob S job → IsRightAt S jobs k
   there_right k job stands right other e = subst (IsRightJob S) (same_Some job other (sym stands ∙ e)) right
 
-  -- what is said of the job is said of its index
+  -- a property of the job is one of its index
   pub job_judged : {E : Type 0} (k : ℕ) (job : Job) (r : Result Answer E) → slice_get jobs k ≡ Some job
       → IfOk r (λ answer. Says answer (IsRightJob S job)) → IfOk r (λ answer. Says answer (IsRightAt S jobs k))
   job_judged k job (Ok Proved) stands h = there_right k job stands h

@@ -1,4 +1,4 @@
--- What the answers of the stripes say of all jobs.
+-- The consequences of the answers of the stripes for all jobs.
 use Rattle.verify_pool.proofs.Words.{◌≡◌, ℕ, zero, suc, refl, List, [], ◌∷◌, same_Some, none-some, IsIn, IsFoundInStripe, IsSettled, ◌+◌, ◌*◌, ◌/◌, ◌%◌, ◌<◌, ◌≤◌, ◌⊎◌, inl, inr, Option, Some, None, IfSome, arith, sym, subst, below_more, mod-lt, add-one, suc-mul, cases_lt, IsBefore, IsWrongAt, IsStripeRightBefore, IsLeastInStripe, IsNoLater}
 use Rattle.std.proofs.lemmas.Nat.{mul-le, div-add-mod'}
 

@@ -1,5 +1,6 @@
 -- The least job that is not right.
--- What is right is `verify`'s, from Metamath, 4.2.6 and appendix B; that the least bad proof decides is this project's.
+-- The notion of a right proof is `verify`'s, from Metamath, 4.2.6 and appendix B; that the least bad proof decides is this
+-- project's.
 -- The code deals the jobs out to workers; here they are one list, judged in order.
 use Rattle.std.specs.Prelude.{◌≡◌, ℕ, List, slice_get, Option, Some, IfSome, MatchOption}
 use Rattle.mm_read.specs.declared.stmt.Stmt.{Stmt}

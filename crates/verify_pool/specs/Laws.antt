@@ -1,4 +1,4 @@
--- What holds of the least bad job.
+-- Laws of the least bad job.
 -- This project's.
 -- These are sentences on the definitions alone.
 use Rattle.std.specs.Prelude.{◌≡◌, ℕ, List, Option}

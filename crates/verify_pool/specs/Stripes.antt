@@ -36,6 +36,6 @@ abbrev pub IsSettled : (ℕ → Type 0) → ℕ → Option ℕ → Option ℕ �
 IsSettled right index old new =
     ((new ≡ old) × (IsBefore index old → right index)) ⊎ ((new ≡ Some index) × IsBefore index old × (¬ right index))
 
--- what is before the first answer is before the second
+-- a job before the first answer is before the second
 abbrev pub IsNoLater : Option ℕ → Option ℕ → Type 0
 IsNoLater a b = (k : ℕ) → IsBefore k a → IsBefore k b

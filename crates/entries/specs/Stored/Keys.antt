@@ -28,7 +28,7 @@ pub record AreKeysOf (expr keys : List ℕ) : Type 0 where
   pub only : (j : ℕ) → j < length keys → slice_get expr (index_of (slice_index keys j)) ≡ Some (symbol_of (slice_index keys j))
   pub all : (i x : ℕ) → slice_get expr i ≡ Some x → Contains keys (key_of x i)
 
--- all keys of one symbol, as they stand behind the keys before `from`
+-- all keys of one symbol, as they stand after the keys before `from`
 pub record IsRun (keys : List ℕ) (from to : ℕ) : Type 0 where
   pub some : from < to
   pub end : to ≤ length keys

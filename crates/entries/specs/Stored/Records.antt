@@ -1,6 +1,6 @@
 -- Statements in shared buffers: each has what stands from where it begins up to where the next one begins.
 -- The code's own form: no public clause cites it.
--- So more behind the buffers changes no statement, and the buffers can be cut where a statement begins.
+-- So more after the buffers changes no statement, and the buffers can be cut where a statement begins.
 use Rattle.std.specs.Prelude.{◌≡◌, ℕ, ◌+◌, ◌-◌, ◌<◌, ◌≤◌, ◌^◌, Bool, true, false, List, [], ◌∷◌, ◌++◌, length, map, slice_get, slice_range, get_or, nat_lt, Option, Some, None}
 use Rattle.entries.specs.declared.layout.Layout.{Layout}
 use Rattle.entries.specs.declared.layout.TheConstants.{COUNTS}
@@ -16,7 +16,7 @@ use Rattle.entries.specs.Stored.Spans.{cut, AreSpansIn}
 
 -- ---- the numbers of one statement
 
--- the parts of so many hypotheses, symbols, groups and variables of groups, one behind the other
+-- the parts of so many hypotheses, symbols, groups and variables of groups, one after the other
 abbrev pub laid : ℕ → ℕ → ℕ → ℕ → ℕ → Layout
 laid from h s g p = record {
   heads = from;
@@ -126,7 +126,7 @@ pub record ArePacked (numbers : List ℕ) (groups : List BufferPart) (rs : List 
 
 -- ---- one statement as it is read
 
--- the parts stand one behind the other
+-- the parts stand one after the other
 pub record IsOrdered (at : Layout) : Type 0 where
   pub heads : at.heads ≤ at.asked
   pub asked : at.asked ≤ at.symbols
@@ -134,7 +134,7 @@ pub record IsOrdered (at : Layout) : Type 0 where
   pub hypotheses : at.hypotheses ≤ at.places
   pub places : at.places ≤ at.end
 
--- what was read tells the entry that was found
+-- the record that was read tells the entry that was found
 pub record IsStored (found : Option Entry) (s : Stored) : Type 0 where
   pub ordered : IsOrdered s.at
   pub whole : s.at.end ≡ length s.numbers.now

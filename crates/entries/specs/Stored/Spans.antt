@@ -1,4 +1,4 @@
--- Lists that stand in one buffer, one behind the other.
+-- Lists that stand in one buffer, one after the other.
 -- The code's own form; public clauses cite `Extends`, `AreSpansIn` and `cut` alone.
 use Rattle.std.specs.Prelude.{◌≡◌, ℕ, ◌≤◌, List, [], ◌∷◌, ◌++◌, map, slice_range}
 use Rattle.entries.specs.declared.buffer_part.BufferPart.{BufferPart}
@@ -12,6 +12,6 @@ abbrev pub AreSpansIn : ℕ → List BufferPart → Type 0
 AreSpansIn n [] = Unit {0}
 AreSpansIn n (s ∷ spans) = ((s.from ≤ s.to) × (s.to ≤ n)) × AreSpansIn n spans
 
--- the list with more behind it
+-- the list with more after it
 abbrev pub Extends : {A : Type 0} → List A → List A → Type 0
 Extends {A} old new = (more : List A) × (new ≡ old ++ more)

@@ -14,14 +14,14 @@ stacked zero top below = []
 stacked (suc zero) top below = top ∷ []
 stacked (suc (suc n)) top below = top ∷ below
 
--- the stack of a version behind these
+-- the stack of a version after these
 abbrev pub stack_of : List StackVersion → Version → List ℕ
 stack_of done v = stacked v.height v.top (get_or done v.below no_version).stack
 
 abbrev pub version_of : List StackVersion → Version → StackVersion
 version_of done v = record { since = v.since; stack = stack_of done v }
 
--- the versions behind these
+-- the versions after these
 abbrev pub versions_behind : List StackVersion → List Version → List StackVersion
 versions_behind done [] = []
 versions_behind done (v ∷ vs) = version_of done v ∷ versions_behind (done ++ version_of done v ∷ []) vs

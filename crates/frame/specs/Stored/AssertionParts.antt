@@ -22,7 +22,7 @@ is_typed hs c = list_any (is_typed_by c) hs
 abbrev pub typed : List Hypothesis → List ℕ → List ℕ
 typed hs codes = filter (is_typed hs) codes
 
--- those that were noted
+-- those that were recorded
 abbrev pub noted_in : List ℕ → List ℕ → List ℕ
 noted_in ns codes = filter (λ c. list_any (λ n. n == c) ns) codes
 
@@ -42,11 +42,11 @@ has_two (x ∷ y ∷ xs) = true
 abbrev pub groups_by : List Hypothesis → List (List ℕ) → List (List ℕ)
 groups_by hs lists = filter has_two (map (typed hs) lists)
 
--- the first symbol of the statement at a position
+-- the typecode of the statement at a position
 abbrev pub head_at : List Entry → ℕ → ℕ
 head_at es p = head_of (symbols_at es p)
 
--- what the hypothesis at a position is
+-- the hypothesis at a position as one number
 abbrev pub asked_by : ℕ → Kind → List ℕ → Hypothesis
 asked_by p Float codes = hypothesis.Float (get_or codes 1 0)
 asked_by p kind codes = hypothesis.Essential p
@@ -71,7 +71,7 @@ floats_in S e = map (λ p. p.0) (filter (λ p. is_float_in e p.1) (active S))
 abbrev pub kept_with : Bool → Database → Stmt → List ℕ
 kept_with whole S s = if whole then hypotheses S s else floats_in S (expr_of s)
 
--- the statement s, which stands behind the first statements S, is kept with the parts d
+-- the statement s, which stands after the first statements S, is kept with the parts d
 pub record IsKeptAs (es : List Entry) (S : Database) (s : Stmt) (d : Assertion) : Type 0 where
   pub hypotheses_kept : d.hypotheses ≡ kept_with d.whole S s
   pub asked_kept : d.asked ≡ map (asked_at es) d.hypotheses

@@ -44,7 +44,7 @@ abbrev pub AreZero : List Symbol → Type 0
 AreZero [] = Unit {0}
 AreZero (x ∷ xs) = (x ≡ zero_symbol) × AreZero xs
 
--- the list with symbols behind it that nothing declares
+-- the list with symbols after it that nothing declares
 abbrev pub AreZeroBehind : List Symbol → List Symbol → Type 0
 AreZeroBehind old new = (more : List Symbol) × (new ≡ old ++ more) × AreZero more
 
@@ -59,7 +59,7 @@ kind_of (stmt.Ess label expr) = Ess
 kind_of (stmt.Axiom label expr) = Axiom
 kind_of (stmt.Prove label expr proof) = Prove
 
--- the links behind a statement of a kind at a position, if it is no `$}`
+-- the links after a statement of a kind at a position, if it is no `$}`
 abbrev pub next_links : Links → ℕ → Kind → Links
 next_links l at Open = record { block = at; essential = l.essential; variable = l.variable; disjoint = l.disjoint }
 next_links l at Ess = record { block = l.block; essential = at; variable = l.variable; disjoint = l.disjoint }
@@ -67,7 +67,7 @@ next_links l at Var = record { block = l.block; essential = l.essential; variabl
 next_links l at Disj = record { block = l.block; essential = l.essential; variable = l.variable; disjoint = at }
 next_links l at kind = l
 
--- what one more entry makes of the last declarations of a symbol
+-- the effect of one more entry on the last declarations of a symbol
 abbrev pub with_declared : Kind → List ℕ → ℕ → ℕ → Symbol → Symbol
 with_declared kind codes at c x =
     if list_any (λ y. c == y) (declared_by kind codes) then with_last kind at x else x
@@ -80,7 +80,7 @@ pub record HasRoom (k : Stock) : Type 0 where
   pub count : length k.symbols.items ≡ length (names_in k)
   pub few : length (names_in k) < 2 ^ 31
 
--- more names and positions behind those that were there; the entries and the links stay
+-- more names and positions at the end; the entries and the links stay
 pub record Grown (old new : Stock) : Type 0 where
   pub numbering : Extends old.numbering new.numbering
   pub symbols : AreZeroBehind old.symbols.items new.symbols.items
@@ -92,7 +92,7 @@ pub record Grown (old new : Stock) : Type 0 where
   pub variables : new.variables ≡ old.variables
   pub links : new.links ≡ old.links
 
--- the storage with more names and positions behind those that were there: cut back it is as before
+-- the storage with more names and positions at the end: cut back it is as before
 pub record IsBehind (old new : Stock) : Type 0 where
   pub numbering : Extends old.numbering new.numbering
   pub symbols : AreZeroBehind old.symbols.items new.symbols.items

@@ -26,7 +26,7 @@ pub record AreEnds (ends : List ℕ) (S : Database) : Type 0 where
   pub count : length ends ≡ length S
   pub tell : TellEnds ends S
 
--- a `$}` notes `at` as the end of the block that opened at the position `block`
+-- a `$}` records `at` as the end of the block that opened at the position `block`
 abbrev pub with_end : Kind → ℕ → ℕ → List ℕ → List ℕ
 with_end Close (suc b) at ends = slice_set ends b at
 with_end kind block at ends = ends

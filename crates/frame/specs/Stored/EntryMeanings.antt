@@ -1,4 +1,4 @@
--- What an entry stands for, and what entries say of a symbol's number. The code's own form: no public clause cites it.
+-- The meaning of an entry, and of the entries for a symbol's number. The code's own form: no public clause cites it.
 use Rattle.std.specs.Prelude.{◌≡◌, ℕ, ◌+◌, ◌<◌, ◌==◌, Bool, true, false, ◌&&◌, if◌then◌else◌, List, [], ◌∷◌, ◌++◌, length, map, slice_get, Option, Some, None}
 use Rattle.std.specs.List.{list_any}
 use Rattle.frame.specs.Words.{Name, Stmt, Expr, Database, stmt_at, before, label_of, declared_symbols, declared_labels, name_at, decode, Kind, Open, Close, Const, Var, Disj, Float, Ess, Axiom, Prove, Entry}
@@ -45,11 +45,11 @@ abbrev pub positions_from : ℕ → Database → List ℕ
 positions_from at [] = []
 positions_from at (s ∷ S) = option_position (label_of s) at (positions_from (at + 1) S)
 
--- each statement is legal behind those before it
+-- each statement is legal after the earlier ones
 abbrev pub AreAllLegal : Database → Type 0
 AreAllLegal S = (j : ℕ) (s : Stmt) → stmt_at S j ≡ Some s → IsLegal (before S j) s
 
--- ---- what an entry says of a symbol's number
+-- ---- the meaning of an entry for a symbol's number
 
 -- a `$f` of it
 abbrev pub is_float_kind : Kind → Bool
@@ -82,11 +82,11 @@ last_where test es = last_from test 0 1 es
 abbrev pub symbol_of : List Entry → ℕ → Symbol
 symbol_of es c = record { float = last_where (floats c) es; variable = last_where (declares c) es }
 
--- what the list has at the numbers of symbols
+-- the entries of the list at the numbers of symbols
 abbrev pub ReadsAs : List Symbol → (ℕ → Symbol) → Type 0
 ReadsAs symbols x = (c : ℕ) → c < length symbols → slice_get symbols c ≡ Some (x c)
 
--- ---- what a declaration replaces
+-- ---- the declarations that a declaration replaces
 
 -- the symbols that a statement of this kind with these symbols declares
 abbrev pub declared_by : Kind → List ℕ → List ℕ
@@ -103,11 +103,11 @@ abbrev pub with_last : Kind → ℕ → Symbol → Symbol
 with_last Float at x = record { float = at; variable = x.variable }
 with_last kind at x = record { float = x.float; variable = at }
 
--- what a statement of this kind with these symbols replaces, where the last declarations before it are x
+-- the declarations that a statement of this kind with these symbols replaces, where the last declarations before it are x
 abbrev pub replaced_by : (ℕ → Symbol) → Kind → List ℕ → List ℕ
 replaced_by x kind codes = map (λ c. last_of kind (x c)) (declared_by kind codes)
 
--- the same for each entry of a list, behind others
+-- the same for each entry of a list, after others
 abbrev pub replaced_behind : List Entry → List Entry → List ℕ
 replaced_behind before [] = []
 replaced_behind before (e ∷ es) = replaced_by (symbol_of before) e.kind e.symbols ++ replaced_behind (before ++ e ∷ []) es

@@ -33,7 +33,7 @@ pub record HasMore (P : ℕ → Type 0) (old new : List ℕ) : Type 0 where
   pub all : (p : ℕ) → P p → In p new
   pub only : (p : ℕ) → In p new → In p old ⊎ P p
 
--- p is the last `$f` of the symbol c, and active behind all entries
+-- p is the last `$f` of the symbol c, and active after all entries
 pub record IsFloatOf (es : List Entry) (S : Database) (c p : ℕ) : Type 0 where
   pub last : p ≡ last_where (floats c) es
   pub some : p ≡ 0 → ⊥
@@ -90,13 +90,14 @@ abbrev pub AreHypotheses : List Entry → List ℕ → Type 0
 AreHypotheses es [] = Unit {0}
 AreHypotheses es (p ∷ ps) = ((e : Entry) × (1 ≤ p) × (slice_get es (p - 1) ≡ Some e) × (is_hypothesis_entry e.kind ≡ true)) × AreHypotheses es ps
 
--- of the hypotheses it is said what they are and what symbols they begin with, and, where they are all, what the `$d` behind S keep apart
+-- the hypotheses have their kinds and typecodes, and, where they are all, the groups are the disjoint variables by the `$d`
+-- after S
 pub record AreDescribed (es : List Entry) (S : Database) (d : Assertion) : Type 0 where
   pub asked_made : d.asked ≡ map (asked_at es) d.hypotheses
   pub heads_made : d.heads ≡ map (head_at es) d.hypotheses
   pub groups_made : d.whole ≡ true → d.groups ≡ groups_by d.asked (map (λ q. symbols_at es q.0) (actives is_disj S))
 
--- an assertion behind the statements S has these hypotheses, of which all is said
+-- an assertion after the statements S has these hypotheses, of which all is said
 pub record IsSpread (es : List Entry) (S : Database) (ps : List ℕ) (d : Assertion) : Type 0 where
   pub is_whole : d.whole ≡ true
   pub same : d.hypotheses ≡ ps

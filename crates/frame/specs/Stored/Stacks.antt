@@ -1,5 +1,5 @@
 -- The active `$d` and `$v` that have a symbol, kept by its number. The code's own form: no public clause cites it.
--- Metamath, 4.2.8: behind a `$}` the statements that were active before its `${` are active.
+-- Metamath, 4.2.8: after a `$}` the statements that were active before its `${` are active.
 use Rattle.std.specs.Prelude.{◌≡◌, ℕ, zero, suc, ◌+◌, ◌-◌, ◌≤◌, ◌==◌, Bool, true, if◌then◌else◌, List, [], ◌∷◌, length, take, slice_get, Some}
 use Rattle.std.specs.List.{list_any}
 use Rattle.entries.specs.Histories.{StackVersion, AreUntil, history, kept_until, stack_at}
@@ -36,9 +36,9 @@ abbrev pub AreOfKind : (Stmt → Bool) → Database → List ℕ → Type 0
 AreOfKind kind S [] = Unit {0}
 AreOfKind kind S (p ∷ ps) = IsOfKind kind S p × AreOfKind kind S ps
 
--- ---- what the next statement changes
+-- ---- the changes by the next statement
 
--- of the two kinds that have stacks: which statements are of it, and which link leads to the last active one
+-- the two kinds that have stacks: which statements are of the kind, and which link leads to the last active one
 abbrev pub kind_test : Kind → Stmt → Bool
 kind_test Disj s = is_disj s
 kind_test kind s = is_var s
@@ -55,22 +55,22 @@ opening (suc b) = suc b
 abbrev pub with_top : List ℕ → ℕ → List (List StackVersion) → ℕ → List ℕ
 with_top codes at hs c = if list_any (λ x. c == x) codes then at ∷ stack_at (history hs c) at else stack_at (history hs c) at
 
--- the stack of each symbol behind the next statement
+-- the stack of each symbol after the next statement
 abbrev pub latest_of : Kind → Kind → NextStatement → List (List StackVersion) → ℕ → List ℕ
 latest_of Disj Disj x hs c = with_top x.codes.now x.at hs c
 latest_of Var Var x hs c = with_top x.codes.now x.at hs c
 latest_of of Close x hs c = stack_at (history hs c) (opening x.links.block)
 latest_of of kind x hs c = stack_at (history hs c) x.at
 
--- of each number the versions until n are those that there were
+-- the versions of each number until n are the earlier ones
 abbrev pub KeepsUntil : ℕ → List (List StackVersion) → List (List StackVersion) → Type 0
 KeepsUntil n old new = (c : ℕ) → kept_until n (history new c) ≡ kept_until n (history old c)
 
--- of each of these symbols the versions were changed
+-- the versions of each of these symbols were changed
 abbrev pub AreChangedBy : (List StackVersion → List StackVersion) → List ℕ → List (List StackVersion) → List (List StackVersion) → Type 0
 AreChangedBy f codes old new = (d : ℕ) → history new d ≡ (if list_any (λ x. d == x) codes then f (history old d) else history old d)
 
--- the stacks behind the statement at `at` are these, and the earlier ones are as they were
+-- the stacks after the statement at `at` are these, and the earlier ones are as they were
 pub record IsNext (at : ℕ) (behind : ℕ → List ℕ) (old new : List (List StackVersion)) : Type 0 where
   pub latest : (c : ℕ) → stack_at (history new c) (at + 1) ≡ behind c
   pub until : AreUntil at new

@@ -37,7 +37,7 @@ pub record AreStored (k : Stock) : Type 0 where
   pub disjoints : AreStacks is_disj k.disjoints k.entries (statements_of k)
   pub variables : AreStacks is_var k.variables k.entries (statements_of k)
 
--- the stacks of a kind are those of a storage with these entries, behind which this is active
+-- the stacks of a kind are those of a storage with these entries, after which this is active
 pub record IsWalked (of : Kind) (entries : List Entry) (links : Links) (hs : List (List StackVersion)) : Type 0 where
   pub storage : Stock
   pub stored : AreStored storage
@@ -45,7 +45,7 @@ pub record IsWalked (of : Kind) (entries : List Entry) (links : Links) (hs : Lis
   pub links_are : links ≡ storage.links
   pub stacks : AreStacks (kind_test of) hs entries (statements_of storage)
 
--- what is noted of the statement that comes next
+-- the header of the next statement
 pub record IsHead (k : Stock) (s : Stmt) (h : Head) : Type 0 where
   pub kind : h.kind ≡ kind_of s
   pub label : h.before.label ≡ length (labels_in k)
@@ -55,7 +55,7 @@ pub record IsHead (k : Stock) (s : Stmt) (h : Head) : Type 0 where
 abbrev pub IsKeptOf : Stock → Stmt → Assertion → Type 0
 IsKeptOf k s d = IsKeptAs k.entries (statements_of k) s d
 
--- what was found out about the statement s; of each hypothesis it is said what it is and how it begins
+-- the parts that were found of the statement s; each hypothesis has its kind and its typecode
 pub record IsDraftOf (k : Stock) (s : Stmt) (d : Assertion) : Type 0 where
   pub paired : length d.asked ≡ length d.hypotheses
   pub headed : length d.heads ≡ length d.hypotheses

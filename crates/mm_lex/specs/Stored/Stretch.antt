@@ -4,11 +4,11 @@
 use Rattle.std.specs.Prelude.{ℕ, zero, suc, Bool, true, ◌||◌, ◌&&◌, ◌==◌, if◌then◌else◌, List, [], ◌∷◌, nat_lt, nat_le}
 use Rattle.std.specs.Simd.Lanes.{zip2}
 
--- at a byte below the space, at a `$`, or at a space behind which a byte up to `$` stands
+-- at a byte below the space, at a `$`, or at a space after which a byte up to `$` stands
 abbrev pub ends_between : ℕ → ℕ → Bool
 ends_between b next = nat_lt b 32 || (b == 36) || (nat_le b 32 && nat_le next 36)
 
--- the symbols end here; behind a text stands a space
+-- the symbols end here; after a text stands a space
 abbrev pub ends_here : List ℕ → Bool
 ends_here [] = true
 ends_here (b ∷ []) = ends_between b 32

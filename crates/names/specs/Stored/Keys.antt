@@ -1,4 +1,4 @@
--- Names as numbers of 64 bits. Names of at most seven bytes are told apart by them.
+-- Names as numbers of 64 bits, which distinguish names of at most seven bytes.
 -- The code's own form: no clause of a scope cites it.
 use Rattle.std.specs.Prelude.{ℕ, zero, suc, ◌+◌, ◌-◌, ◌*◌, ◌/◌, ◌%◌, ◌^◌, ◌<◌, List, [], ◌∷◌, length, get_or, nat_lt, if◌then◌else◌}
 use Rattle.std.specs.Int.{w64, swap_bytes}
@@ -17,7 +17,7 @@ digits (byte ∷ bytes) = byte + 256 * digits bytes
 abbrev pub ends : Name → List ℕ
 ends x = get_or x 0 0 ∷ get_or x (length x / 2) 0 ∷ get_or x (length x - 1) 0 ∷ []
 
--- the same of four to seven bytes
+-- the key of four to seven bytes
 abbrev pub front_and_back : Name → List ℕ
 front_and_back x =
     get_or x 0 0 ∷ get_or x 1 0 ∷ get_or x 2 0 ∷ get_or x 3 0

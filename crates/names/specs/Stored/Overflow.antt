@@ -1,4 +1,4 @@
--- The numbers of the names that stand apart from the table, of short ones by their keys and of others by their bytes.
+-- The numbers of the names in the overflow, short ones in the order of their keys and others in the order of their bytes.
 -- Source: this project's form of keeping names.
 -- The code's own form: no clause of a scope cites it.
 use Rattle.std.specs.Prelude.{ℕ, Option, length, nat_lt, if◌then◌else◌}

@@ -41,7 +41,7 @@ pub record IsHeld (slots : List Slot) (key number : ℕ) : Type 0 where
 abbrev pub AreUnused : List Slot → Type 0
 AreUnused slots = (i : ℕ) (s : Slot) → slice_get slots i ≡ Some s → s.number ≡ NO_NAME
 
--- the key of a name, by its number, or the name stands apart
+-- the key of a name, by its number, or the name is in the overflow
 pub record IsKept (a : Kept) (x : Name) (k : ℕ) : Type 0 where
   pub there : k < length a.keys.items
   pub bytes : AreBytes x
@@ -51,15 +51,15 @@ pub record IsKept (a : Kept) (x : Name) (k : ℕ) : Type 0 where
 abbrev pub AreKept : Kept → List Name → Type 0
 AreKept a names = (k : ℕ) → k < length names → IsKept a (name_at names k) k
 
--- what stood apart stands apart still
+-- the names of the overflow stay there
 abbrev pub AreFewer : Kept → Kept → Type 0
 AreFewer a b = (k : ℕ) → get_or b.keys.items k 0 ≢ APART → get_or a.keys.items k 0 ≢ APART
 
--- of the first names those that do not stand apart are in the table
+-- those of the first names that are not in the overflow are in the table
 abbrev pub AreHeld : ℕ → List Slot → Kept → List Name → Type 0
 AreHeld n slots a names = (k : ℕ) → k < n → get_or a.keys.items k 0 ≢ APART → IsHeld slots (key_of (name_at names k)) k
 
--- each name is in the table or stands apart
+-- each name is in the table or in the overflow
 abbrev pub AreFound : List Slot → Overflow → List Name → Type 0
 AreFound slots a names = (k : ℕ) → k < length names → IsHeld slots (key_of (name_at names k)) k ⊎ (number_of a (name_at names k) ≡ Some k)
 

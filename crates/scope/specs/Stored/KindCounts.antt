@@ -9,7 +9,7 @@ use Rattle.scope.specs.declared.numbering.CountedKind.{CountedKind}
 abbrev pub kinds_of : List CountedKind → List NameKind
 kinds_of entries = map (λ e. e.kind) entries
 
--- the count behind an entry
+-- the count after an entry
 abbrev pub behind : CountedKind → ℕ
 behind e = if is_symbol_kind e.kind then e.before + 1 else e.before
 

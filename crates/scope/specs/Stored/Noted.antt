@@ -1,4 +1,4 @@
--- The numbers of a statement's symbols, where they were noted while it was judged.
+-- The numbers of a statement's symbols, where they were recorded while it was judged.
 -- Source: this project's form.
 -- The code keeps them in one buffer; here they are an option.
 use Rattle.std.specs.Prelude.{◌≡◌, ℕ, ◌==◌, Bool, true, not, ◌&&◌, List, [], ◌∷◌, ◌++◌, Option, Some, option_map, IfSome}
@@ -7,11 +7,11 @@ use Rattle.mm_lex.specs.Alphabet.{Name}
 use Rattle.mm_read.specs.Statements.{Expr}
 use Rattle.scope.specs.Symbols.{AreNumbers}
 
--- what was noted stands for these symbols
+-- the recorded numbers stand for these symbols
 abbrev pub AreNoted : List Name → Expr → Option (List ℕ) → Type 0
 AreNoted symbols xs noted = IfSome noted (λ numbers. AreNumbers symbols xs numbers)
 
--- they are those before and one more, where numbers are still noted
+-- they are those before and one more, where numbers are still recorded
 abbrev pub IsAppended : ℕ → Option (List ℕ) → Option (List ℕ) → Type 0
 IsAppended n old new = IfSome new (λ numbers. Some numbers ≡ option_map (λ ns. ns ++ n ∷ []) old)
 

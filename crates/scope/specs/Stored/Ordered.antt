@@ -3,7 +3,7 @@ use Rattle.std.specs.Prelude.{◌≡◌, ℕ, ◌+◌, ◌<◌, true, false, Lis
 use Rattle.std.specs.Borrow.{Bor}
 use Rattle.mm_lex.specs.Alphabet.{Name, name_eq}
 
--- of the first n words none is the one before it
+-- none of the first n words is the one before it
 abbrev pub DifferNext : List (Bor Name) → ℕ → Type 0
 DifferNext words n = (k : ℕ) (d : Bor Name) → k + 1 < n → name_eq (get_or words k d).now (get_or words (k + 1) d).now ≡ false
 

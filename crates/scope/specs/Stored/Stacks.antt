@@ -13,7 +13,7 @@ use Rattle.scope.specs.Symbols.{symbols_of}
 use Rattle.scope.specs.declared.stack_heights.StackHeights.{StackHeights}
 use Rattle.scope.specs.declared.standing.Standing.{Standing}
 
--- how high the stacks stand behind these active statements
+-- how high the stacks stand after these active statements
 abbrev pub sizes_of : List (ℕ × Stmt) → StackHeights
 sizes_of es = record { variables = length (flat_map (λ p. variables p.1) es); typed = length (flat_map (λ p. typed_by p.1) es); standing = length (flat_map (λ p. stands_at p.0 p.1) es) }
 
@@ -31,7 +31,7 @@ abbrev pub can_push : List ℕ → List ℕ → Bool
 can_push stack [] = true
 can_push stack (n ∷ ns) = not (list_any (λ m. m == n) stack) && can_push (stack ++ n ∷ []) ns
 
--- a statement that opens and closes no block, and neither declares nor types a variable; n more stand behind it
+-- a statement that opens and closes no block, and neither declares nor types a variable; n more stand after it
 pub record IsPlain (s : Stmt) (n : ℕ) : Type 0 where
   pub no_open : is_open s ≡ false
   pub no_close : is_close s ≡ false
@@ -55,7 +55,7 @@ pub record IsKept (S M : Database) (variable_stack typed_stack : List ℕ) (stan
   pub never_below : stays_open 0 S ≡ true
   pub marked : IsMarked S M mark
 
--- what a scope has beside its rules: the numbering, those marked of it, what stands, and the counts of the statements
+-- the other parts of a scope: the numbering, those marked of it, the standing statements, and the counts of the statements
 pub record IsScope (S M : Database) (names : Declared) (marked_names : ℕ) (standing : List Standing) (count marked_count : ℕ) : Type 0 where
   pub numbering : IsNumberingOf S names
   pub marked_numbering : IsNumberingOf M (take marked_names names)

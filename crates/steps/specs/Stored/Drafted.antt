@@ -1,4 +1,4 @@
--- What the code keeps of a table while it goes over the items.
+-- The table that the code keeps while it goes over the items.
 -- Source: this project's form of a table of steps.
 -- The code keeps all expressions in one buffer, and finds a step by its position and those that it takes.
 use Rattle.std.specs.Prelude.{◌≡◌, ◌≢◌, ℕ, zero, suc, ◌≤◌, ◌⊎◌, List, [], ◌∷◌, ◌++◌, length, map, get_or, Option, Some, None, slice_get}
@@ -67,7 +67,7 @@ pub record IsTied (names : List Name) (d : TableDraft) (st : State) : Type 0 whe
 abbrev pub CanDo : Database → ℕ → List Name → TableDraft → Item → Type 0
 CanDo S at names old item = (st : State) × (next : State) × IsTied names old st × Steps S at st item next
 
--- where a run does the item, it was noted, and the results of the run are the expressions of the rows
+-- where a run does the item, it was recorded, and the results of the run are the expressions of the rows
 abbrev pub IsDone : Database → ℕ → List Name → TableDraft → Item → TableDraft → Type 0
 IsDone S at names old item new = (st next : State) → IsTied names old st → Steps S at st item next → Notes S at (progress_of old) item (progress_of new) × IsTied names new next
 
@@ -85,7 +85,7 @@ pub record AreHeld (d : TableDraft) : Type 0 where
   pub inside : AreInBuffer (length d.symbols) d.placed.items
   pub stack_below : AreBelow (length d.placed.items) d.stack.items
 
--- ---- what a change adds
+-- ---- the steps that a change adds
 
 -- a step was added, and its result put on top
 pub record Adds (old new : TableDraft) (step : PlacedStep) : Type 0 where

@@ -1,4 +1,4 @@
--- What the code keeps while it finds the essential steps: a mark at each step.
+-- The marks that the code keeps while it finds the essential steps: one at each step.
 -- Source: this project's form of a table of steps.
 -- The definition leads from the last step to those that it takes; a marked step is one that was reached.
 use Rattle.std.specs.Prelude.{◌≡◌, ◌↔◌, ◌⊎◌, ℕ, zero, suc, ◌-◌, ◌≤◌, Bool, true, false, if◌then◌else◌, List, [], ◌∷◌, ◌++◌, length, map, replicate, get_or, Some, slice_get, slice_set}
@@ -9,7 +9,7 @@ use Rattle.steps.specs.StepTable.{Step}
 use Rattle.steps.specs.Rows.{Row, row, no_row}
 use Rattle.steps.specs.Essential.{essential_of, IsIn, IsEssential}
 
--- of what is taken for these hypotheses, what is taken for a `$e`
+-- the places that are taken for a `$e`, among those that are taken for these hypotheses
 abbrev pub taken_by : List Hypothesis → List ℕ → List ℕ
 taken_by [] taken = []
 taken_by (h ∷ hs) [] = []
@@ -21,7 +21,7 @@ taken_by (Essential p ∷ hs) (k ∷ taken) = k ∷ taken_by hs taken
 abbrev pub HasMark : List Bool → ℕ → Type 0
 HasMark marks k = get_or marks k false ≡ true
 
--- of n steps the last is marked, if there is one
+-- the last of n steps is marked, if there is one
 abbrev pub mark_last : ℕ → List Bool
 mark_last n = slice_set (replicate n false) (n - 1) true
 

@@ -6,7 +6,7 @@ use Rattle.steps.specs.Stored.Drafted.{IsDraft}
 use Rattle.steps.proofs.ReachedLemmas.{Reached}
 use Rattle.steps.proofs.steps_table.proof_table.Given as goal
 
--- behind the items so far
+-- after the items so far
 abbrev pub invariant-loop-number : goal.invariant-loop-number
 invariant-loop-number l =
     AreLegal l.frames.statements l.frames.names

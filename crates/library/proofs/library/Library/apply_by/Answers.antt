@@ -32,7 +32,7 @@ returns-in_err-cause-in-Ok-clause-counted g c =
     rw (c.in-Some.is, new, c.in-Text.is, ← c.self.view_is) (within-read c.self.inside.charter c.in-Text.submission c.in-Ok.statements.items _ _
     (subst (IsReading c.self.inside.charter c.in-Text.submission) c.in-Ok.is c.in_ok-statements-in-Text.ensures) c.extend.ensures.counted)
 
--- what was made of the entry, whichever it was
+-- the outcome for the entry, whichever it was
 settled : (g : Rattle.library.proofs.library.Library.apply_by.Given.Over) (c : goal.After-verdict_of g) → let V = c.self.inside in
     let old : Replica = record { statements = V.database; decided = decided_of V.decided.entries; charter = V.charter } in let entry = c.in-Some.entry.now in let verdict = verdict_of c.match-entry.cause in
     Decides old entry verdict (record { statements = c.match-entry.self-inside.database; decided = decided_with old entry verdict; charter = c.match-entry.self-inside.charter })

@@ -17,7 +17,7 @@ use Rattle.scope.proofs.NamesLemmas.{symbols-distinct}
 use Rattle.names.proofs.CodesLemmas.{code-at, found-number}
 use Rattle.scope.proofs.legal.Judge.look_up.Goals as goal
 
--- what the numbering says of the kind of a name, of the statements
+-- the kind of a name by the numbering tells its declarations in the statements
 tells : (S : Database) (names : Declared) (x : Name) (k : Option NameKind) → TellsAll S names → k ≡ kind_in names x → Tells S x k
 tells S names x k told is = subst (λ (k : Option NameKind). Tells S x k) (sym is) (told x)
 
