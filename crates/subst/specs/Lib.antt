@@ -1,7 +1,7 @@
 pub mod Words
-pub mod ExpressionPlaces
+pub mod SymbolRanges
 pub mod Images
 pub mod Apart
-pub mod Findings
+pub mod DisjointCaches
 pub mod Laws
 pub mod Stored
