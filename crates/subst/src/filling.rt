@@ -1,15 +1,15 @@
 //! An expression with the images put in, written behind them in their buffer.
 ghost use Rattle.std.specs.Prelude.{◌≡◌, ◌+◌, ◌<◌, ◌≤◌, ◌^◌, length, take, IfSome, IfNone, OnOk};
-ghost use Rattle.{frame.specs.Substitution.code_apply, subst.specs.ExpressionPlaces.images_at, subst.specs.ExpressionPlaces.AreInside, subst.specs.Stored.Written.IsWritten, subst.specs.Stored.Written.LacksRoom, subst.specs.declared.buffer.TheConstants.SYMBOLS_LIMIT};
+ghost use Rattle.{frame.specs.Substitution.code_apply, subst.specs.SymbolRanges.images_at, subst.specs.SymbolRanges.AreInside, subst.specs.Stored.Written.IsWritten, subst.specs.Stored.Written.LacksRoom, subst.specs.declared.buffer.TheConstants.SYMBOLS_LIMIT};
 
 use crate::copies::{LANES, copy_place, put_symbol};
-use crate::image_places::ImagePlaces;
+use crate::image_ranges::ImageRanges;
 use std::alloc::AllocError;
 
 /// Writes the expression with all images put in at `at`, and tells where it ends; nothing where the room behind `at`
 /// is too small for as many symbols and those of the expression besides.
 #[inline(always)]
-pub fn fill(symbols: &mut [u32], at: usize, images: &ImagePlaces, expr: &[u32]) -> Option<usize>
+pub fn fill(symbols: &mut [u32], at: usize, images: &ImageRanges, expr: &[u32]) -> Option<usize>
     requires within { AreInside at images.now }
     requires inside { at ≤ length symbols.old }
     ensures some { IfSome result (IsWritten symbols.old symbols.new at (code_apply (images_at (take at symbols.old) images.now) expr.now)) }
@@ -33,7 +33,7 @@ pub fn fill(symbols: &mut [u32], at: usize, images: &ImagePlaces, expr: &[u32]) 
 }
 
 /// How many symbols the expression has with all images put in, where they are no more than `room`.
-pub fn filled_len(symbols: &[u32], images: &ImagePlaces, expr: &[u32], room: usize) -> Option<usize>
+pub fn filled_len(symbols: &[u32], images: &ImageRanges, expr: &[u32], room: usize) -> Option<usize>
     requires { AreInside (length symbols.now) images.now }
     ensures some { IfSome result (λ len. (len ≡ length (code_apply (images_at symbols.now images.now) expr.now)) × (len ≤ room)) }
     ensures none { IfNone result (room < length (code_apply (images_at symbols.now images.now) expr.now)) }

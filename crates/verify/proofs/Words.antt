@@ -38,14 +38,14 @@ pub use Rattle.std.specs.List.Sorted.{IsNonDecreasing}
 pub use Rattle.std.specs.Prelude.{Err, MatchResult, None, Option, Vec, bytes_eq, codes, cond, filter, is_none, is_some, max, min, nat_eq, nat_le, nat_lt, option_map, replicate, slice_index_or, slice_set, suc, unwrap_or, zero, ◌&&◌, ◌==◌, ◌||◌, ◌⊎◌}
 pub use Rattle.std.specs.declared.alloc.AllocError.{AllocError}
 pub use Rattle.std.specs.declared.alloc.Global.{Global}
-pub use Rattle.subst.proofs.ExpressionPlaceLemmas.{length-seen, map-seen-more, seen-get, seen-last, within-at, within-drop, within-get, within-snoc, within-take, within-weaken}
-pub use Rattle.subst.proofs.ImagePlacesLemmas.{image-none, image-some, inside-more, inside-none, inside-set}
-pub use Rattle.subst.proofs.NumbersApartLemmas.{below-drop, below-group}
+pub use Rattle.subst.proofs.SymbolRangeLemmas.{length-seen, map-seen-more, seen-get, seen-last, within-at, within-drop, within-get, within-snoc, within-take, within-weaken}
+pub use Rattle.subst.proofs.ImageRangesLemmas.{image-none, image-some, inside-more, inside-none, inside-set}
+pub use Rattle.subst.proofs.GroupLemmas.{below-drop, below-group}
 pub use Rattle.subst.proofs.SubstitutionLemmas.{image-decode, image-named, image-unnamed, substitution_over_names}
-pub use Rattle.subst.specs.ExpressionPlaces.{AreInside, AreWithin, images_at, seen_at}
+pub use Rattle.subst.specs.SymbolRanges.{AreInside, AreWithin, images_at, seen_at}
 pub use Rattle.subst.specs.Findings.{Found}
 pub use Rattle.subst.specs.Images.{AreOver}
-pub use Rattle.subst.specs.declared.expression_place.ExpressionPlace.{ExpressionPlace}
+pub use Rattle.subst.specs.declared.symbol_range.SymbolRange.{SymbolRange}
 pub use Rattle.verify.specs.Concludes.{ConcludeAll, Concludes}
 pub use Rattle.verify.specs.Derivations.{Derivation, Derivations, apply, depth, depth_in, derivation_of, derivation_step, from_list, hyp, more, node_count, nodes_in, none}
 pub use Rattle.verify.specs.Extents.{extent_of}

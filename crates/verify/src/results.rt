@@ -1,14 +1,14 @@
 //! The results of a proof so far, as ranges of one buffer.
 
 ghost use Rattle.std.specs.Prelude.{take, ℕ, ◌≡◌, suc, ◌<◌, ◌≤◌, ◌↔◌, ◌∷◌, ◌++◌, [], length, map, get_or, replicate, nat_eq, ◌==◌, Some, is_some, if◌then◌else◌, IfOk, IfSome, MatchOption, OnOk, OnErr, IsTrue};
-ghost use Rattle.{names.specs.Codes.decode, names.specs.Codes.AreDistinct, frame.specs.Below.AllBelow, frame.specs.Disjoint.are_groups_apart, frame.specs.AtPosition.AreLegal, frame.specs.Substitution.code_apply, frame.specs.Substitution.images_of_names, subst.specs.Findings.IsKnown, subst.specs.Images.AreOver, subst.specs.ExpressionPlaces.AreWithin, subst.specs.ExpressionPlaces.AreInside, std.specs.Map.lookup, verify.specs.ReadPlaces.ReadTo, verify.specs.ReadPlaces.ReadsAll, verify.specs.ReadPlaces.IsMistyped, verify.specs.ReadPlaces.BeginsWith, verify.specs.ReadPlaces.tail_of, verify.specs.Fits.AreFront, verify.specs.Fits.AreDifferent, verify.specs.Fits.AreStanding, verify.specs.Fits.Reads, verify.specs.Fits.DoFit, verify.specs.Machine.with_result, verify.specs.Machine.with_mark, verify.specs.Machine.IsSaved, verify.specs.ResultPlaces.below, verify.specs.ResultPlaces.top, verify.specs.ResultPlaces.Adds, verify.specs.ResultPlaces.Keeps, verify.specs.ResultPlaces.Marks, verify.specs.ResultPlaces.Finds, verify.specs.Right.weight_limit};
+ghost use Rattle.{names.specs.Codes.decode, names.specs.Codes.AreDistinct, frame.specs.Below.AllBelow, frame.specs.Disjoint.are_groups_apart, frame.specs.AtPosition.AreLegal, frame.specs.Substitution.code_apply, frame.specs.Substitution.images_of_names, subst.specs.Findings.IsKnown, subst.specs.Images.AreOver, subst.specs.SymbolRanges.AreWithin, subst.specs.SymbolRanges.AreInside, std.specs.Map.lookup, verify.specs.ReadPlaces.ReadTo, verify.specs.ReadPlaces.ReadsAll, verify.specs.ReadPlaces.IsMistyped, verify.specs.ReadPlaces.BeginsWith, verify.specs.ReadPlaces.tail_of, verify.specs.Fits.AreFront, verify.specs.Fits.AreDifferent, verify.specs.Fits.AreStanding, verify.specs.Fits.Reads, verify.specs.Fits.DoFit, verify.specs.Machine.with_result, verify.specs.Machine.with_mark, verify.specs.Machine.IsSaved, verify.specs.ResultPlaces.below, verify.specs.ResultPlaces.top, verify.specs.ResultPlaces.Adds, verify.specs.ResultPlaces.Keeps, verify.specs.ResultPlaces.Marks, verify.specs.ResultPlaces.Finds, verify.specs.Right.weight_limit};
 
 use entries::{Groups, Hypotheses, Hypothesis};
 use frame::{Frames, Pairs};
 use std::alloc::{AllocError, Global};
 use std::marker::Model;
 use subst::{
-    Buffer, ExpressionPlace, Findings, ImagePlaces, SYMBOLS_LIMIT, groups_apart, place_between,
+    Buffer, SymbolRange, Findings, ImageRanges, SYMBOLS_LIMIT, groups_apart, place_between,
     symbols_at,
 };
 
@@ -19,9 +19,9 @@ use subst::{
 #[derive(Drop)]
 pub struct Results {
     symbols: Buffer,
-    images: ImagePlaces,
-    stack: Vec<ExpressionPlace>,
-    saved: Vec<ExpressionPlace>,
+    images: ImageRanges,
+    stack: Vec<SymbolRange>,
+    saved: Vec<SymbolRange>,
     weight: usize,
     /// How many symbols the buffer may hold.
     share: usize,
@@ -44,7 +44,7 @@ impl Results {
     {
         Results {
             symbols: Buffer::new(alloc),
-            images: ImagePlaces::new(alloc),
+            images: ImageRanges::new(alloc),
             stack: Vec::new(alloc),
             saved: Vec::new(alloc),
             weight: 0,
@@ -69,7 +69,7 @@ impl Results {
         self.saved.clear();
         self.weight = 0;
         self.saved
-            .resize(labels, ExpressionPlace { start: 0, end: 0 })?;
+            .resize(labels, SymbolRange { start: 0, end: 0 })?;
         Ok(())
     }
 
@@ -265,9 +265,9 @@ impl Results {
 /// Keeps the first `keep` places and adds one behind them, where one stood mostly.
 #[inline(always)]
 fn put_behind(
-    stack: &mut Vec<ExpressionPlace>,
+    stack: &mut Vec<SymbolRange>,
     keep: usize,
-    place: ExpressionPlace,
+    place: SymbolRange,
 ) -> Result<(), AllocError>
     requires { keep ≤ length stack.old.items }
     ensures ok { OnOk result (stack.new.items ≡ take keep stack.old.items ++ place ∷ []) }
@@ -285,11 +285,11 @@ fn put_behind(
 /// Sets the image of a variable to what stands behind the first symbol of a result, where this is the one asked for.
 #[inline(always)]
 fn read_one(
-    images: &mut ImagePlaces,
+    images: &mut ImageRanges,
     symbols: &[u32],
     head: u32,
     variable: u32,
-    place: ExpressionPlace,
+    place: SymbolRange,
 ) -> Result<bool, AllocError>
     requires { place.end ≤ length symbols.now }
     ensures begins { IfOk result (λ ok. IsTrue ok ↔ BeginsWith symbols.now head place) }
@@ -299,7 +299,7 @@ fn read_one(
     if place.start >= place.end || symbols[place.start as usize] != head {
         return Ok(false);
     }
-    let behind = ExpressionPlace {
+    let behind = SymbolRange {
         start: place.start + 1,
         end: place.end,
     };
@@ -311,11 +311,11 @@ fn read_one(
 #[cold]
 #[inline(never)]
 fn read_more(
-    images: &mut ImagePlaces,
+    images: &mut ImageRanges,
     symbols: &[u32],
     head: u32,
     variable: u32,
-    place: ExpressionPlace,
+    place: SymbolRange,
 ) -> Result<bool, AllocError>
     requires { place.end ≤ length symbols.now }
     ensures begins { IfOk result (λ ok. IsTrue ok ↔ BeginsWith symbols.now head place) }
@@ -329,11 +329,11 @@ fn read_more(
 /// finds a result that begins with another symbol than the one asked for.
 #[inline(always)]
 fn read_front(
-    images: &mut ImagePlaces,
+    images: &mut ImageRanges,
     symbols: &[u32],
     heads: &[u32],
     hypotheses: &Hypotheses<'_>,
-    places: &[ExpressionPlace],
+    places: &[SymbolRange],
 ) -> Result<Option<usize>, AllocError>
     requires same { length places.now ≡ length hypotheses.now }
     requires heads { length heads.now ≡ length hypotheses.now }
@@ -360,11 +360,11 @@ fn read_front(
 /// one asked for.
 #[inline(always)]
 pub fn read_off(
-    images: &mut ImagePlaces,
+    images: &mut ImageRanges,
     symbols: &[u32],
     heads: &[u32],
     hypotheses: &Hypotheses<'_>,
-    places: &[ExpressionPlace],
+    places: &[SymbolRange],
 ) -> Result<Option<usize>, AllocError>
     requires same { length places.now ≡ length hypotheses.now }
     requires heads { length heads.now ≡ length hypotheses.now }
