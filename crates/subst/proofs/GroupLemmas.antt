@@ -1,8 +1,8 @@
 -- The images of each two numbers of a group, each held against those before it.
-use Rattle.subst.proofs.Words.{◌≡◌, ℕ, zero, suc, ◌+◌, ◌<◌, ◌≤◌, Bool, true, false, not, ◌||◌, ◌&&◌, ◌==◌, List, [], ◌∷◌, length, map, take, drop, get_or, slice_get, slice_range, Some, refl, list_all, list_any, position_or_len, sym, ◌∙◌, ap, subst, arith, inl, inr, true≢false, lt-ltb, and_from, or_right, cases_eq, or_cases, or_left, cases_Bool, false_from_ne_true, list_all-map, list_all_at, list_all_more, list_any_at, get_or-take, get_or_default, length-take, eqb-true, last_part}
+use Rattle.subst.proofs.Words.{◌≡◌, ℕ, zero, suc, ◌+◌, ◌<◌, ◌≤◌, Bool, true, false, not, ◌||◌, ◌&&◌, ◌==◌, List, [], ◌∷◌, length, map, take, drop, get_or, slice_get, slice_range, Some, refl, list_all, list_any, position_or_len, sym, ◌∙◌, ap, subst, arith, inl, inr, true≢false, lt-ltb, and_from, and_parts, or_right, cases_eq, or_cases, or_left, cases_Bool, false_from_ne_true, list_all-map, list_all_at, list_all_more, list_any_at, get_or-take, get_or_default, length-take, eqb-true, last_part}
 use Rattle.subst.proofs.Words.{Name, name_eq, has_name, Expr, Database, name_at, decode, AreDistinct, name_same, same_name, name_eq-comm, is_pair, groups, Numbered, CodeImages, code_image, image, images_of_names, are_apart, is_group_apart, are_groups_apart, AreBelow, AllBelow, image_named, are_two_apart, is_number_apart, are_numbers_apart, pair_at, apart-from}
 use Rattle.subst.proofs.Words.{Places, ArePlaced, ArePlacesOf, HasVariable, IsAmong, HasPlace, PlaceWord, PlaceRange, IsIn, IsRangeOf, AddsPlaces, TellsEach}
-use Rattle.std.proofs.lemmas.Option.{get_or_from_slice_get, slice_get_within}
+use Rattle.std.proofs.lemmas.Option.{get_or_from_slice_get, slice_get-get_or, slice_get_within}
 use Rattle.std.proofs.lemmas.List.Folds.{Any-from_list_any}
 use Rattle.std.proofs.Math.Bool.{and_comm}
 use Rattle.subst.proofs.BitsLemmas.{differ}
@@ -36,6 +36,14 @@ group-stops p groups i g h e =
 pub group-goes_on : (p : List ℕ → Bool) (groups : List (List ℕ)) (i : ℕ) (g : List ℕ) → slice_get groups i ≡ Some g → list_all p (take i groups) ≡ true → p g ≡ true → list_all p (take (i + 1) groups) ≡ true
 group-goes_on p groups i g h before here =
     list_all_more p groups i [] (slice_get_within groups i g h) ∙ and_from _ _ before (ap p (get_or_from_slice_get groups i g [] h) ∙ here)
+
+-- a group that is equal to the one before it
+pub group-repeated : (p : List ℕ → Bool) (groups : List (List ℕ)) (i j : ℕ) → i ≡ j + 1 → i < length groups → slice_get groups i ≡ slice_get groups j → list_all p (take i groups) ≡ true → list_all p (take (i + 1) groups) ≡ true
+group-repeated p groups i j next less same before =
+    let within : j < length groups = omega (arith, next, less) in
+    let here : p (get_or groups j []) ≡ true = (and_parts _ _ (sym (list_all_more p groups j [] within) ∙ (ap (λ n. list_all p (take n groups)) (sym next) ∙ before))).1 in
+    let equal : get_or groups i [] ≡ get_or groups j [] = get_or_from_slice_get groups i (get_or groups j []) [] (same ∙ slice_get-get_or groups j [] within) in
+    list_all_more p groups i [] less ∙ and_from _ _ before (ap p equal ∙ here)
 
 any-same : {A : Type 0} (p q : A → Bool) (xs : List A) → ((x : A) → p x ≡ q x) → list_any p xs ≡ list_any q xs
 any-same p q [] h = refl

@@ -42,7 +42,9 @@ impl Model for DisjointCache {
 
 impl DisjointCache {
     /// Returns a cache that knows nothing, of no proof yet. Does not allocate.
-    pub fn new(alloc: Global) -> DisjointCache {
+    pub fn new(alloc: Global) -> DisjointCache
+        ensures { result.over ≡ [] }
+    {
         DisjointCache {
             subject: Subject::none(),
             tables: DisjointTables::new(alloc),
@@ -55,6 +57,16 @@ impl DisjointCache {
     {
         self.tables.clear();
         self.subject = Subject::of(pairs);
+    }
+
+    /// Forgets all that is known, and gives back the memory of long results; that by the number of a symbol stays.
+    ///
+    /// Does not allocate.
+    pub fn release(&mut self, alloc: Global)
+        ensures { self.new.over ≡ [] }
+    {
+        self.tables.release(alloc);
+        self.subject = Subject::none();
     }
 
     /// Whether the images of each two variables of each group are disjoint at the statement of the pairs: no variable stands

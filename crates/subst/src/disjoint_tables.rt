@@ -1,5 +1,5 @@
 //! Groups of variables whose images are to be disjoint.
-ghost use Rattle.std.specs.Prelude.{◌≡◌, ◌+◌, ◌<◌, ◌≤◌, ◌==◌, [], length, IfOk};
+ghost use Rattle.std.specs.Prelude.{◌≡◌, ◌+◌, ◌-◌, ◌<◌, ◌≤◌, ◌==◌, [], length, slice_get, true, IfOk};
 ghost use Rattle.std.specs.List.{list_all, list_any};
 ghost use Rattle.frame.specs.Below.{AllBelow, AreBelow};
 ghost use Rattle.frame.specs.Substitution.{code_apply};
@@ -49,6 +49,15 @@ impl DisjointTables {
     {
         self.variables.clear();
         self.images.clear();
+        self.rows.clear();
+    }
+
+    /// Forgets all, and gives back the memory of long images.
+    pub fn release(&mut self, alloc: Global)
+        ensures { (v : Numbered) → AreTables v [] self.new }
+    {
+        self.variables.clear();
+        self.images.release(alloc);
         self.rows.clear();
     }
 
@@ -107,6 +116,9 @@ impl DisjointTables {
     {
         self.images.begin();
         for i in 0..groups.len() {
+            if is_repeated(groups, i) {
+                continue;
+            }
             if !self.is_group_disjoint(pairs, symbols, images, groups.get(i))? {
                 return Ok(false);
             }
@@ -165,6 +177,14 @@ impl DisjointTables {
             .add_symbols(pairs, &mut self.variables, &expr[1..])?;
         self.images.note(behind_first(result_range))
     }
+}
+
+/// Whether the group at an index is equal to the one before it.
+fn is_repeated(groups: &Groups<'_>, index: usize) -> bool
+    requires { index < length groups.now }
+    ensures { result ≡ true → (0 < index) × (slice_get groups.now index ≡ slice_get groups.now (index - 1)) }
+{
+    index > 0 && groups.get(index) == groups.get(index - 1)
 }
 
 /// Whether a symbol stands in the list.

@@ -95,6 +95,18 @@ impl ImageVariables {
         self.long.clear();
     }
 
+    /// Forgets all images, and gives back their memory; that of the hints stays.
+    pub fn release(&mut self, alloc: Global)
+        ensures kept { self.new.kept ≡ 0 }
+        ensures long { self.new.long ≡ [] }
+    {
+        self.places = Vec::new(alloc);
+        self.kept = 0;
+        self.begun = 0;
+        self.read = Vec::new(alloc);
+        self.long = Vec::new(alloc);
+    }
+
     /// Begins a citation: forgets the images that are not long.
     pub fn begin(&mut self)
         ensures { self.new ≡ record { places = take self.old.kept self.old.places; kept = self.old.kept; begun = length (take self.old.kept self.old.places); read = []; long = self.old.long } }

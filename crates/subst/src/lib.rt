@@ -27,8 +27,8 @@ mod place_set;
 mod place_words;
 mod subject;
 mod symbol_range;
-mod variable_places;
 mod vanishing;
+mod variable_places;
 
 pub use asked_apart::disjoint;
 pub use buffer::{Buffer, SYMBOLS_LIMIT, apply_into};

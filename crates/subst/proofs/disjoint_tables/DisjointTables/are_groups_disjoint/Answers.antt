@@ -1,6 +1,6 @@
-use Rattle.subst.proofs.Words.{length, sym, refl, ◌∙◌, images_at, image_named, are_numbers_apart}
+use Rattle.subst.proofs.Words.{◌-◌, arith, length, sym, refl, ◌∙◌, images_at, image_named, are_numbers_apart}
 use Rattle.subst.proofs.ImageVariableLemmas.{noted-begin, read-none}
-use Rattle.subst.proofs.GroupLemmas.{below-group, group-goes_on, group-stops}
+use Rattle.subst.proofs.GroupLemmas.{below-group, group-goes_on, group-repeated, group-stops}
 use Rattle.subst.proofs.disjoint_tables.DisjointTables.are_groups_disjoint.Goals as goal
 
 pub loop-i-init : goal.loop-i-init
@@ -25,4 +25,12 @@ loop-i-preserved c = (
   c.is_group_disjoint.ensures.read,
   group-goes_on (are_numbers_apart c.args.pairs.now.statements (image_named c.args.pairs.now.names (images_at c.args.symbols.now c.args.images.now))) c.args.groups.now c.loop-i.i c.get.result.now c.get.ensures
       c.loop-i.invariant.2 (sym c.in_ok-is_group_disjoint.ensures.disjoint ∙ c.if-not-branch.false),
+)
+
+pub loop-i-preserved-then-is_repeated : goal.loop-i-preserved-then-is_repeated
+loop-i-preserved-then-is_repeated c = (
+  c.loop-i.invariant.0,
+  c.loop-i.invariant.1,
+  (let same = c.is_repeated.ensures c.if-is_repeated.true in
+      group-repeated (are_numbers_apart c.args.pairs.now.statements (image_named c.args.pairs.now.names (images_at c.args.symbols.now c.args.images.now))) c.args.groups.now c.loop-i.i (c.loop-i.i - 1) (omega (arith, same.0)) (omega arith) same.1 c.loop-i.invariant.2),
 )
