@@ -17,3 +17,4 @@ pub mod ProvingLemmas
 pub mod CheckedDatabaseLemmas
 mod PlainLibraryLemmas
 mod Rows
+pub mod DecidedLemmas

@@ -2,10 +2,6 @@
 use Rattle.library.proofs.Words.{◌≡◌, ℕ, ◌==◌, ◌&&◌, List, [], ◌∷◌, ◌++◌, Option, Some, None, refl, sym, ◌∙◌, ap, subst, append-nil, append_assoc, arith, map-append, option_map, both_ways, Stmt, Database, IsProvable, Submission, Text, Charter, Verdict, Added, Refused, Cause, may_declare, Good, Replica, empty, status, status_of, decided_with, Decides, AppliesAt, Applies, Runs, IsLibraryOf}
 use Rattle.library.specs.declared.entry.Entry.{Entry}
 use Rattle.library.proofs.CausesLemmas.{one-verdict, one-reading}
-use Rattle.library.specs.LibraryState.{decided_of, verdict_of}
-use Rattle.indexmap.proofs.MapLemmas.{absent_from_lookup, insert_entry-absent}
-use Rattle.indexmap.specs.IndexMap.{insert_entry}
-use Rattle.std.specs.Map.{lookup}
 
 -- ---- one verdict and one replica
 
@@ -118,19 +114,3 @@ library-begins log more one all p q =
 
 pub library-good : (log : List (Option Entry)) (replica : Replica) → IsLibraryOf log replica → Good replica.statements
 library-good log replica p = (runs-continues log empty replica p).1 good-empty
-
--- ---- the entries of the table as verdicts
-
-pub lookup-status : (author serial : ℕ) (es : List ((ℕ × ℕ) × Option Cause)) → option_map verdict_of (lookup (λ k. (author == k.0) && (serial == k.1)) es) ≡ status (decided_of es) author serial
-lookup-status author serial [] = refl
-lookup-status author serial (e ∷ es) = grind (arith, lookup-status author serial es)
-
--- an entry that was not decided goes last
-pub decided_of-insert : (author serial : ℕ) (cause : Option Cause) (es : List ((ℕ × ℕ) × Option Cause)) → status (decided_of es) author serial ≡ None
-    → decided_of (insert_entry (λ (a b : ℕ × ℕ). (a.0 == b.0) && (a.1 == b.1)) es (author, serial) cause) ≡ decided_of es ++ record { author = author; serial = serial; verdict = verdict_of cause } ∷ []
-decided_of-insert author serial cause es none =
-    ap decided_of (insert_entry-absent _ (author, serial) cause es (absent_from_lookup _ es (unmapped _ (lookup-status author serial es ∙ none)))) ∙ map-append _ es (((author, serial), cause) ∷ [])
-  where
-    unmapped : (o : Option (Option Cause)) → option_map verdict_of o ≡ None → o ≡ None
-    unmapped None e = refl
-    unmapped (Some c) e = cc

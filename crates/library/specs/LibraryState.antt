@@ -1,7 +1,7 @@
 -- A library as contracts see it: its replica, and the count of its steps.
 -- Source: this project's profile.
 -- The code has the statements three times: as they were read, as the state of the rules, and as frames.
-use Rattle.std.specs.Prelude.{◌≡◌, ℕ, ◌+◌, ◌*◌, ◌≤◌, List, length, map, Option, Some, None, ⊤}
+use Rattle.std.specs.Prelude.{◌≡◌, ℕ, ◌+◌, ◌*◌, ◌≤◌, List, length, Option, Some, None, ⊤}
 use Rattle.library.specs.Words.{Database, Reads}
 use Rattle.library.specs.declared.submission.Submission.{Submission}
 use Rattle.library.specs.declared.entry.Entry.{Entry}
@@ -9,7 +9,12 @@ use Rattle.library.specs.declared.entry.Entry.TheVariants.{Text, Charter}
 use Rattle.library.specs.declared.verdict.Cause.{Cause}
 use Rattle.library.specs.declared.verdict.Verdict.{Verdict}
 use Rattle.library.specs.declared.verdict.Verdict.TheVariants.{Added, Refused}
-use Rattle.library.specs.LibraryOf.{Decided, Replica, status_of}
+use Rattle.library.specs.declared.decided.Standing.{Standing}
+use Rattle.library.specs.declared.decided.Standing.TheVariants.{Undecided, Decided}
+use Rattle.library.specs.LibraryOf.{Decided as DecidedEntry, Replica, status, status_of}
+use Rattle.std.specs.BTreeMap.{BTreeMap, get}
+use Rattle.std.specs.Ordering.{nat_cmp, ordering_then}
+use Rattle.std.specs.declared.cmp.Ordering.{Ordering}
 
 pub record Kept : Type 0 where
   pub replica : Replica
@@ -20,9 +25,19 @@ abbrev pub verdict_of : Option Cause → Verdict
 verdict_of None = Added
 verdict_of (Some cause) = Refused cause
 
--- the entries of the table, by author and number, as verdicts
-abbrev pub decided_of : List ((ℕ × ℕ) × Option Cause) → List Decided
-decided_of entries = map (λ p. record { author = p.0.0; serial = p.0.1; verdict = verdict_of p.1 }) entries
+-- the verdict that a table of standings has on an entry
+abbrev pub verdict_at : Option Standing → Option Verdict
+verdict_at None = None
+verdict_at (Some Undecided) = None
+verdict_at (Some (Decided cause)) = Some (verdict_of cause)
+
+-- by author, and then by number
+abbrev pub key_cmp : ℕ × ℕ → ℕ × ℕ → Ordering
+key_cmp a b = ordering_then (nat_cmp a.0 b.0) (nat_cmp a.1 b.1)
+
+-- the table has the first verdict on each entry
+abbrev pub IsTableOf : List DecidedEntry → BTreeMap (ℕ × ℕ) Standing → Type 0
+IsTableOf entries table = (author serial : ℕ) → verdict_at (get key_cmp table (author, serial)) ≡ status entries author serial
 
 -- a decided entry is added or refused
 abbrev pub IsDecision : Verdict → Type 0

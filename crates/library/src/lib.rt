@@ -3,7 +3,7 @@
 //! The crate above uses one contract: an application makes the step of `specs/LibraryOf` with its verdict, and running out
 //! of memory decides nothing.
 //!
-//! Reading order: `submission`, `charter`, `entry` (what a log holds), `verdict`; `library`; `entry_text` (a text and its
+//! Reading order: `submission`, `charter`, `entry` (what a log holds), `verdict`; `library`, `decided`; `entry_text` (a text and its
 //! charter), `checked_database` (all or nothing), `adding` (the rules), `unproved` (the proofs); `queries` (questions on a label), `axioms_used`, `cited_by`; `listed`; `laws`.
 #![tactic(auto)]
 
@@ -12,6 +12,7 @@ mod axioms_used;
 mod charter;
 mod checked_database;
 mod cited_by;
+mod decided;
 mod entry;
 mod entry_text;
 mod laws;

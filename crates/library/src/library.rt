@@ -12,36 +12,43 @@ ghost use Rattle.std.specs.Fn.{FnReturnsAt};
 use crate::adding::{Added, Parallel, StepCounts, Tables, add_all, add_all_verifying};
 use crate::charter::Names;
 use crate::checked_database::CheckedDatabase;
+use crate::decided::{DecidedEntries, DecidedEntry, Standing};
 use crate::entry::Entry;
 use crate::entry_text::{may_declare, read_text};
 use crate::unproved::Proofs;
 use crate::verdict::{Cause, Verdict};
-use indexmap::IndexMap;
 use mm_read::{ReadFault, Stmt, read};
 use read_pool::read_by;
 use scope::Steps;
 use std::alloc::{AllocError, Global};
+use std::collections::BTreeMap;
 use std::marker::Model;
 use std::thread::Threads;
 use verify_pool::{Checkers, Gate, Workers, judge_all, judge_here};
 
-/// The statements added, the entries decided, by author and number in the order of the log, with the cause where one was
-/// refused, and the charter that is there. Contracts see them as a replica, and the count of the steps that the library took.
+/// The statements added, where each entry stands by its author and number, and the charter that is there. Contracts see them
+/// as a replica, with the verdicts in the order of the log, and the count of the steps that the library took.
+///
+/// Authors choose the numbers, so the table is an ordered map: no choice makes a look-up cost more than the logarithm of the
+/// count of entries.
 #[derive(Drop)]
 pub struct Library {
     database: CheckedDatabase,
-    decided: IndexMap<(u64, u64), Option<Cause>>,
+    standings: BTreeMap<(u64, u64), Standing>,
+    decided: DecidedEntries,
     charter: Option<Names>,
     steps: StepCounts,
 }
 
 impl Model for Library {
     ghost use Rattle.library.specs.Added.{count_of};
-    ghost use Rattle.library.specs.LibraryState.{Kept, decided_of};
+    ghost use Rattle.library.specs.LibraryState.{Kept, IsTableOf};
 
     ghost Value = { Kept };
 
-    ghost view = { λ a. record { replica = record { statements = a.database; decided = decided_of a.decided.entries; charter = a.charter }; steps = count_of a.steps } };
+    ghost view = { λ a. record { replica = record { statements = a.database; decided = a.decided.entries; charter = a.charter }; steps = count_of a.steps } };
+
+    ghost invariant = { λ a. IsTableOf a.decided.entries a.standings };
 }
 
 impl Library {
@@ -52,7 +59,8 @@ impl Library {
     {
         Library {
             database: CheckedDatabase::new(alloc),
-            decided: IndexMap::new(alloc),
+            standings: BTreeMap::new(alloc),
+            decided: DecidedEntries::none(),
             charter: None,
             steps: StepCounts {
                 calling: Steps::new(),
@@ -145,7 +153,8 @@ impl Library {
             Some(_) => return Ok(Verdict::Repeat),
             None => {}
         }
-        self.decided.reserve(1)?;
+        let key = (entry.author(), entry.serial());
+        self.standings.insert(key, Standing::Undecided)?;
         let cause = match entry {
             Entry::Text(submission) => match read_text(&self.charter, submission, read)? {
                 Ok(statements) => self
@@ -162,21 +171,29 @@ impl Library {
                 }
             }
         };
-        let key = (entry.author(), entry.serial());
-        let Ok(_) = self.decided.insert(key, cause) else {
+        let Ok(_) = self.standings.insert(key, Standing::Decided(cause)) else {
             unreachable!();
         };
+        let last = DecidedEntry {
+            author: key.0,
+            serial: key.1,
+            cause,
+        };
+        self.decided = DecidedEntries::after(&self.decided, &last);
         Ok(verdict_of(cause))
     }
 
     /// Returns the verdict first decided on the author's text or charter of that number: Added or Refused; `None` where none
     /// was decided. Does not allocate.
+    ///
+    /// Cost: the logarithm of the count of entries.
     pub fn status(&self, author: u64, serial: u64) -> Option<Verdict>
         ensures first { result ≡ status self.now.replica.decided author serial }
         ensures decided { IfSome result IsDecision }
     {
-        match self.decided.get(&(author, serial)) {
-            Some(cause) => Some(verdict_of(*cause)),
+        match self.standings.get(&(author, serial)) {
+            Some(Standing::Decided(cause)) => Some(verdict_of(*cause)),
+            Some(Standing::Undecided) => None,
             None => None,
         }
     }

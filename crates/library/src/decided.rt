@@ -1,0 +1,54 @@
+//! Where entries stand, and the verdicts in the order of the log as contracts alone see them.
+ghost use Rattle.std.specs.Prelude.{◌≡◌, ◌++◌, ◌∷◌, [], List};
+ghost use Rattle.std.specs.Borrow.{ftrue};
+ghost use Rattle.library.specs.LibraryOf.{Decided};
+ghost use Rattle.library.specs.LibraryState.{verdict_of};
+
+use crate::verdict::Cause;
+use std::marker::Model;
+
+/// Where an entry stands that was judged.
+#[derive(Clone, Copy, Drop)]
+pub enum Standing {
+    /// Its judging began; an allocation failed, or it is under way.
+    Undecided,
+    /// It was added, or refused for the cause.
+    Decided(Option<Cause>),
+}
+
+/// An entry with its verdict: the cause if it was refused.
+#[derive(Drop)]
+pub struct DecidedEntry {
+    pub author: u64,
+    pub serial: u64,
+    pub cause: Option<Cause>,
+}
+
+/// The verdicts so far, in the order of the log. It has no bytes.
+#[derive(Drop)]
+pub struct DecidedEntries {
+    pub ghost entries: { List Decided },
+}
+
+impl Model for DecidedEntries {
+    ghost also_owns = { λ _. ftrue };
+}
+
+// It owns nothing.
+unsafe impl Send for DecidedEntries {}
+
+impl DecidedEntries {
+    /// Returns no verdict.
+    pub fn none() -> DecidedEntries
+        ensures { result.entries ≡ [] }
+    {
+        DecidedEntries {}
+    }
+
+    /// Returns the verdicts with one at the end.
+    pub fn after(_before: &DecidedEntries, _last: &DecidedEntry) -> DecidedEntries
+        ensures { result.entries ≡ _before.now.entries ++ record { author = _last.now.author; serial = _last.now.serial; verdict = verdict_of _last.now.cause } ∷ [] }
+    {
+        DecidedEntries {}
+    }
+}
