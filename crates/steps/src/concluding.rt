@@ -7,7 +7,7 @@ ghost use Rattle.verify.specs.Fits.{AreDifferent, IsTyped, AreRead};
 
 use entries::Cited;
 use std::alloc::AllocError;
-use subst::{Buffer, SymbolRange, ImageRanges, SYMBOLS_LIMIT, place_between};
+use subst::{Buffer, ImageRanges, SYMBOLS_LIMIT, SymbolRange, place_between};
 use verify::read_off;
 
 /// Appends to the symbols the conclusion of the assertion from the results at these places, and returns where it lies.

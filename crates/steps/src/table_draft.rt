@@ -13,7 +13,7 @@ use crate::known::{find, keep, key};
 use entries::Cited;
 use std::alloc::{AllocError, Global};
 use std::collections::BTreeMap;
-use subst::{Buffer, SymbolRange, ImageRanges, SYMBOLS_LIMIT, place_between};
+use subst::{Buffer, ImageRanges, SYMBOLS_LIMIT, SymbolRange, place_between};
 
 /// A step, and where its expression lies.
 #[derive(Drop)]
