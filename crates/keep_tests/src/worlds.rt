@@ -51,7 +51,7 @@ fn push_deliveries(events: &mut Vec<Event<Entry>>, numbers: &[u64]) -> Result<()
 
 /// The replica stays at its slot after an allocation failed once, and the next application decides.
 #[test]
-fn applies_after_a_refused_growth(rt: HostRuntime) {
+fn applies_after_a_failed_allocation(rt: HostRuntime) {
     if let Ok(mut world) = learned(rt.alloc()) {
         assert!(rt; applies_all(&mut world));
     }

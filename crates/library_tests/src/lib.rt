@@ -2,7 +2,7 @@
 #![tactic(auto)]
 
 #[cfg(test)]
-mod growths;
+mod failed_allocations;
 #[cfg(test)]
 mod text_entries;
 #[cfg(test)]

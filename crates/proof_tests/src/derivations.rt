@@ -13,7 +13,7 @@ use verify::{Answer, Tree, TreeFault, check, derivation};
 
 /// A call that ran out of memory answers when it is repeated: run with each allocation refused in turn.
 #[test]
-fn right_after_a_refused_growth(rt: HostRuntime) {
+fn right_after_a_failed_allocation(rt: HostRuntime) {
     for text in [NORMAL, PACKED] {
         let mut nodes = nodes_of(rt.alloc(), text);
         if nodes.is_none() {

@@ -62,7 +62,7 @@ const ROWS: [Row; 3] = [
 
 /// A call that ran out of memory answers when it is repeated: run with each allocation refused in turn.
 #[test]
-fn steps_after_a_refused_growth(rt: HostRuntime) {
+fn steps_after_a_failed_allocation(rt: HostRuntime) {
     for row in ROWS {
         let mut shown = shows(rt.alloc(), &row);
         if shown.is_none() {

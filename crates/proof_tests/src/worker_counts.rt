@@ -56,7 +56,7 @@ fn is_least_by_each<R: Threads + Sync>(
 
 /// A second call answers after an allocation failed once.
 #[test]
-fn answered_after_a_refused_growth(rt: HostRuntime) {
+fn answered_after_a_failed_allocation(rt: HostRuntime) {
     let mut answer = answer_of(&rt, rt.alloc(), TWO, 2, &OpenGate);
     if answer.is_none() {
         answer = answer_of(&rt, rt.alloc(), TWO, 2, &OpenGate);

@@ -4,9 +4,9 @@
 #[cfg(test)]
 mod agreeing;
 #[cfg(test)]
-mod gates;
+mod failed_allocations;
 #[cfg(test)]
-mod growths;
+mod gates;
 #[cfg(test)]
 mod three;
 #[cfg(test)]

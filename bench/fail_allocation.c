@@ -1,5 +1,6 @@
-// Loaded before the C library: refuses the growth (malloc or realloc) whose number the variable GROWTH names, counted from 1 in each
-// process, and all after it where the variable ALL_LATER is set. Writes at the end how many there were into the file that GROWTHS_TO names.
+// Loaded before the C library: the allocation (malloc or realloc) whose number the variable FAILING names, counted from 1 in each
+// process, fails, and all later ones too if the variable ALL_LATER is set. Writes at the end how many there were into the file that
+// COUNT_TO names.
 #define _GNU_SOURCE
 #include <dlfcn.h>
 #include <stdatomic.h>
@@ -10,22 +11,22 @@
 #include <unistd.h>
 
 static atomic_long count;
-static long refused;
+static long failing;
 static int all_later;
 static void *(*next_malloc)(size_t);
 static void *(*next_realloc)(void *, size_t);
 
 __attribute__((constructor)) static void begin(void) {
-  const char *number = getenv("GROWTH");
+  const char *number = getenv("FAILING");
   next_malloc = (void *(*)(size_t))dlsym(RTLD_NEXT, "malloc");
   next_realloc = (void *(*)(void *, size_t))dlsym(RTLD_NEXT, "realloc");
-  refused = number ? atol(number) : 0;
+  failing = number ? atol(number) : 0;
   all_later = getenv("ALL_LATER") != NULL;
   atomic_store(&count, 0);
 }
 
 __attribute__((destructor)) static void end(void) {
-  const char *path = getenv("GROWTHS_TO");
+  const char *path = getenv("COUNT_TO");
   FILE *file = path ? fopen(path, "w") : NULL;
   if (file) {
     fprintf(file, "%ld\n", atomic_load(&count));
@@ -41,17 +42,17 @@ void _exit(int status) {
   }
 }
 
-static int is_refused(void) {
+static int fails(void) {
   long number = atomic_fetch_add(&count, 1) + 1;
-  return refused > 0 && (number == refused || (all_later && number > refused));
+  return failing > 0 && (number == failing || (all_later && number > failing));
 }
 
 void *malloc(size_t size) {
   if (!next_malloc) next_malloc = (void *(*)(size_t))dlsym(RTLD_NEXT, "malloc");
-  return is_refused() ? NULL : next_malloc(size);
+  return fails() ? NULL : next_malloc(size);
 }
 
 void *realloc(void *old, size_t size) {
   if (!next_realloc) next_realloc = (void *(*)(void *, size_t))dlsym(RTLD_NEXT, "realloc");
-  return is_refused() ? NULL : next_realloc(old, size);
+  return fails() ? NULL : next_realloc(old, size);
 }

@@ -28,7 +28,7 @@ const ROWS: [(u64, &[u8], Verdict, usize); 2] = [
 ];
 
 #[test]
-fn whole_or_nothing_after_a_refused_growth(rt: HostRuntime) {
+fn whole_or_nothing_after_a_failed_allocation(rt: HostRuntime) {
     assert!(rt; decides_each(rt.alloc()));
 }
 
@@ -82,7 +82,7 @@ const BOOK: &[u8] =
     th1 $p |- t = t $= ( tze tpl weq a2 wim a1 mp ) ABCZADZAADZAEZJJKFLIAAGHH $.";
 
 #[test]
-fn two_workers_after_a_refused_growth(rt: HostRuntime) {
+fn two_workers_after_a_failed_allocation(rt: HostRuntime) {
     let mut verdict = by_workers(&rt, rt.alloc(), 2, BOOK, &OpenGate);
     if verdict.is_none() {
         verdict = by_workers(&rt, rt.alloc(), 2, BOOK, &OpenGate);

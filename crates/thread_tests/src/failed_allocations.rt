@@ -13,7 +13,7 @@ use verify_pool::{Gate, OpenGate};
 /// A failed allocation is reported by `start`, `desk`, `submit` or `stop`, or loses a packet, or leaves an entry to a
 /// later hint, or fails a keep, whose node is down then until it restarts.
 #[test]
-fn decides_after_a_refused_growth(rt: HostRuntime) {
+fn decides_after_a_failed_allocation(rt: HostRuntime) {
     let mut verdict = decided_by_three(&rt, rt.alloc());
     if verdict == Err(StepFault::Memory) {
         verdict = decided_by_three(&rt, rt.alloc());
