@@ -1,6 +1,6 @@
 //! The results of a proof so far, as ranges of one buffer.
 
-ghost use Rattle.std.specs.Prelude.{take, ℕ, ◌≡◌, suc, ◌<◌, ◌≤◌, ◌↔◌, ◌∷◌, ◌++◌, [], length, map, get_or, replicate, nat_eq, ◌==◌, Some, is_some, if◌then◌else◌, IfOk, IfSome, MatchOption, OnOk, OnErr, IsTrue};
+ghost use Rattle.std.specs.Prelude.{take, ℕ, ◌≡◌, suc, ◌<◌, ◌≤◌, ◌↔◌, ◌∷◌, ◌++◌, [], length, map, get_or, slice_get, replicate, nat_eq, ◌==◌, Some, is_some, if◌then◌else◌, IfOk, IfSome, MatchOption, OnOk, OnErr, IsTrue};
 ghost use Rattle.{names.specs.Codes.decode, names.specs.Codes.AreDistinct, frame.specs.Below.AllBelow, frame.specs.Below.AreBelow, frame.specs.Disjoint.are_groups_apart, frame.specs.AtPosition.AreLegal, frame.specs.Substitution.code_apply, frame.specs.Substitution.images_of_names, subst.specs.Images.AreOver, subst.specs.SymbolRanges.AreWithin, subst.specs.SymbolRanges.AreInside, std.specs.Map.lookup, verify.specs.ReadPlaces.ReadTo, verify.specs.ReadPlaces.ReadsAll, verify.specs.ReadPlaces.IsMistyped, verify.specs.ReadPlaces.BeginsWith, verify.specs.ReadPlaces.tail_of, verify.specs.Fits.AreFront, verify.specs.Fits.AreDifferent, verify.specs.Fits.AreStanding, verify.specs.Fits.Reads, verify.specs.Fits.DoFit, verify.specs.Machine.with_result, verify.specs.Machine.with_mark, verify.specs.Machine.IsSaved, verify.specs.ResultPlaces.below, verify.specs.ResultPlaces.top, verify.specs.ResultPlaces.Adds, verify.specs.ResultPlaces.Keeps, verify.specs.ResultPlaces.Marks, verify.specs.ResultPlaces.Finds, verify.specs.ResultPlaces.Stays, verify.specs.Right.weight_limit};
 
 use entries::{Groups, Hypotheses, Hypothesis};
@@ -289,6 +289,22 @@ impl Results {
         ensures { result ≡ length self.now.results.stack }
     {
         self.stack.len()
+    }
+
+    /// Returns the result at that index, from 0: the last one is that which the next citation takes last.
+    pub fn get(&self, index: usize) -> &[u32]
+        requires { index < length self.now.results.stack }
+        ensures { slice_get self.now.results.stack index ≡ Some result.now }
+    {
+        let place = self.stack[index];
+        symbols_at(self.symbols.as_slice(), place)
+    }
+
+    /// Returns how many results are saved: one for each label, and those that were marked.
+    pub fn saved_len(&self) -> usize
+        ensures { result ≡ length self.now.results.saved }
+    {
+        self.saved.len()
     }
 
     /// Returns whether the expression is the only result.
