@@ -4,7 +4,8 @@ ghost use Rattle.std.specs.Prelude.{◌≡◌, List, IfOk};
 ghost use Rattle.{mm_lex.specs.Alphabet.Name, mm_read.specs.declared.stmt.Stmt.Stmt as Statement, proof_code.specs.ItemNumbers.items_of, verify.specs.LabelTable.AreEntries, verify.specs.Proves.Proves, verify.specs.Right.IsProvable, verify.specs.Right.IsRight, verify.specs.Right.Says};
 
 use crate::answer::Answer;
-use crate::citation::{Buffers, Claim, step};
+use crate::citation::{Buffers, Claim};
+use crate::failure::run_items;
 use crate::label_table::{LabelEntry, add_listed, fill_mandatory, fill_table};
 use crate::results::Results;
 use frame::{Frames, Gathered};
@@ -150,13 +151,8 @@ fn run(
 {
     let pairs = frames.active_pairs(at);
     let claim = Claim { frames, at, pairs };
-    buffers.results.start(&claim.pairs, table.len())?;
-    for number in numbers {
-        if !step(&claim, table, *number, buffers)? {
-            return Ok(Answer::Wrong);
-        }
-    }
-    if buffers.results.is_only(frames.expr(at)) {
+    let done = run_items(&claim, table, numbers, buffers)?;
+    if done == numbers.len() && buffers.results.is_only(frames.expr(at)) {
         Ok(Answer::Proved)
     } else {
         Ok(Answer::Wrong)

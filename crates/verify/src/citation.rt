@@ -1,7 +1,7 @@
 //! One item of a proof.
 
 ghost use Rattle.std.specs.Prelude.{◌≡◌, List, Some, IfOk};
-ghost use Rattle.{mm_lex.specs.Alphabet.Name, mm_read.specs.declared.stmt.Stmt.Stmt as Statement, scope.specs.Active.stmt_at, frame.specs.Cited.IsCited, proof_code.specs.ItemNumbers.item_of, verify.specs.Goes.AreKnown, verify.specs.Goes.AreNamed, verify.specs.Goes.HasCited, verify.specs.Goes.GoesOn, verify.specs.Goes.IsReady, verify.specs.Goes.MayCite, verify.specs.LabelTable.AreEntries, verify.specs.LabelTable.IsEntry};
+ghost use Rattle.{mm_lex.specs.Alphabet.Name, mm_read.specs.declared.stmt.Stmt.Stmt as Statement, scope.specs.Active.stmt_at, frame.specs.Cited.IsCited, proof_code.specs.ItemNumbers.item_of, verify.specs.Goes.AreKnown, verify.specs.Goes.AreNamed, verify.specs.Goes.HasCited, verify.specs.Goes.GoesOn, verify.specs.Goes.IsReady, verify.specs.Goes.MayCite, verify.specs.ResultPlaces.Stays, verify.specs.LabelTable.AreEntries, verify.specs.LabelTable.IsEntry};
 
 use crate::label_table::LabelEntry;
 use crate::results::Results;
@@ -37,6 +37,7 @@ fn cite_parts(
     requires may { MayCite claim.now position results.old.about results.old.results }
     requires cited { (s : Statement) → stmt_at claim.now.frames.now.statements position ≡ Some s → IsCited claim.now.frames.now.statements claim.now.frames.now.names position s cited.now }
     ensures goes { IfOk result (HasCited claim.now.frames.now.statements claim.now.at claim.now.frames.now.names (LabelEntry.Assertion position) results.old.results results.new.results) }
+    ensures stays { IfOk result (λ ok. Stays ok results.old.results results.new.results) }
     ensures about { results.new.about ≡ claim.now.pairs }
 {
     let count = cited.hypotheses.len();
@@ -61,6 +62,7 @@ fn cite_parts(
 fn cite_long(claim: &Claim<'_>, position: usize, buffers: &mut Buffers) -> Result<bool, AllocError>
     requires { MayCite claim.now position buffers.old.results.about buffers.old.results.results }
     ensures goes { IfOk result (HasCited claim.now.frames.now.statements claim.now.at claim.now.frames.now.names (LabelEntry.Assertion position) buffers.old.results.results buffers.new.results.results) }
+    ensures stays { IfOk result (λ ok. Stays ok buffers.old.results.results buffers.new.results.results) }
     ensures about { buffers.new.results.about ≡ claim.now.pairs }
 {
     claim.frames.gather(position, &mut buffers.gathered)?;
@@ -73,6 +75,7 @@ fn cite_long(claim: &Claim<'_>, position: usize, buffers: &mut Buffers) -> Resul
 fn cite(claim: &Claim<'_>, position: usize, buffers: &mut Buffers) -> Result<bool, AllocError>
     requires { MayCite claim.now position buffers.old.results.about buffers.old.results.results }
     ensures goes { IfOk result (HasCited claim.now.frames.now.statements claim.now.at claim.now.frames.now.names (LabelEntry.Assertion position) buffers.old.results.results buffers.new.results.results) }
+    ensures stays { IfOk result (λ ok. Stays ok buffers.old.results.results buffers.new.results.results) }
     ensures about { buffers.new.results.about ≡ claim.now.pairs }
 {
     let Some(cited) = claim.frames.cited(position) else {
@@ -93,6 +96,7 @@ fn cite_entry(
     requires entry { (label : Name) × IsEntry claim.now.frames.now.statements claim.now.at label entry }
     ensures about { buffers.new.results.about ≡ claim.now.pairs }
     ensures goes { IfOk result (HasCited claim.now.frames.now.statements claim.now.at claim.now.frames.now.names entry buffers.old.results.results buffers.new.results.results) }
+    ensures stays { IfOk result (λ ok. Stays ok buffers.old.results.results buffers.new.results.results) }
 {
     match entry {
         LabelEntry::Hypothesis(i) => buffers.results.add(&claim.pairs, claim.frames.expr(i)),
@@ -116,6 +120,7 @@ pub fn step(
     ensures about { buffers.new.results.about ≡ claim.now.pairs }
     ensures goes { (labels : List Name) → AreEntries claim.now.frames.now.statements claim.now.at labels table.now
         → IfOk result (λ ok. GoesOn ok claim.now.frames.now.statements claim.now.at claim.now.frames.now.names table.now (item_of labels number) buffers.old.results.results buffers.new.results.results) }
+    ensures stays { IfOk result (λ ok. Stays ok buffers.old.results.results buffers.new.results.results) }
 {
     if number == 0 {
         return buffers.results.mark();

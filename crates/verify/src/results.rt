@@ -1,7 +1,7 @@
 //! The results of a proof so far, as ranges of one buffer.
 
-ghost use Rattle.std.specs.Prelude.{take, ℕ, ◌≡◌, suc, ◌<◌, ◌≤◌, ◌↔◌, ◌∷◌, ◌++◌, [], length, map, get_or, replicate, nat_eq, ◌==◌, Some, is_some, if◌then◌else◌, IfOk, IfSome, MatchOption, OnOk, OnErr, IsTrue};
-ghost use Rattle.{names.specs.Codes.decode, names.specs.Codes.AreDistinct, frame.specs.Below.AllBelow, frame.specs.Below.AreBelow, frame.specs.Disjoint.are_groups_apart, frame.specs.AtPosition.AreLegal, frame.specs.Substitution.code_apply, frame.specs.Substitution.images_of_names, subst.specs.Images.AreOver, subst.specs.SymbolRanges.AreWithin, subst.specs.SymbolRanges.AreInside, std.specs.Map.lookup, verify.specs.ReadPlaces.ReadTo, verify.specs.ReadPlaces.ReadsAll, verify.specs.ReadPlaces.IsMistyped, verify.specs.ReadPlaces.BeginsWith, verify.specs.ReadPlaces.tail_of, verify.specs.Fits.AreFront, verify.specs.Fits.AreDifferent, verify.specs.Fits.AreStanding, verify.specs.Fits.Reads, verify.specs.Fits.DoFit, verify.specs.Machine.with_result, verify.specs.Machine.with_mark, verify.specs.Machine.IsSaved, verify.specs.ResultPlaces.below, verify.specs.ResultPlaces.top, verify.specs.ResultPlaces.Adds, verify.specs.ResultPlaces.Keeps, verify.specs.ResultPlaces.Marks, verify.specs.ResultPlaces.Finds, verify.specs.Right.weight_limit};
+ghost use Rattle.std.specs.Prelude.{take, ℕ, ◌≡◌, suc, ◌<◌, ◌≤◌, ◌↔◌, ◌∷◌, ◌++◌, [], length, map, get_or, slice_get, replicate, nat_eq, ◌==◌, Some, is_some, if◌then◌else◌, IfOk, IfSome, MatchOption, OnOk, OnErr, IsTrue};
+ghost use Rattle.{names.specs.Codes.decode, names.specs.Codes.AreDistinct, frame.specs.Below.AllBelow, frame.specs.Below.AreBelow, frame.specs.Disjoint.are_groups_apart, frame.specs.AtPosition.AreLegal, frame.specs.Substitution.code_apply, frame.specs.Substitution.images_of_names, subst.specs.Images.AreOver, subst.specs.SymbolRanges.AreWithin, subst.specs.SymbolRanges.AreInside, std.specs.Map.lookup, verify.specs.ReadPlaces.ReadTo, verify.specs.ReadPlaces.ReadsAll, verify.specs.ReadPlaces.IsMistyped, verify.specs.ReadPlaces.BeginsWith, verify.specs.ReadPlaces.tail_of, verify.specs.Fits.AreFront, verify.specs.Fits.AreDifferent, verify.specs.Fits.AreStanding, verify.specs.Fits.Reads, verify.specs.Fits.DoFit, verify.specs.Machine.with_result, verify.specs.Machine.with_mark, verify.specs.Machine.IsSaved, verify.specs.ResultPlaces.below, verify.specs.ResultPlaces.top, verify.specs.ResultPlaces.Adds, verify.specs.ResultPlaces.Keeps, verify.specs.ResultPlaces.Marks, verify.specs.ResultPlaces.Finds, verify.specs.ResultPlaces.Stays, verify.specs.Right.weight_limit};
 
 use entries::{Groups, Hypotheses, Hypothesis};
 use frame::{Frames, Pairs};
@@ -88,6 +88,7 @@ impl Results {
         requires below { AreBelow (length pairs.now.names) expr.now }
         ensures about { self.new.about ≡ self.old.about }
         ensures adds { IfOk result (λ ok. Adds ok self.old.results self.new.results self.old.results.stack expr.now) }
+        ensures stays { IfOk result (λ ok. Stays ok self.old.results self.new.results) }
     {
         if expr.len() > SYMBOLS_LIMIT - self.weight {
             return Ok(false);
@@ -120,6 +121,7 @@ impl Results {
     pub fn mark(&mut self) -> Result<bool, AllocError>
         ensures about { self.new.about ≡ self.old.about }
         ensures marks { IfOk result (λ ok. Marks ok self.old.results self.new.results) }
+        ensures stays { IfOk result (λ ok. Stays ok self.old.results self.new.results) }
     {
         let Some(&place) = self.stack.last() else {
             return Ok(false);
@@ -137,6 +139,7 @@ impl Results {
         requires { labels ≤ length self.old.results.saved }
         ensures about { self.new.about ≡ self.old.about }
         ensures finds { IfOk result (λ done. Finds done labels self.old.results self.new.results index) }
+        ensures stays { IfOk result (λ done. IfSome done (λ ok. Stays ok self.old.results self.new.results)) }
     {
         if index >= self.saved.len() {
             return Ok(Some(false));
@@ -239,6 +242,7 @@ impl Results {
         requires count { r ≤ length self.old.results.stack }
         ensures about { self.new.about ≡ self.old.about }
         ensures adds { IfOk result (λ ok. Adds ok self.old.results self.new.results (below r self.old.results.stack) (code_apply self.old.images expr.now)) }
+        ensures stays { IfOk result (λ ok. Stays ok self.old.results self.new.results) }
     {
         let keep = self.stack.len() - r;
         let start = self.symbols.len();
@@ -285,6 +289,22 @@ impl Results {
         ensures { result ≡ length self.now.results.stack }
     {
         self.stack.len()
+    }
+
+    /// Returns the result at that index, from 0: the last one is that which the next citation takes last.
+    pub fn get(&self, index: usize) -> &[u32]
+        requires { index < length self.now.results.stack }
+        ensures { slice_get self.now.results.stack index ≡ Some result.now }
+    {
+        let place = self.stack[index];
+        symbols_at(self.symbols.as_slice(), place)
+    }
+
+    /// Returns how many results are saved: one for each label, and those that were marked.
+    pub fn saved_len(&self) -> usize
+        ensures { result ≡ length self.now.results.saved }
+    {
+        self.saved.len()
     }
 
     /// Returns whether the expression is the only result.
