@@ -39,4 +39,5 @@ pub mod CollectedLemmas
 pub mod OneFrameLemmas
 pub mod LabelLemmas
 pub mod PositionLemmas
+pub mod LongExpressionLemmas
 mod Rows

@@ -9,4 +9,5 @@ pub mod OneFrame
 pub mod Naming
 pub mod Ends
 pub mod Stacks
+pub mod LongExpressions
 pub mod Whole

@@ -2,7 +2,7 @@
 //!
 //! `Frames` keeps the statements of a database by position, and reads off them what a verifier needs: what a citation means at a
 //! statement, the parts of an assertion, and the disjoint variables. `frame` gathers the `Frame` of one assertion from
-//! what is active. Reading order: `storage`, `shape`, `gathered`; `symbol_numbers`, `at_position`, `stacks`, `declare`, `mandatory`,
+//! what is active. Reading order: `stored_entries`, `storage`, `shape`, `gathered`; `symbol_numbers`, `at_position`, `stacks`, `declare`, `mandatory`,
 //! `make`, `extend` (appending and truncating); `meaning`, `frames`, `row`, `pairs`, `active_apart` (queries); `assertion`,
 //! `one_frame`; `laws`.
 #![tactic(auto)]
@@ -24,6 +24,7 @@ mod row;
 mod shape;
 mod stacks;
 mod storage;
+mod stored_entries;
 mod symbol_numbers;
 
 pub use assertion::Frame;
@@ -35,3 +36,4 @@ pub use one_frame::frame;
 pub use pairs::Pairs;
 pub use row::Row;
 pub use shape::is_assertion;
+pub use stored_entries::LONG_EXPRESSION;

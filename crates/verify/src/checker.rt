@@ -1,7 +1,12 @@
 //! The check of a whole proof.
 
 ghost use Rattle.std.specs.Prelude.{◌≡◌, List, IfOk};
-ghost use Rattle.{mm_lex.specs.Alphabet.Name, mm_read.specs.declared.stmt.Stmt.Stmt as Statement, proof_code.specs.ItemNumbers.items_of, verify.specs.LabelTable.AreEntries, verify.specs.Proves.Proves, verify.specs.Right.IsProvable, verify.specs.Right.IsRight, verify.specs.Right.Says};
+ghost use Rattle.mm_lex.specs.Alphabet.{Name};
+ghost use Rattle.mm_read.specs.declared.stmt.Stmt.{Stmt as Statement};
+ghost use Rattle.proof_code.specs.ItemNumbers.{items_of};
+ghost use Rattle.verify.specs.LabelTable.{AreEntries};
+ghost use Rattle.verify.specs.Proves.{Proves};
+ghost use Rattle.verify.specs.Right.{IsProvable, IsRight, Says};
 
 use crate::answer::Answer;
 use crate::citation::{Buffers, Claim};
@@ -12,6 +17,7 @@ use frame::{Frames, Gathered};
 use mm_lex::Words;
 use proof_code::{CodeFault, Items, Reader, is_compressed, normal};
 use std::alloc::{AllocError, Global};
+use subst::Remaining;
 
 /// A checker keeps the memory that proofs up to this size needed: 1 MB for as many symbols.
 const KEPT_SIZE: usize = 262_144;
@@ -40,6 +46,7 @@ impl Checker {
             mandatory: Vec::new(alloc),
             buffers: Buffers {
                 gathered: Gathered::new(alloc),
+                remaining: Remaining::new(alloc),
                 results: Results::new(alloc),
             },
         }

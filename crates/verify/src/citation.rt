@@ -1,13 +1,21 @@
 //! One item of a proof.
 
 ghost use Rattle.std.specs.Prelude.{◌≡◌, List, Some, IfOk};
-ghost use Rattle.{mm_lex.specs.Alphabet.Name, mm_read.specs.declared.stmt.Stmt.Stmt as Statement, scope.specs.Active.stmt_at, frame.specs.Cited.IsCited, proof_code.specs.ItemNumbers.item_of, verify.specs.Goes.AreKnown, verify.specs.Goes.AreNamed, verify.specs.Goes.HasCited, verify.specs.Goes.GoesOn, verify.specs.Goes.IsReady, verify.specs.Goes.MayCite, verify.specs.ResultPlaces.Stays, verify.specs.LabelTable.AreEntries, verify.specs.LabelTable.IsEntry};
+ghost use Rattle.frame.specs.Cited.{IsCited};
+ghost use Rattle.mm_lex.specs.Alphabet.{Name};
+ghost use Rattle.mm_read.specs.declared.stmt.Stmt.{Stmt as Statement};
+ghost use Rattle.proof_code.specs.ItemNumbers.{item_of};
+ghost use Rattle.scope.specs.Active.{stmt_at};
+ghost use Rattle.verify.specs.Goes.{AreKnown, AreNamed, GoesOn, HasCited, IsReady, MayCite};
+ghost use Rattle.verify.specs.LabelTable.{AreEntries, IsEntry};
+ghost use Rattle.verify.specs.ResultPlaces.{Stays};
 
 use crate::label_table::LabelEntry;
 use crate::results::Results;
 use entries::Cited;
 use frame::{Frames, Gathered, Pairs};
 use std::alloc::AllocError;
+use subst::Remaining;
 
 /// The statement that a proof is to show: the `$p` at a position, and the pairs that are active there.
 #[derive(Drop)]
@@ -21,6 +29,7 @@ pub struct Claim<'a> {
 #[derive(Drop)]
 pub struct Buffers {
     pub gathered: Gathered,
+    pub remaining: Remaining,
     pub results: Results,
 }
 
@@ -32,6 +41,7 @@ fn cite_parts(
     claim: &Claim<'_>,
     position: usize,
     cited: &Cited<'_>,
+    remaining: &mut Remaining,
     results: &mut Results,
 ) -> Result<bool, AllocError>
     requires may { MayCite claim.now position results.old.about results.old.results }
@@ -47,13 +57,15 @@ fn cite_parts(
     let Some(front) = results.read_images(cited.heads, &cited.hypotheses)? else {
         return Ok(false);
     };
-    if !results.fits(claim.frames, &cited.hypotheses, front) {
+    let fit = results.fits(claim.frames, &cited.hypotheses, front, remaining)?;
+    if !fit {
         return Ok(false);
     }
     if !results.are_disjoint(&claim.pairs, &cited.groups)? {
         return Ok(false);
     }
-    results.apply(&claim.pairs, count, cited.conclusion)
+    let conclusion = results.shortened(claim.frames, position, cited.conclusion, remaining)?;
+    results.apply(&claim.pairs, count, conclusion)
 }
 
 /// Cites an assertion whose lists are long, and so are gathered first.
@@ -67,7 +79,9 @@ fn cite_long(claim: &Claim<'_>, position: usize, buffers: &mut Buffers) -> Resul
 {
     claim.frames.gather(position, &mut buffers.gathered)?;
     let cited = claim.frames.gathered(position, &buffers.gathered);
-    cite_parts(claim, position, &cited, &mut buffers.results)
+    let remaining = &mut buffers.remaining;
+    let results = &mut buffers.results;
+    cite_parts(claim, position, &cited, remaining, results)
 }
 
 /// Takes the results for the hypotheses of an assertion, and adds the result that it gives.
@@ -81,7 +95,9 @@ fn cite(claim: &Claim<'_>, position: usize, buffers: &mut Buffers) -> Result<boo
     let Some(cited) = claim.frames.cited(position) else {
         return cite_long(claim, position, buffers);
     };
-    cite_parts(claim, position, &cited, &mut buffers.results)
+    let remaining = &mut buffers.remaining;
+    let results = &mut buffers.results;
+    cite_parts(claim, position, &cited, remaining, results)
 }
 
 /// Cites a label by its meaning.

@@ -9,6 +9,7 @@ use crate::results::Results;
 use frame::{Frames, Gathered};
 use proof_code::Items;
 use std::alloc::{AllocError, Global};
+use subst::Remaining;
 
 /// Where the run over the items of a proof fails, and the results before it.
 #[derive(Drop)]
@@ -68,6 +69,7 @@ pub fn first_failure(
     fill_table(frames, at, parts.labels, &mut table)?;
     let mut buffers = Buffers {
         gathered: Gathered::new(alloc),
+        remaining: Remaining::new(alloc),
         results: Results::new(alloc),
     };
     let pairs = frames.active_pairs(at);

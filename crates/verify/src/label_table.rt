@@ -1,7 +1,16 @@
 //! The meanings of the labels of a proof, each looked up once.
 
 ghost use Rattle.std.specs.Prelude.{◌≡◌, ◌≤◌, ◌++◌, List, OnOk, IfOk, IsTrue, not, length, take};
-ghost use Rattle.{std.specs.List.Sorted.IsNonDecreasing, mm_lex.specs.Alphabet.Name, mm_read.specs.declared.stmt.Stmt.Stmt as Statement, proof_code.specs.Reading.share_label, scope.specs.Active.before, frame.specs.FrameOf.hypotheses, frame.specs.AtPosition.IsPosition, frame.specs.AtPosition.AreLegal, verify.specs.Proves.mandatory_labels, verify.specs.Right.IsProvable, verify.specs.LabelTable.is_hypothesis_among, verify.specs.LabelTable.IsEntry, verify.specs.LabelTable.AreEntries};
+ghost use Rattle.frame.specs.AtPosition.{AreLegal, IsPosition};
+ghost use Rattle.frame.specs.FrameOf.{hypotheses};
+ghost use Rattle.mm_lex.specs.Alphabet.{Name};
+ghost use Rattle.mm_read.specs.declared.stmt.Stmt.{Stmt as Statement};
+ghost use Rattle.proof_code.specs.Reading.{share_label};
+ghost use Rattle.scope.specs.Active.{before};
+ghost use Rattle.std.specs.List.Sorted.{IsNonDecreasing};
+ghost use Rattle.verify.specs.LabelTable.{AreEntries, IsEntry, is_hypothesis_among};
+ghost use Rattle.verify.specs.Proves.{mandatory_labels};
+ghost use Rattle.verify.specs.Right.{IsProvable};
 
 use frame::{Frames, Meaning};
 use mm_lex::Words;
