@@ -17,8 +17,8 @@ mod layout;
 mod links;
 mod long_expressions;
 mod parts;
-mod position_stack;
 mod position_sets;
+mod position_stack;
 mod statement_record;
 mod symbol_places;
 
@@ -32,6 +32,6 @@ pub use kind::Kind;
 pub use links::Links;
 pub use long_expressions::LongExpressions;
 pub use parts::AssertionParts;
-pub use position_stack::PositionStack;
 pub use position_sets::PositionSets;
+pub use position_stack::PositionStack;
 pub use symbol_places::SymbolPlaces;
