@@ -3,8 +3,8 @@
 //! `Frames` keeps the statements of a database by position, and reads off them what a verifier asks: what a citation means at a
 //! statement, the parts of an assertion, and the disjoint variables. `frame` gathers the `Frame` of one assertion from
 //! what is active. Reading order: `storage`, `shape`, `gathered`; `symbol_numbers`, `at_position`, `stacks`, `declare`, `mandatory`,
-//! `make`, `extend` (one statement more or less); `meaning`, `frames`, `row`, `pairs`, `active_apart` (what is asked); `assertion`,
-//! `one_frame`; `laws`.
+//! `given_sets`, `make`, `extend` (one statement more or less); `meaning`, `mandatory_view`, `frames`, `row`, `pairs`,
+//! `active_apart` (what is asked); `assertion`, `one_frame`; `laws`.
 #![tactic(auto)]
 
 mod active_apart;
@@ -14,9 +14,11 @@ mod declare;
 mod extend;
 mod frames;
 mod gathered;
+mod given_sets;
 mod laws;
 mod make;
 mod mandatory;
+mod mandatory_view;
 mod meaning;
 mod one_frame;
 mod pairs;
@@ -30,6 +32,7 @@ pub use assertion::Frame;
 pub use frames::Frames;
 pub use gathered::Gathered;
 pub use laws::groups_are_pairs;
+pub use mandatory_view::MandatoryView;
 pub use meaning::Meaning;
 pub use one_frame::frame;
 pub use pairs::Pairs;

@@ -1,0 +1,16 @@
+use Rattle.frame.proofs.Words.{◌∙◌, ap, sym, subst, length, take, statements_of}
+use Rattle.frame.specs.Stored.GivenSets.{AreFrames, AreGivenSets}
+use Rattle.frame.proofs.frames.Frames.shorten.Goals as goal
+
+pub invariant_of-self : goal.invariant_of-self
+invariant_of-self c =
+    let k = c.self.inside.stock in let new = c.cut.new.stock in let g = c.truncate.new.self in
+    let t = c.truncate.ensures k.entries (statements_of k) c.self.invariant.sets c.self.invariant.count in
+    record {
+      stored = c.cut.ensures.stored;
+      sets = subst (λ es. AreGivenSets g es (statements_of new)) (sym c.cut.ensures.entries) (subst (AreGivenSets g (take c.args.len k.entries)) (sym c.cut.ensures.statements) t.0);
+      count = t.1 ∙ sym (ap length c.cut.ensures.entries);
+    }
+
+pub returns : goal.returns
+returns c = rw (← c.self.view_is) (record { statements = c.cut.ensures.statements; names = c.cut.ensures.names; symbols = c.cut.ensures.stored.kept.names_kept })
