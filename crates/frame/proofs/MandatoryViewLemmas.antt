@@ -1,9 +1,9 @@
 -- The mandatory hypotheses of an assertion, of which the active `$e` bring along a set: this, with its own `$f` that the set has not.
-use Rattle.frame.proofs.Words.{◌≡◌, ◌∙◌, ap, sym, subst, arith, refl, ⊎_map, ℕ, ◌+◌, ◌-◌, ◌<◌, ◌≤◌, true, false, not, List, [], ◌++◌, ◌∷◌, length, length-append, length-take, filter, take, Stmt, Entry, Links, Stock, hypotheses, is_hypothesis, is_assertion, is_float_in, expr_of, links_of, names_in, statements_of, AreStored, Ascends, AreThose, AreWith, IsGiven, In, set_at}
+use Rattle.frame.proofs.Words.{◌≡◌, ◌∙◌, ap, sym, subst, arith, refl, ⊎_map, ℕ, ◌-◌, ◌<◌, ◌≤◌, true, false, not, List, [], ◌∷◌, length, length-append, length-take, filter, take, Stmt, Entry, Links, Stock, hypotheses, is_hypothesis, is_assertion, is_float_in, expr_of, links_of, statements_of, Ascends, AreThose, IsGiven, In, set_at}
 use Rattle.std.specs.Prelude.{◌^◌}
 use Rattle.entries.specs.PositionSets.{has_position}
 use Rattle.frame.specs.declared.given_sets.GivenSets.{GivenSets}
-use Rattle.frame.specs.Stored.GivenSets.{AreFrames, IsGivenBy, kept_set}
+use Rattle.frame.specs.Stored.GivenSets.{AreFrames, kept_set}
 use Rattle.frame.specs.Stored.Merged.{AreMerged, with_each}
 use Rattle.frame.proofs.ActivePositions.{active-members, ascends-active}
 use Rattle.frame.proofs.CitedLemmas.{IsThere}

@@ -1,4 +1,4 @@
-use Rattle.frame.proofs.Words.{◌∙◌, ◌++◌, ◌∷◌, [], ap, sym, arith, append_assoc, append-nil, get_or, get_or_from_slice_get, take, take_more, take_all, set_at, slice_get_within, ◌+◌, ◌≡◌}
+use Rattle.frame.proofs.Words.{◌∙◌, ◌++◌, ◌∷◌, [], ap, sym, arith, append_assoc, get_or_from_slice_get, take, take_more, take_all, set_at, slice_get_within, ◌+◌, ◌≡◌}
 use Rattle.frame.proofs.given_sets.add_set.Goals as goal
 
 pub loop-index-preserved : goal.loop-index-preserved

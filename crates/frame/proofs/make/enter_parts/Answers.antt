@@ -1,4 +1,4 @@
-use Rattle.frame.proofs.Words.{◌≡◌, map, false, asked_at, head_at, kept_with, ◌∙◌, ◌+◌, ◌-◌, ap, sym, subst, arith, refl, length, take, take_all, length-map, false≢true, ℕ, List, Option, decode, with_names, bare, expr_of, AreNoted, symbols_by, symbols_in, AreBelow, floats_in, has_parts, names_in, labels_in, statements_of, stmt_of, AreFloats, AreCollected, AreHypotheses, hypotheses, ok-weaker, IsSpread}
+use Rattle.frame.proofs.Words.{◌≡◌, map, false, asked_at, head_at, kept_with, ◌∙◌, ◌+◌, ◌-◌, ap, sym, subst, arith, refl, length, take, take_all, length-map, false≢true, ℕ, List, Option, decode, with_names, bare, expr_of, AreNoted, symbols_by, symbols_in, AreBelow, floats_in, has_parts, names_in, labels_in, statements_of, stmt_of, AreFloats, AreCollected, AreHypotheses, hypotheses, IsSpread}
 use Rattle.frame.proofs.AssertionLemmas.{hypotheses-are, floats-are, ok-both, spread-kept, drafted-of}
 use Rattle.frame.proofs.CollectLemmas.{collected-from}
 use Rattle.frame.proofs.CollectedLemmas.{collected-hypotheses, found-floats}

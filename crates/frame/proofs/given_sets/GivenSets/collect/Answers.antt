@@ -1,4 +1,4 @@
-use Rattle.frame.proofs.Words.{◌∙◌, ◌+◌, ◌-◌, ap, sym, subst, arith, refl, inr, ⊎_elim, length, take, take_all, statements_of, AreThose, AreWith, IsGiven, Ascends, In}
+use Rattle.frame.proofs.Words.{◌∙◌, ◌+◌, ◌-◌, sym, subst, arith, inr, ⊎_elim, take_all, statements_of, AreThose, AreWith, IsGiven, Ascends, In}
 use Rattle.std.proofs.lemmas.Result.{IfOk-weaker}
 use Rattle.frame.proofs.CollectLemmas.{those-by}
 use Rattle.frame.proofs.KindWalk.{as-many}

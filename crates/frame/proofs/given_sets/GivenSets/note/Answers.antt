@@ -1,4 +1,4 @@
-use Rattle.frame.proofs.Words.{◌≡◌, ◌∙◌, arith, refl, sym, length, statements_of, on-err}
+use Rattle.frame.proofs.Words.{◌≡◌, ◌∙◌, arith, refl, sym, statements_of, on-err}
 use Rattle.entries.proofs.SetNodeLemmas.{cut-back}
 use Rattle.frame.proofs.GivenSetLemmas.{sets-moved}
 use Rattle.frame.proofs.given_sets.GivenSets.note.Goals as goal

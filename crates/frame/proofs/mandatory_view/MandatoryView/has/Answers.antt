@@ -1,4 +1,4 @@
-use Rattle.frame.proofs.Words.{◌∙◌, ◌||◌, ap, sym, arith, or_right, or-false, set_at}
+use Rattle.frame.proofs.Words.{◌∙◌, ◌||◌, ap, sym, or_right, or-false, set_at}
 use Rattle.std.proofs.lemmas.List.Sorted.{searched}
 use Rattle.entries.specs.PositionSets.{has_position}
 use Rattle.frame.specs.Stored.Merged.{with_each}
