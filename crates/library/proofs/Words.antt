@@ -1,6 +1,6 @@
 -- The words in which this crate is proved, and the lemmas of std and of the layers below, passed on from one place.
 pub use Rattle.frame.proofs.EnterLemmas.{label_of-bare}
-pub use Rattle.frame.proofs.MarkLemmas.{lent-whole, no-mark}
+pub use Rattle.verify.proofs.MarkLemmas.{lent-whole, no-mark}
 pub use Rattle.frame.specs.AtPosition.{ArePositions, HasLabelsOnce, IsPosition}
 pub use Rattle.frame.specs.Citations.{Carries, IsHypothesis, IsInstance, expr_at, is_hypothesis_kind, option_expr, premises}
 pub use Rattle.frame.specs.FrameOf.{hypotheses, mandatory_groups}

@@ -18,7 +18,7 @@ use Rattle.reasons.specs.declared.named_images.Image.{Image}
 use Rattle.reasons.specs.Stored.Vectors.{AreImages, code_images}
 use Rattle.reasons.proofs.NamedLemmas.{image_same}
 use Rattle.reasons.proofs.ImagesLemmas.{apply-below}
-use Rattle.subst.proofs.NumbersApartLemmas.{below-drop}
+use Rattle.subst.proofs.GroupLemmas.{below-drop}
 
 -- ---- their numbers
 

@@ -18,7 +18,7 @@ use Rattle.frame.specs.Citations.{Carries, IsHypothesis, IsInstance, premises}
 use Rattle.frame.specs.AtPosition.{AreLegal}
 use Rattle.frame.specs.Substitution.{Images, CodeImages, apply as applied, code_apply}
 use Rattle.proof_code.specs.declared.item.Item.TheVariants.{Cite}
-use Rattle.subst.proofs.NumbersApartLemmas.{below-drop}
+use Rattle.subst.proofs.GroupLemmas.{below-drop}
 use Rattle.verify.specs.Fits.{IsTyped, AreRead, AreDifferent}
 use Rattle.verify.specs.Goes.{AreNamed}
 use Rattle.verify.specs.Machine.{Results, State, Cites, of_hypothesis, of_assertion, Steps, with_result}

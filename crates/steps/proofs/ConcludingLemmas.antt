@@ -1,15 +1,15 @@
 -- Images are read off results that begin as their hypotheses ask.
 use Rattle.std.specs.Prelude.{◌≡◌, ℕ, Bool, true, false, List, [], length, map, get_or, slice_get, Some}
 use Rattle.std.proofs.Common.{subst}
-use Rattle.subst.specs.declared.expression_place.ExpressionPlace.{ExpressionPlace}
-use Rattle.subst.specs.ExpressionPlaces.{seen_at, images_at, AreWithin}
+use Rattle.subst.specs.declared.symbol_range.SymbolRange.{SymbolRange}
+use Rattle.subst.specs.SymbolRanges.{seen_at, images_at, AreWithin}
 use Rattle.entries.specs.declared.cited_parts.Hypothesis.{Hypothesis}
 use Rattle.entries.specs.declared.cited_parts.Hypothesis.TheVariants.{Float}
 use Rattle.verify.specs.Fits.{IsTyped, AreRead, Reads}
 use Rattle.verify.specs.ReadPlaces.{ReadsAll}
 use Rattle.verify.proofs.ReadImageLemmas.{reads-seen}
 
-module _ (xs ys heads : List ℕ) (hs : List Hypothesis) (places : List ExpressionPlace) (images : List (ℕ × ExpressionPlace)) (same : ys ≡ xs) (count : length places ≡ length hs) (within : AreWithin (length xs) places) where
+module _ (xs ys heads : List ℕ) (hs : List Hypothesis) (places : List SymbolRange) (images : List (ℕ × SymbolRange)) (same : ys ≡ xs) (count : length places ≡ length hs) (within : AreWithin (length xs) places) where
   -- what is read off by places is read off the results that stand there
   seen : (b : Bool) → ReadsAll b (length hs) ys heads hs places images → Reads b heads hs (map (seen_at xs) places) (images_at xs images)
   seen b r = reads-seen b xs heads hs places images count within (subst (λ s. ReadsAll b (length hs) s heads hs places images) same r)

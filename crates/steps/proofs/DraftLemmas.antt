@@ -2,7 +2,7 @@
 use Rattle.std.specs.Prelude.{◌≡◌, ℕ, zero, suc, ◌+◌, ◌<◌, ◌≤◌, List, [], ◌∷◌, ◌++◌, length, map, take, get_or, refl}
 use Rattle.std.proofs.Common.{sym, ◌∙◌, ap, subst, arith}
 use Rattle.frame.specs.Below.{AreBelow}
-use Rattle.subst.specs.ExpressionPlaces.{seen_at, AreWithin}
+use Rattle.subst.specs.SymbolRanges.{seen_at, AreWithin}
 use Rattle.steps.specs.declared.table_draft.PlacedStep.{PlacedStep}
 use Rattle.steps.specs.Rows.{no_row}
 use Rattle.steps.specs.Stored.Drafted.{row_of, place_in, AreInBuffer}

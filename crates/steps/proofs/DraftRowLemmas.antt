@@ -12,7 +12,7 @@ use Rattle.mm_lex.specs.Alphabet.{Name}
 use Rattle.mm_read.specs.Statements.{Database}
 use Rattle.names.specs.Codes.{decode}
 use Rattle.frame.specs.Below.{AreBelow}
-use Rattle.subst.proofs.ExpressionPlaceLemmas.{seen-more, seen-last}
+use Rattle.subst.proofs.SymbolRangeLemmas.{seen-more, seen-last}
 use Rattle.frame.proofs.PositionLemmas.{get-front}
 use Rattle.steps.specs.declared.table_draft.PlacedStep.{PlacedStep}
 use Rattle.steps.specs.StepTable.{Step}

@@ -5,7 +5,7 @@ use Rattle.std.proofs.lemmas.List.{length-set, length-replicate, get_or-set_same
 use Rattle.std.proofs.lemmas.Option.{slice_get_within}
 use Rattle.mm_read.specs.Statements.{Database}
 use Rattle.frame.specs.Below.{AreBelow}
-use Rattle.frame.proofs.MarkLemmas.{no-mark, set_true}
+use Rattle.verify.proofs.MarkLemmas.{no-mark, set_true}
 use Rattle.steps.specs.StepTable.{Step}
 use Rattle.steps.specs.Essential.{essential_of, IsIn, IsEssential, is_last, is_taken}
 use Rattle.steps.specs.Stored.Marked.{HasMark, mark_last, mark_each, MarksMore, AreMarkedFrom, AreMarks}

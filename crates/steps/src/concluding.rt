@@ -2,12 +2,12 @@
 ghost use Rattle.std.specs.Prelude.{◌≡◌, ℕ, ◌++◌, [], List, Some, OnOk, IfOk, length, map, get_or, slice_get};
 ghost use Rattle.entries.specs.declared.cited_parts.Hypothesis.TheVariants.{Float};
 ghost use Rattle.frame.specs.Substitution.{CodeImages, code_apply};
-ghost use Rattle.subst.specs.ExpressionPlaces.{seen_at, AreWithin};
+ghost use Rattle.subst.specs.SymbolRanges.{seen_at, AreWithin};
 ghost use Rattle.verify.specs.Fits.{AreDifferent, IsTyped, AreRead};
 
 use entries::Cited;
 use std::alloc::AllocError;
-use subst::{Buffer, ExpressionPlace, ImagePlaces, SYMBOLS_LIMIT, place_between};
+use subst::{Buffer, SymbolRange, ImageRanges, SYMBOLS_LIMIT, place_between};
 use verify::read_off;
 
 /// Writes behind the symbols what the assertion concludes from the results at these places, and tells where it lies.
@@ -15,10 +15,10 @@ use verify::read_off;
 /// Cost: one look at each result, and the symbols written.
 pub fn conclude(
     symbols: &mut Buffer,
-    images: &mut ImagePlaces,
+    images: &mut ImageRanges,
     cited: &Cited<'_>,
-    places: &[ExpressionPlace],
-) -> Result<ExpressionPlace, AllocError>
+    places: &[SymbolRange],
+) -> Result<SymbolRange, AllocError>
     requires same { length places.now ≡ length cited.now.hypotheses }
     requires heads { length cited.now.heads.now ≡ length cited.now.hypotheses }
     requires within { AreWithin (length symbols.old) places.now }

@@ -13,7 +13,7 @@ use crate::known::{find, keep, key};
 use entries::Cited;
 use std::alloc::{AllocError, Global};
 use std::collections::BTreeMap;
-use subst::{Buffer, ExpressionPlace, ImagePlaces, SYMBOLS_LIMIT, place_between};
+use subst::{Buffer, SymbolRange, ImageRanges, SYMBOLS_LIMIT, place_between};
 
 /// A step, and where its expression lies.
 #[derive(Drop)]
@@ -23,7 +23,7 @@ pub struct PlacedStep {
     /// The places in the table of the steps whose results it takes.
     pub taken: Vec<usize>,
     /// Where its expression lies.
-    pub place: ExpressionPlace,
+    pub place: SymbolRange,
 }
 
 /// The steps so far, those of the results that wait and of those that were marked, and buffers.
@@ -34,8 +34,8 @@ pub struct TableDraft {
     pub stack: Vec<usize>,
     pub saved: Vec<usize>,
     pub known: BTreeMap<Vec<usize>, usize>,
-    pub images: ImagePlaces,
-    pub places: Vec<ExpressionPlace>,
+    pub images: ImageRanges,
+    pub places: Vec<SymbolRange>,
 }
 
 impl TableDraft {
@@ -50,7 +50,7 @@ impl TableDraft {
             stack: Vec::new(alloc),
             saved: Vec::new(alloc),
             known: BTreeMap::new(alloc),
-            images: ImagePlaces::new(alloc),
+            images: ImageRanges::new(alloc),
             places: Vec::new(alloc),
         }
     }
@@ -101,7 +101,7 @@ pub fn cite_hypothesis(
 }
 
 /// Where the expression of the step at a place lies.
-fn place_at(placed: &[PlacedStep], number: usize) -> ExpressionPlace
+fn place_at(placed: &[PlacedStep], number: usize) -> SymbolRange
     requires { number < length placed.now }
     ensures { result ≡ place_in placed.now number }
 {
@@ -112,7 +112,7 @@ fn place_at(placed: &[PlacedStep], number: usize) -> ExpressionPlace
 fn fill_places(
     placed: &[PlacedStep],
     taken: &[usize],
-    places: &mut Vec<ExpressionPlace>,
+    places: &mut Vec<SymbolRange>,
 ) -> Result<(), AllocError>
     requires { AreBelow (length placed.now) taken.now }
     ensures { OnOk result (places.new.items ≡ map (place_in placed.now) taken.now) }

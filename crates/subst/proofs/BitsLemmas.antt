@@ -1,6 +1,10 @@
 -- Places as the bits of a word.
-use Rattle.subst.proofs.Words.{◌≡◌, ℕ, ◌*◌, ◌%◌, ◌^◌, ◌<◌, ◌⊎◌, bit_at, bit_not, sym, ◌∙◌, ap, arith, inl, inr, bit_and, bit_or, w64, cases_eq, cases_lt, bit_at_and, bit_at_or, bit_at-zero, bit_at-lt, bit_at_above, bit_at-pow_same, bit_at-pow_other, bit_at_clear_same, bit_at_clear_other}
+use Rattle.subst.proofs.Words.{◌≡◌, ◌==◌, false, ℕ, ◌*◌, ◌%◌, ◌^◌, ◌<◌, ◌⊎◌, bit_at, bit_not, ◌∙◌, ap, arith, inl, inr, bit_and, bit_or, w64, cases_eq, cases_lt, bit_at_and, bit_at_not, bit_at_or, bit_at-zero, bit_at-lt, bit_at_above, bit_at-pow_same, bit_at-pow_other, bit_at_clear_same, bit_at_clear_other}
 use Rattle.std.proofs.lemmas.Nat.{one_shl, and_le_l}
+
+-- a test for equality fails on different numbers
+pub differ : (k l : ℕ) → (k ≡ l → ⊥) → (k == l) ≡ false
+differ k l ne = grind (arith, ne)
 
 pub zero-none : (j : ℕ) → bit_at 0 j ≡ 1 → ⊥
 zero-none j b = let z = bit_at-zero j in omega (arith, z, b)
@@ -32,11 +36,14 @@ or-either a b j h = elim (cases_eq (bit_at a j) 1) [ inl here ↦ inl here | inr
 pub and-left : (a b j : ℕ) → bit_at (bit_and a b) j ≡ 1 → bit_at a j ≡ 1
 and-left a b j h = omega (arith, bit_at_and a b j, bit_at-lt a j, bit_at-lt b j, h)
 
-pub and-all : (a b j : ℕ) → bit_and a b ≡ a → bit_at a j ≡ 1 → bit_at b j ≡ 1
-and-all a b j all h = let e = sym (bit_at_and a b j) ∙ (ap (λ n. bit_at n j) all ∙ h) in omega (arith, e, bit_at-lt b j, h)
-
 below-64 : (a j : ℕ) → a < 2 ^ 64 → bit_at a j ≡ 1 → j < 64
 below-64 a j fits h = elim (cases_lt j 64) [ inl low ↦ low | inr high ↦ absurd (omega (arith, bit_at_above a 64 j fits high, h)) ]
+
+-- a place of the word is one of the other, or one of those without it
+pub and-rest : (a b j : ℕ) → a < 2 ^ 64 → b < 2 ^ 64 → bit_at a j ≡ 1 → (bit_at b j ≡ 1) ⊎ (bit_at (bit_and a (bit_not w64 b)) j ≡ 1)
+and-rest a b j fits other h =
+    let low = below-64 a j fits h in
+    elim (cases_eq (bit_at b j) 1) [ inl there ↦ inl there | inr none ↦ inr (omega (arith, bit_at_and a (bit_not w64 b) j, bit_at_not w64 b j other low, bit_at-lt b j, h, none)) ]
 
 -- ---- a place taken away
 

@@ -1,8 +1,8 @@
 -- Symbols copied and written within one buffer.
-use Rattle.subst.proofs.Words.{◌≡◌, ℕ, ◌+◌, ◌-◌, ◌<◌, ◌≤◌, min, List, ◌++◌, length, take, drop, get_or, sym, ◌∙◌, ap, subst, arith, length-append, append-nil, take_all, drop_all, append_assoc, take-add, length-take-le, take-take, drop-drop, drop-take, take-append-add, take-append_seam, take_more_put_chunk, length-chunk, chunk, put_chunk, code_image, code_apply, ExpressionPlace, seen_at, images_at, AreInside, IsWritten}
+use Rattle.subst.proofs.Words.{◌≡◌, ℕ, ◌+◌, ◌-◌, ◌<◌, ◌≤◌, min, List, ◌++◌, length, take, drop, get_or, sym, ◌∙◌, ap, subst, arith, length-append, append-nil, take_all, drop_all, append_assoc, take-add, length-take-le, take-take, drop-drop, drop-take, take-append-add, take-append_seam, take_more_put_chunk, length-chunk, chunk, put_chunk, code_image, code_apply, SymbolRange, seen_at, images_at, AreInside, IsWritten}
 use Rattle.subst.proofs.WrittenImages.{apply-take, len-take, len-within}
-use Rattle.subst.proofs.ExpressionPlaceLemmas.{length-seen}
-use Rattle.subst.proofs.ImagePlacesLemmas.{image-more}
+use Rattle.subst.proofs.SymbolRangeLemmas.{length-seen}
+use Rattle.subst.proofs.ImageRangesLemmas.{image-more}
 
 -- two lists that begin alike have the same ranges there
 range-same : (x y : List ℕ) (at from k : ℕ) → take at x ≡ take at y → from + k ≤ at → take k (drop from x) ≡ take k (drop from y)
@@ -52,7 +52,7 @@ copy-first x from len at before room =
     (omega (arith, room)) (ap (λ n. put_chunk n x (chunk from 32 x)) here ∙ ap (λ n. put_chunk (at + 0) x (chunk n 32 x)) there)
 
 -- the symbols at a place, as a run
-pub place-written : (x y : List ℕ) (at len : ℕ) (p : ExpressionPlace) → p.start ≤ p.end → p.end ≤ at → at ≤ length x → len ≡ p.end - p.start → at + len ≤ length y
+pub place-written : (x y : List ℕ) (at len : ℕ) (p : SymbolRange) → p.start ≤ p.end → p.end ≤ at → at ≤ length x → len ≡ p.end - p.start → at + len ≤ length y
     → take (at + len) y ≡ take at x ++ take len (drop p.start x) → IsWritten x y at (seen_at (take at x) p) (at + len)
 place-written x y at len p low high long e room copied =
     let seam : length (take at x) ≡ at = length-take-le at x long in
@@ -63,7 +63,7 @@ place-written x y at len p low high long e room copied =
       inside = room;
     }
 
-pub place-lacks : (x : List ℕ) (at last : ℕ) (p : ExpressionPlace) → p.start ≤ p.end → p.end ≤ at → at ≤ length x → last < at + (p.end - p.start) → last < at + length (seen_at (take at x) p)
+pub place-lacks : (x : List ℕ) (at last : ℕ) (p : SymbolRange) → p.start ≤ p.end → p.end ≤ at → at ≤ length x → last < at + (p.end - p.start) → last < at + length (seen_at (take at x) p)
 place-lacks x at last p low high long less =
     let seam : length (take at x) ≡ at = length-take-le at x long in
     let size : length (seen_at (take at x) p) ≡ p.end - p.start = length-seen (take at x) p low (omega (arith, high, seam)) in
@@ -89,7 +89,7 @@ whole n s d items same long count =
 pub slice-kept : (n at : ℕ) (s d items now : List ℕ) → d ≡ items → length d ≡ n → length s ≡ length d → take at d ≡ now → take at s ≡ take at d → take at (take n (s ++ drop (length s) items)) ≡ now
 slice-kept n at s d items now same long count seen kept = ap (take at) (whole n s d items same long count) ∙ (kept ∙ seen)
 
-pub slice-filled : (n at end : ℕ) (s d items now : List ℕ) (ps : List (ℕ × ExpressionPlace)) (t : List ℕ) → d ≡ items → length d ≡ n → length s ≡ length d → take at d ≡ now
+pub slice-filled : (n at end : ℕ) (s d items now : List ℕ) (ps : List (ℕ × SymbolRange)) (t : List ℕ) → d ≡ items → length d ≡ n → length s ≡ length d → take at d ≡ now
     → IsWritten d s at (code_apply (images_at (take at d) ps) t) end
     → (take end (take n (s ++ drop (length s) items)) ≡ now ++ code_apply (images_at now ps) t) × (end ≡ at + length (code_apply (images_at now ps) t))
 slice-filled n at end s d items now ps t same long count seen w = (
@@ -98,7 +98,7 @@ slice-filled n at end s d items now ps t same long count seen w = (
 )
 
 -- the image of one more symbol
-pub fill-on : (x0 x x' image : List ℕ) (ps : List (ℕ × ExpressionPlace)) (t : List ℕ) (i at end e : ℕ) → AreInside at ps → at ≤ length x0 → i < length t
+pub fill-on : (x0 x x' image : List ℕ) (ps : List (ℕ × SymbolRange)) (t : List ℕ) (i at end e : ℕ) → AreInside at ps → at ≤ length x0 → i < length t
     → IsWritten x0 x at (code_apply (images_at (take at x0) ps) (take i t)) end
     → code_image (images_at (take end x) ps) (get_or t i 0) ≡ image → IsWritten x x' end image e
     → IsWritten x0 x' at (code_apply (images_at (take at x0) ps) (take (i + 1) t)) e
@@ -117,7 +117,7 @@ fill-on x0 x x' image ps t i at end e within long more w is v =
     let size = length-take-le e x' inside in
     record { written = whole; moved = omega (arith, ap length whole, length-append (take at x0) next, seam, size); inside = inside }
 
-pub fill-lacks : (x0 x image : List ℕ) (ps : List (ℕ × ExpressionPlace)) (t : List ℕ) (i at end last : ℕ) → AreInside at ps → at ≤ length x0 → i < length t
+pub fill-lacks : (x0 x image : List ℕ) (ps : List (ℕ × SymbolRange)) (t : List ℕ) (i at end last : ℕ) → AreInside at ps → at ≤ length x0 → i < length t
     → IsWritten x0 x at (code_apply (images_at (take at x0) ps) (take i t)) end
     → code_image (images_at (take end x) ps) (get_or t i 0) ≡ image → last < end + length image
     → last < at + length (code_apply (images_at (take at x0) ps) t)

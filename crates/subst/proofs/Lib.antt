@@ -1,6 +1,6 @@
 pub mod Words
-pub mod ExpressionPlaceLemmas
-pub mod ImagePlacesLemmas
+pub mod SymbolRangeLemmas
+pub mod ImageRangesLemmas
 mod SlotLemmas
 mod WrittenImages
 mod AlikeLemmas
@@ -9,8 +9,12 @@ mod CopyLemmas
 mod VanishingLemmas
 pub mod SubstitutionLemmas
 pub mod DisjointLemmas
-pub mod NumbersApartLemmas
 mod Rows
 mod BitsLemmas
-pub mod FindingsLemmas
-pub mod WordsApartLemmas
+pub mod VariablePlaceLemmas
+mod PlaceSetLemmas
+pub mod DisjointRowLemmas
+pub mod ImageVariableLemmas
+mod DisjointTableLemmas
+mod GoodLemmas
+pub mod GroupLemmas

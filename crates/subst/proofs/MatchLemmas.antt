@@ -1,7 +1,7 @@
 -- An expression with the images put in, against symbols that stand.
-use Rattle.subst.proofs.Words.{◌≡◌, ℕ, zero, suc, ◌+◌, ◌-◌, ◌<◌, ◌≤◌, List, [], ◌∷◌, ◌++◌, length, take, drop, get_or, slice_range, refl, sym, ◌∙◌, ap, arith, append_assoc, drop-cons, drop-drop, length-append, take-add, take-take, append_cancel_left, take-append_seam, CodeImages, code_image, code_apply, ExpressionPlace, images_at, AreInside}
-use Rattle.subst.proofs.ExpressionPlaceLemmas.{length-seen}
-use Rattle.subst.proofs.ImagePlacesLemmas.{image-more}
+use Rattle.subst.proofs.Words.{◌≡◌, ℕ, zero, suc, ◌+◌, ◌-◌, ◌<◌, ◌≤◌, List, [], ◌∷◌, ◌++◌, length, take, drop, get_or, slice_range, refl, sym, ◌∙◌, ap, arith, append_assoc, drop-cons, drop-drop, length-append, take-add, take-take, append_cancel_left, take-append_seam, CodeImages, code_image, code_apply, SymbolRange, images_at, AreInside}
+use Rattle.subst.proofs.SymbolRangeLemmas.{length-seen}
+use Rattle.subst.proofs.ImageRangesLemmas.{image-more}
 use Rattle.subst.proofs.WrittenImages.{apply-take}
 
 -- a range that begins with k symbols is these and the others
@@ -38,7 +38,7 @@ range-left s front at end within inside e =
     omega (arith, ap length e, length-append front (slice_range s at end), whole, within)
 
 -- symbols behind those that count change nothing
-pub apply-more : (xs ys : List ℕ) (ps : List (ℕ × ExpressionPlace)) (e : List ℕ) → AreInside (length xs) ps → code_apply (images_at (xs ++ ys) ps) e ≡ code_apply (images_at xs ps) e
+pub apply-more : (xs ys : List ℕ) (ps : List (ℕ × SymbolRange)) (e : List ℕ) → AreInside (length xs) ps → code_apply (images_at (xs ++ ys) ps) e ≡ code_apply (images_at xs ps) e
 apply-more xs ys ps [] w = refl
 apply-more xs ys ps (x ∷ e) w =
     ap (λ r. r ++ code_apply (images_at (xs ++ ys) ps) e) (image-more xs ys ps x w) ∙ ap (λ r. code_image (images_at xs ps) x ++ r) (apply-more xs ys ps e w)

@@ -1,5 +1,5 @@
 -- What is left of an expression without the symbols whose images are empty has the same result: such images add nothing.
-use Rattle.subst.proofs.Words.{append-nil, ◌≡◌, ℕ, suc, ◌+◌, ◌-◌, ◌<◌, ◌≤◌, Bool, true, false, true≢false, inl, inr, cond, nat_eq, List, [], ◌∷◌, ◌++◌, length, take, drop, slice_get, Option, Some, None, refl, lookup, sym, ◌∙◌, ap, subst, arith, code_image, code_apply, ExpressionPlace, images_at}
+use Rattle.subst.proofs.Words.{append-nil, ◌≡◌, ℕ, suc, ◌+◌, ◌-◌, ◌<◌, ◌≤◌, Bool, true, false, true≢false, inl, inr, cond, nat_eq, List, [], ◌∷◌, ◌++◌, length, take, drop, slice_get, Option, Some, None, refl, lookup, sym, ◌∙◌, ap, subst, arith, code_image, code_apply, SymbolRange, images_at}
 use Rattle.std.proofs.Common.{⊎_elim, get_or}
 use Rattle.std.proofs.lemmas.Bool.{cases_lt, ltb-false}
 use Rattle.std.specs.List.{Contains, cons_option, filter, filter_map, flat_map}
@@ -10,38 +10,38 @@ use Rattle.entries.specs.SymbolPlaces.{IsGroupOf, AreGroupsFrom, IsGrouped, AreP
 use Rattle.frame.specs.Stored.Hypotheses.{In, AreAbove, Ascends, AreThose}
 use Rattle.frame.proofs.CollectLemmas.{contains-in, in-contains}
 use Rattle.subst.specs.Vanishing.{is_left, is_place_left, is_symbol_left, is_group_left, group_left, remaining}
-use Rattle.subst.proofs.ImagePlacesLemmas.{image-some}
+use Rattle.subst.proofs.ImageRangesLemmas.{image-some}
 
 -- ---- an image that is empty
 
-vanished : (symbols : List ℕ) (ps : List (ℕ × ExpressionPlace)) (x : ℕ) → is_left ps x ≡ false → code_image (images_at symbols ps) x ≡ []
+vanished : (symbols : List ℕ) (ps : List (ℕ × SymbolRange)) (x : ℕ) → is_left ps x ≡ false → code_image (images_at symbols ps) x ≡ []
 vanished symbols ps x h = by (lookup (nat_eq x) ps) refl h
   where
-    by : (o : Option ExpressionPlace) → lookup (nat_eq x) ps ≡ o → is_place_left o ≡ false → code_image (images_at symbols ps) x ≡ []
+    by : (o : Option SymbolRange) → lookup (nat_eq x) ps ≡ o → is_place_left o ≡ false → code_image (images_at symbols ps) x ≡ []
     by None e f = absurd (true≢false f)
     by (Some p) e f =
         let none : p.end - p.start ≡ 0 = (let l = ltb-false p.start p.end f in omega (arith, l)) in
         image-some symbols ps x p e ∙ ap (λ n. take n (drop p.start symbols)) none
 
-remaining-step : (symbols : List ℕ) (ps : List (ℕ × ExpressionPlace)) (x : ℕ) (e : List ℕ) → code_apply (images_at symbols ps) (remaining ps e) ≡ code_apply (images_at symbols ps) e
+remaining-step : (symbols : List ℕ) (ps : List (ℕ × SymbolRange)) (x : ℕ) (e : List ℕ) → code_apply (images_at symbols ps) (remaining ps e) ≡ code_apply (images_at symbols ps) e
     → (b : Bool) → is_left ps x ≡ b → code_apply (images_at symbols ps) (cond b (x ∷ remaining ps e) (remaining ps e)) ≡ code_image (images_at symbols ps) x ++ code_apply (images_at symbols ps) e
 remaining-step symbols ps x e rest true h = ap (λ r. code_image (images_at symbols ps) x ++ r) rest
 remaining-step symbols ps x e rest false h = rest ∙ ap (λ r. r ++ code_apply (images_at symbols ps) e) (sym (vanished symbols ps x h))
 
 -- the same result without them
-pub apply-remaining : (symbols : List ℕ) (ps : List (ℕ × ExpressionPlace)) (e : List ℕ) → code_apply (images_at symbols ps) (remaining ps e) ≡ code_apply (images_at symbols ps) e
+pub apply-remaining : (symbols : List ℕ) (ps : List (ℕ × SymbolRange)) (e : List ℕ) → code_apply (images_at symbols ps) (remaining ps e) ≡ code_apply (images_at symbols ps) e
 apply-remaining symbols ps [] = refl
 apply-remaining symbols ps (x ∷ e) = remaining-step symbols ps x e (apply-remaining symbols ps e) (is_left ps x) refl
 
 -- ---- the groups that are left
 
 -- all indexes of a group tell the same
-group-left : (ps : List (ℕ × ExpressionPlace)) (e : List ℕ) (s : ℕ) (g : List ℕ) → IsGroupOf e s g → is_group_left ps e g ≡ is_left ps s
+group-left : (ps : List (ℕ × SymbolRange)) (e : List ℕ) (s : ℕ) (g : List ℕ) → IsGroupOf e s g → is_group_left ps e g ≡ is_left ps s
 group-left ps e s [] h = absurd (let some = h.some in omega (arith, some))
 group-left ps e s (i ∷ g) h = ap (is_symbol_left ps) (h.only 0 i (omega arith))
 
 -- what is collected are indexes of symbols that are left
-collected-only : (ps : List (ℕ × ExpressionPlace)) (e : List ℕ) (gs : List (List ℕ)) (low : ℕ) → AreGroupsFrom e low gs → (i : ℕ) → Contains (flat_map (group_left ps e) gs) i → (x : ℕ) × (slice_get e i ≡ Some x) × (is_left ps x ≡ true)
+collected-only : (ps : List (ℕ × SymbolRange)) (e : List ℕ) (gs : List (List ℕ)) (low : ℕ) → AreGroupsFrom e low gs → (i : ℕ) → Contains (flat_map (group_left ps e) gs) i → (x : ℕ) × (slice_get e i ≡ Some x) × (is_left ps x ≡ true)
 collected-only ps e [] low h i c = absurd (let l = c.1 in omega (arith, l))
 collected-only ps e (g ∷ gs) low h i c =
     ⊎_elim (λ here. by (is_group_left ps e g) (group-left ps e h.0 g h.2) here) (λ there. collected-only ps e gs (suc h.0) h.3 i there) (Contains-append_cases (group_left ps e g) (flat_map (group_left ps e) gs) i c)
@@ -51,7 +51,7 @@ collected-only ps e (g ∷ gs) low h i c =
     by false l here = absurd (let n = here.1 in omega (arith, n))
 
 -- and all of them
-collected-all : (ps : List (ℕ × ExpressionPlace)) (e : List ℕ) (gs : List (List ℕ)) (low : ℕ) → AreGroupsFrom e low gs → (i x : ℕ) → slice_get e i ≡ Some x → is_left ps x ≡ true → IsGrouped i gs → Contains (flat_map (group_left ps e) gs) i
+collected-all : (ps : List (ℕ × SymbolRange)) (e : List ℕ) (gs : List (List ℕ)) (low : ℕ) → AreGroupsFrom e low gs → (i x : ℕ) → slice_get e i ≡ Some x → is_left ps x ≡ true → IsGrouped i gs → Contains (flat_map (group_left ps e) gs) i
 collected-all ps e [] low h i x at left in_one = absurd in_one
 collected-all ps e (g ∷ gs) low h i x at left (inr there) = Contains-append_right (group_left ps e g) (flat_map (group_left ps e) gs) i (collected-all ps e gs (suc h.0) h.3 i x at left there)
 collected-all ps e (g ∷ gs) low h i x at left (inl here) =
@@ -67,10 +67,10 @@ collect-more f gs at g old new here is more =
     let last = ap (λ x. take at gs ++ x ∷ []) (sym (get_or_from_slice_get gs at g [] here)) ∙ sym (take_more gs at [] within) in
     more ∙ (ap (λ o. o ++ f g) is ∙ (flat_map_more f [] (take at gs) g ∙ ap (flat_map f) last))
 
-pub collect-kept : (ps : List (ℕ × ExpressionPlace)) (e : List ℕ) (gs : List (List ℕ)) (at : ℕ) (g old new : List ℕ) → slice_get gs at ≡ Some g → old ≡ flat_map (group_left ps e) (take at gs) → is_group_left ps e g ≡ true → new ≡ old ++ g → new ≡ flat_map (group_left ps e) (take (at + 1) gs)
+pub collect-kept : (ps : List (ℕ × SymbolRange)) (e : List ℕ) (gs : List (List ℕ)) (at : ℕ) (g old new : List ℕ) → slice_get gs at ≡ Some g → old ≡ flat_map (group_left ps e) (take at gs) → is_group_left ps e g ≡ true → new ≡ old ++ g → new ≡ flat_map (group_left ps e) (take (at + 1) gs)
 collect-kept ps e gs at g old new here is kept more = collect-more (group_left ps e) gs at g old new here is (more ∙ ap (λ b. old ++ cond b g []) (sym kept))
 
-pub collect-passed : (ps : List (ℕ × ExpressionPlace)) (e : List ℕ) (gs : List (List ℕ)) (at : ℕ) (g old : List ℕ) → slice_get gs at ≡ Some g → old ≡ flat_map (group_left ps e) (take at gs) → is_group_left ps e g ≡ false → old ≡ flat_map (group_left ps e) (take (at + 1) gs)
+pub collect-passed : (ps : List (ℕ × SymbolRange)) (e : List ℕ) (gs : List (List ℕ)) (at : ℕ) (g old : List ℕ) → slice_get gs at ≡ Some g → old ≡ flat_map (group_left ps e) (take at gs) → is_group_left ps e g ≡ false → old ≡ flat_map (group_left ps e) (take (at + 1) gs)
 collect-passed ps e gs at g old here is passed = collect-more (group_left ps e) gs at g old old here is (sym (append-nil old) ∙ ap (λ b. old ++ cond b g []) (sym passed))
 
 -- ---- indexes in order, and the symbols that stand there
@@ -130,7 +130,7 @@ picks p f (x ∷ e) k list at h =
     pick-one p f x e k here (λ l a. picks p f e (suc k) l (λ j. let n : suc k + j ≡ k + suc j = omega arith in ap f n ∙ at (suc j)) a) (p x) refl list h
 
 -- the indexes of the groups that are left, in order, give the symbols that are left
-pub remaining-read : (ps : List (ℕ × ExpressionPlace)) (e : List ℕ) (gs : List (List ℕ)) (all list : List ℕ) → ArePlacesOf e gs → all ≡ flat_map (group_left ps e) gs → AreThose (λ i. In i all) list → filter_map (slice_get e) list ≡ remaining ps e
+pub remaining-read : (ps : List (ℕ × SymbolRange)) (e : List ℕ) (gs : List (List ℕ)) (all list : List ℕ) → ArePlacesOf e gs → all ≡ flat_map (group_left ps e) gs → AreThose (λ i. In i all) list → filter_map (slice_get e) list ≡ remaining ps e
 remaining-read ps e gs all list places is those =
     picks (is_left ps) (slice_get e) e 0 list (λ j. let n : 0 + j ≡ j = omega arith in ap (slice_get e) n) (record {
       ascends = those.ascends;

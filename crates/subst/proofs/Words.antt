@@ -13,7 +13,7 @@ pub use Rattle.scope.specs.Active.{before, is_variable}
 pub use Rattle.std.proofs.Common.{Bool, Bor, List, add-one, ap, append-nil, append_assoc, arith, bit_and, bit_or, drop, drop-cons, eqb, false, get_or, inl, inr, length, length-append, length-drop, refl, rules, subst, sym, take, take-add, true, true≢false, w32, w64, ℕ, ◌++◌, ◌+◌, ◌-◌, ◌<◌, ◌==◌, ◌^◌, ◌∙◌, ◌≡◌}
 pub use Rattle.std.proofs.Math.Seq.{drop-append_seam, take-append-add, take-append_seam}
 pub use Rattle.std.proofs.lemmas.Bool.{and_from, and_parts, and_right, both_ways, cases_Bool, cases_eq, cases_lt, eq-eqb, eqb-true, false_from_ne_true, lt-ltb, ltb-true, not-true, not_from_false, or_cases, or_left, or_parts, or_right, true_from_ne_false}
-pub use Rattle.std.proofs.lemmas.List.{append_cancel_left, drop-append-le, drop-drop, drop-take, drop_all, get_or-set_other, get_or-set_same, get_or-take, get_or_append_left, get_or_default, get_or_push, length-set, length-take, length-take-le, length_push, map-id, take-append-drop, take-append-le, take-take, take_all, take_rest}
+pub use Rattle.std.proofs.lemmas.List.{append_cancel_left, drop-append-le, drop-drop, drop-take, drop_all, get_or-set_other, get_or-set_same, get_or-take, get_or_append_left, get_or_default, get_or_push, get_or-append_right, get_or-append-add, get_or-drop, length-set, length-take, length-take-le, length_push, map-id, take-append-drop, take-append-le, take-take, take_all, take_rest}
 pub use Rattle.std.proofs.lemmas.List.Folds.{list_all-map, list_all_at, list_all_more, list_any_at}
 pub use Rattle.std.proofs.lemmas.List.Sums.{prefix_len-le-length}
 pub use Rattle.std.proofs.lemmas.Nat.Bits.{bit_at-lt, bit_at-pow_other, bit_at-pow_same, bit_at-trailing_zeros, bit_at-zero, bit_at_above, bit_at_and, bit_at_clear_other, bit_at_clear_same, bit_at_not, bit_at_or}
@@ -22,16 +22,25 @@ pub use Rattle.std.specs.Int.Count.{count_trailing_zeros}
 pub use Rattle.std.specs.Int.{bit_at, bit_not, trailing_zeros}
 pub use Rattle.std.specs.List.{All, list_all, list_any, position_or_len, prefix_len}
 pub use Rattle.std.specs.Map.{lookup}
-pub use Rattle.std.specs.Prelude.{Err, IfNone, IfSome, MatchOption, None, Ok, Option, Result, Some, [], bytes_eq, codes, cond, if◌then◌else◌, is_err, is_ok, map, min, nat_eq, nat_lt, not, replicate, slice_get, slice_range, slice_set, suc, zero, ◌%◌, ◌&&◌, ◌*◌, ◌||◌, ◌∷◌, ◌≤◌, ◌⊎◌}
+pub use Rattle.std.specs.Prelude.{Err, IfNone, IfSome, MatchOption, None, Ok, OnOk, Option, Result, Some, [], bytes_eq, codes, cond, if◌then◌else◌, is_err, is_ok, map, min, nat_eq, nat_lt, not, replicate, slice_get, slice_range, slice_set, suc, zero, ◌%◌, ◌&&◌, ◌*◌, ◌/◌, ◌||◌, ◌∷◌, ◌≤◌, ◌⊎◌}
 pub use Rattle.subst.specs.Apart.{are_numbers_apart, are_two_apart, image_named, is_number_apart}
-pub use Rattle.subst.specs.ExpressionPlaces.{AreInside, AreWithin, images_at, seen_at}
-pub use Rattle.subst.specs.Findings.{AreBits, AreListed, AreNoted, AreOnce, AreWordsApart, Found, Grows, IsAmong, IsAt, IsKnown, IsListed, IsNoted, IsRow, IsSame, is_kept, no_variable, variable_at, variable_name}
+pub use Rattle.subst.specs.SymbolRanges.{AreInside, AreWithin, images_at, seen_at}
+pub use Rattle.subst.specs.Stored.DisjointRows.{AreFacts, HasFact, IsFact, IsRowAt, NotesWord, TellsAll, TellsEach, TellsWord, no_row}
+pub use Rattle.subst.specs.Stored.DisjointTables.{AreTables}
+pub use Rattle.subst.specs.Stored.ImageVariables.{AddsImage, AddsPlace, AddsRange, AddsSymbols, AreNoted, AreRead, IsBegun, IsIn, IsLong, IsRangeOf, KeepsImage, KeepsMost, KeepsRest, Noted, NotesImage}
+pub use Rattle.subst.specs.Stored.PlaceSets.{AddsFirst, AddsPlaces, ArePlacesBelow, HasBit, HasPlace, no_word}
+pub use Rattle.subst.specs.Stored.VariablePlaces.{ArePlaced, ArePlacesOf, Grows, HasVariable, IsAmong, IsAt, IsListed, IsPlace, IsVariable, Places, is_kept, variable_name}
 pub use Rattle.subst.specs.Images.{is_image_apart}
 pub use Rattle.subst.specs.Laws.{KeepApart, PairClause, SubstitutionOverNames}
 pub use Rattle.subst.specs.Stored.Slots.{AreUpTo, placed}
 pub use Rattle.subst.specs.Stored.Written.{IsWritten, LacksRoom}
-pub use Rattle.subst.specs.declared.expression_place.ExpressionPlace.{ExpressionPlace}
-pub use Rattle.subst.specs.declared.findings.FoundSymbol.{FoundSymbol}
-pub use Rattle.subst.specs.declared.image_places.Slot.{Slot}
+pub use Rattle.subst.specs.declared.symbol_range.SymbolRange.{SymbolRange}
+pub use Rattle.subst.specs.declared.disjoint_rows.RowWord.{RowWord}
+pub use Rattle.subst.specs.declared.image_ranges.Slot.{Slot}
+pub use Rattle.subst.specs.declared.image_variables.LongImage.{LongImage}
+pub use Rattle.subst.specs.declared.image_variables.PlaceRange.{PlaceRange}
+pub use Rattle.subst.specs.declared.image_variables.ReadImage.{ReadImage}
+pub use Rattle.subst.specs.declared.place_words.PlaceWord.{PlaceWord}
+pub use Rattle.subst.specs.declared.variable_places.MetSymbol.{MetSymbol}
 pub use Rattle.std.specs.Simd.Lanes.{mask_l, top, zip2}
 pub use lib.Lanes.{chunk, put_chunk}

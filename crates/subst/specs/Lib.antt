@@ -1,8 +1,8 @@
 pub mod Words
-pub mod ExpressionPlaces
+pub mod SymbolRanges
 pub mod Images
 pub mod Apart
-pub mod Findings
+pub mod DisjointCaches
 pub mod Vanishing
 pub mod Laws
 pub mod Stored

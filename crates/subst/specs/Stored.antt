@@ -1,3 +1,8 @@
 -- How images are kept by number, and symbols behind others in a buffer. Public clauses cite `Appends` of it alone.
 pub mod Slots
 pub mod Written
+pub mod VariablePlaces
+pub mod PlaceSets
+pub mod DisjointRows
+pub mod ImageVariables
+pub mod DisjointTables

@@ -5,37 +5,37 @@ use Rattle.std.specs.Prelude.{◌≡◌, ℕ, Bool, true, false, nat_eq, nat_lt,
 use Rattle.std.specs.List.{filter}
 use Rattle.std.specs.Map.{lookup}
 use Rattle.frame.specs.Substitution.{code_apply}
-use Rattle.subst.specs.ExpressionPlaces.{images_at}
-use Rattle.subst.specs.declared.expression_place.ExpressionPlace.{ExpressionPlace}
+use Rattle.subst.specs.SymbolRanges.{images_at}
+use Rattle.subst.specs.declared.symbol_range.SymbolRange.{SymbolRange}
 
-abbrev pub is_place_left : Option ExpressionPlace → Bool
+abbrev pub is_place_left : Option SymbolRange → Bool
 is_place_left None = true
 is_place_left (Some p) = nat_lt p.start p.end
 
 -- the image of the symbol is not empty
-abbrev pub is_left : List (ℕ × ExpressionPlace) → ℕ → Bool
+abbrev pub is_left : List (ℕ × SymbolRange) → ℕ → Bool
 is_left images x = is_place_left (lookup (nat_eq x) images)
 
 -- the expression without the symbols whose images are empty
-abbrev pub remaining : List (ℕ × ExpressionPlace) → List ℕ → List ℕ
+abbrev pub remaining : List (ℕ × SymbolRange) → List ℕ → List ℕ
 remaining images expr = filter (is_left images) expr
 
 -- with the images put in, what is left gives the result of the expression, whatever symbols the images are places in
-abbrev pub HaveSameResult : List (ℕ × ExpressionPlace) → List ℕ → List ℕ → Type 0
+abbrev pub HaveSameResult : List (ℕ × SymbolRange) → List ℕ → List ℕ → Type 0
 HaveSameResult images left expr = (symbols : List ℕ) → code_apply (images_at symbols images) left ≡ code_apply (images_at symbols images) expr
 
 -- the symbol at the first index of a group
 abbrev pub first_symbol : List ℕ → List ℕ → Option ℕ
 first_symbol expr group = option_and_then (slice_get expr) (slice_get group 0)
 
-abbrev pub is_symbol_left : List (ℕ × ExpressionPlace) → Option ℕ → Bool
+abbrev pub is_symbol_left : List (ℕ × SymbolRange) → Option ℕ → Bool
 is_symbol_left images None = false
 is_symbol_left images (Some x) = is_left images x
 
 -- the image of that symbol is not empty
-abbrev pub is_group_left : List (ℕ × ExpressionPlace) → List ℕ → List ℕ → Bool
+abbrev pub is_group_left : List (ℕ × SymbolRange) → List ℕ → List ℕ → Bool
 is_group_left images expr group = is_symbol_left images (first_symbol expr group)
 
 -- the group, or nothing where that image is empty
-abbrev pub group_left : List (ℕ × ExpressionPlace) → List ℕ → List ℕ → List ℕ
+abbrev pub group_left : List (ℕ × SymbolRange) → List ℕ → List ℕ → List ℕ
 group_left images expr group = if is_group_left images expr group then group else []

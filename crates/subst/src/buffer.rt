@@ -1,13 +1,13 @@
 //! A list of symbols that keeps its bound.
 ghost use Rattle.std.specs.Prelude.{◌≡◌, [], ◌++◌, ◌+◌, ◌≤◌, ◌↔◌, length, take, IfOk, OnOk, OnErr, IsTrue};
-ghost use Rattle.{frame.specs.Substitution.code_apply, subst.specs.ExpressionPlaces.images_at, subst.specs.ExpressionPlaces.seen_at, subst.specs.ExpressionPlaces.AreInside, subst.specs.Stored.Written.Appends};
+ghost use Rattle.{frame.specs.Substitution.code_apply, subst.specs.SymbolRanges.images_at, subst.specs.SymbolRanges.seen_at, subst.specs.SymbolRanges.AreInside, subst.specs.Stored.Written.Appends};
 
 use crate::copies::put_expr;
-use crate::expression_place::ExpressionPlace;
 use crate::filling::{fill, filled_len, make_room};
-use crate::image_places::ImagePlaces;
+use crate::image_ranges::ImageRanges;
 use crate::images::{Subst, write};
 use crate::matching::matches;
+use crate::symbol_range::SymbolRange;
 use std::alloc::{AllocError, Global};
 use std::marker::Model;
 use std::ops::Range;
@@ -66,7 +66,7 @@ impl Buffer {
     ///
     /// Cost: the symbols that agree, each once; nothing is written.
     #[inline(always)]
-    pub fn matches(&self, images: &ImagePlaces, expr: &[u32], whole: ExpressionPlace) -> bool
+    pub fn matches(&self, images: &ImageRanges, expr: &[u32], whole: SymbolRange) -> bool
         requires inside { AreInside (length self.now) images.now }
         requires place { (whole.start ≤ whole.end) × (whole.end ≤ length self.now) }
         ensures { IsTrue result ↔ (seen_at self.now whole ≡ code_apply (images_at self.now images.now) expr.now) }
@@ -105,7 +105,7 @@ impl Buffer {
     #[inline(always)]
     pub fn add_applied(
         &mut self,
-        images: &ImagePlaces,
+        images: &ImageRanges,
         expr: &[u32],
         limit: usize,
     ) -> Result<bool, AllocError>
@@ -129,7 +129,7 @@ impl Buffer {
     #[inline(never)]
     fn add_growing(
         &mut self,
-        images: &ImagePlaces,
+        images: &ImageRanges,
         expr: &[u32],
         limit: usize,
     ) -> Result<bool, AllocError>

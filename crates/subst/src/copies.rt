@@ -1,8 +1,8 @@
 //! Symbols copied within one buffer, many at once.
 ghost use Rattle.std.specs.Prelude.{◌≡◌, ◌+◌, ◌<◌, ◌≤◌, ◌++◌, ◌∷◌, [], length, take, drop, IfSome, IfNone};
-ghost use Rattle.{subst.specs.ExpressionPlaces.seen_at, subst.specs.Stored.Written.IsWritten};
+ghost use Rattle.{subst.specs.SymbolRanges.seen_at, subst.specs.Stored.Written.IsWritten};
 
-use crate::expression_place::ExpressionPlace;
+use crate::symbol_range::SymbolRange;
 use std::simd::prelude::*;
 
 /// How many symbols are copied at once, and so how many may be written over behind what is written.
@@ -26,12 +26,7 @@ fn copy_run(symbols: &mut [u32], from: usize, len: usize, at: usize)
 
 /// Copies the symbols at a place to `at`, where they end no later than at `last`, and tells where they end.
 #[inline(always)]
-pub fn copy_place(
-    symbols: &mut [u32],
-    at: usize,
-    last: usize,
-    place: ExpressionPlace,
-) -> Option<usize>
+pub fn copy_place(symbols: &mut [u32], at: usize, last: usize, place: SymbolRange) -> Option<usize>
     requires place { (place.start ≤ place.end) × (place.end ≤ at) }
     requires inside { at ≤ length symbols.old }
     requires room { last + 32 ≤ length symbols.old }

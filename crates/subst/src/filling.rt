@@ -1,15 +1,16 @@
 //! An expression with the images put in, written behind them in their buffer.
 ghost use Rattle.std.specs.Prelude.{◌≡◌, ◌+◌, ◌<◌, ◌≤◌, ◌^◌, length, take, IfSome, IfNone, OnOk};
-ghost use Rattle.{frame.specs.Substitution.code_apply, subst.specs.ExpressionPlaces.images_at, subst.specs.ExpressionPlaces.AreInside, subst.specs.Stored.Written.IsWritten, subst.specs.Stored.Written.LacksRoom, subst.specs.declared.buffer.TheConstants.SYMBOLS_LIMIT};
+ghost use Rattle.{frame.specs.Substitution.code_apply, subst.specs.SymbolRanges.images_at, subst.specs.SymbolRanges.AreInside, subst.specs.Stored.Written.IsWritten, subst.specs.Stored.Written.LacksRoom, subst.specs.declared.buffer.TheConstants.SYMBOLS_LIMIT};
 
+use crate::buffer::SYMBOLS_LIMIT;
 use crate::copies::{LANES, copy_place, put_symbol};
-use crate::image_places::ImagePlaces;
+use crate::image_ranges::ImageRanges;
 use std::alloc::AllocError;
 
 /// Writes the expression with all images put in at `at`, and tells where it ends; nothing where the room behind `at`
 /// is too small for as many symbols and those of the expression besides.
 #[inline(always)]
-pub fn fill(symbols: &mut [u32], at: usize, images: &ImagePlaces, expr: &[u32]) -> Option<usize>
+pub fn fill(symbols: &mut [u32], at: usize, images: &ImageRanges, expr: &[u32]) -> Option<usize>
     requires within { AreInside at images.now }
     requires inside { at ≤ length symbols.old }
     ensures some { IfSome result (IsWritten symbols.old symbols.new at (code_apply (images_at (take at symbols.old) images.now) expr.now)) }
@@ -33,7 +34,7 @@ pub fn fill(symbols: &mut [u32], at: usize, images: &ImagePlaces, expr: &[u32]) 
 }
 
 /// How many symbols the expression has with all images put in, where they are no more than `room`.
-pub fn filled_len(symbols: &[u32], images: &ImagePlaces, expr: &[u32], room: usize) -> Option<usize>
+pub fn filled_len(symbols: &[u32], images: &ImageRanges, expr: &[u32], room: usize) -> Option<usize>
     requires { AreInside (length symbols.now) images.now }
     ensures some { IfSome result (λ len. (len ≡ length (code_apply (images_at symbols.now images.now) expr.now)) × (len ≤ room)) }
     ensures none { IfNone result (room < length (code_apply (images_at symbols.now images.now) expr.now)) }
@@ -54,6 +55,8 @@ pub fn filled_len(symbols: &[u32], images: &ImagePlaces, expr: &[u32], room: usi
 }
 
 /// Makes room for so many symbols behind the first `len`, and for those that are written over.
+///
+/// Cost: the buffer grows to twice its symbols, but no further than its bound asks for, or by a sixteenth.
 #[cold]
 #[inline(never)]
 pub fn make_room(buffer: &mut Vec<u32>, len: usize, more: usize) -> Result<(), AllocError>
@@ -62,6 +65,17 @@ pub fn make_room(buffer: &mut Vec<u32>, len: usize, more: usize) -> Result<(), A
     ensures same { take len buffer.new.items ≡ take len buffer.old.items }
     ensures within { len ≤ length buffer.new.items }
 {
-    buffer.resize(2 * len + more + LANES, 0)?;
+    let size = grown_size(len, len + more + LANES);
+    buffer.reserve_exact(size.saturating_sub(buffer.len()))?;
+    buffer.resize(size, 0)?;
     Ok(())
+}
+
+/// Returns the size to which a buffer with `len` symbols grows that needs a larger one.
+fn grown_size(len: usize, needed: usize) -> usize
+    requires { (len < 2 ^ 62) × (needed < 2 ^ 63) }
+    ensures { needed ≤ result }
+{
+    let below_bound = (SYMBOLS_LIMIT + LANES).saturating_sub(needed);
+    needed + len.min(below_bound).max(needed / 16)
 }

@@ -3,9 +3,9 @@ ghost use Rattle.std.specs.Prelude.{◌≡◌, ℕ, [], ◌∷◌, ◌==◌, ◌
 ghost use Rattle.{frame.specs.Substitution.code_image, frame.specs.Substitution.code_apply, subst.specs.declared.buffer.TheConstants.SYMBOLS_LIMIT};
 
 use crate::buffer::{Buffer, SYMBOLS_LIMIT};
-use crate::expression_place::{place_between, symbols_at};
 use crate::filling::filled_len;
-use crate::image_places::ImagePlaces;
+use crate::image_ranges::ImageRanges;
+use crate::symbol_range::{place_between, symbols_at};
 use std::alloc::{AllocError, Global};
 use std::marker::Model;
 
@@ -17,12 +17,12 @@ use std::marker::Model;
 #[derive(Drop)]
 pub struct Subst {
     symbols: Buffer,
-    images: ImagePlaces,
+    images: ImageRanges,
 }
 
 impl Model for Subst {
     ghost use Rattle.std.specs.Prelude.{ℕ, List, length};
-    ghost use Rattle.subst.specs.ExpressionPlaces.{images_at, AreInside};
+    ghost use Rattle.subst.specs.SymbolRanges.{images_at, AreInside};
 
     ghost Value = { List (ℕ × List ℕ) };
 
@@ -38,14 +38,14 @@ impl Subst {
     {
         Subst {
             symbols: Buffer::new(alloc),
-            images: ImagePlaces::new(alloc),
+            images: ImageRanges::new(alloc),
         }
     }
 
     /// Gives the symbol this image, in place of any before.
     ///
-    /// Errors: where memory is refused, or all images that were set have more than `SYMBOLS_LIMIT` symbols together,
-    /// all images are as before.
+    /// Errors: an allocation fails, or the images that were set, those replaced among them, would have more than
+    /// `SYMBOLS_LIMIT` symbols together. All images are then as before.
     pub fn set(&mut self, symbol: u32, image: &[u32]) -> Result<(), AllocError>
         ensures ok { OnOk result ((x : ℕ) → code_image self.new x ≡ (if x == symbol then image.now else code_image self.old x)) }
         ensures same { OnErr result (self.new ≡ self.old) }

@@ -1,31 +1,40 @@
 //! Images put into expressions, all at once.
 //!
-//! A symbol's image is a place in a buffer of symbols (`ExpressionPlace`, `ImagePlaces`, `Buffer`): so a verifier reads images
-//! off its results, matches an expression under them without writing it, and adds one behind them. `Subst` is such a table with a
-//! buffer of its own, and `apply` puts all its images in at once. Symbols are numbers; that this is substitution over the names
-//! that they stand for is a law. Reading order: `expression_place`, `image_places`, `copies`, `filling`, `matching`, `buffer`,
-//! `vanishing`, `images`, `asked_apart`, `findings`, `numbers_apart`, `laws`.
+//! A symbol's image is a range in a buffer of symbols (`SymbolRange`, `ImageRanges`, `Buffer`): so a verifier reads images
+//! off its results, matches an expression under them without writing it, and appends one to the buffer. `Subst` is such a table
+//! with a buffer of its own, and `apply` puts all its images in at once. Symbols are numbers; that this is substitution over
+//! the names that they stand for is a law. `DisjointCache` tells whether images meet the disjoint variable condition.
+//!
+//! Reading order: `symbol_range`, `image_ranges`, `copies`, `filling`, `matching`, `buffer`, `vanishing`, `images`, `asked_apart`; `hints`,
+//! `variable_places`, `place_words`, `place_set`, `disjoint_rows`, `image_variables`, `disjoint_tables`, `subject`,
+//! `disjoint_cache`; `laws`.
 #![tactic(auto)]
 
 mod asked_apart;
 mod buffer;
 mod copies;
-mod expression_place;
+mod disjoint_cache;
+mod disjoint_rows;
+mod disjoint_tables;
 mod filling;
-mod findings;
-mod image_places;
+mod hints;
+mod image_ranges;
+mod image_variables;
 mod images;
 mod laws;
 mod matching;
-mod numbers_apart;
+mod place_set;
+mod place_words;
+mod subject;
+mod symbol_range;
 mod vanishing;
+mod variable_places;
 
 pub use asked_apart::disjoint;
 pub use buffer::{Buffer, SYMBOLS_LIMIT, apply_into};
-pub use expression_place::{ExpressionPlace, place_between, symbols_at};
-pub use findings::Findings;
-pub use image_places::ImagePlaces;
+pub use disjoint_cache::DisjointCache;
+pub use image_ranges::ImageRanges;
 pub use images::{Subst, apply, has_room};
 pub use laws::{pair_clause, substitution_over_names};
-pub use numbers_apart::groups_apart;
+pub use symbol_range::{SymbolRange, place_between, symbols_at};
 pub use vanishing::Remaining;

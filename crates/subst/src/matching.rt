@@ -1,9 +1,9 @@
 //! An expression with the images put in, against symbols that stand, without writing it.
 ghost use Rattle.std.specs.Prelude.{◌≡◌, ℕ, ◌∷◌, ◌++◌, ◌↔◌, ◌<◌, ◌≤◌, [], List, length, take, slice_range, IfSome, IfNone, IsTrue};
-ghost use Rattle.{frame.specs.Substitution.code_image, frame.specs.Substitution.code_apply, subst.specs.ExpressionPlaces.images_at, subst.specs.ExpressionPlaces.seen_at, subst.specs.ExpressionPlaces.AreInside};
+ghost use Rattle.{frame.specs.Substitution.code_image, frame.specs.Substitution.code_apply, subst.specs.SymbolRanges.images_at, subst.specs.SymbolRanges.seen_at, subst.specs.SymbolRanges.AreInside};
 
-use crate::expression_place::ExpressionPlace;
-use crate::image_places::{ImagePlaces, ImageTable};
+use crate::image_ranges::{ImageRanges, ImageTable};
+use crate::symbol_range::SymbolRange;
 use std::simd::prelude::*;
 
 /// How many symbols are compared at once.
@@ -41,7 +41,7 @@ fn begin_alike(left: &[u32], right: &[u32], len: usize) -> bool
 
 /// Where the image at a place ends, where the symbols from `at` up to `end` begin with it.
 #[inline(always)]
-fn behind_image(symbols: &[u32], place: ExpressionPlace, at: usize, end: usize) -> Option<usize>
+fn behind_image(symbols: &[u32], place: SymbolRange, at: usize, end: usize) -> Option<usize>
     requires image { (place.start ≤ place.end) × (place.end ≤ length symbols.now) }
     requires rest { (at ≤ end) × (end ≤ length symbols.now) }
     ensures some { IfSome result (λ next. (next ≤ end) × (slice_range symbols.now at end ≡ seen_at symbols.now place ++ slice_range symbols.now next end)) }
@@ -83,9 +83,9 @@ fn behind(
 #[inline(always)]
 pub(crate) fn matches(
     symbols: &[u32],
-    images: &ImagePlaces,
+    images: &ImageRanges,
     expr: &[u32],
-    whole: ExpressionPlace,
+    whole: SymbolRange,
 ) -> bool
     requires inside { AreInside (length symbols.now) images.now }
     requires place { (whole.start ≤ whole.end) × (whole.end ≤ length symbols.now) }

@@ -5,7 +5,7 @@ ghost use Rattle.entries.specs.SymbolPlaces.{ArePlacesOf};
 ghost use Rattle.frame.specs.Stored.Hypotheses.{In, AreThose};
 ghost use Rattle.subst.specs.Vanishing.{is_left, first_symbol, is_group_left, group_left, remaining, HaveSameResult};
 
-use crate::image_places::{ImagePlaces, ImageTable};
+use crate::image_ranges::{ImageRanges, ImageTable};
 use entries::{Groups, SymbolPlaces};
 use std::alloc::{AllocError, Global};
 
@@ -39,7 +39,7 @@ impl Remaining {
     /// Source: Metamath, 4.2.6: the image of a variable may be the empty sequence of symbols.
     pub fn of<'a>(
         &'a mut self,
-        images: &ImagePlaces,
+        images: &ImageRanges,
         expr: &[u32],
         places: &SymbolPlaces,
     ) -> Result<Option<&'a [u32]>, AllocError>

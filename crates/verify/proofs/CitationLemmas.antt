@@ -1,6 +1,6 @@
 -- The citation of an assertion, by results of numbers.
 use Rattle.verify.proofs.Words.{◌≡◌, ℕ, ◌-◌, ◌<◌, ◌≤◌, Bool, true, false, List, [], ◌++◌, length, map, get_or, slice_get, Some, sym, ◌∙◌, ap, subst, arith, length-append, length-map, map-append}
-use Rattle.verify.proofs.Words.{Name, Stmt, Expr, Database, stmt_at, before, expr_of, is_assertion, is_variable, name_at, decode, HasAssertion, mandatory_groups, Images, applied, CodeImages, code_apply, images_of_names, are_groups_apart, Carries, IsInstance, premises, AreLegal, Cite, substitution_over_names, Float, IsBound, IsCited, IsTyped, AreRead, DoFit, named, AreNamed, Goes, Results, Cites, of_hypothesis, of_assertion, below, top, Adds, some-same, true≢false, AreOver, MayCite, HasCited, Assertion, Claim, Found}
+use Rattle.verify.proofs.Words.{Name, Stmt, Expr, Database, stmt_at, before, expr_of, is_assertion, is_variable, name_at, decode, HasAssertion, mandatory_groups, Images, applied, CodeImages, code_apply, images_of_names, are_groups_apart, Carries, IsInstance, premises, AreLegal, Cite, substitution_over_names, Float, IsBound, IsCited, IsTyped, AreRead, DoFit, named, AreNamed, Goes, Results, Cites, of_hypothesis, of_assertion, below, top, Adds, some-same, true≢false, AreOver, MayCite, HasCited, Assertion, Claim, Numbered}
 use Rattle.verify.proofs.LabelTableLemmas.{has_with}
 use Rattle.entries.specs.declared.cited_parts.Cited.{Cited}
 use Rattle.verify.proofs.MandatoryAsked.{asked-lengths}
@@ -98,7 +98,7 @@ module _ (S : Database) (names : List Name) (at a : ℕ) (s : Stmt) (c : Cited) 
   goes-not old new label an carries has none = λ next p. absurd (none p.1 (meets-step old label p.0 p.1 an carries has p.2))
 
 -- the same by what a citation rests on
-module _ (t : Claim) (a : ℕ) (found : Found) (old : Results ℕ) (may : MayCite t a found old) (c : Cited) (cited : (s : Stmt) → stmt_at t.frames.now.statements a ≡ Some s → IsCited t.frames.now.statements t.frames.now.names a s c) where
+module _ (t : Claim) (a : ℕ) (about : Numbered) (old : Results ℕ) (may : MayCite t a about old) (c : Cited) (cited : (s : Stmt) → stmt_at t.frames.now.statements a ≡ Some s → IsCited t.frames.now.statements t.frames.now.names a s c) where
   abbrev count : ℕ
   count = length c.hypotheses
 

@@ -18,4 +18,5 @@ pub mod PlanLemmas
 pub mod RightLemmas
 pub mod LawsHold
 pub mod Computed
+pub mod MarkLemmas
 mod Rows

@@ -1,6 +1,6 @@
 -- Results in a buffer that grows.
-use Rattle.verify.proofs.Words.{◌≡◌, ℕ, zero, suc, ◌+◌, ◌-◌, ◌<◌, ◌≤◌, List, [], ◌∷◌, ◌++◌, length, map, take, drop, get_or, replicate, slice_get, slice_set, Some, refl, option_map, sym, ◌∙◌, ap, subst, arith, length-append, length-drop, length-map, map-set, take-map, drop-map, map_push, take_rest, slice_get-map, slice_get-get_or, get_or_from_slice_get}
-use Rattle.verify.proofs.Words.{ExpressionPlace, seen_at, AreWithin, AreInside, map-seen-more, within-weaken, within-snoc, within-take, within-drop, within-get, within-at, seen-get, length-seen, seen-last, inside-more, inside-none, Results, with_result, IsSaved, seen, AreKept, Keeps, below, top, weight_limit, get-last}
+use Rattle.verify.proofs.Words.{◌≡◌, ℕ, zero, suc, ◌+◌, ◌-◌, ◌<◌, ◌≤◌, List, [], ◌∷◌, ◌++◌, length, map, take, drop, get_or, replicate, slice_get, slice_set, Some, refl, option_map, sym, ◌∙◌, ap, subst, append_assoc, arith, length-append, length-drop, length-map, map-set, take-map, drop-map, map_push, take_rest, slice_get-map, slice_get-get_or, get_or_from_slice_get}
+use Rattle.verify.proofs.Words.{SymbolRange, seen_at, AreWithin, AreInside, map-seen-more, within-weaken, within-snoc, within-take, within-drop, within-get, within-at, seen-get, length-seen, seen-last, inside-more, inside-none, Results, with_result, IsSaved, seen, AreKept, Keeps, below, top, weight_limit, get-last}
 
 pub map-drop : {A B : Type 0} (f : A → B) (k : ℕ) (xs : List A) → map f (drop k xs) ≡ drop k (map f xs)
 map-drop f k xs = sym (drop-map f k xs)
@@ -11,7 +11,7 @@ results-same {A} a b c d w v p q r =
     ap (λ s. f s c w) p ∙ (ap (λ t. f b t w) q ∙ ap (λ n. f b d n) r)
 
 -- the buffer grew, and the weight with it
-pub grown-kept : (xs ys zs : List ℕ) (images : List (ℕ × ExpressionPlace)) (stack saved : List ExpressionPlace) (w v : ℕ) → AreKept xs images stack saved w → zs ≡ xs ++ ys → v ≡ w + length ys → v ≤ weight_limit → AreKept zs images stack saved v
+pub grown-kept : (xs ys zs : List ℕ) (images : List (ℕ × SymbolRange)) (stack saved : List SymbolRange) (w v : ℕ) → AreKept xs images stack saved w → zs ≡ xs ++ ys → v ≡ w + length ys → v ≤ weight_limit → AreKept zs images stack saved v
 grown-kept xs ys zs images stack saved w v k e weighs light =
     let longer : length xs ≤ length zs = omega (arith, ap length e, length-append xs ys) in
     let few = k.few in
@@ -23,17 +23,24 @@ grown-kept xs ys zs images stack saved w v k e weighs light =
       light = light;
     }
 
+-- behind the symbols over which a cache was filled
+pub noted-more : (over xs ys zs : List ℕ) → (more : List ℕ) × (xs ≡ over ++ more) → zs ≡ xs ++ ys → (more : List ℕ) × (zs ≡ over ++ more)
+noted-more over xs ys zs noted e = (noted.0 ++ ys, e ∙ (ap (λ v. v ++ ys) noted.1 ∙ append_assoc over noted.0 ys))
+
+pub noted-none : (over xs : List ℕ) → over ≡ [] → (more : List ℕ) × (xs ≡ over ++ more)
+noted-none over xs e = (xs, ap (λ v. v ++ xs) (sym e))
+
 -- the place of what was written at its end
-pub new-place : (xs ys zs : List ℕ) (p : ExpressionPlace) → zs ≡ xs ++ ys → p.start ≡ length xs → p.end ≡ length zs → (p.start ≤ p.end) × (p.end ≤ length zs)
+pub new-place : (xs ys zs : List ℕ) (p : SymbolRange) → zs ≡ xs ++ ys → p.start ≡ length xs → p.end ≡ length zs → (p.start ≤ p.end) × (p.end ≤ length zs)
 new-place xs ys zs p e low high = (omega (arith, ap length e, length-append xs ys, low, high), omega (arith, high))
 
 -- a place on top
-pub pushed-kept : (xs : List ℕ) (images : List (ℕ × ExpressionPlace)) (stack saved stack' : List ExpressionPlace) (w : ℕ) (p : ExpressionPlace) → AreKept xs images stack saved w → (p.start ≤ p.end) × (p.end ≤ length xs) → stack' ≡ stack ++ p ∷ []
+pub pushed-kept : (xs : List ℕ) (images : List (ℕ × SymbolRange)) (stack saved stack' : List SymbolRange) (w : ℕ) (p : SymbolRange) → AreKept xs images stack saved w → (p.start ≤ p.end) × (p.end ≤ length xs) → stack' ≡ stack ++ p ∷ []
     → AreKept xs images stack' saved w
 pushed-kept xs images stack saved stack' w p k b whole =
     record { images_inside = k.images_inside; stack_within = subst (AreWithin (length xs)) (sym whole) (within-snoc (length xs) stack p k.stack_within b.0 b.1); saved_within = k.saved_within; few = k.few; light = k.light }
 
-pub added-seen : (xs ys zs : List ℕ) (stack rest saved stack' : List ExpressionPlace) (w v : ℕ) (p : ExpressionPlace) → AreWithin (length xs) saved → AreWithin (length xs) rest
+pub added-seen : (xs ys zs : List ℕ) (stack rest saved stack' : List SymbolRange) (w v : ℕ) (p : SymbolRange) → AreWithin (length xs) saved → AreWithin (length xs) rest
     → zs ≡ xs ++ ys → p.start ≡ length xs → p.end ≡ length zs → stack' ≡ rest ++ p ∷ [] → v ≡ w + length ys
     → seen zs stack' saved v ≡ with_result (seen xs stack saved w) (map (seen_at xs) rest) ys
 added-seen xs ys zs stack rest saved stack' w v p k r e low high whole weighs =
@@ -46,18 +53,18 @@ added-seen xs ys zs stack rest saved stack' w v p k r e low high whole weighs =
 
 -- ---- a place that is changed
 
-within-set : (n k : ℕ) (ps : List ExpressionPlace) (p : ExpressionPlace) → AreWithin n ps → p.start ≤ p.end → p.end ≤ n → AreWithin n (slice_set ps k p)
+within-set : (n k : ℕ) (ps : List SymbolRange) (p : SymbolRange) → AreWithin n ps → p.start ≤ p.end → p.end ≤ n → AreWithin n (slice_set ps k p)
 within-set n k [] p w low high = tt
 within-set n zero (q ∷ ps) p w low high = (low, high, w.2)
 within-set n (suc k) (q ∷ ps) p w low high = (w.0, w.1, within-set n k ps p w.2 low high)
 
-pub kept-keep : (xs : List ℕ) (images : List (ℕ × ExpressionPlace)) (stack saved saved' : List ExpressionPlace) (w k label : ℕ) (p : ExpressionPlace) → AreKept xs images stack saved w → slice_get stack k ≡ Some p → saved' ≡ slice_set saved label p
+pub kept-keep : (xs : List ℕ) (images : List (ℕ × SymbolRange)) (stack saved saved' : List SymbolRange) (w k label : ℕ) (p : SymbolRange) → AreKept xs images stack saved w → slice_get stack k ≡ Some p → saved' ≡ slice_set saved label p
     → AreKept xs images stack saved' w
 kept-keep xs images stack saved saved' w k label p a h e =
     let b = within-get (length xs) k stack p a.stack_within h in
     record { images_inside = a.images_inside; stack_within = a.stack_within; saved_within = subst (AreWithin (length xs)) (sym e) (within-set (length xs) label saved p a.saved_within b.0 b.1); few = a.few; light = a.light }
 
-pub keep-seen : (xs : List ℕ) (stack saved saved' : List ExpressionPlace) (w label : ℕ) (p : ExpressionPlace) → slice_get stack (length stack - 1) ≡ Some p → saved' ≡ slice_set saved label p → Keeps (seen xs stack saved w) (seen xs stack saved' w) label
+pub keep-seen : (xs : List ℕ) (stack saved saved' : List SymbolRange) (w label : ℕ) (p : SymbolRange) → slice_get stack (length stack - 1) ≡ Some p → saved' ≡ slice_set saved label p → Keeps (seen xs stack saved w) (seen xs stack saved' w) label
 keep-seen xs stack saved saved' w label p last set = λ rest e split.
     let low = length stack - 1 in
     let same : seen_at xs p ≡ e =
@@ -68,17 +75,17 @@ keep-seen xs stack saved saved' w label p last set = λ rest e split.
 
 -- ---- marked and recalled
 
-pub kept-mark : (xs : List ℕ) (images : List (ℕ × ExpressionPlace)) (stack saved saved' : List ExpressionPlace) (w : ℕ) (p : ExpressionPlace) (k : ℕ) → AreKept xs images stack saved w → slice_get stack k ≡ Some p → saved' ≡ saved ++ p ∷ []
+pub kept-mark : (xs : List ℕ) (images : List (ℕ × SymbolRange)) (stack saved saved' : List SymbolRange) (w : ℕ) (p : SymbolRange) (k : ℕ) → AreKept xs images stack saved w → slice_get stack k ≡ Some p → saved' ≡ saved ++ p ∷ []
     → AreKept xs images stack saved' w
 kept-mark xs images stack saved saved' w p k a h e =
     let b = within-get (length xs) k stack p a.stack_within h in
     record { images_inside = a.images_inside; stack_within = a.stack_within; saved_within = subst (AreWithin (length xs)) (sym e) (within-snoc (length xs) saved p a.saved_within b.0 b.1); few = a.few; light = a.light }
 
 -- a saved place lies among the symbols
-pub saved-at : (n k : ℕ) (ps : List ExpressionPlace) (p d : ExpressionPlace) → AreWithin n ps → k < length ps → p ≡ get_or ps k d → (p.start ≤ p.end) × (p.end ≤ n)
+pub saved-at : (n k : ℕ) (ps : List SymbolRange) (p d : SymbolRange) → AreWithin n ps → k < length ps → p ≡ get_or ps k d → (p.start ≤ p.end) × (p.end ≤ n)
 saved-at n k ps p d w less at = subst (λ q. (q.start ≤ q.end) × (q.end ≤ n)) (sym at) (within-at n k ps d w less)
 
-pub kept-recall : (xs : List ℕ) (images : List (ℕ × ExpressionPlace)) (stack stack' saved : List ExpressionPlace) (w v k : ℕ) (p : ExpressionPlace) → AreKept xs images stack saved w → k < length saved → p ≡ get_or saved k p
+pub kept-recall : (xs : List ℕ) (images : List (ℕ × SymbolRange)) (stack stack' saved : List SymbolRange) (w v k : ℕ) (p : SymbolRange) → AreKept xs images stack saved w → k < length saved → p ≡ get_or saved k p
     → stack' ≡ stack ++ p ∷ [] → w ≤ v → v ≤ weight_limit → AreKept xs images stack' saved v
 kept-recall xs images stack stack' saved w v k p a less at e more light =
     let few = a.few in
@@ -93,7 +100,7 @@ pub get-map-some : {A B : Type 0} (f : A → B) (xs : List A) (k : ℕ) (d : A) 
 get-map-some f xs k d h = slice_get-map f xs k ∙ ap (option_map f) (slice_get-get_or xs k d h)
 
 -- a saved result by its index
-pub recall-seen : (xs : List ℕ) (stack stack' saved : List ExpressionPlace) (w v k : ℕ) (d p : ExpressionPlace) → AreWithin (length xs) saved → k < length saved → p ≡ get_or saved k d
+pub recall-seen : (xs : List ℕ) (stack stack' saved : List SymbolRange) (w v k : ℕ) (d p : SymbolRange) → AreWithin (length xs) saved → k < length saved → p ≡ get_or saved k d
     → stack' ≡ stack ++ p ∷ [] → v ≡ w + (p.end - p.start) → (e : List ℕ) × IsSaved (map (seen_at xs) saved) (suc k) e × (seen xs stack' saved v ≡ with_result (seen xs stack saved w) (map (seen_at xs) stack) e)
 recall-seen xs stack stack' saved w v k d p a less at whole weighs =
     let b = saved-at (length xs) k saved p d a less at in
@@ -105,7 +112,7 @@ recall-seen xs stack stack' saved w v k d p a less at whole weighs =
     )
 
 -- a saved result that is too heavy
-pub recall-heavy : (xs : List ℕ) (saved : List ExpressionPlace) (w k : ℕ) (d p : ExpressionPlace) → AreWithin (length xs) saved → w ≤ weight_limit → k < length saved → p ≡ get_or saved k d
+pub recall-heavy : (xs : List ℕ) (saved : List SymbolRange) (w k : ℕ) (d p : SymbolRange) → AreWithin (length xs) saved → w ≤ weight_limit → k < length saved → p ≡ get_or saved k d
     → weight_limit - w < p.end - p.start → (e : List ℕ) → IsSaved (map (seen_at xs) saved) (suc k) e → weight_limit < w + length e
 recall-heavy xs saved w k d p a light less at heavy e h =
     let b = saved-at (length xs) k saved p d a less at in
@@ -114,22 +121,22 @@ recall-heavy xs saved w k d p a light less at heavy e h =
     omega (arith, ap length same, len, heavy, light)
 
 -- what is saved at an index has symbols where its place has
-pub some-saved : (xs : List ℕ) (saved : List ExpressionPlace) (k : ℕ) (p d : ExpressionPlace) → AreWithin (length xs) saved → k < length saved → p ≡ get_or saved k d → p.start < p.end → 0 < length (get_or (map (seen_at xs) saved) k [])
+pub some-saved : (xs : List ℕ) (saved : List SymbolRange) (k : ℕ) (p d : SymbolRange) → AreWithin (length xs) saved → k < length saved → p ≡ get_or saved k d → p.start < p.end → 0 < length (get_or (map (seen_at xs) saved) k [])
 some-saved xs saved k p d a within at less =
     let b = within-at (length xs) k saved d a within in
     let more : (get_or saved k d).start < (get_or saved k d).end = subst (λ r. r.start < r.end) at less in
     omega (arith, length-seen xs (get_or saved k d) b.0 b.1, more, ap length (seen-get xs k saved d within))
 
 -- places of no symbols
-pub within-none : (n m : ℕ) → AreWithin m (replicate n (let p : ExpressionPlace = record { start = 0; end = 0 } in p))
+pub within-none : (n m : ℕ) → AreWithin m (replicate n (let p : SymbolRange = record { start = 0; end = 0 } in p))
 within-none zero m = tt
 within-none (suc n) m = (omega arith, omega arith, within-none n m)
 
-pub seen-none : (n : ℕ) → map (seen_at []) (replicate n (let p : ExpressionPlace = record { start = 0; end = 0 } in p)) ≡ replicate n []
+pub seen-none : (n : ℕ) → map (seen_at []) (replicate n (let p : SymbolRange = record { start = 0; end = 0 } in p)) ≡ replicate n []
 seen-none zero = refl
 seen-none (suc n) = ap (λ r. [] ∷ r) (seen-none n)
 
-pub cleared-kept : (xs : List ℕ) (images : List (ℕ × ExpressionPlace)) (stack saved : List ExpressionPlace) → xs ≡ [] → images ≡ [] → stack ≡ [] → AreWithin 0 saved → AreKept xs images stack saved 0
+pub cleared-kept : (xs : List ℕ) (images : List (ℕ × SymbolRange)) (stack saved : List SymbolRange) → xs ≡ [] → images ≡ [] → stack ≡ [] → AreWithin 0 saved → AreKept xs images stack saved 0
 cleared-kept xs images stack saved e i f w = record {
   images_inside = subst (AreInside (length xs)) (sym i) (inside-none (length xs));
   stack_within = subst (AreWithin (length xs)) (sym f) tt;
@@ -138,17 +145,17 @@ cleared-kept xs images stack saved e i f w = record {
   light = omega arith;
 }
 
-pub resized-none : (n m : ℕ) (old new : List ExpressionPlace) → old ≡ [] → m ≡ 0 → new ≡ take n old ++ replicate (n - m) (let p : ExpressionPlace = record { start = 0; end = 0 } in p) → new ≡ replicate n (let p : ExpressionPlace = record { start = 0; end = 0 } in p)
+pub resized-none : (n m : ℕ) (old new : List SymbolRange) → old ≡ [] → m ≡ 0 → new ≡ take n old ++ replicate (n - m) (let p : SymbolRange = record { start = 0; end = 0 } in p) → new ≡ replicate n (let p : SymbolRange = record { start = 0; end = 0 } in p)
 resized-none n m old new e f g =
-    g ∙ (ap (λ r. take n r ++ replicate (n - m) (let p : ExpressionPlace = record { start = 0; end = 0 } in p)) e
-    ∙ (ap (λ r. r ++ replicate (n - m) (let p : ExpressionPlace = record { start = 0; end = 0 } in p)) (none n)
-    ∙ ap (λ k. replicate k (let p : ExpressionPlace = record { start = 0; end = 0 } in p)) (let q : n - m ≡ n = omega (arith, f) in q)))
+    g ∙ (ap (λ r. take n r ++ replicate (n - m) (let p : SymbolRange = record { start = 0; end = 0 } in p)) e
+    ∙ (ap (λ r. r ++ replicate (n - m) (let p : SymbolRange = record { start = 0; end = 0 } in p)) (none n)
+    ∙ ap (λ k. replicate k (let p : SymbolRange = record { start = 0; end = 0 } in p)) (let q : n - m ≡ n = omega (arith, f) in q)))
   where
-    none : (k : ℕ) → take k (let r : List ExpressionPlace = [] in r) ≡ []
+    none : (k : ℕ) → take k (let r : List SymbolRange = [] in r) ≡ []
     none zero = refl
     none (suc k) = refl
 
-pub started-seen : (xs : List ℕ) (n : ℕ) (stack saved : List ExpressionPlace) → xs ≡ [] → stack ≡ [] → saved ≡ replicate n (let p : ExpressionPlace = record { start = 0; end = 0 } in p)
+pub started-seen : (xs : List ℕ) (n : ℕ) (stack saved : List SymbolRange) → xs ≡ [] → stack ≡ [] → saved ≡ replicate n (let p : SymbolRange = record { start = 0; end = 0 } in p)
     → seen xs stack saved 0 ≡ (let r : Results ℕ = record { stack = []; saved = replicate n []; weight = 0 } in r)
 started-seen xs n stack saved e f g =
     results-same (map (seen_at xs) stack) [] (map (seen_at xs) saved) (replicate n []) 0 0
@@ -160,21 +167,21 @@ started-seen xs n stack saved e f g =
 pub last-count : {A : Type 0} (k r : ℕ) (s : List A) → r ≤ length s → k ≡ length s - r → length (take (length s - k) (drop k s)) ≡ r
 last-count k r s h e = let a = ap length (take_rest s k) in let b = length-drop k s in omega (arith, a, b, h, e)
 
-pub last-seen : (xs : List ℕ) (k r : ℕ) (s : List ExpressionPlace) → k ≡ length s - r → map (seen_at xs) (take (length s - k) (drop k s)) ≡ top r (map (seen_at xs) s)
+pub last-seen : (xs : List ℕ) (k r : ℕ) (s : List SymbolRange) → k ≡ length s - r → map (seen_at xs) (take (length s - k) (drop k s)) ≡ top r (map (seen_at xs) s)
 last-seen xs k r s e =
     ap (map (seen_at xs)) (take_rest s k) ∙ (map-drop (seen_at xs) k s
     ∙ ap (λ n. drop n (map (seen_at xs) s)) (e ∙ ap (λ n. n - r) (sym (length-map s (seen_at xs)))))
 
 -- the same, for a copy of the places
-pub seen_eq : (xs : List ℕ) (s e : List ExpressionPlace) (all : List (List ℕ)) (k r : ℕ) → e ≡ s → map (seen_at xs) s ≡ all → k ≡ length s - r → map (seen_at xs) (take (length e - k) (drop k e)) ≡ top r all
+pub seen_eq : (xs : List ℕ) (s e : List SymbolRange) (all : List (List ℕ)) (k r : ℕ) → e ≡ s → map (seen_at xs) s ≡ all → k ≡ length s - r → map (seen_at xs) (take (length e - k) (drop k e)) ≡ top r all
 seen_eq xs s e all k r q v l = ap (λ w. map (seen_at xs) (take (length w - k) (drop k w))) q ∙ (last-seen xs k r s l ∙ ap (top r) v)
 
-pub last-within : (n k : ℕ) (s : List ExpressionPlace) → AreWithin n s → AreWithin n (take (length s - k) (drop k s))
+pub last-within : (n k : ℕ) (s : List SymbolRange) → AreWithin n s → AreWithin n (take (length s - k) (drop k s))
 last-within n k s w = within-take n (length s - k) (drop k s) (within-drop n k s w)
 
 -- one of the last r places, in a copy of the places
-pub seen_place : (xs : List ℕ) (s e : List ExpressionPlace) (all : List (List ℕ)) (k r i : ℕ) (d : ExpressionPlace) → e ≡ s → map (seen_at xs) s ≡ all → k ≡ length s - r → r ≤ length all → i < r → AreWithin (length xs) s
-    → (let p : ExpressionPlace = get_or (take (length e - k) (drop k e)) i d in ((p.start ≤ p.end) × (p.end ≤ length xs)) × (seen_at xs p ≡ get_or (top r all) i []))
+pub seen_place : (xs : List ℕ) (s e : List SymbolRange) (all : List (List ℕ)) (k r i : ℕ) (d : SymbolRange) → e ≡ s → map (seen_at xs) s ≡ all → k ≡ length s - r → r ≤ length all → i < r → AreWithin (length xs) s
+    → (let p : SymbolRange = get_or (take (length e - k) (drop k e)) i d in ((p.start ≤ p.end) × (p.end ≤ length xs)) × (seen_at xs p ≡ get_or (top r all) i []))
 seen_place xs s e all k r i d q v l h less w =
     let places = take (length e - k) (drop k e) in
     let seen : map (seen_at xs) places ≡ top r all = seen_eq xs s e all k r q v l in
@@ -182,18 +189,18 @@ seen_place xs s e all k r i d q v l h less w =
     let within = subst (λ t. AreWithin (length xs) (take (length t - k) (drop k t))) (sym q) (last-within (length xs) k s w) in
     (within-at (length xs) i places d within there, sym (seen-get xs i places d there) ∙ ap (λ u. get_or u i []) seen)
 
-pub apply-cut : (xs zs ys : List ℕ) (images : List (ℕ × ExpressionPlace)) (stack saved stack' : List ExpressionPlace) (w v k : ℕ) → AreKept xs images stack saved w → zs ≡ xs ++ ys → stack' ≡ take k stack
+pub apply-cut : (xs zs ys : List ℕ) (images : List (ℕ × SymbolRange)) (stack saved stack' : List SymbolRange) (w v k : ℕ) → AreKept xs images stack saved w → zs ≡ xs ++ ys → stack' ≡ take k stack
     → v ≡ w + length ys → v ≤ weight_limit → AreKept zs images stack' saved v
 apply-cut xs zs ys images stack saved stack' w v k a e cut weighs light =
     let g = grown-kept xs ys zs images stack saved w v a e weighs light in
     record { images_inside = g.images_inside; stack_within = subst (AreWithin (length zs)) (sym cut) (within-take (length zs) k stack g.stack_within); saved_within = g.saved_within; few = g.few; light = light }
 
-pub apply-kept : (xs ys zs : List ℕ) (images : List (ℕ × ExpressionPlace)) (stack saved stack' : List ExpressionPlace) (w v k : ℕ) (p : ExpressionPlace) → AreKept xs images stack saved w
+pub apply-kept : (xs ys zs : List ℕ) (images : List (ℕ × SymbolRange)) (stack saved stack' : List SymbolRange) (w v k : ℕ) (p : SymbolRange) → AreKept xs images stack saved w
     → zs ≡ xs ++ ys → p.start ≡ length xs → p.end ≡ length zs → stack' ≡ take k stack ++ p ∷ [] → v ≡ w + length ys → v ≤ weight_limit → AreKept zs images stack' saved v
 apply-kept xs ys zs images stack saved stack' w v k p a e low high whole weighs light =
     pushed-kept zs images (take k stack) saved stack' v p (apply-cut xs zs ys images stack saved (take k stack) w v k a e refl weighs light) (new-place xs ys zs p e low high) whole
 
-pub apply-seen : (xs ys zs : List ℕ) (images : List (ℕ × ExpressionPlace)) (stack saved stack' : List ExpressionPlace) (w v k r : ℕ) (p : ExpressionPlace) → AreKept xs images stack saved w → k ≡ length stack - r
+pub apply-seen : (xs ys zs : List ℕ) (images : List (ℕ × SymbolRange)) (stack saved stack' : List SymbolRange) (w v k r : ℕ) (p : SymbolRange) → AreKept xs images stack saved w → k ≡ length stack - r
     → zs ≡ xs ++ ys → p.start ≡ length xs → p.end ≡ length zs → stack' ≡ take k stack ++ p ∷ [] → v ≡ w + length ys
     → seen zs stack' saved v ≡ with_result (seen xs stack saved w) (below r (map (seen_at xs) stack)) ys
 apply-seen xs ys zs images stack saved stack' w v k r p a at e low high whole weighs =
@@ -201,5 +208,5 @@ apply-seen xs ys zs images stack saved stack' w v k r p a at e low high whole we
     ∙ ap (λ b. with_result (seen xs stack saved w) b ys) (sym (take-map (seen_at xs) k stack) ∙ ap (λ n. take n (map (seen_at xs) stack)) (at ∙ ap (λ n. n - r) (sym (length-map stack (seen_at xs)))))
 
 -- other images
-pub kept-read : (xs : List ℕ) (images images' : List (ℕ × ExpressionPlace)) (stack saved : List ExpressionPlace) (w : ℕ) → AreKept xs images stack saved w → AreInside (length xs) images' → AreKept xs images' stack saved w
+pub kept-read : (xs : List ℕ) (images images' : List (ℕ × SymbolRange)) (stack saved : List SymbolRange) (w : ℕ) → AreKept xs images stack saved w → AreInside (length xs) images' → AreKept xs images' stack saved w
 kept-read xs images images' stack saved w a inside = record { images_inside = inside; stack_within = a.stack_within; saved_within = a.saved_within; few = a.few; light = a.light }

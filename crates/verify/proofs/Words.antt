@@ -12,6 +12,7 @@ pub use Rattle.frame.specs.Citations.{Carries, IsHypothesis, IsInstance, OfVaria
 pub use Rattle.frame.specs.Cited.{AreAsked, IsAsked, IsCited, IsHead, IsOf, head_of}
 pub use Rattle.frame.specs.Disjoint.{are_apart, are_groups_apart, is_group_apart}
 pub use Rattle.frame.specs.FrameOf.{HasAssertion, hypotheses, is_hypothesis, mandatory_groups}
+pub use Rattle.frame.specs.Parts.{Numbered}
 pub use Rattle.frame.specs.Substitution.{CodeImages, Images, apply as applied, code_apply, code_image, image, images_of_names}
 pub use Rattle.mm_lex.specs.Alphabet.{Name, has_name, name_eq}
 pub use Rattle.mm_read.specs.Statements.{Database, Expr}
@@ -38,14 +39,13 @@ pub use Rattle.std.specs.List.Sorted.{IsNonDecreasing}
 pub use Rattle.std.specs.Prelude.{Err, MatchResult, None, Option, Vec, bytes_eq, codes, cond, filter, is_none, is_some, max, min, nat_eq, nat_le, nat_lt, option_map, replicate, slice_index_or, slice_set, suc, unwrap_or, zero, ◌&&◌, ◌==◌, ◌||◌, ◌⊎◌}
 pub use Rattle.std.specs.declared.alloc.AllocError.{AllocError}
 pub use Rattle.std.specs.declared.alloc.Global.{Global}
-pub use Rattle.subst.proofs.ExpressionPlaceLemmas.{length-seen, map-seen-more, seen-get, seen-last, within-at, within-drop, within-get, within-snoc, within-take, within-weaken}
-pub use Rattle.subst.proofs.ImagePlacesLemmas.{image-none, image-some, inside-more, inside-none, inside-set}
-pub use Rattle.subst.proofs.NumbersApartLemmas.{below-drop, below-group}
+pub use Rattle.subst.proofs.SymbolRangeLemmas.{length-seen, map-seen-more, seen-get, seen-last, within-at, within-drop, within-get, within-snoc, within-take, within-weaken}
+pub use Rattle.subst.proofs.ImageRangesLemmas.{image-more, image-none, image-some, inside-more, inside-none, inside-set}
+pub use Rattle.subst.proofs.GroupLemmas.{below-drop, below-group}
 pub use Rattle.subst.proofs.SubstitutionLemmas.{image-decode, image-named, image-unnamed, substitution_over_names}
-pub use Rattle.subst.specs.ExpressionPlaces.{AreInside, AreWithin, images_at, seen_at}
-pub use Rattle.subst.specs.Findings.{Found}
+pub use Rattle.subst.specs.SymbolRanges.{AreInside, AreWithin, images_at, seen_at}
 pub use Rattle.subst.specs.Images.{AreOver}
-pub use Rattle.subst.specs.declared.expression_place.ExpressionPlace.{ExpressionPlace}
+pub use Rattle.subst.specs.declared.symbol_range.SymbolRange.{SymbolRange}
 pub use Rattle.verify.specs.Concludes.{ConcludeAll, Concludes}
 pub use Rattle.verify.specs.Derivations.{Derivation, Derivations, apply, depth, depth_in, derivation_of, derivation_step, from_list, hyp, more, node_count, nodes_in, none}
 pub use Rattle.verify.specs.Extents.{extent_of}
@@ -57,7 +57,7 @@ pub use Rattle.verify.specs.Machine.{Cites, IsSaved, Results, Runs, State, Steps
 pub use Rattle.verify.specs.Plan.{AreOrdered, IsAfter, IsPlan, built, built_from, derive, pick, trees_of}
 pub use Rattle.verify.specs.Proves.{Proves, label_or_none, mandatory_labels}
 pub use Rattle.verify.specs.ReadPlaces.{BeginsWith, IsMistyped, ReadTo, ReadsAll, tail_of}
-pub use Rattle.verify.specs.ResultPlaces.{Adds, AreKept, Keeps, Marks, Recalls, below, seen, top}
+pub use Rattle.verify.specs.ResultPlaces.{Adds, AreHeld, AreKept, Held, Keeps, Marks, Recalls, below, held, seen, top}
 pub use Rattle.verify.specs.Right.{Derives, IsProvable, IsRight, IsSmall, Says, weight_limit}
 pub use Rattle.verify.specs.Spells.{IsCitable, Spells, SpellsAll, cites_assertion, cites_hypothesis, marks, recalls, spells_more, spells_none}
 pub use Rattle.verify.specs.declared.label_table.LabelEntry.{LabelEntry}

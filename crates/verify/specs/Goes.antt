@@ -11,7 +11,7 @@ use Rattle.verify.specs.Machine.{Results, State, Cites, Steps}
 use Rattle.verify.specs.Right.{weight_limit}
 use Rattle.frame.specs.AtPosition.{AreLegal}
 use Rattle.frame.specs.FrameOf.{HasAssertion}
-use Rattle.subst.specs.Findings.{Found, IsKnown}
+use Rattle.frame.specs.Parts.{Numbered}
 use Rattle.verify.specs.declared.citation.Claim.{Claim}
 
 -- the results that the codes stand for
@@ -50,22 +50,22 @@ pub record AreKnown (S : Database) (at : ℕ) (names : List Name) (table : List 
   pub are_named : AreNamed names st
   pub given : AreGiven S at names table st.saved
 
--- the same of an item where the first results are kept for labels
+-- what an item does where the first results are kept for labels
 abbrev pub GoesOn : Bool → Database → ℕ → List Name → List LabelEntry → Item → Results ℕ → Results ℕ → Type 0
 GoesOn ok S at names table item old new = Goes ok S at names item (behind (length table) old) (behind (length table) new) × (IsTrue ok → AreKnown S at names table new)
 
 -- ---- what an item rests on
 
--- legal statements, the pairs that are active at the statement, and what was found of them
-pub record IsReady (t : Claim) (f : Found) : Type 0 where
+-- legal statements, the pairs that are active at the statement, and results that are about these
+pub record IsReady (t : Claim) (about : Numbered) : Type 0 where
   pub legal : AreLegal t.frames.now.statements t.frames.now.names
   pub active : t.pairs.statements ≡ before t.frames.now.statements t.at
   pub names : t.pairs.names ≡ t.frames.now.names
-  pub found : IsKnown t.pairs f
+  pub same : about ≡ t.pairs
 
--- the same of an earlier assertion at a, over results whose codes have names
-pub record MayCite (t : Claim) (a : ℕ) (f : Found) (st : Results ℕ) : Type 0 where
-  pub ready : IsReady t f
+-- and an earlier assertion at a, over results whose codes have names
+pub record MayCite (t : Claim) (a : ℕ) (about : Numbered) (st : Results ℕ) : Type 0 where
+  pub ready : IsReady t about
   pub named : AreNamed t.frames.now.names st
   pub assertion : (s : Stmt) × HasAssertion t.frames.now.statements a s
   pub earlier : a < t.at

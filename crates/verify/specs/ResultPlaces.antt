@@ -2,28 +2,35 @@
 -- Metamath, 4.2.6: the stack of a proof.
 -- The code keeps where each result lies; here they are lists of symbols.
 use Rattle.std.specs.Prelude.{◌≡◌, ℕ, ◌+◌, ◌-◌, ◌<◌, ◌≤◌, Bool, true, false, List, [], ◌∷◌, ◌++◌, length, map, drop, take, slice_set, get_or, suc, Option, Some, None}
-use Rattle.verify.specs.Words.{CodeImages, ExpressionPlace}
-use Rattle.subst.specs.ExpressionPlaces.{seen_at, images_at, AreWithin, AreInside}
+use Rattle.verify.specs.Words.{CodeImages, SymbolRange}
+use Rattle.subst.specs.SymbolRanges.{seen_at, images_at, AreWithin, AreInside}
+use Rattle.frame.specs.Parts.{Numbered}
 use Rattle.verify.specs.Machine.{Results, with_result, with_mark, IsSaved}
 use Rattle.verify.specs.Right.{weight_limit}
 
--- results and images
+-- results and images, and the statements and names that they are about
 pub record Held : Type 0 where
   pub results : Results ℕ
   pub images : CodeImages
+  pub about : Numbered
 
-abbrev pub seen : List ℕ → List ExpressionPlace → List ExpressionPlace → ℕ → Results ℕ
+abbrev pub seen : List ℕ → List SymbolRange → List SymbolRange → ℕ → Results ℕ
 seen symbols stack saved weight = record { stack = map (seen_at symbols) stack; saved = map (seen_at symbols) saved; weight = weight }
 
-abbrev pub held : List ℕ → List (ℕ × ExpressionPlace) → List ExpressionPlace → List ExpressionPlace → ℕ → Held
-held symbols images stack saved weight = record { results = seen symbols stack saved weight; images = images_at symbols images }
+abbrev pub held : List ℕ → List (ℕ × SymbolRange) → List SymbolRange → List SymbolRange → ℕ → Numbered → Held
+held symbols images stack saved weight about = record { results = seen symbols stack saved weight; images = images_at symbols images; about = about }
 
-pub record AreKept (symbols : List ℕ) (images : List (ℕ × ExpressionPlace)) (stack saved : List ExpressionPlace) (weight : ℕ) : Type 0 where
+pub record AreKept (symbols : List ℕ) (images : List (ℕ × SymbolRange)) (stack saved : List SymbolRange) (weight : ℕ) : Type 0 where
   pub images_inside : AreInside (length symbols) images
   pub stack_within : AreWithin (length symbols) stack
   pub saved_within : AreWithin (length symbols) saved
   pub few : length symbols ≤ weight
   pub light : weight ≤ weight_limit
+
+-- they are kept, and the buffer begins with the symbols over which a cache was filled
+pub record AreHeld (over symbols : List ℕ) (images : List (ℕ × SymbolRange)) (stack saved : List SymbolRange) (weight : ℕ) : Type 0 where
+  pub kept : AreKept symbols images stack saved weight
+  pub noted : (more : List ℕ) × (symbols ≡ over ++ more)
 
 abbrev pub below : {A : Type 0} → ℕ → List A → List A
 below r stack = take (length stack - r) stack

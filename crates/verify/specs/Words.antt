@@ -11,4 +11,4 @@ pub use Rattle.mm_read.specs.declared.stmt.Stmt.{Stmt}
 pub use Rattle.proof_code.specs.declared.item.Item.{Item}
 pub use Rattle.proof_code.specs.declared.item.Item.TheVariants.{Cite, Mark, Recall}
 pub use Rattle.scope.specs.Active.{before, expr_of, is_assertion, is_provable, label_of, stmt_at}
-pub use Rattle.subst.specs.declared.expression_place.ExpressionPlace.{ExpressionPlace}
+pub use Rattle.subst.specs.declared.symbol_range.SymbolRange.{SymbolRange}

@@ -1,4 +1,4 @@
-//! What the verifier answers.
+//! The answers of the verifier.
 
 ghost use Rattle.std.specs.Prelude.{◌≡◌};
 
@@ -7,9 +7,9 @@ use std::alloc::AllocError;
 /// Whether a proof is right.
 #[derive(Clone, Copy, Debug, Drop, PartialEq, Eq)]
 pub enum Answer {
-    /// It is: its items spell a derivation of the statement.
+    /// The proof is right: its items spell a derivation of the statement.
     Proved,
-    /// It is not.
+    /// The proof is not right.
     Wrong,
 }
 
@@ -20,7 +20,7 @@ pub enum TreeFault {
     Wrong,
     /// The proof is right, and its derivation has more nodes or lies deeper than the limits allow.
     TooLarge,
-    /// There was no memory.
+    /// An allocation failed.
     Memory,
 }
 

@@ -1,4 +1,4 @@
-//! A whole proof.
+//! The check of a whole proof.
 
 ghost use Rattle.std.specs.Prelude.{◌≡◌, List, IfOk};
 ghost use Rattle.{mm_lex.specs.Alphabet.Name, mm_read.specs.declared.stmt.Stmt.Stmt as Statement, proof_code.specs.ItemNumbers.items_of, verify.specs.LabelTable.AreEntries, verify.specs.Proves.Proves, verify.specs.Right.IsProvable, verify.specs.Right.IsRight, verify.specs.Right.Says};
@@ -11,9 +11,8 @@ use frame::{Frames, Gathered};
 use mm_lex::Words;
 use proof_code::{CodeFault, Items, Reader, is_compressed, normal};
 use std::alloc::{AllocError, Global};
-use subst::Findings;
 
-/// A checker keeps the room that proofs up to this size needed: 1 MB for as many symbols.
+/// A checker keeps the memory that proofs up to this size needed: 1 MB for as many symbols.
 const KEPT_SIZE: usize = 262_144;
 
 /// A verifier that keeps its buffers from proof to proof.
@@ -40,7 +39,6 @@ impl Checker {
             mandatory: Vec::new(alloc),
             buffers: Buffers {
                 gathered: Gathered::new(alloc),
-                findings: Findings::new(alloc),
                 results: Results::new(alloc),
             },
         }
@@ -52,8 +50,8 @@ impl Checker {
         self.buffers.results.limit(symbols);
     }
 
-    /// Gives back the room that large proofs needed, and keeps that of ordinary ones. What is kept by the number of a
-    /// symbol stays, so that its cost does not recur.
+    /// Gives back the memory that large proofs needed, and keeps that of ordinary ones. Tables by the number of a symbol
+    /// stay, so that their cost does not recur.
     ///
     /// Does not allocate. Cost: a constant.
     pub fn shrink(&mut self) {
@@ -73,11 +71,12 @@ impl Checker {
         self.largest = self.largest.max(weight).max(next);
     }
 
-    /// Whether the items are a right proof of the `$p` at that position.
+    /// Returns whether the items are a right proof of the `$p` at that position.
     ///
+    /// Errors: an allocation fails, or the results would pass the limit of `limit`.
     /// Cost: each label is looked up once; a recall and a mark are one step, a citation costs the lengths of the result
-    /// that it leaves and of those that it holds against a `$e`, that of the pair clause, and where its lists are long
-    /// that of `Frames::gather`. Source: Metamath, 4.2.6 and appendix B.
+    /// that it leaves and of those that it compares with a `$e`, that of the disjoint variable condition, and if its
+    /// lists are long that of `Frames::gather`. Source: Metamath, 4.2.6 and appendix B.
     pub fn check(&mut self, frames: &Frames, at: usize, items: &Items) -> Result<Answer, AllocError>
         requires { (s : Statement) × IsProvable frames.now.statements at s }
         ensures { IfOk result (λ answer. Says answer (IsRight frames.now.statements at items.now)) }
@@ -88,8 +87,9 @@ impl Checker {
         run(frames, at, &self.table, parts.numbers, &mut self.buffers)
     }
 
-    /// Whether the tokens write a right proof of the `$p` at that position.
+    /// Returns whether the tokens write a right proof of the `$p` at that position.
     ///
+    /// Errors: an allocation fails, or the results would pass the limit of `limit`.
     /// Cost: that of reading the tokens and checking their items; in a compressed proof a mandatory hypothesis is known
     /// by its position, so its label is neither copied nor looked up. Source: Metamath, 4.2.6 and appendix B.
     pub fn prove(
@@ -122,7 +122,9 @@ impl Checker {
     }
 }
 
-/// Whether the items are a right proof of the `$p` at that position, by a verifier made for it.
+/// Returns whether the items are a right proof of the `$p` at that position, by a verifier made for it.
+///
+/// Errors: an allocation fails. Cost: that of `Checker::check`.
 pub fn check(alloc: Global, frames: &Frames, at: usize, items: &Items) -> Result<Answer, AllocError>
     requires { (s : Statement) × IsProvable frames.now.statements at s }
     ensures { IfOk result (λ answer. Says answer (IsRight frames.now.statements at items.now)) }
@@ -130,8 +132,10 @@ pub fn check(alloc: Global, frames: &Frames, at: usize, items: &Items) -> Result
     Checker::new(alloc).check(frames, at, items)
 }
 
-/// Whether the items with these numbers, over a table of what the labels name, are a right proof of the `$p` at that
-/// position. The buffers are used for the run.
+/// Returns whether the items with these numbers, over a table of the meanings of the labels, are a right proof of the `$p`
+/// at that position.
+///
+/// Errors: an allocation fails.
 fn run(
     frames: &Frames,
     at: usize,
@@ -144,10 +148,9 @@ fn run(
     ensures { (labels : List Name) → AreEntries frames.now.statements at labels table.now
         → IfOk result (λ answer. Says answer (IsRight frames.now.statements at (items_of labels numbers.now))) }
 {
-    buffers.results.start(table.len())?;
-    buffers.findings.clear();
     let pairs = frames.active_pairs(at);
     let claim = Claim { frames, at, pairs };
+    buffers.results.start(&claim.pairs, table.len())?;
     for number in numbers {
         if !step(&claim, table, *number, buffers)? {
             return Ok(Answer::Wrong);

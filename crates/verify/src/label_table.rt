@@ -1,4 +1,4 @@
-//! What the labels of a proof name, looked up once.
+//! The meanings of the labels of a proof, each looked up once.
 
 ghost use Rattle.std.specs.Prelude.{◌≡◌, ◌≤◌, ◌++◌, List, OnOk, IfOk, IsTrue, not, length, take};
 ghost use Rattle.{std.specs.List.Sorted.IsNonDecreasing, mm_lex.specs.Alphabet.Name, mm_read.specs.declared.stmt.Stmt.Stmt as Statement, proof_code.specs.Reading.share_label, scope.specs.Active.before, frame.specs.FrameOf.hypotheses, frame.specs.AtPosition.IsPosition, frame.specs.AtPosition.AreLegal, verify.specs.Proves.mandatory_labels, verify.specs.Right.IsProvable, verify.specs.LabelTable.is_hypothesis_among, verify.specs.LabelTable.IsEntry, verify.specs.LabelTable.AreEntries};
@@ -8,7 +8,7 @@ use mm_lex::Words;
 use proof_code::Heading;
 use std::alloc::AllocError;
 
-/// What a label names at a statement.
+/// The meaning of a label at a statement.
 #[derive(Clone, Copy, Drop)]
 pub enum LabelEntry {
     /// A hypothesis that is active there, by position.
@@ -19,7 +19,7 @@ pub enum LabelEntry {
     Nothing,
 }
 
-/// What a label names at the statement, by the position of the statement that has the label.
+/// Returns the meaning of a label at the statement, by the position of the statement that has the label.
 fn entry_of(frames: &Frames, at: usize, position: Option<usize>) -> LabelEntry
     requires legal { AreLegal frames.now.statements frames.now.names }
     requires place { (1 ≤ at) × (at ≤ length frames.now.statements) }
@@ -35,7 +35,9 @@ fn entry_of(frames: &Frames, at: usize, position: Option<usize>) -> LabelEntry
     }
 }
 
-/// Fills the table with what each of the labels names at the statement.
+/// Fills the table with the meaning of each label at the statement.
+///
+/// Errors: an allocation fails. Cost: that of looking each label up.
 pub fn fill_table(
     frames: &Frames,
     at: usize,
@@ -54,7 +56,9 @@ pub fn fill_table(
     Ok(())
 }
 
-/// Fills the list, and the table, with the mandatory hypotheses of the `$p` at that position.
+/// Fills the list and the table with the mandatory hypotheses of the `$p` at that position.
+///
+/// Errors: an allocation fails.
 pub fn fill_mandatory(
     frames: &Frames,
     at: usize,
@@ -76,7 +80,7 @@ pub fn fill_mandatory(
     Ok(())
 }
 
-/// Whether the entry is one of these hypotheses.
+/// Returns whether the entry is one of these hypotheses.
 fn is_among(entry: LabelEntry, hypotheses: &[u32]) -> bool
     requires { IsNonDecreasing hypotheses.now }
     ensures { result ≡ is_hypothesis_among hypotheses.now entry }
@@ -90,7 +94,10 @@ fn is_among(entry: LabelEntry, hypotheses: &[u32]) -> bool
     }
 }
 
-/// Adds what each of the listed labels names at the statement, unless one of them is that of a mandatory hypothesis.
+/// Appends the meaning of each listed label at the statement, or returns `false` if one of them is that of a mandatory
+/// hypothesis.
+///
+/// Errors: an allocation fails. Cost: that of looking each label up.
 pub fn add_listed(
     frames: &Frames,
     at: usize,

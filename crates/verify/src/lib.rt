@@ -2,7 +2,7 @@
 //!
 //! The crate above uses one contract: `Checker::prove` answers `Proved` exactly where the tokens write items by which some
 //! derivation is spelled that concludes the statement's expression and weighs no more than the limit; else it answers `Wrong`.
-//! `check` is the same of the items.
+//! `check` answers so for the items themselves.
 //!
 //! Reading order: `answer`, `tree`; `results` (as ranges of one buffer), `label_table`, `citation` (one item), `checker` (a
 //! whole proof); `plan` (the derivation); `laws`.

@@ -1,5 +1,7 @@
-//! The derivation that the items of a proof spell. It is planned: its nodes by number, each after those of its children,
-//! and once however often it is recalled; then measured, before it is made.
+//! The derivation that the items of a proof spell.
+//!
+//! It is planned: its nodes by number, each after those of its children, and once however often it is recalled; then
+//! measured, before it is made.
 
 ghost use Rattle.std.specs.Prelude.{◌≡◌, ℕ, ◌<◌, ◌≤◌, ◌↔◌, [], IsTrue, List, OnOk, IfOk, Some, length, map, slice_get, ◌⊎◌, MatchOption};
 ghost use Rattle.{mm_lex.specs.Alphabet.Name, mm_read.specs.declared.stmt.Stmt.Stmt as Statement, frame.specs.AtPosition.HasLabelsOnce, proof_code.specs.declared.item.Item.TheVariants.Cite, proof_code.specs.ItemNumbers.item_of, verify.specs.Growth.trees, verify.specs.Growth.with_tree, verify.specs.Growth.Grew, verify.specs.Plan.derive, verify.specs.Plan.built, verify.specs.Plan.IsAfter, verify.specs.Plan.trees_of, verify.specs.Plan.IsPlan, verify.specs.Plan.AreOrdered, verify.specs.Extents.extent_of, verify.specs.Right.most_nodes, verify.specs.Right.most_depth, verify.specs.Derivations.Derivation, verify.specs.LabelTable.IsEntry, verify.specs.LabelTable.AreEntries, verify.specs.Derivations.derivation_of, verify.specs.Right.IsProvable, verify.specs.Right.IsRight, verify.specs.Right.Derives, verify.specs.Right.IsSmall, verify.specs.Growth.Trees, verify.specs.Growth.GrowsBy, verify.specs.Plan.pick};
@@ -37,7 +39,7 @@ pub struct TreePlan {
     pub mandatory: Vec<u32>,
 }
 
-/// Adds a node, and its number on top.
+/// Appends a node, and its number to the stack.
 fn add(plan: &mut TreePlan, node: Node) -> Result<(), AllocError>
     requires plan { IsPlan plan.old }
     requires after { IsAfter (length plan.old.nodes.items) node }
@@ -50,7 +52,7 @@ fn add(plan: &mut TreePlan, node: Node) -> Result<(), AllocError>
     Ok(())
 }
 
-/// Cites what a label names.
+/// Cites a label by its meaning.
 fn cite(frames: &Frames, entry: LabelEntry, plan: &mut TreePlan) -> Result<bool, AllocError>
     requires plan { IsPlan plan.old }
     requires entry { (at : ℕ) × (label : Name) × IsEntry frames.now.statements at label entry }
@@ -79,7 +81,7 @@ fn cite(frames: &Frames, entry: LabelEntry, plan: &mut TreePlan) -> Result<bool,
     }
 }
 
-/// Does one item, by its number.
+/// Runs one item, by its number.
 pub fn grow(
     frames: &Frames,
     table: &[LabelEntry],
@@ -112,14 +114,14 @@ pub fn grow(
     Ok(true)
 }
 
-/// How many nodes a derivation has, and how deep they lie, each counted no further than one above its limit.
+/// The number of nodes of a derivation and its depth, each counted no further than one above its limit.
 #[derive(Clone, Copy, Drop)]
 pub struct Extent {
     pub nodes: usize,
     pub depth: usize,
 }
 
-/// The extent with that number.
+/// Returns the extent with that number.
 fn numbered(extents: &[Extent], number: usize) -> Extent
     requires { number < length extents.now }
     ensures { slice_get extents.now number ≡ Some result }
@@ -127,7 +129,7 @@ fn numbered(extents: &[Extent], number: usize) -> Extent
     extents[number]
 }
 
-/// The extent of a node over those before it.
+/// Returns the extent of a node, from those of earlier nodes.
 fn extent_at(node: &Node, extents: &[Extent]) -> Extent
     requires after { IsAfter (length extents.now) node.now }
     requires measured { (ts : List Derivation) × (extents.now ≡ map extent_of ts) }
@@ -146,7 +148,7 @@ fn extent_at(node: &Node, extents: &[Extent]) -> Extent
     Extent { nodes, depth }
 }
 
-/// The extent of each derivation.
+/// Returns the extent of each derivation.
 pub fn measure(alloc: Global, nodes: &[Node]) -> Result<Vec<Extent>, AllocError>
     requires { AreOrdered 0 nodes.now }
     ensures { IfOk result (λ extents. extents.items ≡ map extent_of (built nodes.now)) }
@@ -159,17 +161,17 @@ pub fn measure(alloc: Global, nodes: &[Node]) -> Result<Vec<Extent>, AllocError>
     Ok(extents)
 }
 
-/// Whether a derivation is within the limits.
+/// Returns whether a derivation is within the limits.
 pub fn is_small(extent: Extent) -> bool
     ensures { IsTrue result ↔ ((extent.nodes ≤ most_nodes) × (extent.depth ≤ most_depth)) }
 {
     extent.nodes <= MOST_NODES && extent.depth <= MOST_DEPTH
 }
 
-/// The derivation that the items of a right proof of the `$p` at that position spell.
+/// Returns the derivation that the items of a right proof of the `$p` at that position spell.
 ///
-/// Errors: `Wrong` where they are no right proof; `TooLarge` where the derivation has more than 65,536 nodes or a
-/// depth above 1,024; or `Memory` in place of either. It is measured before it is made.
+/// Errors: `Wrong` if they are no right proof; `TooLarge` if the derivation has more than 65,536 nodes or a depth above
+/// 1,024; or `Memory` in place of either. It is measured before it is made.
 /// Cost: a check, a node for each citation, and the tree. Source: Metamath, 4.2.6 and appendix B.
 pub fn derivation(
     alloc: Global,
@@ -198,7 +200,7 @@ pub fn derivation(
     Ok(expand(alloc, &plan.nodes, root)?)
 }
 
-/// The plan that the items of a right proof make.
+/// Returns the plan that the items of a right proof make.
 fn plan_of(alloc: Global, frames: &Frames, at: usize, items: &Items) -> Result<TreePlan, AllocError>
     requires { IsRight frames.now.statements at items.now }
     ensures once { HasLabelsOnce frames.now.statements }
@@ -222,7 +224,7 @@ fn plan_of(alloc: Global, frames: &Frames, at: usize, items: &Items) -> Result<T
     Ok(plan)
 }
 
-/// Makes the derivation with that number, and those below it again wherever they stand.
+/// Makes the derivation with that number, and those below it once for each time that they stand in it.
 fn expand(alloc: Global, nodes: &[Node], number: usize) -> Result<Tree, AllocError>
     requires ordered { AreOrdered 0 nodes.now }
     requires there { number < length nodes.now }

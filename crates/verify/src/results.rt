@@ -1,82 +1,93 @@
 //! The results of a proof so far, as ranges of one buffer.
 
 ghost use Rattle.std.specs.Prelude.{take, ℕ, ◌≡◌, suc, ◌<◌, ◌≤◌, ◌↔◌, ◌∷◌, ◌++◌, [], length, map, get_or, replicate, nat_eq, ◌==◌, Some, is_some, if◌then◌else◌, IfOk, IfSome, MatchOption, OnOk, OnErr, IsTrue};
-ghost use Rattle.{names.specs.Codes.decode, names.specs.Codes.AreDistinct, frame.specs.Below.AllBelow, frame.specs.Disjoint.are_groups_apart, frame.specs.AtPosition.AreLegal, frame.specs.Substitution.code_apply, frame.specs.Substitution.images_of_names, subst.specs.Findings.IsKnown, subst.specs.Images.AreOver, subst.specs.ExpressionPlaces.AreWithin, subst.specs.ExpressionPlaces.AreInside, std.specs.Map.lookup, verify.specs.ReadPlaces.ReadTo, verify.specs.ReadPlaces.ReadsAll, verify.specs.ReadPlaces.IsMistyped, verify.specs.ReadPlaces.BeginsWith, verify.specs.ReadPlaces.tail_of, verify.specs.Fits.AreFront, verify.specs.Fits.AreDifferent, verify.specs.Fits.AreStanding, verify.specs.Fits.Reads, verify.specs.Fits.DoFit, verify.specs.Machine.with_result, verify.specs.Machine.with_mark, verify.specs.Machine.IsSaved, verify.specs.ResultPlaces.below, verify.specs.ResultPlaces.top, verify.specs.ResultPlaces.Adds, verify.specs.ResultPlaces.Keeps, verify.specs.ResultPlaces.Marks, verify.specs.ResultPlaces.Finds, verify.specs.Right.weight_limit};
+ghost use Rattle.{names.specs.Codes.decode, names.specs.Codes.AreDistinct, frame.specs.Below.AllBelow, frame.specs.Below.AreBelow, frame.specs.Disjoint.are_groups_apart, frame.specs.AtPosition.AreLegal, frame.specs.Substitution.code_apply, frame.specs.Substitution.images_of_names, subst.specs.Images.AreOver, subst.specs.SymbolRanges.AreWithin, subst.specs.SymbolRanges.AreInside, std.specs.Map.lookup, verify.specs.ReadPlaces.ReadTo, verify.specs.ReadPlaces.ReadsAll, verify.specs.ReadPlaces.IsMistyped, verify.specs.ReadPlaces.BeginsWith, verify.specs.ReadPlaces.tail_of, verify.specs.Fits.AreFront, verify.specs.Fits.AreDifferent, verify.specs.Fits.AreStanding, verify.specs.Fits.Reads, verify.specs.Fits.DoFit, verify.specs.Machine.with_result, verify.specs.Machine.with_mark, verify.specs.Machine.IsSaved, verify.specs.ResultPlaces.below, verify.specs.ResultPlaces.top, verify.specs.ResultPlaces.Adds, verify.specs.ResultPlaces.Keeps, verify.specs.ResultPlaces.Marks, verify.specs.ResultPlaces.Finds, verify.specs.Right.weight_limit};
 
 use entries::{Groups, Hypotheses, Hypothesis};
 use frame::{Frames, Pairs};
 use std::alloc::{AllocError, Global};
 use std::marker::Model;
 use subst::{
-    Buffer, ExpressionPlace, Findings, ImagePlaces, SYMBOLS_LIMIT, groups_apart, place_between,
-    symbols_at,
+    Buffer, DisjointCache, ImageRanges, SYMBOLS_LIMIT, SymbolRange, place_between, symbols_at,
 };
 
 /// The results of a proof so far, their symbols in one buffer, and the images that were read off the last of them.
 ///
-/// What a label gives that takes no results is written out once, where it is cited first: what is saved begins with a place
+/// A label that takes no results has its result written out once, where it is cited first: `saved` begins with a range
 /// for each label, which is empty until then, and goes on with the results that were marked.
 #[derive(Drop)]
 pub struct Results {
     symbols: Buffer,
-    images: ImagePlaces,
-    stack: Vec<ExpressionPlace>,
-    saved: Vec<ExpressionPlace>,
+    images: ImageRanges,
+    stack: Vec<SymbolRange>,
+    saved: Vec<SymbolRange>,
     weight: usize,
     /// How many symbols the buffer may hold.
     share: usize,
+    /// The variables of long results, and which variables are disjoint.
+    cache: DisjointCache,
 }
 
 impl Model for Results {
-    ghost use Rattle.verify.specs.ResultPlaces.{Held, held, AreKept};
+    ghost use Rattle.verify.specs.ResultPlaces.{AreHeld, Held, held};
 
     ghost Value = { Held };
 
-    ghost view = { λ a. held a.symbols a.images a.stack.items a.saved.items a.weight };
+    ghost view = { λ a. held a.symbols a.images a.stack.items a.saved.items a.weight a.cache.about };
 
-    ghost invariant = { λ a. AreKept a.symbols a.images a.stack.items a.saved.items a.weight };
+    ghost invariant = { λ a. AreHeld a.cache.over a.symbols a.images a.stack.items a.saved.items a.weight };
 }
 
 impl Results {
-    /// No results.
+    /// Returns an empty list. Does not allocate.
     pub fn new(alloc: Global) -> Results
         ensures { result.results ≡ record { stack = []; saved = []; weight = 0 } }
     {
         Results {
             symbols: Buffer::new(alloc),
-            images: ImagePlaces::new(alloc),
+            images: ImageRanges::new(alloc),
             stack: Vec::new(alloc),
             saved: Vec::new(alloc),
             weight: 0,
             share: SYMBOLS_LIMIT,
+            cache: DisjointCache::new(alloc),
         }
     }
 
-    /// Limits the buffer to so many symbols: what would pass them finds no memory.
+    /// Limits the buffer to so many symbols: a result that would pass them is answered by `AllocError`.
     pub fn limit(&mut self, share: usize)
         ensures { self.new ≡ self.old }
     {
         self.share = share;
     }
 
-    /// Takes all results and images away, and makes places for so many labels; the buffers stay.
-    pub fn start(&mut self, labels: usize) -> Result<(), AllocError>
-        ensures { OnOk result (self.new.results ≡ record { stack = []; saved = replicate labels []; weight = 0 }) }
+    /// Begins a proof under the pairs that are active at its statement: removes all results and images, and makes room
+    /// for the results of so many labels. The buffers stay.
+    ///
+    /// Errors: an allocation fails. Cost: the count of the labels.
+    pub fn start(&mut self, pairs: &Pairs<'_>, labels: usize) -> Result<(), AllocError>
+        ensures about { self.new.about ≡ pairs.now }
+        ensures results { OnOk result (self.new.results ≡ record { stack = []; saved = replicate labels []; weight = 0 }) }
     {
+        self.cache.begin(pairs);
         self.images.clear();
         self.symbols.truncate(0);
         self.stack.clear();
         self.saved.clear();
         self.weight = 0;
-        self.saved
-            .resize(labels, ExpressionPlace { start: 0, end: 0 })?;
+        self.saved.resize(labels, SymbolRange { start: 0, end: 0 })?;
         Ok(())
     }
 
-    /// Adds a result that is written out.
+    /// Appends a result that is written out, or returns `false` if it is too heavy.
+    ///
+    /// Errors: an allocation fails. Cost: its symbols.
     #[inline(never)]
-    pub fn add(&mut self, expr: &[u32]) -> Result<bool, AllocError>
-        ensures { IfOk result (λ ok. Adds ok self.old.results self.new.results self.old.results.stack expr.now) }
+    pub fn add(&mut self, pairs: &Pairs<'_>, expr: &[u32]) -> Result<bool, AllocError>
+        requires about { self.old.about ≡ pairs.now }
+        requires below { AreBelow (length pairs.now.names) expr.now }
+        ensures about { self.new.about ≡ self.old.about }
+        ensures adds { IfOk result (λ ok. Adds ok self.old.results self.new.results self.old.results.stack expr.now) }
     {
         if expr.len() > SYMBOLS_LIMIT - self.weight {
             return Ok(false);
@@ -88,24 +99,27 @@ impl Results {
         self.symbols.extend(expr)?;
         self.weight += expr.len();
         let place = place_between(start, self.symbols.len());
+        self.cache.note_expr(pairs, &self.symbols, expr, place)?;
         self.stack.push(place)?;
         Ok(true)
     }
 
-    /// Keeps the last result for the label of that number.
+    /// Keeps the last result for the label with that number.
     pub fn keep(&mut self, label: usize)
         requires { label < length self.old.results.saved }
-        ensures { Keeps self.old.results self.new.results label }
+        ensures about { self.new.about ≡ self.old.about }
+        ensures keeps { Keeps self.old.results self.new.results label }
     {
         if let Some(&place) = self.stack.last() {
             self.saved[label] = place;
         }
     }
 
-    /// Marks the last result.
+    /// Marks the last result, or returns `false` if there is none.
     #[inline(always)]
     pub fn mark(&mut self) -> Result<bool, AllocError>
-        ensures { IfOk result (λ ok. Marks ok self.old.results self.new.results) }
+        ensures about { self.new.about ≡ self.old.about }
+        ensures marks { IfOk result (λ ok. Marks ok self.old.results self.new.results) }
     {
         let Some(&place) = self.stack.last() else {
             return Ok(false);
@@ -114,12 +128,15 @@ impl Results {
         Ok(true)
     }
 
-    /// Puts the result that is saved at that index on top, if there is one and it is light enough. None where the index is
-    /// that of one of so many labels, and no result with symbols is saved there.
+    /// Appends the result that is saved at that index, or returns `false` if there is none or it is too heavy. Returns
+    /// `None` if the index is that of one of so many labels, and no result with symbols is saved there.
+    ///
+    /// Errors: an allocation fails. Cost: a constant.
     #[inline(always)]
     pub fn recall(&mut self, index: usize, labels: usize) -> Result<Option<bool>, AllocError>
         requires { labels ≤ length self.old.results.saved }
-        ensures { IfOk result (λ done. Finds done labels self.old.results self.new.results index) }
+        ensures about { self.new.about ≡ self.old.about }
+        ensures finds { IfOk result (λ done. Finds done labels self.old.results self.new.results index) }
     {
         if index >= self.saved.len() {
             return Ok(Some(false));
@@ -141,8 +158,10 @@ impl Results {
         Ok(Some(true))
     }
 
-    /// Reads the images of the variables of the `$f` off the last results, one for each hypothesis, and tells how many `$f`
-    /// stand before all `$e`; or finds one that does not begin with the symbol that its `$f` asks for.
+    /// Reads the images of the variables of the `$f` off the last results, one for each hypothesis, and returns how many
+    /// `$f` stand before all `$e`; `None` if a result does not begin with the symbol of its `$f`.
+    ///
+    /// Errors: an allocation fails. Cost: a step for each hypothesis.
     #[inline(always)]
     pub fn read_images(
         &mut self,
@@ -152,6 +171,7 @@ impl Results {
         requires same { length heads.now ≡ length hypotheses.now }
         requires count { length hypotheses.now ≤ length self.old.results.stack }
         requires different { AreDifferent hypotheses.now }
+        ensures about { self.new.about ≡ self.old.about }
         ensures same { self.new.results ≡ self.old.results }
         ensures read { IfOk result (λ r. Reads (is_some r) heads.now hypotheses.now (top (length hypotheses.now) self.old.results.stack) self.new.images) }
         ensures floats { IfOk result (λ r. IfSome r (AreFront hypotheses.now)) }
@@ -161,8 +181,10 @@ impl Results {
         read_off(&mut self.images, symbols, heads, hypotheses, places)
     }
 
-    /// Whether the last results are the expressions of the `$e`, before which `front` `$f` stand, with the images put in. Of
-    /// a `$f` nothing is asked here.
+    /// Returns whether the last results are the expressions of the `$e`, before which `front` `$f` stand, with the images
+    /// put in. Results for `$f` are not looked at.
+    ///
+    /// Cost: the symbols that agree.
     #[inline(always)]
     pub fn fits(&self, frames: &Frames, hypotheses: &Hypotheses<'_>, front: usize) -> bool
         requires front { AreFront hypotheses.now front }
@@ -185,25 +207,38 @@ impl Results {
         true
     }
 
-    /// Whether the images of each two variables of a group are apart.
+    /// Returns whether the images of each two variables of each group are disjoint at the statement of the pairs.
+    ///
+    /// Errors: an allocation fails. Cost: that of `DisjointCache::are_groups_disjoint`.
     #[inline(always)]
-    pub fn are_apart(&self, pairs: &Pairs<'_>, groups: &Groups<'_>, findings: &mut Findings) -> bool
-        requires known { IsKnown pairs.now findings.old }
+    pub fn are_disjoint(
+        &mut self,
+        pairs: &Pairs<'_>,
+        groups: &Groups<'_>,
+    ) -> Result<bool, AllocError>
+        requires about { self.old.about ≡ pairs.now }
         requires distinct { AreDistinct pairs.now.names }
-        requires over { AreOver pairs.now.names self.now.images }
+        requires over { AreOver pairs.now.names self.old.images }
         requires below { AllBelow (length pairs.now.names) groups.now }
-        ensures known { IsKnown pairs.now findings.new }
-        ensures apart { result ≡ are_groups_apart pairs.now.statements (images_of_names pairs.now.names self.now.images) (map (decode pairs.now.names) groups.now) }
+        ensures same { self.new ≡ self.old }
+        ensures disjoint { IfOk result (λ ok. ok ≡ are_groups_apart pairs.now.statements (images_of_names pairs.now.names self.old.images) (map (decode pairs.now.names) groups.now)) }
     {
-        let symbols = self.symbols.as_slice();
-        groups_apart(pairs, groups, findings, symbols, &self.images)
+        self.cache
+            .are_groups_disjoint(pairs, groups, &self.symbols, &self.images)
     }
 
-    /// Takes the last r results and adds the expression with the images put in, if it is light enough.
+    /// Removes the last `r` results and appends the expression with the images put in, or returns `false` if it is too
+    /// heavy.
+    ///
+    /// Errors: an allocation fails. Cost: the symbols read and written.
     #[inline(always)]
-    pub fn apply(&mut self, r: usize, expr: &[u32]) -> Result<bool, AllocError>
-        requires { r ≤ length self.old.results.stack }
-        ensures { IfOk result (λ ok. Adds ok self.old.results self.new.results (below r self.old.results.stack) (code_apply self.old.images expr.now)) }
+    pub fn apply(&mut self, pairs: &Pairs<'_>, r: usize, expr: &[u32]) -> Result<bool, AllocError>
+        requires about { self.old.about ≡ pairs.now }
+        requires over { AreOver pairs.now.names self.old.images }
+        requires below { AreBelow (length pairs.now.names) expr.now }
+        requires count { r ≤ length self.old.results.stack }
+        ensures about { self.new.about ≡ self.old.about }
+        ensures adds { IfOk result (λ ok. Adds ok self.old.results self.new.results (below r self.old.results.stack) (code_apply self.old.images expr.now)) }
     {
         let keep = self.stack.len() - r;
         let start = self.symbols.len();
@@ -218,16 +253,19 @@ impl Results {
         }
         let place = place_between(start, self.symbols.len());
         self.weight += self.symbols.len() - start;
+        self.cache
+            .note_result(pairs, &self.symbols, &self.images, expr, place)?;
         put_behind(&mut self.stack, keep, place)?;
         Ok(true)
     }
 
-    /// Takes all results and images away, and gives back the room of the results; that of images by number stays.
+    /// Removes all results and images, and gives back the memory of the results; that of images by number stays.
     ///
     /// Does not allocate.
     pub fn release(&mut self, alloc: Global)
         ensures { self.new.results ≡ record { stack = []; saved = []; weight = 0 } }
     {
+        self.cache.release(alloc);
         self.images.clear();
         self.symbols = Buffer::new(alloc);
         self.stack = Vec::new(alloc);
@@ -242,14 +280,14 @@ impl Results {
         self.weight
     }
 
-    /// How many results wait.
+    /// Returns how many results there are that no citation has taken.
     pub fn len(&self) -> usize
         ensures { result ≡ length self.now.results.stack }
     {
         self.stack.len()
     }
 
-    /// Whether there is one result, and it is this.
+    /// Returns whether the expression is the only result.
     pub fn is_only(&self, expr: &[u32]) -> bool
         ensures only { IsTrue result ↔ (self.now.results.stack ≡ expr.now ∷ []) }
         ensures light { self.now.results.weight ≤ weight_limit }
@@ -262,12 +300,12 @@ impl Results {
     }
 }
 
-/// Keeps the first `keep` places and adds one behind them, where one stood mostly.
+/// Truncates to the first `keep` places and appends one, mostly over one that stood there.
 #[inline(always)]
 fn put_behind(
-    stack: &mut Vec<ExpressionPlace>,
+    stack: &mut Vec<SymbolRange>,
     keep: usize,
-    place: ExpressionPlace,
+    place: SymbolRange,
 ) -> Result<(), AllocError>
     requires { keep ≤ length stack.old.items }
     ensures ok { OnOk result (stack.new.items ≡ take keep stack.old.items ++ place ∷ []) }
@@ -282,14 +320,14 @@ fn put_behind(
     Ok(())
 }
 
-/// Sets the image of a variable to what stands behind the first symbol of a result, where this is the one asked for.
+/// Sets the image of a variable to a result without its first symbol, if this is the one asked for.
 #[inline(always)]
 fn read_one(
-    images: &mut ImagePlaces,
+    images: &mut ImageRanges,
     symbols: &[u32],
     head: u32,
     variable: u32,
-    place: ExpressionPlace,
+    place: SymbolRange,
 ) -> Result<bool, AllocError>
     requires { place.end ≤ length symbols.now }
     ensures begins { IfOk result (λ ok. IsTrue ok ↔ BeginsWith symbols.now head place) }
@@ -299,7 +337,7 @@ fn read_one(
     if place.start >= place.end || symbols[place.start as usize] != head {
         return Ok(false);
     }
-    let behind = ExpressionPlace {
+    let behind = SymbolRange {
         start: place.start + 1,
         end: place.end,
     };
@@ -307,15 +345,15 @@ fn read_one(
     Ok(true)
 }
 
-/// The same of a `$f` that stands behind a `$e`.
+/// Does so for a `$f` that stands after a `$e`.
 #[cold]
 #[inline(never)]
 fn read_more(
-    images: &mut ImagePlaces,
+    images: &mut ImageRanges,
     symbols: &[u32],
     head: u32,
     variable: u32,
-    place: ExpressionPlace,
+    place: SymbolRange,
 ) -> Result<bool, AllocError>
     requires { place.end ≤ length symbols.now }
     ensures begins { IfOk result (λ ok. IsTrue ok ↔ BeginsWith symbols.now head place) }
@@ -325,15 +363,15 @@ fn read_more(
     read_one(images, symbols, head, variable, place)
 }
 
-/// Sets the images of the variables of the `$f` that stand before all other hypotheses, and tells how many these are; or
-/// finds a result that begins with another symbol than the one asked for.
+/// Sets the images of the variables of the `$f` that stand before all other hypotheses, and returns how many these are;
+/// `None` if a result begins with another symbol than the one asked for.
 #[inline(always)]
 fn read_front(
-    images: &mut ImagePlaces,
+    images: &mut ImageRanges,
     symbols: &[u32],
     heads: &[u32],
     hypotheses: &Hypotheses<'_>,
-    places: &[ExpressionPlace],
+    places: &[SymbolRange],
 ) -> Result<Option<usize>, AllocError>
     requires same { length places.now ≡ length hypotheses.now }
     requires heads { length heads.now ≡ length hypotheses.now }
@@ -355,16 +393,17 @@ fn read_front(
     Ok(Some(hypotheses.len()))
 }
 
-/// Sets the images of the variables of all `$f`, and no other, to what stands behind the first symbols of their results,
-/// and tells how many `$f` stand before all other hypotheses; or finds a result that begins with another symbol than the
-/// one asked for.
+/// Sets the images of the variables of all `$f`, and no other, to their results without the first symbols, and returns how
+/// many `$f` stand before all other hypotheses; `None` if a result begins with another symbol than the one asked for.
+///
+/// Errors: an allocation fails. Cost: a step for each hypothesis.
 #[inline(always)]
 pub fn read_off(
-    images: &mut ImagePlaces,
+    images: &mut ImageRanges,
     symbols: &[u32],
     heads: &[u32],
     hypotheses: &Hypotheses<'_>,
-    places: &[ExpressionPlace],
+    places: &[SymbolRange],
 ) -> Result<Option<usize>, AllocError>
     requires same { length places.now ≡ length hypotheses.now }
     requires heads { length heads.now ≡ length hypotheses.now }

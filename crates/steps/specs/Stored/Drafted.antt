@@ -13,8 +13,8 @@ use Rattle.frame.specs.Below.{AreBelow}
 use Rattle.frame.specs.Substitution.{CodeImages, code_apply}
 use Rattle.entries.specs.declared.cited_parts.Cited.{Cited}
 use Rattle.proof_code.specs.declared.item.Item.{Item}
-use Rattle.subst.specs.declared.expression_place.ExpressionPlace.{ExpressionPlace}
-use Rattle.subst.specs.ExpressionPlaces.{seen_at}
+use Rattle.subst.specs.declared.symbol_range.SymbolRange.{SymbolRange}
+use Rattle.subst.specs.SymbolRanges.{seen_at}
 use Rattle.verify.specs.Fits.{AreRead}
 use Rattle.verify.specs.ResultPlaces.{below, top}
 use Rattle.verify.specs.Machine.{State, Steps}
@@ -76,7 +76,7 @@ abbrev pub codes_in : TableDraft → ℕ → List ℕ
 codes_in d k = (get_or (rows_of d) k no_row).expr
 
 -- where the expression of the step at a place lies
-abbrev pub place_in : List PlacedStep → ℕ → ExpressionPlace
+abbrev pub place_in : List PlacedStep → ℕ → SymbolRange
 place_in [] k = record { start = 0; end = 0 }
 place_in (p ∷ ps) zero = p.place
 place_in (p ∷ ps) (suc k) = place_in ps k

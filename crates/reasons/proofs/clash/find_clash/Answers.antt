@@ -5,7 +5,7 @@ use Rattle.reasons.specs.Stored.Vectors.{code_images}
 use Rattle.reasons.specs.ReadImages.{named_images}
 use Rattle.reasons.proofs.ClashLemmas.{clash_is, groups_step, groups_end}
 use Rattle.reasons.proofs.clash.find_clash.Goals as goal
-use Rattle.subst.proofs.NumbersApartLemmas.{below-group}
+use Rattle.subst.proofs.GroupLemmas.{below-group}
 
 pub clash_in-requires-clause-group : goal.clash_in-requires-clause-group
 clash_in-requires-clause-group c = below-group (length c.args.pairs.now.names) c.args.groups.now c.loop-k.k c.get.result.now c.requires.groups c.get.ensures

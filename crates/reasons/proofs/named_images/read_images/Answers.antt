@@ -9,7 +9,7 @@ use Rattle.reasons.proofs.ImagesLemmas.{images-push}
 use Rattle.reasons.proofs.NamedLemmas.{read_more, read_skip}
 use Rattle.reasons.proofs.named_images.read_images.Goals as goal
 use Rattle.reasons.proofs.named_images.read_images.Goals.{in-Float+in_ok-symbols+in_ok-push, in_default}
-use Rattle.subst.proofs.NumbersApartLemmas.{below-drop}
+use Rattle.subst.proofs.GroupLemmas.{below-drop}
 
 pub loop-k-preserved : goal.loop-k-preserved
 loop-k-preserved c =

@@ -1,8 +1,8 @@
 use Rattle.std.proofs.Common.{◌≡◌, arith, ◌-◌, [], ◌∷◌, ◌++◌, length, map, drop, take, get_or, inr, sym, ◌∙◌, ap, subst, refl}
 use Rattle.std.proofs.lemmas.Result.{on_ok_weaker}
 use Rattle.frame.specs.Below.{AreBelow}
-use Rattle.subst.specs.ExpressionPlaces.{seen_at, AreWithin}
-use Rattle.subst.proofs.NumbersApartLemmas.{below-drop}
+use Rattle.subst.specs.SymbolRanges.{seen_at, AreWithin}
+use Rattle.subst.proofs.GroupLemmas.{below-drop}
 use Rattle.verify.specs.Fits.{IsTyped, AreRead}
 use Rattle.verify.specs.ResultPlaces.{top}
 use Rattle.steps.specs.Stored.Drafted.{place_in, place_of}

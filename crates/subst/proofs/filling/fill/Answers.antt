@@ -1,5 +1,5 @@
 use Rattle.subst.proofs.Words.{take, get_or, arith, sym, ◌∙◌}
-use Rattle.subst.proofs.ImagePlacesLemmas.{image-some, image-none}
+use Rattle.subst.proofs.ImageRangesLemmas.{image-some, image-none}
 use Rattle.subst.proofs.CopyLemmas.{fill-on, fill-lacks, kept-on, written-kept}
 use Rattle.subst.proofs.filling.fill.Goals as goal
 use Rattle.subst.proofs.filling.fill.Goals.{in-Some+in_ok-end-in-Some, in-None}

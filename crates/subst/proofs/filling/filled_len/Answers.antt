@@ -1,11 +1,11 @@
-use Rattle.subst.proofs.Words.{◌≡◌, ℕ, ◌+◌, ◌-◌, List, Some, length, get_or, nat_eq, lookup, arith, sym, ◌∙◌, ap, ExpressionPlace, code_image, images_at, AreInside}
+use Rattle.subst.proofs.Words.{◌≡◌, ℕ, ◌+◌, ◌-◌, List, Some, length, get_or, nat_eq, lookup, arith, sym, ◌∙◌, ap, SymbolRange, code_image, images_at, AreInside}
 use Rattle.subst.proofs.WrittenImages.{len-take, len-within}
-use Rattle.subst.proofs.ExpressionPlaceLemmas.{length-seen}
-use Rattle.subst.proofs.ImagePlacesLemmas.{image-some, image-none}
+use Rattle.subst.proofs.SymbolRangeLemmas.{length-seen}
+use Rattle.subst.proofs.ImageRangesLemmas.{image-some, image-none}
 use Rattle.subst.proofs.filling.filled_len.Goals as goal
 use Rattle.subst.proofs.filling.filled_len.Goals.{in-Some, in-None}
 
-some-size : (symbols : List ℕ) (ps : List (ℕ × ExpressionPlace)) (x : ℕ) (p : ExpressionPlace) → AreInside (length symbols) ps → lookup (nat_eq x) ps ≡ Some p → p.end - p.start ≡ length (code_image (images_at symbols ps) x)
+some-size : (symbols : List ℕ) (ps : List (ℕ × SymbolRange)) (x : ℕ) (p : SymbolRange) → AreInside (length symbols) ps → lookup (nat_eq x) ps ≡ Some p → p.end - p.start ≡ length (code_image (images_at symbols ps) x)
 some-size symbols ps x p w is = let k = w.each x p is in sym (ap length (image-some symbols ps x p is) ∙ length-seen symbols p k.0 k.1)
 
 pub returns-then-more-room-clause-none : goal.returns-then-more-room-clause-none

@@ -1,5 +1,5 @@
 use Rattle.subst.proofs.Words.{sym, ◌∙◌, arith}
-use Rattle.subst.proofs.ImagePlacesLemmas.{image-some, image-none}
+use Rattle.subst.proofs.ImageRangesLemmas.{image-some, image-none}
 use Rattle.subst.proofs.MatchLemmas.{head-goes, head-fails}
 use Rattle.subst.proofs.matching.behind.Goals as goal
 

@@ -1,5 +1,5 @@
 use Rattle.subst.proofs.Words.{◌≡◌, ◌+◌, ◌-◌, ◌≤◌, true, false, take, drop, arith, sym, ◌∙◌, ap, take_rest, seen_at}
-use Rattle.subst.proofs.ExpressionPlaceLemmas.{length-seen}
+use Rattle.subst.proofs.SymbolRangeLemmas.{length-seen}
 use Rattle.subst.proofs.MatchLemmas.{front-goes, front-fails}
 use Rattle.subst.proofs.matching.behind_image.Goals as goal
 

@@ -1,14 +1,13 @@
 use Rattle.verify.proofs.Words.{◌≡◌, ◌+◌, Bool, true, false, Result, Ok, IfOk, get_or, length, map, take, drop, arith, sym, subst, refl, IfOk-at_ok, item_of, behind, GoesOn, IsRight, stands-within}
-use Rattle.subst.proofs.FindingsLemmas.{known-none}
 use Rattle.verify.proofs.StepLemmas.{start-known, start-behind, Reached, reached-start, reached-step, wrong-step, right-end, wrong-end, items-more, items-rest, all-taken}
 use Rattle.verify.proofs.checker.run.Goals as goal
 
 pub loop-number-init : goal.loop-number-init
 loop-number-init c = (
   c.active_pairs-pairs.ensures.legal,
-  start-known c.args.frames.now.statements c.args.frames.now.names c.args.at c.args.table.now c.start.new.self.results c.in_ok-start.ensures,
-  λ labels are. reached-start c.args.frames.now.statements c.args.frames.now.names c.args.at c.active_pairs-pairs.ensures.legal (behind (length c.args.table.now) c.start.new.self.results) (start-behind (length c.args.table.now) c.start.new.self.results c.in_ok-start.ensures),
-  known-none _ _ c.clear.ensures.symbols c.clear.ensures.variables,
+  start-known c.args.frames.now.statements c.args.frames.now.names c.args.at c.args.table.now c.start.new.self.results c.in_ok-start.ensures.results,
+  λ labels are. reached-start c.args.frames.now.statements c.args.frames.now.names c.args.at c.active_pairs-pairs.ensures.legal (behind (length c.args.table.now) c.start.new.self.results) (start-behind (length c.args.table.now) c.start.new.self.results c.in_ok-start.ensures.results),
+  c.start.ensures.about,
 )
 
 -- what the step did
@@ -29,7 +28,7 @@ loop-number-preserved c = (
       (went c.step.result c.in_ok-step.field-0 true
       (λ v. GoesOn v c.args.frames.now.statements c.args.at c.args.frames.now.names c.args.table.now (item_of labels (get_or c.args.numbers.now c.loop-number.number-index 0)) c.loop-number.buffers.results.results c.step.new.buffers.results.results)
       (c.step.ensures.goes labels are) c.in_ok-step.was c.if-not-branch.false).0),
-  c.step.ensures.found,
+  c.step.ensures.about,
 )
 
 pub returns-then-not-branch : goal.returns-then-not-branch

@@ -1,5 +1,4 @@
-use Rattle.verify.proofs.Words.{List, length, map, take, Name, AreLegal, item_of, behind, AreKnown, AreEntries}
-use Rattle.subst.specs.Findings.{IsKnown}
+use Rattle.verify.proofs.Words.{◌≡◌, List, length, map, take, Name, AreLegal, item_of, behind, AreKnown, AreEntries}
 use Rattle.verify.proofs.StepLemmas.{Reached}
 use Rattle.verify.proofs.checker.run.Given as goal
 
@@ -10,4 +9,4 @@ invariant-loop-number l =
     × AreKnown l.frames.statements l.at l.frames.names l.table l.buffers.results.results
     × ((labels : List Name) → AreEntries l.frames.statements l.at labels l.table
     → Reached l.frames.statements l.frames.names l.at legal (map (item_of labels) (take l.number-index l.numbers)) (behind (length l.table) l.buffers.results.results))
-    × IsKnown l.claim.pairs l.buffers.findings
+    × (l.buffers.results.about ≡ l.claim.pairs)

@@ -10,4 +10,4 @@ returns-in-Hypothesis-clause-goes c =
           let s = rw c.in-Hypothesis.is at is in
           given-result _ _ _ c.requires.ready.legal _ _ c.requires.named label ok c.expr.result.now (of_hypothesis c.in-Hypothesis.i s.0 s.1 s.2 (c.expr.ensures.same s.0 s.2.stands) refl) c.expr.ensures.codes adds,
       saved-same _ _ _ _ ok adds,
-    )) c.add.ensures
+    )) c.add.ensures.adds

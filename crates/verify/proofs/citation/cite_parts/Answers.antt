@@ -1,4 +1,4 @@
-use Rattle.verify.proofs.Words.{◌≡◌, ℕ, ◌<◌, ◌↔◌, Bool, true, false, is_some, IsTrue, List, length, map, arith, sym, ap, ◌∙◌, subst, IfOk-weaker, Name, Database, decode, AllBelow, are_groups_apart, CodeImages, images_of_names, AreOver, Hypothesis, Reads, DoFit, Results, below, top, Adds}
+use Rattle.verify.proofs.Words.{◌≡◌, ℕ, ◌<◌, ◌↔◌, Bool, true, false, is_some, IsTrue, List, length, map, arith, sym, ap, ◌∙◌, subst, IfOk-weaker, Name, Database, AreDistinct, decode, AllBelow, AreBelow, are_groups_apart, CodeImages, images_of_names, AreOver, Hypothesis, Reads, DoFit, Results, below, top, Adds}
 use Rattle.verify.proofs.MandatoryAsked.{asked-lengths, asked-different, asked-standing}
 use Rattle.verify.proofs.CitationLemmas.{over-read, has-cited, not-cited}
 use Rattle.verify.proofs.citation.cite_parts.Goals as goal
@@ -31,8 +31,8 @@ fits-requires-clause-standing c = asked-standing _ _ _ _ _ (c.requires.cited c.r
 pub fits-requires-clause-over : goal.fits-requires-clause-over
 fits-requires-clause-over c = over-read _ _ _ _ c.requires.may c.args.cited.now c.requires.cited c.read_images.new.self.images (let h = c.if-count-len.false in omega (arith, h, c.len.ensures)) (reads-as _ true _ _ _ _ (ap is_some c.in-Some.is) c.in_ok-front.ensures.read)
 
-pub are_apart-requires-clause-over : goal.are_apart-requires-clause-over
-are_apart-requires-clause-over c = subst (λ v. AreOver v c.read_images.new.self.images) (sym c.requires.may.ready.names) (over-read _ _ _ _ c.requires.may c.args.cited.now c.requires.cited c.read_images.new.self.images (let h = c.if-count-len.false in omega (arith, h, c.len.ensures)) (reads-as _ true _ _ _ _ (ap is_some c.in-Some.is) c.in_ok-front.ensures.read))
+pub are_disjoint-requires-clause-over : goal.are_disjoint-requires-clause-over
+are_disjoint-requires-clause-over c = subst (λ v. AreOver v c.read_images.new.self.images) (sym c.requires.may.ready.names) (over-read _ _ _ _ c.requires.may c.args.cited.now c.requires.cited c.read_images.new.self.images (let h = c.if-count-len.false in omega (arith, h, c.len.ensures)) (reads-as _ true _ _ _ _ (ap is_some c.in-Some.is) c.in_ok-front.ensures.read))
 
 pub returns-then-count-len-clause-goes : goal.returns-then-count-len-clause-goes
 returns-then-count-len-clause-goes c =
@@ -49,17 +49,32 @@ returns-then-not-fits-clause-goes c =
     not-cited _ _ _ _ c.requires.may c.args.cited.now c.requires.cited c.read_images.new.self.results
     (λ f m. (let e = (fit-as _ _ _ _ _ _ _ (ap (λ (v : Results ℕ). v.stack) c.in_ok-front.ensures.same) c.fits.ensures).1 (m.fits c.read_images.new.self.images (reads-as _ true _ _ _ _ (ap is_some c.in-Some.is) c.in_ok-front.ensures.read)) in let t = c.if-not-fits.true in cc))
 
-pub returns-then-not-are_apart-clause-goes : goal.returns-then-not-are_apart-clause-goes
-returns-then-not-are_apart-clause-goes c =
-    not-cited _ _ _ _ c.requires.may c.args.cited.now c.requires.cited c.read_images.new.self.results
-    (λ f m. (let e : true ≡ false = sym (m.apart c.read_images.new.self.images (reads-as _ true _ _ _ _ (ap is_some c.in-Some.is) c.in_ok-front.ensures.read)) ∙ apart-by _ _ _ _ _ c.read_images.new.self.images c.args.cited.now.groups _ c.requires.may.ready.active c.requires.may.ready.names c.are_apart.ensures.apart c.if-not-are_apart.true in cc))
+pub returns-then-not-branch-clause-goes : goal.returns-then-not-branch-clause-goes
+returns-then-not-branch-clause-goes c =
+    not-cited _ _ _ _ c.requires.may c.args.cited.now c.requires.cited c.are_disjoint.new.self.results
+    (λ f m. (let e : true ≡ false = sym (m.apart c.read_images.new.self.images (reads-as _ true _ _ _ _ (ap is_some c.in-Some.is) c.in_ok-front.ensures.read)) ∙ apart-by _ _ _ _ _ c.read_images.new.self.images c.args.cited.now.groups _ c.requires.may.ready.active c.requires.may.ready.names c.in_ok-are_disjoint.ensures.disjoint c.if-not-branch.true in cc))
 
 pub returns-clause-goes : goal.returns-clause-goes
 returns-clause-goes c =
     IfOk-weaker c.apply.result _ _
     (λ ok adds. has-cited _ _ _ _ c.requires.may c.args.cited.now c.requires.cited ok _ c.read_images.new.self.images (let h = c.if-count-len.false in omega (arith, h, c.len.ensures)) (reads-as _ true _ _ _ _ (ap is_some c.in-Some.is) c.in_ok-front.ensures.read) ((fit-as _ _ _ _ _ _ _ (ap (λ (v : Results ℕ). v.stack) c.in_ok-front.ensures.same) c.fits.ensures).0 c.if-not-fits.false)
-    (apart-by _ _ _ _ _ c.read_images.new.self.images c.args.cited.now.groups _ c.requires.may.ready.active c.requires.may.ready.names c.are_apart.ensures.apart c.if-not-are_apart.false)
-    (adds-as ok c.read_images.new.self.results _ _ _ _ _ c.in_ok-front.ensures.same c.len-count.ensures adds)) c.apply.ensures
+    (apart-by _ _ _ _ _ c.read_images.new.self.images c.args.cited.now.groups _ c.requires.may.ready.active c.requires.may.ready.names c.in_ok-are_disjoint.ensures.disjoint c.if-not-branch.false)
+    (adds-as ok c.read_images.new.self.results _ _ _ _ _ c.in_ok-front.ensures.same c.len-count.ensures adds)) (rw c.are_disjoint.ensures.same at c.apply.ensures.adds)
 
-pub are_apart-requires-clause-below : goal.are_apart-requires-clause-below
-are_apart-requires-clause-below c = subst (λ ns. AllBelow (length ns) c.args.cited.now.groups) (sym c.requires.may.ready.names) (c.requires.cited c.requires.may.assertion.0 c.requires.may.assertion.1.0).groups_below
+pub are_disjoint-requires-clause-below : goal.are_disjoint-requires-clause-below
+are_disjoint-requires-clause-below c = subst (λ ns. AllBelow (length ns) c.args.cited.now.groups) (sym c.requires.may.ready.names) (c.requires.cited c.requires.may.assertion.0 c.requires.may.assertion.1.0).groups_below
+
+pub are_disjoint-requires-clause-about : goal.are_disjoint-requires-clause-about
+are_disjoint-requires-clause-about c = c.read_images.ensures.about ∙ c.requires.may.ready.same
+
+pub are_disjoint-requires-clause-distinct : goal.are_disjoint-requires-clause-distinct
+are_disjoint-requires-clause-distinct c = subst AreDistinct (sym c.requires.may.ready.names) c.requires.may.ready.legal.distinct
+
+pub apply-requires-clause-about : goal.apply-requires-clause-about
+apply-requires-clause-about c = rw c.are_disjoint.ensures.same (c.read_images.ensures.about ∙ c.requires.may.ready.same)
+
+pub apply-requires-clause-over : goal.apply-requires-clause-over
+apply-requires-clause-over c = rw c.are_disjoint.ensures.same (subst (λ v. AreOver v c.read_images.new.self.images) (sym c.requires.may.ready.names) (over-read _ _ _ _ c.requires.may c.args.cited.now c.requires.cited c.read_images.new.self.images (let h = c.if-count-len.false in omega (arith, h, c.len.ensures)) (reads-as _ true _ _ _ _ (ap is_some c.in-Some.is) c.in_ok-front.ensures.read)))
+
+pub apply-requires-clause-below : goal.apply-requires-clause-below
+apply-requires-clause-below c = subst (λ ns. AreBelow (length ns) c.args.cited.now.conclusion.now) (sym c.requires.may.ready.names) (c.requires.cited c.requires.may.assertion.0 c.requires.may.assertion.1.0).conclusion_below

@@ -1,4 +1,4 @@
-use Rattle.verify.proofs.Words.{◌≡◌, ℕ, ◌+◌, ◌∙◌, ap, arith, List, sym, subst, ExpressionPlace, Some, Float, Essential, AreWithin, AreInside, IsMistyped, ReadTo, AreFront}
+use Rattle.verify.proofs.Words.{◌≡◌, ℕ, ◌+◌, ◌∙◌, ap, arith, List, sym, subst, SymbolRange, Some, Float, Essential, AreWithin, AreInside, IsMistyped, ReadTo, AreFront}
 use Rattle.std.specs.Prelude.{IfSome, MatchOption}
 use Rattle.verify.proofs.ReadImageLemmas.{float-next, front-next, other-next, read-whole, mistyped, place-at, place-within}
 use Rattle.verify.proofs.results.read_off.Goals.{in-Float+in_ok-read_more+else-not-branch, in_default-get}
@@ -24,7 +24,7 @@ returns-then-not-branch-clause-inside c n w = c.read_more.ensures.inside n (plac
 
 pub loop-k-preserved : goal.loop-k-preserved
 loop-k-preserved c =
-    let P : ℕ → List (ℕ × ExpressionPlace) → Type 0 = λ n v. ReadTo n c.args.symbols.now c.args.heads.now c.args.hypotheses.now c.args.places.now v × ((m : ℕ) → AreWithin m c.args.places.now → AreInside m v) in
+    let P : ℕ → List (ℕ × SymbolRange) → Type 0 = λ n v. ReadTo n c.args.symbols.now c.args.heads.now c.args.hypotheses.now c.args.places.now v × ((m : ℕ) → AreWithin m c.args.places.now → AreInside m v) in
     elim c.match-get.branch [
       | in-Float+in_ok-read_more+else-not-branch w ↦
           let float = c.get.ensures ∙ ap Some w.in-Float.is in

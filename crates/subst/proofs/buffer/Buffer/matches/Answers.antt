@@ -1,5 +1,5 @@
 use Rattle.subst.proofs.Words.{◌≡◌, ℕ, List, ◌++◌, drop, sym, ◌∙◌, ap, take-append-drop, code_apply, images_at, seen_at}
-use Rattle.subst.proofs.ExpressionPlaceLemmas.{seen-more}
+use Rattle.subst.proofs.SymbolRangeLemmas.{seen-more}
 use Rattle.subst.proofs.MatchLemmas.{apply-more}
 use Rattle.subst.proofs.buffer.Buffer.matches.Goals as goal
 

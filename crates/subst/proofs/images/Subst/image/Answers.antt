@@ -1,5 +1,5 @@
 use Rattle.subst.proofs.Words.{length, arith, sym, ◌∙◌, ap, CodeImages, code_image, seen_at}
-use Rattle.subst.proofs.ImagePlacesLemmas.{image-some, image-none}
+use Rattle.subst.proofs.ImageRangesLemmas.{image-some, image-none}
 use Rattle.subst.proofs.images.Subst.image.Goals as goal
 
 pub symbols_at-requires : goal.symbols_at-requires

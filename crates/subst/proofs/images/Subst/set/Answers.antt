@@ -1,6 +1,6 @@
 use Rattle.subst.proofs.Words.{◌++◌, length, nat_eq, cond, refl, ◌∙◌, ap, CodeImages, code_image, images_at}
-use Rattle.subst.proofs.ExpressionPlaceLemmas.{seen-last}
-use Rattle.subst.proofs.ImagePlacesLemmas.{image-set}
+use Rattle.subst.proofs.SymbolRangeLemmas.{seen-last}
+use Rattle.subst.proofs.ImageRangesLemmas.{image-set}
 use Rattle.subst.proofs.images.Subst.set.Goals as goal
 
 pub returns-in-Ok-clause-ok : goal.returns-in-Ok-clause-ok

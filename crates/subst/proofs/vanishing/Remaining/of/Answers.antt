@@ -1,7 +1,7 @@
 use Rattle.std.proofs.Common.{◌≡◌, ap, slice_get, ◌∙◌}
 use Rattle.std.specs.List.{filter_map}
 use Rattle.frame.specs.Substitution.{code_apply}
-use Rattle.subst.specs.ExpressionPlaces.{images_at}
+use Rattle.subst.specs.SymbolRanges.{images_at}
 use Rattle.subst.specs.Vanishing.{remaining}
 use Rattle.subst.proofs.VanishingLemmas.{apply-remaining, remaining-read}
 use Rattle.subst.proofs.vanishing.Remaining.of.Goals as goal

@@ -1,21 +1,47 @@
-use Rattle.std.proofs.Common.{arith, refl, ◌∙◌}
-use Rattle.verify.proofs.ResultPlaceLemmas.{grown-kept, new-place, pushed-kept, added-seen}
+use Rattle.verify.proofs.Words.{arith, refl, ap, ◌∙◌, seen-last}
+use Rattle.verify.proofs.ResultPlaceLemmas.{grown-kept, new-place, noted-more, pushed-kept, added-seen}
 use Rattle.verify.proofs.results.Results.add.Goals as goal
 
+pub note_expr-requires-clause-about : goal.note_expr-requires-clause-about
+note_expr-requires-clause-about c = ap (λ v. v.about) c.self.view_is ∙ c.requires.about
+
+pub note_expr-requires-clause-over : goal.note_expr-requires-clause-over
+note_expr-requires-clause-over c = noted-more _ _ _ _ c.self.invariant.noted c.in_ok-extend.ensures.added
+
+pub note_expr-requires-clause-place : goal.note_expr-requires-clause-place
+note_expr-requires-clause-place c = new-place c.self.inside.symbols c.args.expr.now _ c.place_between-place.result c.in_ok-extend.ensures.added (c.place_between-place.ensures.0 ∙ c.len-start.ensures.len) (c.place_between-place.ensures.1 ∙ c.len.ensures.len)
+
+pub note_expr-requires-clause-whole : goal.note_expr-requires-clause-whole
+note_expr-requires-clause-whole c = seen-last c.self.inside.symbols c.args.expr.now _ c.place_between-place.result c.in_ok-extend.ensures.added (c.place_between-place.ensures.0 ∙ c.len-start.ensures.len) (c.place_between-place.ensures.1 ∙ c.len.ensures.len)
+
+pub invariant_of-self-in_err-note_expr : goal.invariant_of-self-in_err-note_expr
+invariant_of-self-in_err-note_expr c = record {
+  kept =
+      grown-kept c.self.inside.symbols c.args.expr.now _ c.self.inside.images c.self.inside.stack.items c.self.inside.saved.items c.self.inside.weight _ c.self.invariant.kept
+      c.in_ok-extend.ensures.added refl (let h = c.if-expr-self.false in let l = c.self.invariant.kept.light in omega (arith, h, l));
+  noted = c.note_expr.ensures.over;
+}
+
 pub invariant_of-self-in_err-push : goal.invariant_of-self-in_err-push
-invariant_of-self-in_err-push c =
-    rw c.in_err-push.ensures.items (grown-kept c.self.inside.symbols c.args.expr.now _ c.self.inside.images c.self.inside.stack.items c.self.inside.saved.items c.self.inside.weight _ c.self.invariant
-    c.in_ok-extend.ensures.added refl (let h = c.if-expr-self.false in let l = c.self.invariant.light in omega (arith, h, l)))
+invariant_of-self-in_err-push c = record {
+  kept =
+      rw c.in_err-push.ensures.items (grown-kept c.self.inside.symbols c.args.expr.now _ c.self.inside.images c.self.inside.stack.items c.self.inside.saved.items c.self.inside.weight _ c.self.invariant.kept
+      c.in_ok-extend.ensures.added refl (let h = c.if-expr-self.false in let l = c.self.invariant.kept.light in omega (arith, h, l)));
+  noted = c.note_expr.ensures.over;
+}
 
 pub invariant_of-self-2 : goal.invariant_of-self-2
-invariant_of-self-2 c =
-    pushed-kept _ c.self.inside.images c.self.inside.stack.items c.self.inside.saved.items _ _ c.place_between-place.result
-    (grown-kept c.self.inside.symbols c.args.expr.now _ c.self.inside.images c.self.inside.stack.items c.self.inside.saved.items c.self.inside.weight _ c.self.invariant
-    c.in_ok-extend.ensures.added refl (let h = c.if-expr-self.false in let l = c.self.invariant.light in omega (arith, h, l)))
-    (new-place c.self.inside.symbols c.args.expr.now _ c.place_between-place.result c.in_ok-extend.ensures.added (c.place_between-place.ensures.0 ∙ c.len-start.ensures.len) (c.place_between-place.ensures.1 ∙ c.len.ensures.len))
-    c.in_ok-push.ensures.items
+invariant_of-self-2 c = record {
+  kept =
+      pushed-kept _ c.self.inside.images c.self.inside.stack.items c.self.inside.saved.items _ _ c.place_between-place.result
+      (grown-kept c.self.inside.symbols c.args.expr.now _ c.self.inside.images c.self.inside.stack.items c.self.inside.saved.items c.self.inside.weight _ c.self.invariant.kept
+      c.in_ok-extend.ensures.added refl (let h = c.if-expr-self.false in let l = c.self.invariant.kept.light in omega (arith, h, l)))
+      (new-place c.self.inside.symbols c.args.expr.now _ c.place_between-place.result c.in_ok-extend.ensures.added (c.place_between-place.ensures.0 ∙ c.len-start.ensures.len) (c.place_between-place.ensures.1 ∙ c.len.ensures.len))
+      c.in_ok-push.ensures.items;
+  noted = c.note_expr.ensures.over;
+}
 
-pub returns : goal.returns
-returns c =
+pub returns-clause-adds : goal.returns-clause-adds
+returns-clause-adds c =
     rw (← c.self.view_is) (added-seen c.self.inside.symbols c.args.expr.now _ c.self.inside.stack.items c.self.inside.stack.items c.self.inside.saved.items _ c.self.inside.weight _ c.place_between-place.result
-    c.self.invariant.saved_within c.self.invariant.stack_within c.in_ok-extend.ensures.added (c.place_between-place.ensures.0 ∙ c.len-start.ensures.len) (c.place_between-place.ensures.1 ∙ c.len.ensures.len) c.in_ok-push.ensures.items refl)
+    c.self.invariant.kept.saved_within c.self.invariant.kept.stack_within c.in_ok-extend.ensures.added (c.place_between-place.ensures.0 ∙ c.len-start.ensures.len) (c.place_between-place.ensures.1 ∙ c.len.ensures.len) c.in_ok-push.ensures.items refl)

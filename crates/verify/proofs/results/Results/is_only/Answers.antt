@@ -1,7 +1,7 @@
-use Rattle.verify.proofs.Words.{◌≡◌, ℕ, ◌↔◌, ◌∷◌, [], List, length, map, get_or, IsTrue, Bool, arith, sym, ap, ◌∙◌, seen_at, ExpressionPlace, bytes_eq, bytes_eq-Decides}
+use Rattle.verify.proofs.Words.{◌≡◌, ℕ, ◌↔◌, ◌∷◌, [], List, length, map, get_or, IsTrue, Bool, arith, sym, ap, ◌∙◌, seen_at, SymbolRange, bytes_eq, bytes_eq-Decides}
 use Rattle.verify.proofs.results.Results.is_only.Goals as goal
 
-only_iff : (xs ds r e : List ℕ) (stack : List ExpressionPlace) (all : List (List ℕ)) (p : ExpressionPlace) (b : Bool) → length stack ≡ 1 → p ≡ get_or stack 0 p → r ≡ seen_at ds p → ds ≡ xs → map (seen_at xs) stack ≡ all → b ≡ bytes_eq r e
+only_iff : (xs ds r e : List ℕ) (stack : List SymbolRange) (all : List (List ℕ)) (p : SymbolRange) (b : Bool) → length stack ≡ 1 → p ≡ get_or stack 0 p → r ≡ seen_at ds p → ds ≡ xs → map (seen_at xs) stack ≡ all → b ≡ bytes_eq r e
     → IsTrue b ↔ (all ≡ e ∷ [])
 only_iff xs ds r e [] all p b l at q d v t = absurd (omega (arith, l))
 only_iff xs ds r e (x ∷ y ∷ stack) all p b l at q d v t = absurd (omega (arith, l))

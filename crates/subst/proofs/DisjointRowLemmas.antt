@@ -1,0 +1,124 @@
+-- Variables that were found to be disjoint.
+use Rattle.subst.proofs.Words.{◌≡◌, ℕ, ◌+◌, ◌*◌, ◌^◌, ◌<◌, ◌≤◌, ◌⊎◌, true, List, [], ◌∷◌, ◌++◌, length, get_or, slice_set, bit_at, bit_and, bit_not, bit_or, w64, sym, ◌∙◌, ap, subst, arith, inl, inr, cases_eq, cases_lt, get_or_append_left, get_or_push, get_or-set_same, get_or-set_other, length-set, length_push, Numbered}
+use Rattle.subst.proofs.Words.{PlaceWord, HasBit, HasPlace, no_word, RowWord, no_row, IsRowAt, HasFact, IsFact, AreFacts, NotesWord, TellsWord, TellsAll, TellsEach, Places, is_kept, Grows, IsAmong}
+use Rattle.subst.proofs.BitsLemmas.{zero-none, or-either, and-left, and-rest, IsTaken}
+use Rattle.subst.proofs.VariablePlaceLemmas.{kept-grown, place-grown, among-more}
+
+pub facts-none : (v : Numbered) (f : Places) → AreFacts v f []
+facts-none v f = record { each = λ p q h. (let low = h.there in absurd (omega (arith, low))) }
+
+pub fact-grown : (v : Numbered) (f g : Places) (p q : ℕ) → Grows f g → IsFact v f p q → IsFact v g p q
+fact-grown v f g p q grows h = record { row = (place-grown f g p grows h.row).there; place = (place-grown f g q grows h.place).there; kept = kept-grown v f g p q grows h.row h.place ∙ h.kept }
+
+pub facts-grown : (v : Numbered) (f g : Places) (ws : List RowWord) → Grows f g → AreFacts v f ws → AreFacts v g ws
+facts-grown v f g ws grows facts = record { each = λ p q h. fact-grown v f g p q grows (facts.each p q h) }
+
+-- a bit of the row that was found
+pub row-fact : (ws : List RowWord) (p index k b : ℕ) → IsRowAt ws p index k → bit_at (get_or ws k no_row).bits b ≡ 1 → HasFact ws p (64 * index + b)
+row-fact ws p index k b at set = record { word = k; there = at.there; row = at.place_same; bit = b; place = ap (λ n. 64 * n + b) (sym at.index_same); set = set }
+
+-- a row more
+module _ (ws : List RowWord) (p : ℕ) (w : PlaceWord) where
+  abbrev new_row : RowWord
+  new_row = record { place = p; index = w.index; bits = w.bits }
+
+  pushed-fact : (r q : ℕ) → HasFact (ws ++ new_row ∷ []) r q → HasFact ws r q ⊎ ((r ≡ p) × HasBit w q)
+  pushed-fact r q h =
+      let low = h.there in
+      elim (cases_lt h.word (length ws)) [
+        | inl before ↦
+            let e = get_or_append_left ws (new_row ∷ []) no_row h.word before in
+            inl (record { word = h.word; there = before; row = ap (λ (u : RowWord). u.place) (sym e) ∙ h.row; bit = h.bit; place = h.place ∙ ap (λ (u : RowWord). 64 * u.index + h.bit) e; set = ap (λ (u : RowWord). bit_at u.bits h.bit) (sym e) ∙ h.set })
+        | inr last ↦
+            let e = get_or_push ws new_row no_row h.word (omega (arith, low, last, length_push ws new_row)) in
+            inr (sym h.row ∙ ap (λ (u : RowWord). u.place) e, record { bit = h.bit; place = h.place ∙ ap (λ (u : RowWord). 64 * u.index + h.bit) e; set = ap (λ (u : RowWord). bit_at u.bits h.bit) (sym e) ∙ h.set })
+      ]
+
+  pub notes-pushed : NotesWord ws (ws ++ (record { place = p; index = w.index; bits = w.bits }) ∷ []) p w
+  notes-pushed = record { only = pushed-fact }
+
+-- more bits in the row that was found
+module _ (ws : List RowWord) (p k bits : ℕ) (w : PlaceWord) (at : IsRowAt ws p w.index k) (own : (get_or ws k no_row).bits ≡ bits) where
+  abbrev longer : RowWord
+  longer = record { place = p; index = w.index; bits = bit_or bits w.bits }
+
+  set-fact : (r q : ℕ) → HasFact (slice_set ws k longer) r q → HasFact ws r q ⊎ ((r ≡ p) × HasBit w q)
+  set-fact r q h =
+      let low = h.there in
+      elim (cases_eq h.word k) [
+        | inl same ↦
+            let e = ap (λ n. get_or (slice_set ws k longer) n no_row) same ∙ get_or-set_same ws k longer no_row at.there in
+            let first = ap (λ (u : RowWord). u.place) (sym e) ∙ h.row in
+            let place = h.place ∙ ap (λ (u : RowWord). 64 * u.index + h.bit) e in
+            elim (or-either bits w.bits h.bit (ap (λ (u : RowWord). bit_at u.bits h.bit) (sym e) ∙ h.set)) [
+              | inl old ↦ inl (record { word = k; there = at.there; row = at.place_same ∙ first; bit = h.bit; place = place ∙ ap (λ n. 64 * n + h.bit) (sym at.index_same); set = ap (λ n. bit_at n h.bit) own ∙ old })
+              | inr new ↦ inr (sym first, record { bit = h.bit; place = place; set = new })
+            ]
+        | inr other ↦
+            let e = get_or-set_other ws k h.word longer no_row other in
+            inl (record { word = h.word; there = omega (arith, low, length-set ws k longer); row = ap (λ (u : RowWord). u.place) (sym e) ∙ h.row; bit = h.bit; place = h.place ∙ ap (λ (u : RowWord). 64 * u.index + h.bit) e; set = ap (λ (u : RowWord). bit_at u.bits h.bit) (sym e) ∙ h.set })
+      ]
+
+  pub notes-set : NotesWord ws (slice_set ws k (record { place = p; index = w.index; bits = bit_or bits w.bits })) p w
+  notes-set = record { only = set-fact }
+
+pub notes-nothing : (ws : List RowWord) (p : ℕ) (w : PlaceWord) → NotesWord ws ws p w
+notes-nothing ws p w = record { only = λ r q h. inl h }
+
+pub facts-noted : (v : Numbered) (f : Places) (old new : List RowWord) (p : ℕ) (w : PlaceWord) → AreFacts v f old → NotesWord old new p w → ((q : ℕ) → HasBit w q → IsFact v f p q) → AreFacts v f new
+facts-noted v f old new p w facts notes own = record {
+  each = λ r q h. elim (notes.only r q h) [ inl before ↦ facts.each r q before | inr now ↦ subst (λ n. IsFact v f n q) (sym now.0) (own q now.1) ];
+}
+
+-- ---- the words of a set, one after another
+
+-- the variable is disjoint from those of the first n words
+pub record AreToldFirst (v : Numbered) (f : Places) (p : ℕ) (ws : List PlaceWord) (n : ℕ) : Type 0 where
+  pub each : (k q : ℕ) → k < n → HasBit (get_or ws k no_word) q → is_kept v f p q ≡ true
+
+pub told-none : (v : Numbered) (f : Places) (p : ℕ) (ws : List PlaceWord) → AreToldFirst v f p ws 0
+told-none v f p ws = record { each = λ k q h b. absurd (omega (arith, h)) }
+
+pub told-more : (v : Numbered) (f : Places) (p : ℕ) (ws : List PlaceWord) (n : ℕ) → AreToldFirst v f p ws n → TellsWord v f p (get_or ws n no_word) true → AreToldFirst v f p ws (n + 1)
+told-more v f p ws n first next = record {
+  each = λ k q h b. elim (cases_eq k n) [ inl same ↦ next q (subst (λ m. HasBit (get_or ws m no_word) q) same b) | inr other ↦ first.each k q (omega (arith, h, other)) b ];
+}
+
+pub told-all : (v : Numbered) (f : Places) (p : ℕ) (ws : List PlaceWord) (n : ℕ) → length ws ≤ n → AreToldFirst v f p ws n → TellsAll v f p ws true
+told-all v f p ws n long told = λ q h. (let low = h.there in told.each h.word q (omega (arith, long, low)) h.has)
+
+-- what is not noted of a word was asked for, or nothing is left
+pub told-word : (v : Numbered) (f : Places) (rows : List RowWord) (p : ℕ) (w : PlaceWord) (known : ℕ) → w.bits < 2 ^ 64 → known < 2 ^ 64 → AreFacts v f rows → ((b : ℕ) → bit_at known b ≡ 1 → HasFact rows p (64 * w.index + b))
+    → TellsWord v f p (record { index = w.index; bits = bit_and w.bits (bit_not w64 known) }) true → TellsWord v f p w true
+told-word v f rows p w known fits other facts noted asked = λ q h. elim (and-rest w.bits known h.bit fits other h.set) [
+  | inl old ↦ rw h.place (facts.each p _ (noted h.bit old)).kept
+  | inr rest ↦ asked q (record { bit = h.bit; place = h.place; set = rest })
+]
+
+pub missing-bit : (w : PlaceWord) (known q : ℕ) → HasBit (record { index = w.index; bits = bit_and w.bits (bit_not w64 known) }) q → HasBit w q
+missing-bit w known q h = record { bit = h.bit; place = h.place; set = and-left w.bits (bit_not w64 known) h.bit h.set }
+
+-- ---- the places of a list
+
+pub record AreTold (v : Numbered) (f : Places) (places : List ℕ) (ws : List PlaceWord) (n : ℕ) : Type 0 where
+  pub each : (p q : ℕ) → IsAmong n places p → HasPlace ws q → is_kept v f p q ≡ true
+
+pub are_told-none : (v : Numbered) (f : Places) (places : List ℕ) (ws : List PlaceWord) → AreTold v f places ws 0
+are_told-none v f places ws = record { each = λ p q h b. absurd (omega (arith, h.1)) }
+
+pub are_told-more : (v : Numbered) (f : Places) (places : List ℕ) (ws : List PlaceWord) (n : ℕ) → AreTold v f places ws n → TellsAll v f (get_or places n 0) ws true → AreTold v f places ws (n + 1)
+are_told-more v f places ws n first next = record {
+  each = λ p q h b. elim (among-more n places p h) [ inl before ↦ first.each p q before b | inr last ↦ subst (λ m. is_kept v f m q ≡ true) last (next q b) ];
+}
+
+pub are_told-all : (v : Numbered) (f : Places) (places : List ℕ) (ws : List PlaceWord) (n : ℕ) → length places ≤ n → AreTold v f places ws n → TellsEach v f places ws true
+are_told-all v f places ws n long told = λ p q h b. told.each p q (h.0, (let low = h.1 in omega (arith, low, long)), h.2) b
+
+-- the places of a word that were asked for one after another
+pub asked-facts : (v : Numbered) (f : Places) (old new : List RowWord) (p rest : ℕ) (w : PlaceWord) → AreFacts v f old → NotesWord old new p w → p < length f.variables → ((b : ℕ) → bit_at w.bits b ≡ 1 → 64 * w.index + b < length f.variables)
+    → IsTaken (λ b. is_kept v f p (64 * w.index + b) ≡ true) w.bits rest → rest ≡ 0 → AreFacts v f new
+asked-facts v f old new p rest w facts notes row below taken none = facts-noted v f old new p w facts notes (λ q h. (let place = h.place in let low = below h.bit h.set in record {
+  row = row;
+  place = omega (arith, place, low);
+  kept = elim (taken.done h.bit h.set) [ inl left ↦ absurd (zero-none h.bit (rw none at left)) | inr one ↦ rw place one ];
+}))

@@ -1,0 +1,222 @@
+-- The images of each two numbers of a group, each held against those before it.
+use Rattle.subst.proofs.Words.{◌≡◌, ℕ, zero, suc, ◌+◌, ◌<◌, ◌≤◌, Bool, true, false, not, ◌||◌, ◌&&◌, ◌==◌, List, [], ◌∷◌, length, map, take, drop, get_or, slice_get, slice_range, Some, refl, list_all, list_any, position_or_len, sym, ◌∙◌, ap, subst, arith, inl, inr, true≢false, lt-ltb, and_from, and_parts, or_right, cases_eq, or_cases, or_left, cases_Bool, false_from_ne_true, list_all-map, list_all_at, list_all_more, list_any_at, get_or-take, get_or_default, length-take, eqb-true, last_part}
+use Rattle.subst.proofs.Words.{Name, name_eq, has_name, Expr, Database, name_at, decode, AreDistinct, name_same, same_name, name_eq-comm, is_pair, groups, Numbered, CodeImages, code_image, image, images_of_names, are_apart, is_group_apart, are_groups_apart, AreBelow, AllBelow, image_named, are_two_apart, is_number_apart, are_numbers_apart, pair_at, apart-from}
+use Rattle.subst.proofs.Words.{Places, ArePlaced, ArePlacesOf, HasVariable, IsAmong, HasPlace, PlaceWord, PlaceRange, IsIn, IsRangeOf, AddsPlaces, TellsEach}
+use Rattle.std.proofs.lemmas.Option.{get_or_from_slice_get, slice_get-get_or, slice_get_within}
+use Rattle.std.proofs.lemmas.List.Folds.{Any-from_list_any}
+use Rattle.std.proofs.Math.Bool.{and_comm}
+use Rattle.subst.proofs.BitsLemmas.{differ}
+use Rattle.subst.proofs.VariablePlaceLemmas.{grows-own, has-more, places-same, at-variable}
+use Rattle.subst.proofs.ImageVariableLemmas.{in-listed, listed-in}
+use Rattle.subst.proofs.GoodLemmas.{is_good, at-names, apart-from_good, good-at, all-at, at-all}
+use Rattle.subst.proofs.SubstitutionLemmas.{place-of, image-decode}
+
+-- ---- lists
+
+pub below-drop : (n i : ℕ) (xs : List ℕ) → AreBelow n xs → AreBelow n (drop i xs)
+below-drop n zero xs b = b
+below-drop n (suc i) [] b = tt
+below-drop n (suc i) (x ∷ xs) b = below-drop n i xs b.1
+
+pub below-group : (n : ℕ) (groups : List (List ℕ)) (i : ℕ) (g : List ℕ) → AllBelow n groups → slice_get groups i ≡ Some g → AreBelow n g
+below-group n [] i g b h = absurd (cc)
+below-group n (f ∷ groups) zero g b h = let e : f ≡ g = cc in subst (AreBelow n) e b.0
+below-group n (f ∷ groups) (suc i) g b h = below-group n groups i g b.1 h
+
+-- numbers that are each below a bound
+pub below-from : (n : ℕ) (xs : List ℕ) → ((x : ℕ) → IsAmong (length xs) xs x → x < n) → AreBelow n xs
+below-from n [] h = tt
+below-from n (x ∷ xs) h = (h x (0, omega arith, refl), below-from n xs (λ y p. h y (suc p.0, omega (arith, p.1), p.2)))
+
+-- a group that is not apart, and one more that is
+pub group-stops : (p : List ℕ → Bool) (groups : List (List ℕ)) (i : ℕ) (g : List ℕ) → slice_get groups i ≡ Some g → p g ≡ false → list_all p groups ≡ false
+group-stops p groups i g h e =
+    list_all_at p groups i [] (slice_get_within groups i g h) (ap p (get_or_from_slice_get groups i g [] h) ∙ e)
+
+pub group-goes_on : (p : List ℕ → Bool) (groups : List (List ℕ)) (i : ℕ) (g : List ℕ) → slice_get groups i ≡ Some g → list_all p (take i groups) ≡ true → p g ≡ true → list_all p (take (i + 1) groups) ≡ true
+group-goes_on p groups i g h before here =
+    list_all_more p groups i [] (slice_get_within groups i g h) ∙ and_from _ _ before (ap p (get_or_from_slice_get groups i g [] h) ∙ here)
+
+-- a group that is equal to the one before it
+pub group-repeated : (p : List ℕ → Bool) (groups : List (List ℕ)) (i j : ℕ) → i ≡ j + 1 → i < length groups → slice_get groups i ≡ slice_get groups j → list_all p (take i groups) ≡ true → list_all p (take (i + 1) groups) ≡ true
+group-repeated p groups i j next less same before =
+    let within : j < length groups = omega (arith, next, less) in
+    let here : p (get_or groups j []) ≡ true = (and_parts _ _ (sym (list_all_more p groups j [] within) ∙ (ap (λ n. list_all p (take n groups)) (sym next) ∙ before))).1 in
+    let equal : get_or groups i [] ≡ get_or groups j [] = get_or_from_slice_get groups i (get_or groups j []) [] (same ∙ slice_get-get_or groups j [] within) in
+    list_all_more p groups i [] less ∙ and_from _ _ before (ap p equal ∙ here)
+
+any-same : {A : Type 0} (p q : A → Bool) (xs : List A) → ((x : A) → p x ≡ q x) → list_any p xs ≡ list_any q xs
+any-same p q [] h = refl
+any-same p q (x ∷ xs) h = ap (λ b. b || list_any p xs) (h x) ∙ ap (λ b. q x || b) (any-same p q xs h)
+
+-- ---- the pair clause has no order
+
+pair-swap : (D : Database) (x y : Name) → is_pair D x y ≡ is_pair D y x
+pair-swap D x y =
+    ap (λ b. not b && list_any (λ names. has_name x names && has_name y names) (groups D)) (name_eq-comm x y)
+    ∙ ap (λ b. not (name_eq y x) && b) (any-same (λ names. has_name x names && has_name y names) (λ names. has_name y names && has_name x names) (groups D) (λ names. and_comm (has_name x names) (has_name y names)))
+
+apart-swap : (D : Database) (e f : Expr) → are_apart D e f ≡ true → are_apart D f e ≡ true
+apart-swap D e f h = apart-from D f e (λ u v p q in_f in_e. pair-swap D u v ∙ pair_at D e f h v u q p in_e in_f)
+
+eq-swap : (i j : ℕ) → (i == j) ≡ (j == i)
+eq-swap i j = grind arith
+
+eq-own : (j : ℕ) → (j == j) ≡ true
+eq-own j = grind arith
+
+module _ (D : Database) (image_of : ℕ → Expr) where
+  two-swap : (k l : ℕ) → are_two_apart D image_of k l ≡ true → are_two_apart D image_of l k ≡ true
+  two-swap k l h = elim (or_cases (k == l) (are_apart D (image_of k) (image_of l)) h) [
+    | inl same ↦ or_left (l == k) _ (eq-swap l k ∙ same)
+    | inr apart ↦ or_right (l == k) _ (apart-swap D (image_of k) (image_of l) apart)
+  ]
+
+-- ---- each held against those before it
+
+module _ (D : Database) (image_of : ℕ → Expr) (group : List ℕ) where
+  abbrev two : ℕ → ℕ → Bool
+  two a b = are_two_apart D image_of (get_or group a 0) (get_or group b 0)
+
+  -- the images of each two of the first n numbers are apart
+  pub record ArePairwise (n : ℕ) : Type 0 where
+    pub each : (a b : ℕ) → a < n → b < n → two a b ≡ true
+
+  pub pairwise-more : (n : ℕ) → ArePairwise n → ((a : ℕ) → a < n → two a n ≡ true) → ArePairwise (n + 1)
+  pairwise-more n front next = record {
+    each = λ a b h l. elim (cases_eq a n) [
+      | inl one ↦ elim (cases_eq b n) [
+        | inl same ↦ rw (one, same, eq-own (get_or group n 0)) refl
+        | inr other ↦ rw one (two-swap D image_of (get_or group b 0) (get_or group n 0) (next b (omega (arith, l, other))))
+      ]
+      | inr before ↦ elim (cases_eq b n) [ inl same ↦ rw same (next a (omega (arith, h, before))) | inr other ↦ front.each a b (omega (arith, h, before)) (omega (arith, l, other)) ]
+    ];
+  }
+
+  pub pairwise-end : (n : ℕ) → length group ≤ n → ArePairwise n → are_numbers_apart D image_of group ≡ true
+  pairwise-end n long all =
+      all-at (is_number_apart D image_of group) group
+      (λ a h. all-at (are_two_apart D image_of (get_or group a 0)) group (λ b l. all.each a b (omega (arith, h, long)) (omega (arith, l, long))))
+
+-- x stands in one of the images of the first n numbers
+abbrev pub IsInImages : CodeImages → List ℕ → ℕ → ℕ → Type 0
+IsInImages σ group n x = (a : ℕ) × (a < n) × IsAmong (length (code_image σ (get_or group a 0))) (code_image σ (get_or group a 0)) x
+
+module _ (v : Numbered) (f : Places) (placed : ArePlaced v f) (σ : CodeImages) (group : List ℕ) (n : ℕ) (places : List ℕ) (r : PlaceRange) (set : List PlaceWord)
+    (first : ArePlacesOf v f (HasPlace set) (IsInImages σ group n)) (own : IsRangeOf v f places r (code_image σ (get_or group n 0))) where
+  abbrev image_at : ℕ → List ℕ
+  image_at a = code_image σ (get_or group a 0)
+
+  abbrev listed : List ℕ
+  listed = slice_range places r.start r.end
+
+  -- the places of the next image, as a list
+  own-listed : ArePlacesOf v f (IsAmong (length listed) listed) (IsAmong (length (image_at n)) (image_at n))
+  own-listed = places-same v f f (IsIn places r) (IsAmong (length listed) listed) _ (grows-own f) (λ j. in-listed places r j own.low own.high) (λ j. listed-in places r j own.low own.high) own.are
+
+  pub images-more : (new : List PlaceWord) → AddsPlaces set new listed → ArePlacesOf v f (HasPlace new) (IsInImages σ group (n + 1))
+  images-more new adds = record {
+    each = λ x i. elim (cases_eq i.0 n) [
+      | inl same ↦ has-more v f f (IsAmong (length listed) listed) (HasPlace new) x (grows-own f) adds.added (own-listed.each x (subst (λ m. IsAmong (length (image_at m)) (image_at m) x) same i.2))
+      | inr other ↦ has-more v f f (HasPlace set) (HasPlace new) x (grows-own f) adds.before (first.each x (i.0, omega (arith, i.1, other), i.2))
+    ];
+    only = λ j h. elim (adds.only j h) [
+      | inl before ↦ let o = first.only j before in (o.0, (o.1.0, omega (arith, o.1.1), o.1.2), o.2)
+      | inr now ↦ let o = own-listed.only j now in (o.0, (n, omega arith, o.1), o.2)
+    ];
+  }
+
+  -- each image before is apart from it
+  pub next-apart : TellsEach v f listed set true → (a : ℕ) → a < n → are_two_apart v.statements (image_named v.names σ) (get_or group a 0) (get_or group n 0) ≡ true
+  next-apart told a h =
+      or_right (get_or group a 0 == get_or group n 0) _
+      (apart-from_good v (image_at a) (image_at n) (λ x y p q. good x y (first.each x (a, h, p)) (own-listed.each y q)))
+    where
+      good : (x y : ℕ) → HasVariable v f (HasPlace set) x → HasVariable v f (IsAmong (length listed) listed) y → is_good v x y ≡ true
+      good x y (inl none) other = or_left _ _ (or_left _ _ (ap not none))
+      good x y (inr one) (inl none) = or_left _ _ (or_right _ _ (ap not none))
+      good x y (inr one) (inr two) = or_right _ _ (pair-swap v.statements (name_at v.names x) (name_at v.names y) ∙ (sym (at-names v f two.0 one.0 y x two.1 one.1) ∙ told two.0 one.0 two.2 one.2))
+
+  -- or one is not
+  pub next-clash : TellsEach v f listed set false → (a : ℕ) × (a < n) × (are_apart v.statements (image_named v.names σ (get_or group a 0)) (image_named v.names σ (get_or group n 0)) ≡ false)
+  next-clash told =
+      let p = told.0 in
+      let q = told.1 in
+      let two = own-listed.only p told.2 in
+      let one = first.only q told.3 in
+      let a = one.1.0 in (
+        a,
+        one.1.1,
+        false_from_ne_true _ (λ all. true≢false (sym (pair-swap v.statements (name_at v.names two.0) (name_at v.names one.0) ∙ last_part _ _ _ (at-variable v f q one.0 placed one.2).variable (at-variable v f p two.0 placed two.2).variable
+            (good-at v (image_at a) (image_at n) all one.0 two.0 one.1.2 two.1)) ∙ (sym (at-names v f p q two.0 one.0 two.2 one.2) ∙ told.4))),
+      )
+
+-- ---- a number that stands in the group before
+
+module _ (D : Database) (image_of : ℕ → Expr) (group : List ℕ) (n : ℕ) where
+  pub held-clash : (a : ℕ) → a < n → n < length group → are_apart D (image_of (get_or group a 0)) (image_of (get_or group n 0)) ≡ false → list_any (λ x. x == get_or group n 0) (take n group) ≡ false → are_numbers_apart D image_of group ≡ false
+  held-clash a h there clash none =
+      let low : a < length (take n group) = omega (arith, length-take n group, h, there) in
+      let other : (get_or group a 0 == get_or group n 0) ≡ false = ap (λ x. x == get_or group n 0) (sym (get_or-take n group a 0 h)) ∙ false_from_ne_true _ (λ e. true≢false (sym (list_any_at (λ x. x == get_or group n 0) (take n group) a 0 low e) ∙ none)) in
+      false_from_ne_true (are_numbers_apart D image_of group)
+      (λ all. true≢false (sym (at-all (are_two_apart D image_of (get_or group a 0)) group n (at-all (is_number_apart D image_of group) group a all (omega (arith, h, there))) there) ∙ rw (other, clash) refl))
+
+  repeated : list_any (λ x. x == get_or group n 0) (take n group) ≡ true → (a : ℕ) × (a < n) × (get_or group a 0 ≡ get_or group n 0)
+  repeated any =
+      let h = Any-from_list_any (λ x. x == get_or group n 0) (take n group) any in
+      let low = h.2 in
+      let less : h.0 < n = omega (arith, low, length-take n group) in
+      let same : h.1 ≡ get_or group n 0 = eqb-true h.1 (get_or group n 0) h.4 in
+      (h.0, less, sym (get_or-take n group h.0 0 less) ∙ (get_or_default (take n group) h.0 0 h.1 low ∙ (h.3 ∙ same)))
+
+  pub repeat-pairwise : list_any (λ x. x == get_or group n 0) (take n group) ≡ true → ArePairwise D image_of group n → ArePairwise D image_of group (n + 1)
+  repeat-pairwise any h =
+      let one = repeated any in
+      pairwise-more D image_of group n h (λ b less. subst (λ k. are_two_apart D image_of (get_or group b 0) k ≡ true) one.2 (h.each b one.0 less one.1))
+
+pub repeat-images : (v : Numbered) (f : Places) (σ : CodeImages) (group : List ℕ) (n : ℕ) (P : ℕ → Type 0) → list_any (λ x. x == get_or group n 0) (take n group) ≡ true → ArePlacesOf v f P (IsInImages σ group n) → ArePlacesOf v f P (IsInImages σ group (n + 1))
+repeat-images v f σ group n P any h =
+    let one = repeated v.statements (λ k. []) group n any in record {
+      each = λ x i. elim (cases_eq i.0 n) [
+        | inl same ↦ h.each x (one.0, one.1, subst (λ k. IsAmong (length (code_image σ k)) (code_image σ k) x) (ap (λ m. get_or group m 0) same ∙ sym one.2) i.2)
+        | inr other ↦ h.each x (i.0, omega (arith, i.1, other), i.2)
+      ];
+      only = λ j p. (let o = h.only j p in (o.0, (o.1.0, omega (arith, o.1.1), o.1.2), o.2));
+    }
+
+-- ---- numbers for names
+
+all-below : (n : ℕ) (p q : ℕ → Bool) (xs : List ℕ) → AreBelow n xs → ((k : ℕ) → k < n → p k ≡ q k) → list_all p xs ≡ list_all q xs
+all-below n p q [] b h = refl
+all-below n p q (x ∷ xs) b h = ap (λ r. r && list_all p xs) (h x b.0) ∙ ap (λ r. q x && r) (all-below n p q xs b.1 h)
+
+module _ (names : List Name) (distinct : AreDistinct names) where
+  eq-named : (k l : ℕ) → k < length names → l < length names → (k == l) ≡ name_eq (name_at names k) (name_at names l)
+  eq-named k l hk hl = elim (cases_Bool (name_eq (name_at names k) (name_at names l))) [
+    | inl e ↦
+        let p = place-of names k distinct (lt-ltb k (length names) hk) in
+        let q = place-of names l distinct (lt-ltb l (length names) hl) in
+        let one : k ≡ l = sym p.1 ∙ (ap (λ x. position_or_len (name_eq x) names) (same_name (name_at names k) (name_at names l) e) ∙ q.1) in
+        rw e (ap (λ m. m == l) one ∙ eq-own l)
+    | inr e ↦ rw e (differ k l (λ one. true≢false (sym (name_same (name_at names l)) ∙ (ap (λ m. name_eq (name_at names m) (name_at names l)) (sym one) ∙ e))))
+  ]
+
+  module _ (D : Database) (σ : CodeImages) where
+    two-named : (k l : ℕ) → k < length names → l < length names
+        → are_two_apart D (image_named names σ) k l ≡ (name_eq (name_at names k) (name_at names l) || are_apart D (image (images_of_names names σ) (name_at names k)) (image (images_of_names names σ) (name_at names l)))
+    two-named k l hk hl =
+        ap (λ b. b || are_apart D (image_named names σ k) (image_named names σ l)) (eq-named k l hk hl)
+        ∙ (ap (λ e. name_eq (name_at names k) (name_at names l) || are_apart D e (image_named names σ l)) (image-decode names σ k distinct (lt-ltb k (length names) hk))
+        ∙ ap (λ e. name_eq (name_at names k) (name_at names l) || are_apart D (image (images_of_names names σ) (name_at names k)) e) (image-decode names σ l distinct (lt-ltb l (length names) hl)))
+
+    group-named : (g : List ℕ) → AreBelow (length names) g → are_numbers_apart D (image_named names σ) g ≡ is_group_apart D (images_of_names names σ) (decode names g)
+    group-named g b = simp list_all-map (
+        all-below (length names) (is_number_apart D (image_named names σ) g) (λ k. list_all (λ l. name_eq (name_at names k) (name_at names l) || are_apart D (image (images_of_names names σ) (name_at names k)) (image (images_of_names names σ) (name_at names l))) g) g b
+        (λ k hk. all-below (length names) (are_two_apart D (image_named names σ) k) (λ l. name_eq (name_at names k) (name_at names l) || are_apart D (image (images_of_names names σ) (name_at names k)) (image (images_of_names names σ) (name_at names l))) g b (λ l hl. two-named k l hk hl))
+        )
+
+    pub groups-named : (gs : List (List ℕ)) → AllBelow (length names) gs → list_all (are_numbers_apart D (image_named names σ)) gs ≡ are_groups_apart D (images_of_names names σ) (map (decode names) gs)
+    groups-named [] b = refl
+    groups-named (g ∷ gs) b =
+        ap (λ r. r && list_all (are_numbers_apart D (image_named names σ)) gs) (group-named g b.0)
+        ∙ ap (λ r. is_group_apart D (images_of_names names σ) (decode names g) && r) (groups-named gs b.1)

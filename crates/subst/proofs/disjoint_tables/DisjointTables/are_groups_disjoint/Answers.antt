@@ -1,0 +1,36 @@
+use Rattle.subst.proofs.Words.{◌-◌, arith, length, sym, refl, ◌∙◌, images_at, image_named, are_numbers_apart}
+use Rattle.subst.proofs.ImageVariableLemmas.{noted-begin, read-none}
+use Rattle.subst.proofs.GroupLemmas.{below-group, group-goes_on, group-repeated, group-stops}
+use Rattle.subst.proofs.disjoint_tables.DisjointTables.are_groups_disjoint.Goals as goal
+
+pub loop-i-init : goal.loop-i-init
+loop-i-init c =
+    let t = c.requires.tables in (
+      record { placed = t.placed; noted = rw c.begin.ensures (noted-begin c.args.pairs.now c.args.self.now.variables c.args.symbols.now c.args.self.now.images t.noted); facts = t.facts },
+      rw c.begin.ensures (read-none c.args.pairs.now c.args.self.now.variables c.args.symbols.now c.args.images.now _ refl),
+      refl,
+    )
+
+pub is_group_disjoint-requires-clause-below : goal.is_group_disjoint-requires-clause-below
+is_group_disjoint-requires-clause-below c = below-group (length c.args.pairs.now.names) c.args.groups.now c.loop-i.i c.get.result.now c.requires.below c.get.ensures
+
+pub returns-then-not-branch-clause-disjoint : goal.returns-then-not-branch-clause-disjoint
+returns-then-not-branch-clause-disjoint c =
+    sym (group-stops (are_numbers_apart c.args.pairs.now.statements (image_named c.args.pairs.now.names (images_at c.args.symbols.now c.args.images.now))) c.args.groups.now c.loop-i.i c.get.result.now c.get.ensures
+    (sym c.in_ok-is_group_disjoint.ensures.disjoint ∙ c.if-not-branch.true))
+
+pub loop-i-preserved : goal.loop-i-preserved
+loop-i-preserved c = (
+  c.is_group_disjoint.ensures.tables,
+  c.is_group_disjoint.ensures.read,
+  group-goes_on (are_numbers_apart c.args.pairs.now.statements (image_named c.args.pairs.now.names (images_at c.args.symbols.now c.args.images.now))) c.args.groups.now c.loop-i.i c.get.result.now c.get.ensures
+      c.loop-i.invariant.2 (sym c.in_ok-is_group_disjoint.ensures.disjoint ∙ c.if-not-branch.false),
+)
+
+pub loop-i-preserved-then-is_repeated : goal.loop-i-preserved-then-is_repeated
+loop-i-preserved-then-is_repeated c = (
+  c.loop-i.invariant.0,
+  c.loop-i.invariant.1,
+  (let same = c.is_repeated.ensures c.if-is_repeated.true in
+      group-repeated (are_numbers_apart c.args.pairs.now.statements (image_named c.args.pairs.now.names (images_at c.args.symbols.now c.args.images.now))) c.args.groups.now c.loop-i.i (c.loop-i.i - 1) (omega (arith, same.0)) (omega arith) same.1 c.loop-i.invariant.2),
+)

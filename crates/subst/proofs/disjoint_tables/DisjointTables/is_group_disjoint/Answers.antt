@@ -1,0 +1,83 @@
+use Rattle.subst.proofs.Words.{sym, ◌∙◌, length, subst, below-at, images_at, image_named, AddsPlaces, HasPlace, IsIn, TellsEach, true, false}
+use Rattle.subst.proofs.VariablePlaceLemmas.{places-below, places-same}
+use Rattle.subst.proofs.DisjointRowLemmas.{facts-grown}
+use Rattle.subst.proofs.ImageVariableLemmas.{listed-in}
+use Rattle.subst.proofs.GroupLemmas.{IsInImages, below-from, images-more, next-apart, next-clash, held-clash, pairwise-more, pairwise-end, repeat-images, repeat-pairwise}
+use Rattle.subst.proofs.disjoint_tables.DisjointTables.is_group_disjoint.Goals as goal
+use Rattle.subst.proofs.disjoint_tables.DisjointTables.is_group_disjoint.Goals.{then-branch+in_ok-add_all, else-branch+else-not-contains}
+
+pub image_of-requires-clause-number : goal.image_of-requires-clause-number
+image_of-requires-clause-number c = below-at (length c.args.pairs.now.names) c.args.group.now c.loop-index.index 0 c.requires.below c.loop-index-test.true
+
+pub returns-in_err-range-clause-tables : goal.returns-in_err-range-clause-tables
+returns-in_err-range-clause-tables c = record {
+  placed = c.image_of.ensures.placed;
+  noted = c.image_of.ensures.noted;
+  facts = facts-grown c.args.pairs.now c.loop-index.self.variables c.image_of.new.variables c.loop-index.self.rows c.image_of.ensures.grows c.loop-index.invariant.0.facts;
+}
+
+pub are_disjoint-requires-clause-facts : goal.are_disjoint-requires-clause-facts
+are_disjoint-requires-clause-facts c = facts-grown c.args.pairs.now c.loop-index.self.variables c.image_of.new.variables c.loop-index.self.rows c.image_of.ensures.grows c.loop-index.invariant.0.facts
+
+pub are_disjoint-requires-clause-there : goal.are_disjoint-requires-clause-there
+are_disjoint-requires-clause-there c =
+    let f = c.image_of.new.variables in
+    let places = c.image_of.new.self.places in
+    let r = c.in_ok-range.range in
+    let own = c.in_ok-range.ensures.range in
+    rw c.places_in-places.ensures (below-from (length f.variables) _ (λ x p. places-below c.args.pairs.now f (IsIn places r) _ own.are x (listed-in places r x own.low own.high p)))
+
+pub are_disjoint-requires-clause-others : goal.are_disjoint-requires-clause-others
+are_disjoint-requires-clause-others c = λ j h. (let o = c.loop-index.invariant.2.only j h in (c.image_of.ensures.grows.each j o.0 o.2).there)
+
+pub returns-then-not-contains-clause-disjoint : goal.returns-then-not-contains-clause-disjoint
+returns-then-not-contains-clause-disjoint c =
+    let v = c.args.pairs.now in
+    let f = c.image_of.new.variables in
+    let σ = images_at c.args.symbols.now c.args.images.now in
+    let l = c.loop-index in
+    let group = c.args.group.now in
+    let set = l.self.before in
+    let first = places-same v l.self.variables f (HasPlace set) (HasPlace set) (IsInImages σ group l.index) c.image_of.ensures.grows (λ j h. h) (λ j h. h) l.invariant.2 in
+    let told = rw c.if-branch.false at c.in_ok-are_disjoint.ensures.tells in
+    let clash = next-clash v f c.image_of.ensures.placed σ group l.index c.image_of.new.self.places c.in_ok-range.range set first c.in_ok-range.ensures.range (subst (λ xs. TellsEach v f xs set false) c.places_in-places.ensures told) in
+    sym (held-clash v.statements (image_named v.names σ) group l.index clash.0 clash.1 c.loop-index-test.true clash.2 (sym c.contains.ensures ∙ c.if-not-contains.true))
+
+pub loop-index-preserved : goal.loop-index-preserved
+loop-index-preserved c =
+    let v = c.args.pairs.now in
+    let f = c.image_of.new.variables in
+    let σ = images_at c.args.symbols.now c.args.images.now in
+    let l = c.loop-index in
+    let n = l.index in
+    let group = c.args.group.now in
+    let set = l.self.before in
+    let places = c.image_of.new.self.places in
+    let r = c.in_ok-range.range in
+    let own = c.in_ok-range.ensures.range in
+    let image = image_named v.names σ in
+    let placed = c.image_of.ensures.placed in
+    let first = places-same v l.self.variables f (HasPlace set) (HasPlace set) (IsInImages σ group n) c.image_of.ensures.grows (λ j h. h) (λ j h. h) l.invariant.2 in
+    elim c.if-branch.branch [
+      | then-branch+in_ok-add_all w ↦
+          let told = rw w.if-branch.true at c.in_ok-are_disjoint.ensures.tells in
+          let adds = subst (AddsPlaces set w.add_all.new.self) c.places_in-places.ensures w.in_ok-add_all.ensures in
+          rw w.self-is (
+            record { placed = placed; noted = c.image_of.ensures.noted; facts = c.are_disjoint.ensures.facts },
+            c.image_of.ensures.read,
+            images-more v f placed σ group n places r set first own w.add_all.new.self adds,
+            pairwise-more v.statements image group n l.invariant.3 (next-apart v f placed σ group n places r set first own (subst (λ xs. TellsEach v f xs set true) c.places_in-places.ensures told)),
+          )
+      | else-branch+else-not-contains w ↦
+          let any = sym w.contains.ensures ∙ w.if-not-contains.false in
+          rw w.self-is (
+            record { placed = placed; noted = c.image_of.ensures.noted; facts = c.are_disjoint.ensures.facts },
+            c.image_of.ensures.read,
+            repeat-images v f σ group n (HasPlace set) any first,
+            repeat-pairwise v.statements image group n any l.invariant.3,
+          )
+    ]
+
+pub returns-clause-disjoint : goal.returns-clause-disjoint
+returns-clause-disjoint c =
+    sym (pairwise-end c.args.pairs.now.statements (image_named c.args.pairs.now.names (images_at c.args.symbols.now c.args.images.now)) c.args.group.now c.loop-index.index c.loop-index-test.false c.loop-index.invariant.3)

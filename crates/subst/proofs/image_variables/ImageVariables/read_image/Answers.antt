@@ -1,0 +1,26 @@
+use Rattle.subst.proofs.Words.{length, sym, ◌∙◌, subst, AreBelow, IsRangeOf}
+use Rattle.std.specs.Prelude.{IfOk}
+use Rattle.subst.proofs.ImageRangesLemmas.{image-some, image-none}
+use Rattle.subst.proofs.ImageVariableLemmas.{long-range, most-own}
+use Rattle.subst.proofs.image_variables.ImageVariables.read_image.Goals as goal
+
+pub returns-in_default-clause-range : goal.returns-in_default-clause-range
+returns-in_default-clause-range c = rw (image-none c.args.symbols.now c.args.images.now c.args.symbol (sym c.get.ensures ∙ c.in_default.is)) c.read.ensures.range
+
+pub read-requires-in-None-clause-below : goal.read-requires-in-None-clause-below
+read-requires-in-None-clause-below c =
+    subst (AreBelow (length c.args.pairs.now.names)) (image-some c.args.symbols.now c.args.images.now c.args.symbol c.in-Some.place (sym c.get.ensures ∙ c.in-Some.is) ∙ sym c.symbols_at.ensures) (c.requires.named c.args.symbol c.requires.number)
+
+pub returns-in-Some-find_long-clause-rest : goal.returns-in-Some-find_long-clause-rest
+returns-in-Some-find_long-clause-rest c = most-own c.args.self.now
+
+pub returns-in-Some-find_long-clause-range : goal.returns-in-Some-find_long-clause-range
+returns-in-Some-find_long-clause-range c =
+    let found = c.in-Some-find_long.ensures in
+    let long = long-range c.args.pairs.now c.args.variables.now c.args.symbols.now c.args.self.now c.in-Some.place c.in-Some-find_long.range c.requires.noted found.0 found.1 found.2 in
+    rw (image-some c.args.symbols.now c.args.images.now c.args.symbol c.in-Some.place (sym c.get.ensures ∙ c.in-Some.is)) long.range
+
+pub returns-in-None-clause-range : goal.returns-in-None-clause-range
+returns-in-None-clause-range c =
+    subst (λ xs. IfOk c.read-in-None.result (λ range. IsRangeOf c.args.pairs.now c.read-in-None.new.variables c.read-in-None.new.self.places range xs))
+    (c.symbols_at.ensures ∙ sym (image-some c.args.symbols.now c.args.images.now c.args.symbol c.in-Some.place (sym c.get.ensures ∙ c.in-Some.is))) c.read-in-None.ensures.range

@@ -1,0 +1,53 @@
+-- Which variables were found to be disjoint.
+-- Metamath, 4.2.6: each two variables, one from each of two images, stand together in an active `$d`.
+-- The code keeps words of bits, where a bit that is set is a fact and another one says nothing.
+use Rattle.std.specs.Prelude.{◌≡◌, ℕ, ◌+◌, ◌*◌, ◌<◌, ◌⊎◌, Bool, true, false, List, length, get_or}
+use Rattle.std.specs.Int.{bit_at}
+use Rattle.frame.specs.Parts.{Numbered}
+use Rattle.subst.specs.declared.disjoint_rows.RowWord.{RowWord}
+use Rattle.subst.specs.declared.place_words.PlaceWord.{PlaceWord}
+use Rattle.subst.specs.Stored.PlaceSets.{HasBit, HasPlace}
+use Rattle.subst.specs.Stored.VariablePlaces.{Places, is_kept, IsAmong}
+
+abbrev pub no_row : RowWord
+no_row = record { place = 0; index = 0; bits = 0 }
+
+pub record IsRowAt (ws : List RowWord) (place index k : ℕ) : Type 0 where
+  pub there : k < length ws
+  pub place_same : (get_or ws k no_row).place ≡ place
+  pub index_same : (get_or ws k no_row).index ≡ index
+
+-- q is noted to be disjoint from p
+pub record HasFact (ws : List RowWord) (p q : ℕ) : Type 0 where
+  pub word : ℕ
+  pub there : word < length ws
+  pub row : (get_or ws word no_row).place ≡ p
+  pub bit : ℕ
+  pub place : q ≡ 64 * (get_or ws word no_row).index + bit
+  pub set : bit_at (get_or ws word no_row).bits bit ≡ 1
+
+pub record IsFact (v : Numbered) (f : Places) (p q : ℕ) : Type 0 where
+  pub row : p < length f.variables
+  pub place : q < length f.variables
+  pub kept : is_kept v f p q ≡ true
+
+-- what is noted is so
+pub record AreFacts (v : Numbered) (f : Places) (ws : List RowWord) : Type 0 where
+  pub each : (p q : ℕ) → HasFact ws p q → IsFact v f p q
+
+-- the places of the word may be noted besides
+pub record NotesWord (old new : List RowWord) (p : ℕ) (w : PlaceWord) : Type 0 where
+  pub only : (r q : ℕ) → HasFact new r q → HasFact old r q ⊎ ((r ≡ p) × HasBit w q)
+
+-- the variable at p is disjoint from those of the word, or not from one of them
+abbrev pub TellsWord : Numbered → Places → ℕ → PlaceWord → Bool → Type 0
+TellsWord v f p w true = (q : ℕ) → HasBit w q → is_kept v f p q ≡ true
+TellsWord v f p w false = (q : ℕ) × HasBit w q × (is_kept v f p q ≡ false)
+
+abbrev pub TellsAll : Numbered → Places → ℕ → List PlaceWord → Bool → Type 0
+TellsAll v f p ws true = (q : ℕ) → HasPlace ws q → is_kept v f p q ≡ true
+TellsAll v f p ws false = (q : ℕ) × HasPlace ws q × (is_kept v f p q ≡ false)
+
+abbrev pub TellsEach : Numbered → Places → List ℕ → List PlaceWord → Bool → Type 0
+TellsEach v f places ws true = (p q : ℕ) → IsAmong (length places) places p → HasPlace ws q → is_kept v f p q ≡ true
+TellsEach v f places ws false = (p : ℕ) × (q : ℕ) × IsAmong (length places) places p × HasPlace ws q × (is_kept v f p q ≡ false)

@@ -1,0 +1,60 @@
+-- The places of the variables of one proof.
+-- Source: this project's form of keeping variables.
+-- The code gives each variable a place as it is met, and notes of each other symbol that it is none.
+use Rattle.std.specs.Prelude.{◌≡◌, ℕ, ◌<◌, ◌⊎◌, Bool, true, false, List, length, get_or, Option, Some, None}
+use Rattle.std.specs.List.{All, Contains}
+use Rattle.subst.specs.Words.{Name, is_variable, name_at, is_pair}
+use Rattle.frame.specs.Parts.{Numbered}
+use Rattle.subst.specs.declared.variable_places.MetSymbol.{MetSymbol}
+
+pub record Places : Type 0 where
+  pub symbols : List MetSymbol
+  pub variables : List ℕ
+
+abbrev pub variable_name : Numbered → Places → ℕ → Name
+variable_name v f j = name_at v.names (get_or f.variables j 0)
+
+-- the variables at these places are disjoint
+abbrev pub is_kept : Numbered → Places → ℕ → ℕ → Bool
+is_kept v f i j = is_pair v.statements (variable_name v f i) (variable_name v f j)
+
+-- the variable x stands at this place
+pub record IsAt (f : Places) (j x : ℕ) : Type 0 where
+  pub there : j < length f.variables
+  pub same : get_or f.variables j 0 ≡ x
+
+-- each variable stays at its place
+pub record Grows (old new : Places) : Type 0 where
+  pub each : (j x : ℕ) → IsAt old j x → IsAt new j x
+
+-- x is a variable at this place, or none
+abbrev pub IsPlace : Numbered → Places → ℕ → Option ℕ → Type 0
+IsPlace v f x (Some j) = IsAt f j x
+IsPlace v f x None = is_variable v.statements (name_at v.names x) ≡ false
+
+-- the symbol x was met, with this place
+abbrev pub IsListed : Places → ℕ → Option ℕ → Type 0
+IsListed f x place = Contains f.symbols (record { number = x; place = place })
+
+pub record IsVariable (v : Numbered) (x : ℕ) : Type 0 where
+  pub named : x < length v.names
+  pub variable : is_variable v.statements (name_at v.names x) ≡ true
+
+pub record ArePlaced (v : Numbered) (f : Places) : Type 0 where
+  pub symbols : All (λ s. IsPlace v f s.number s.place) f.symbols
+  pub variables : All (IsVariable v) f.variables
+
+-- ---- sets of places
+
+-- x is no variable, or its place is in the set
+abbrev pub HasVariable : Numbered → Places → (ℕ → Type 0) → ℕ → Type 0
+HasVariable v f IsIn x = (is_variable v.statements (name_at v.names x) ≡ false) ⊎ ((j : ℕ) × IsAt f j x × IsIn j)
+
+-- the set has the places of the variables among these symbols
+pub record ArePlacesOf (v : Numbered) (f : Places) (IsIn IsOne : ℕ → Type 0) : Type 0 where
+  pub each : (x : ℕ) → IsOne x → HasVariable v f IsIn x
+  pub only : (j : ℕ) → IsIn j → (x : ℕ) × IsOne x × IsAt f j x
+
+-- one of the first n numbers
+abbrev pub IsAmong : ℕ → List ℕ → ℕ → Type 0
+IsAmong n xs x = (k : ℕ) × (k < n) × (get_or xs k 0 ≡ x)

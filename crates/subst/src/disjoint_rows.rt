@@ -1,0 +1,194 @@
+//! Which variables of a proof were found to be disjoint.
+ghost use Rattle.std.specs.Prelude.{◌≡◌, ℕ, ◌+◌, ◌*◌, ◌<◌, [], length, IfOk, IfSome};
+ghost use Rattle.std.specs.Int.{bit_at};
+ghost use Rattle.frame.specs.Below.{AreBelow};
+ghost use Rattle.subst.specs.Stored.DisjointRows.{AreFacts, HasFact, IsRowAt, NotesWord, TellsAll, TellsEach, TellsWord};
+ghost use Rattle.subst.specs.Stored.PlaceSets.{ArePlacesBelow};
+ghost use Rattle.subst.specs.Stored.VariablePlaces.{ArePlaced};
+
+use crate::hints::Hints;
+use crate::place_set::PlaceSet;
+use crate::place_words::{PlaceWord, lowest, without};
+use crate::variable_places::VariablePlaces;
+use frame::Pairs;
+use std::alloc::{AllocError, Global};
+use std::marker::Model;
+
+/// What was found is noted of so many places.
+const NOTED_PLACES: u32 = 8192;
+
+/// Places that were found to be disjoint from one place.
+#[derive(Clone, Copy, Drop)]
+pub struct RowWord {
+    place: u32,
+    index: u32,
+    bits: u64,
+}
+
+/// Which variables of a proof were found to be disjoint: words of bits. A bit that is set is a fact, another one says nothing.
+///
+/// A hint tells where a word may stand. At most 24 MB are used: of variables beyond the first 8,192 nothing is noted.
+#[derive(Drop)]
+pub struct DisjointRows {
+    hints: Hints,
+    words: Vec<RowWord>,
+}
+
+impl Model for DisjointRows {
+    ghost use Rattle.std.specs.Prelude.{List};
+    ghost use Rattle.subst.specs.declared.disjoint_rows.RowWord.{RowWord};
+
+    ghost Value = { List RowWord };
+
+    ghost view = { λ a. a.words.items };
+}
+
+impl DisjointRows {
+    /// Returns rows without facts. Does not allocate.
+    pub fn new(alloc: Global) -> DisjointRows
+        ensures { result ≡ [] }
+    {
+        DisjointRows {
+            hints: Hints::new(alloc),
+            words: Vec::new(alloc),
+        }
+    }
+
+    /// Removes all facts, in constant time. The memory stays.
+    pub fn clear(&mut self)
+        ensures { self.new ≡ [] }
+    {
+        self.words.clear();
+    }
+
+    /// Returns the index of the word for a place and a word of others, if there is one.
+    #[inline(always)]
+    fn find(&self, place: u32, index: u32) -> Option<usize>
+        ensures { IfSome result (IsRowAt self.now place index) }
+    {
+        let at = self.hints.get(hint_number(place, index) as usize);
+        match self.words.get(at) {
+            Some(word) if word.place == place && word.index == index => Some(at),
+            _ => None,
+        }
+    }
+
+    /// Returns those of 64 places that were found to be disjoint from a place.
+    #[inline(always)]
+    fn bits(&self, place: u32, index: u32) -> u64
+        ensures { (b : ℕ) → bit_at result b ≡ 1 → HasFact self.now place (64 * index + b) }
+    {
+        match self.find(place, index) {
+            Some(at) => self.words[at].bits,
+            None => 0,
+        }
+    }
+
+    /// Notes that places are disjoint from a place.
+    fn note(&mut self, place: u32, word: PlaceWord) -> Result<(), AllocError>
+        ensures { NotesWord self.old self.new place word }
+    {
+        if place >= NOTED_PLACES || word.index >= NOTED_PLACES / 64 {
+            return Ok(());
+        }
+        let index = word.index;
+        let bits = word.bits;
+        if let Some(at) = self.find(place, index) {
+            let bits = self.words[at].bits | bits;
+            self.words[at] = RowWord { place, index, bits };
+            return Ok(());
+        }
+        self.hints.set(hint_number(place, index), self.words.len())?;
+        self.words.push(RowWord { place, index, bits })?;
+        Ok(())
+    }
+
+    /// Whether the variable at a place is disjoint from each of those at the places of a word.
+    #[cold]
+    #[inline(never)]
+    fn ask(
+        &mut self,
+        pairs: &Pairs<'_>,
+        variables: &VariablePlaces,
+        place: u32,
+        word: PlaceWord,
+    ) -> Result<bool, AllocError>
+        requires placed { ArePlaced pairs.now variables.now }
+        requires facts { AreFacts pairs.now variables.now self.old }
+        requires there { place < length variables.now.variables }
+        requires others { (b : ℕ) → bit_at word.bits b ≡ 1 → 64 * word.index + b < length variables.now.variables }
+        ensures facts { AreFacts pairs.now variables.now self.new }
+        ensures tells { IfOk result (TellsWord pairs.now variables.now place word) }
+    {
+        let x = variables.number(place as usize);
+        let mut rest = word.bits;
+        while rest != 0 {
+            let bit = lowest(rest);
+            let y = variables.number(64 * word.index as usize + bit);
+            if !pairs.has(x, y) {
+                return Ok(false);
+            }
+            rest = without(rest, bit);
+        }
+        self.note(place, word)?;
+        Ok(true)
+    }
+
+    /// Whether the variable at a place is disjoint from each of those at the places of a set.
+    ///
+    /// Errors: an allocation fails.
+    /// Cost: a step for each word of the set; that of `Pairs::has` for each two variables that were not asked for before.
+    #[inline(always)]
+    fn is_disjoint(
+        &mut self,
+        pairs: &Pairs<'_>,
+        variables: &VariablePlaces,
+        place: u32,
+        others: &PlaceSet,
+    ) -> Result<bool, AllocError>
+        requires placed { ArePlaced pairs.now variables.now }
+        requires facts { AreFacts pairs.now variables.now self.old }
+        requires there { place < length variables.now.variables }
+        requires others { ArePlacesBelow (length variables.now.variables) others.now }
+        ensures facts { AreFacts pairs.now variables.now self.new }
+        ensures tells { IfOk result (TellsAll pairs.now variables.now place others.now) }
+    {
+        for word in others.as_slice() {
+            let index = word.index;
+            let bits = word.bits & !self.bits(place, index);
+            if bits != 0 && !self.ask(pairs, variables, place, PlaceWord { index, bits })? {
+                return Ok(false);
+            }
+        }
+        Ok(true)
+    }
+
+    /// Whether each of the variables at the places of a list is disjoint from each of those at the places of a set.
+    pub fn are_disjoint(
+        &mut self,
+        pairs: &Pairs<'_>,
+        variables: &VariablePlaces,
+        places: &[u32],
+        others: &PlaceSet,
+    ) -> Result<bool, AllocError>
+        requires placed { ArePlaced pairs.now variables.now }
+        requires facts { AreFacts pairs.now variables.now self.old }
+        requires there { AreBelow (length variables.now.variables) places.now }
+        requires others { ArePlacesBelow (length variables.now.variables) others.now }
+        ensures facts { AreFacts pairs.now variables.now self.new }
+        ensures tells { IfOk result (TellsEach pairs.now variables.now places.now others.now) }
+    {
+        for place in places {
+            if !self.is_disjoint(pairs, variables, *place, others)? {
+                return Ok(false);
+            }
+        }
+        Ok(true)
+    }
+}
+
+/// The number of the hint for a place and a word of others, where these are few.
+#[inline(always)]
+fn hint_number(place: u32, index: u32) -> u32 {
+    NOTED_PLACES * (index % (NOTED_PLACES / 64)) + place % NOTED_PLACES
+}

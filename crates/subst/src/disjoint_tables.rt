@@ -1,0 +1,206 @@
+//! Groups of variables whose images are to be disjoint.
+ghost use Rattle.std.specs.Prelude.{◌≡◌, ◌+◌, ◌-◌, ◌<◌, ◌≤◌, ◌==◌, [], length, slice_get, true, IfOk};
+ghost use Rattle.std.specs.List.{list_all, list_any};
+ghost use Rattle.frame.specs.Below.{AllBelow, AreBelow};
+ghost use Rattle.frame.specs.Substitution.{code_apply};
+ghost use Rattle.frame.specs.Parts.{Numbered};
+ghost use Rattle.subst.specs.Apart.{are_numbers_apart, image_named};
+ghost use Rattle.subst.specs.Images.{AreOver};
+ghost use Rattle.subst.specs.SymbolRanges.{AreInside, images_at, seen_at};
+ghost use Rattle.subst.specs.Stored.DisjointTables.{AreTables};
+ghost use Rattle.subst.specs.Stored.ImageVariables.{AreRead};
+
+use crate::disjoint_rows::DisjointRows;
+use crate::image_ranges::ImageRanges;
+use crate::image_variables::ImageVariables;
+use crate::place_set::PlaceSet;
+use crate::symbol_range::SymbolRange;
+use crate::variable_places::VariablePlaces;
+use entries::Groups;
+use frame::Pairs;
+use std::alloc::{AllocError, Global};
+
+/// The variables of one proof, and those of its images.
+#[derive(Drop)]
+pub struct DisjointTables {
+    variables: VariablePlaces,
+    images: ImageVariables,
+    rows: DisjointRows,
+    /// The variables of the images before, in a group.
+    before: PlaceSet,
+}
+
+impl DisjointTables {
+    /// Returns tables that know nothing. Does not allocate.
+    pub fn new(alloc: Global) -> DisjointTables
+        ensures { (v : Numbered) → AreTables v [] result }
+    {
+        DisjointTables {
+            variables: VariablePlaces::new(alloc),
+            images: ImageVariables::new(alloc),
+            rows: DisjointRows::new(alloc),
+            before: PlaceSet::new(alloc),
+        }
+    }
+
+    /// Forgets all, in constant time. The memory stays.
+    pub fn clear(&mut self)
+        ensures { (v : Numbered) → AreTables v [] self.new }
+    {
+        self.variables.clear();
+        self.images.clear();
+        self.rows.clear();
+    }
+
+    /// Forgets all, and gives back the memory of long images.
+    pub fn release(&mut self, alloc: Global)
+        ensures { (v : Numbered) → AreTables v [] self.new }
+    {
+        self.variables.clear();
+        self.images.release(alloc);
+        self.rows.clear();
+    }
+
+    /// Whether the images of each two variables of a group are disjoint.
+    ///
+    /// Each image is held against the variables of all images before it. That a variable stands in a group twice is looked
+    /// for only if its images are not disjoint.
+    fn is_group_disjoint(
+        &mut self,
+        pairs: &Pairs<'_>,
+        symbols: &[u32],
+        images: &ImageRanges,
+        group: &[u32],
+    ) -> Result<bool, AllocError>
+        requires tables { AreTables pairs.now symbols.now self.old }
+        requires read { AreRead pairs.now self.old.variables symbols.now images.now self.old.images }
+        requires named { AreOver pairs.now.names (images_at symbols.now images.now) }
+        requires inside { AreInside (length symbols.now) images.now }
+        requires below { AreBelow (length pairs.now.names) group.now }
+        ensures tables { AreTables pairs.now symbols.now self.new }
+        ensures read { AreRead pairs.now self.new.variables symbols.now images.now self.new.images }
+        ensures disjoint { IfOk result (λ ok. ok ≡ are_numbers_apart pairs.now.statements (image_named pairs.now.names (images_at symbols.now images.now)) group.now) }
+    {
+        self.before.clear();
+        for (index, k) in group.iter().enumerate() {
+            let range = self
+                .images
+                .image_of(pairs, &mut self.variables, symbols, images, *k)?;
+            let places = self.images.places_in(range);
+            if self
+                .rows
+                .are_disjoint(pairs, &self.variables, places, &self.before)?
+            {
+                self.before.add_all(places)?;
+            } else if !contains(&group[..index], *k) {
+                return Ok(false);
+            }
+        }
+        Ok(true)
+    }
+
+    /// Whether the images of each two variables of each group are disjoint.
+    pub fn are_groups_disjoint(
+        &mut self,
+        pairs: &Pairs<'_>,
+        groups: &Groups<'_>,
+        symbols: &[u32],
+        images: &ImageRanges,
+    ) -> Result<bool, AllocError>
+        requires tables { AreTables pairs.now symbols.now self.old }
+        requires named { AreOver pairs.now.names (images_at symbols.now images.now) }
+        requires inside { AreInside (length symbols.now) images.now }
+        requires below { AllBelow (length pairs.now.names) groups.now }
+        ensures tables { AreTables pairs.now symbols.now self.new }
+        ensures disjoint { IfOk result (λ ok. ok ≡ list_all (are_numbers_apart pairs.now.statements (image_named pairs.now.names (images_at symbols.now images.now))) groups.now) }
+    {
+        self.images.begin();
+        for i in 0..groups.len() {
+            if is_repeated(groups, i) {
+                continue;
+            }
+            if !self.is_group_disjoint(pairs, symbols, images, groups.get(i))? {
+                return Ok(false);
+            }
+        }
+        Ok(true)
+    }
+
+    /// Notes the variables of a long result from the images that it was made of, without reading it.
+    pub fn note_result(
+        &mut self,
+        pairs: &Pairs<'_>,
+        symbols: &[u32],
+        images: &ImageRanges,
+        expr: &[u32],
+        result_range: SymbolRange,
+    ) -> Result<(), AllocError>
+        requires tables { AreTables pairs.now symbols.now self.old }
+        requires named { AreOver pairs.now.names (images_at symbols.now images.now) }
+        requires inside { AreInside (length symbols.now) images.now }
+        requires below { AreBelow (length pairs.now.names) expr.now }
+        requires range { (result_range.start ≤ result_range.end) × (result_range.end ≤ length symbols.now) }
+        requires whole { seen_at symbols.now result_range ≡ code_apply (images_at symbols.now images.now) expr.now }
+        ensures { AreTables pairs.now symbols.now self.new }
+    {
+        if expr.is_empty() || images.get(expr[0]).is_some() {
+            return Ok(());
+        }
+        self.images.begin();
+        for symbol in &expr[1..] {
+            let variables = &mut self.variables;
+            self.images
+                .add_image(pairs, variables, symbols, images, *symbol)?;
+        }
+        self.images.note(behind_first(result_range))
+    }
+
+    /// Notes the variables of a long result that is a hypothesis.
+    pub fn note_expr(
+        &mut self,
+        pairs: &Pairs<'_>,
+        symbols: &[u32],
+        expr: &[u32],
+        result_range: SymbolRange,
+    ) -> Result<(), AllocError>
+        requires tables { AreTables pairs.now symbols.now self.old }
+        requires below { AreBelow (length pairs.now.names) expr.now }
+        requires range { (result_range.start ≤ result_range.end) × (result_range.end ≤ length symbols.now) }
+        requires whole { seen_at symbols.now result_range ≡ expr.now }
+        ensures { AreTables pairs.now symbols.now self.new }
+    {
+        if expr.is_empty() {
+            return Ok(());
+        }
+        self.images.begin();
+        self.images
+            .add_symbols(pairs, &mut self.variables, &expr[1..])?;
+        self.images.note(behind_first(result_range))
+    }
+}
+
+/// Whether the group at an index is equal to the one before it.
+fn is_repeated(groups: &Groups<'_>, index: usize) -> bool
+    requires { index < length groups.now }
+    ensures { result ≡ true → (0 < index) × (slice_get groups.now index ≡ slice_get groups.now (index - 1)) }
+{
+    index > 0 && groups.get(index) == groups.get(index - 1)
+}
+
+/// Whether a symbol stands in the list.
+fn contains(symbols: &[u32], symbol: u32) -> bool
+    ensures { result ≡ list_any (λ x. x == symbol) symbols.now }
+{
+    symbols.iter().any(|x| *x == symbol)
+}
+
+/// Where the symbols of a range stand without the first.
+fn behind_first(range: SymbolRange) -> SymbolRange
+    requires { range.start < range.end }
+    ensures { (result.start ≡ range.start + 1) × (result.end ≡ range.end) }
+{
+    SymbolRange {
+        start: range.start + 1,
+        end: range.end,
+    }
+}

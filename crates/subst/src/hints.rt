@@ -1,0 +1,39 @@
+//! Guesses of where something stands in a list.
+use std::alloc::{AllocError, Global};
+
+/// Guesses by number of where something stands in a list. A guess may be wrong: the list itself tells. So guesses are never
+/// cleared.
+#[derive(Drop)]
+pub(crate) struct Hints {
+    guesses: Vec<u32>,
+}
+
+impl Hints {
+    /// Returns a table without guesses. Does not allocate.
+    pub(crate) fn new(alloc: Global) -> Hints {
+        Hints {
+            guesses: Vec::new(alloc),
+        }
+    }
+
+    /// Returns the guess for a number, or 0 if none was made.
+    #[inline(always)]
+    pub(crate) fn get(&self, number: usize) -> usize {
+        match self.guesses.get(number) {
+            Some(guess) => *guess as usize,
+            None => 0,
+        }
+    }
+
+    /// Keeps a guess for a number.
+    ///
+    /// Cost: constant; linear in the number if the table is too short.
+    pub(crate) fn set(&mut self, number: u32, guess: usize) -> Result<(), AllocError> {
+        let number = number as usize;
+        if number >= self.guesses.len() {
+            self.guesses.resize(2 * number + 64, 0)?;
+        }
+        self.guesses[number] = u32::try_from(guess).unwrap_or(0);
+        Ok(())
+    }
+}

@@ -1,0 +1,33 @@
+//! Words of bits that stand for places.
+ghost use Rattle.std.specs.Prelude.{◌≡◌, ℕ, ◌<◌, ◌⊎◌};
+ghost use Rattle.std.specs.Int.{bit_at};
+
+/// Some of 64 places, the first of which is 64 times `index`.
+#[derive(Clone, Copy, Drop)]
+pub struct PlaceWord {
+    pub index: u32,
+    pub bits: u64,
+}
+
+/// The lowest bit of a word.
+#[inline(always)]
+pub fn lowest(word: u64) -> usize
+    requires { 0 < word }
+    ensures low { result < 64 }
+    ensures set { bit_at word result ≡ 1 }
+{
+    word.trailing_zeros() as usize
+}
+
+/// The word without one of its bits.
+#[inline(always)]
+pub fn without(word: u64, bit: usize) -> u64
+    requires low { bit < 64 }
+    requires set { bit_at word bit ≡ 1 }
+    ensures less { result < word }
+    ensures gone { bit_at result bit ≡ 1 → ⊥ }
+    ensures only { (j : ℕ) → bit_at result j ≡ 1 → bit_at word j ≡ 1 }
+    ensures others { (j : ℕ) → bit_at word j ≡ 1 → (j ≡ bit) ⊎ (bit_at result j ≡ 1) }
+{
+    word & !(1u64 << bit)
+}

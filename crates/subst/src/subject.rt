@@ -1,0 +1,45 @@
+//! What a cache holds for, as contracts alone see it.
+ghost use Rattle.std.specs.Prelude.{◌≡◌, ℕ, List, []};
+ghost use Rattle.std.specs.Borrow.{ftrue};
+ghost use Rattle.frame.specs.Parts.{Numbered};
+
+use crate::buffer::Buffer;
+use frame::Pairs;
+use std::marker::Model;
+
+/// The statements and names that a cache holds for, and the symbols over which it was filled last. It has no bytes.
+#[derive(Drop)]
+pub struct Subject {
+    pub ghost about: { Numbered },
+    pub ghost over: { List ℕ },
+}
+
+impl Model for Subject {
+    ghost also_owns = { λ _. ftrue };
+}
+
+// It owns nothing.
+unsafe impl Send for Subject {}
+
+impl Subject {
+    /// Returns the subject of a cache that knows nothing.
+    pub fn none() -> Subject
+        ensures { result.over ≡ [] }
+    {
+        Subject {}
+    }
+
+    /// Returns the statements and names of the pairs, over no symbols.
+    pub fn of(_pairs: &Pairs<'_>) -> Subject
+        ensures { result ≡ record { about = _pairs.now; over = [] } }
+    {
+        Subject {}
+    }
+
+    /// Returns the same statements and names over other symbols.
+    pub fn grown(_before: &Subject, _symbols: &Buffer) -> Subject
+        ensures { result ≡ record { about = _before.now.about; over = _symbols.now } }
+    {
+        Subject {}
+    }
+}

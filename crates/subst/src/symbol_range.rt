@@ -1,0 +1,29 @@
+//! Where symbols lie in a buffer.
+ghost use Rattle.std.specs.Prelude.{◌≡◌, ◌≤◌, length};
+ghost use Rattle.{subst.specs.SymbolRanges.seen_at, subst.specs.declared.buffer.TheConstants.SYMBOLS_LIMIT};
+
+/// Where symbols lie.
+#[derive(Clone, Copy, Drop)]
+pub struct SymbolRange {
+    pub start: u32,
+    pub end: u32,
+}
+
+/// The symbols at a place.
+pub fn symbols_at(symbols: &[u32], place: SymbolRange) -> &[u32]
+    requires { (place.start ≤ place.end) × (place.end ≤ length symbols.now) }
+    ensures { result.now ≡ seen_at symbols.now place }
+{
+    &symbols[place.start as usize..place.end as usize]
+}
+
+/// The place between two that are within the bound of a buffer.
+pub fn place_between(start: usize, end: usize) -> SymbolRange
+    requires { (start ≤ SYMBOLS_LIMIT) × (end ≤ SYMBOLS_LIMIT) }
+    ensures { (result.start ≡ start) × (result.end ≡ end) }
+{
+    SymbolRange {
+        start: start as u32,
+        end: end as u32,
+    }
+}

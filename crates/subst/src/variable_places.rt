@@ -1,0 +1,133 @@
+//! The places of the variables of one proof.
+ghost use Rattle.std.specs.Prelude.{◌≡◌, ◌<◌, [], get_or, length, IfOk, IfSome};
+ghost use Rattle.names.specs.Codes.{name_at};
+ghost use Rattle.scope.specs.Active.{is_variable};
+ghost use Rattle.subst.specs.Stored.VariablePlaces.{ArePlaced, Grows, IsListed, IsPlace};
+
+use crate::hints::Hints;
+use frame::Pairs;
+use std::alloc::{AllocError, Global};
+use std::marker::Model;
+
+/// A symbol that was met in an image.
+#[derive(Clone, Copy, Drop)]
+pub struct MetSymbol {
+    number: u32,
+    /// Its place among the variables, if it is one.
+    place: Option<u32>,
+}
+
+/// The variables of one proof, each at a place: 0, 1, 2 and so on, as they are met.
+///
+/// A hint tells where a symbol may stand among those met, so nothing is cleared between proofs.
+#[derive(Drop)]
+pub struct VariablePlaces {
+    hints: Hints,
+    symbols: Vec<MetSymbol>,
+    variables: Vec<u32>,
+}
+
+impl Model for VariablePlaces {
+    ghost use Rattle.subst.specs.Stored.VariablePlaces.{Places};
+
+    ghost Value = { Places };
+
+    ghost view = { λ a. record { symbols = a.symbols.items; variables = a.variables.items } };
+}
+
+impl VariablePlaces {
+    /// Returns a table without variables. Does not allocate.
+    pub fn new(alloc: Global) -> VariablePlaces
+        ensures symbols { result.symbols ≡ [] }
+        ensures variables { result.variables ≡ [] }
+    {
+        VariablePlaces {
+            hints: Hints::new(alloc),
+            symbols: Vec::new(alloc),
+            variables: Vec::new(alloc),
+        }
+    }
+
+    /// Forgets all symbols, in constant time. The memory stays.
+    pub fn clear(&mut self)
+        ensures symbols { self.new.symbols ≡ [] }
+        ensures variables { self.new.variables ≡ [] }
+    {
+        self.symbols.clear();
+        self.variables.clear();
+    }
+
+    /// Returns the symbol number of the variable at a place.
+    #[inline(always)]
+    pub fn number(&self, place: usize) -> u32
+        requires { place < length self.now.variables }
+        ensures { result ≡ get_or self.now.variables place 0 }
+    {
+        self.variables[place]
+    }
+
+    /// Returns the place of a symbol that was met, which is `None` inside if it is no variable.
+    #[inline(always)]
+    fn known(&self, symbol: u32) -> Option<Option<u32>>
+        ensures { IfSome result (IsListed self.now symbol) }
+    {
+        let met = self.symbols.get(self.hints.get(symbol as usize))?;
+        if met.number == symbol {
+            Some(met.place)
+        } else {
+            None
+        }
+    }
+
+    /// Returns the place of a symbol, or `None` if it is no variable. A variable that was not met before gets the next place.
+    ///
+    /// Errors: an allocation fails. Cost: constant; for a symbol that is met first, that of `Pairs::variable`.
+    #[inline(always)]
+    pub fn place_of(&mut self, pairs: &Pairs<'_>, symbol: u32) -> Result<Option<u32>, AllocError>
+        requires placed { ArePlaced pairs.now self.old }
+        requires named { symbol < length pairs.now.names }
+        ensures placed { ArePlaced pairs.now self.new }
+        ensures grows { Grows self.old self.new }
+        ensures place { IfOk result (IsPlace pairs.now self.new symbol) }
+    {
+        match self.known(symbol) {
+            Some(place) => Ok(place),
+            None => self.meet(pairs, symbol),
+        }
+    }
+
+    /// Meets a symbol for the first time.
+    #[cold]
+    #[inline(never)]
+    fn meet(&mut self, pairs: &Pairs<'_>, symbol: u32) -> Result<Option<u32>, AllocError>
+        requires placed { ArePlaced pairs.now self.old }
+        requires named { symbol < length pairs.now.names }
+        ensures placed { ArePlaced pairs.now self.new }
+        ensures grows { Grows self.old self.new }
+        ensures place { IfOk result (IsPlace pairs.now self.new symbol) }
+    {
+        let place = self.next_place(pairs, symbol)?;
+        let number = symbol;
+        self.hints.set(number, self.symbols.len())?;
+        self.symbols.push(MetSymbol { number, place })?;
+        Ok(place)
+    }
+
+    /// Gives a variable the next place, and another symbol none.
+    fn next_place(&mut self, pairs: &Pairs<'_>, symbol: u32) -> Result<Option<u32>, AllocError>
+        requires placed { ArePlaced pairs.now self.old }
+        requires named { symbol < length pairs.now.names }
+        ensures placed { ArePlaced pairs.now self.new }
+        ensures grows { Grows self.old self.new }
+        ensures place { IfOk result (IsPlace pairs.now self.new symbol) }
+    {
+        if !pairs.variable(symbol) {
+            return Ok(None);
+        }
+        let Ok(place) = u32::try_from(self.variables.len()) else {
+            return Err(AllocError);
+        };
+        self.variables.push(symbol)?;
+        Ok(Some(place))
+    }
+}
