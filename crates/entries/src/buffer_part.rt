@@ -20,7 +20,7 @@ pub fn place(at: usize) -> Result<u32, AllocError>
     Ok(at as u32)
 }
 
-/// What stands between two places.
+/// Makes the part between two places.
 pub fn between(from: usize, to: usize) -> Result<BufferPart, AllocError>
     ensures { IfOk result (λ s. (s.from ≡ from) × (s.to ≡ to)) }
 {

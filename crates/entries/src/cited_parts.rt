@@ -1,4 +1,4 @@
-//! What a verifier reads of an assertion that is cited.
+//! The parts of an assertion that a verifier reads where it is cited.
 ghost use Rattle.std.specs.Prelude.{◌≡◌, ◌<◌, length, map, slice_get, Some, IfOk};
 ghost use Rattle.entries.specs.Hypotheses.{told};
 
@@ -90,7 +90,7 @@ fn hypothesis_of(number: u32) -> Hypothesis
 pub struct Cited<'a> {
     /// The first symbol of each mandatory hypothesis, in order.
     pub heads: &'a [u32],
-    /// What each is, in order.
+    /// The hypotheses, in order.
     pub hypotheses: Hypotheses<'a>,
     /// Its expression.
     pub conclusion: &'a [u32],

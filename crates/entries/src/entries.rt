@@ -24,8 +24,8 @@ pub struct Entries {
     groups: Vec<BufferPart>,
 }
 
-/// What is kept of one statement: its record, what was there before it, its numbers, where its parts stand among them, and
-/// its groups. What is not used of it is not read.
+/// The kept parts of one statement: its record, what was there before it, its numbers, where its parts stand among them,
+/// and its groups. A part that is not used is not read.
 #[derive(Clone, Copy, Drop)]
 struct Stored<'a> {
     kept: StatementRecord,
@@ -128,7 +128,7 @@ impl Entries {
         })
     }
 
-    /// What is kept of the statement at an index.
+    /// Returns the kept parts of the statement at an index.
     #[inline(always)]
     fn stored(&self, index: usize) -> Stored<'_>
         requires { index < length self.now }

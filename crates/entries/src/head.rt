@@ -1,15 +1,15 @@
-//! What is noted of a statement beside its parts.
+//! The notes on a statement beside its parts.
 use crate::kind::Kind;
 use crate::links::Links;
 
-/// What was there before a statement.
+/// The labels, names and active statements before a statement.
 #[derive(Clone, Copy, Drop)]
 pub struct Background {
     /// How many labels there were: the number of its own, where it has one.
     pub label: u32,
     /// How many names there were.
     pub names: u32,
-    /// What was active.
+    /// The last active statements.
     pub links: Links,
 }
 

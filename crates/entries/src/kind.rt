@@ -1,6 +1,6 @@
 //! The kinds of statements.
 
-/// What kind of statement an entry is.
+/// The kind of statement that an entry is.
 #[derive(Clone, Copy, Debug, Drop, PartialEq, Eq)]
 pub enum Kind {
     Open,

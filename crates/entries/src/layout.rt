@@ -14,7 +14,7 @@ pub const COUNTS: usize = 4;
 pub struct Layout {
     /// The first symbols of its hypotheses.
     pub heads: usize,
-    /// What its hypotheses are.
+    /// Its hypotheses as numbers.
     pub asked: usize,
     /// Its symbols.
     pub symbols: usize,
@@ -61,7 +61,7 @@ pub fn assertion_layout(numbers: &[u32]) -> Layout
     )
 }
 
-/// What stands before the parts.
+/// Returns the counts that stand before the parts.
 pub fn counts(parts: &AssertionParts<'_>) -> Result<[u32; COUNTS], AllocError>
     ensures { IfOk result (λ counts. counts ≡ counts_of parts.now) }
 {

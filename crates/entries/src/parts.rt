@@ -10,7 +10,7 @@ pub struct AssertionParts<'a> {
     pub symbols: &'a [u32],
     /// The positions of its hypotheses, in order.
     pub hypotheses: &'a [u32],
-    /// What each is, as `cited_parts::number_of` has it.
+    /// The hypotheses as numbers, by `cited_parts::number_of`.
     pub asked: &'a [u32],
     /// The first symbol of each.
     pub heads: &'a [u32],

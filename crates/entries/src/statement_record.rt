@@ -2,7 +2,7 @@
 
 use crate::kind::Kind;
 
-/// What is looked at first of a statement: its kind, and where its numbers and its groups begin. They end where those of
+/// The first part of a statement that is looked at: its kind, and where its numbers and its groups begin. They end where those of
 /// the next statement begin.
 #[derive(Clone, Copy, Drop)]
 pub struct StatementRecord {

@@ -1,4 +1,4 @@
-//! What an assertion asks of who cites it, as a value of its own.
+//! The frame of an assertion, as a value of its own.
 ghost use Rattle.std.specs.Prelude.{◌≡◌};
 
 use mm_lex::Words;

@@ -1,11 +1,11 @@
-//! What is active at a position, read off the storage.
+//! The statements that are active at a position, read off the storage.
 ghost use Rattle.std.specs.Prelude.{◌≡◌, ◌+◌, ◌-◌, ◌<◌, ◌≤◌, length, take, slice_get};
 ghost use Rattle.{scope.specs.Active.is_active, frame.specs.Links.links_of, frame.specs.Stored.Whole.AreStored, frame.specs.Stored.EntryMeanings.statements_of, frame.specs.Stored.Counts.IsPlain};
 
 use crate::storage::Stock;
 use entries::Links;
 
-/// What is active before the statement at `at`, or at the end.
+/// Returns what is active before the statement at `at`, or at the end.
 pub fn links_at(stock: &Stock, at: usize) -> Links
     requires stored { AreStored stock.now }
     requires place { (1 ≤ at) × (at ≤ length (statements_of stock.now) + 1) }

@@ -1,4 +1,4 @@
-//! What one more statement changes, and how it is taken back: the names and the last declarations of symbols, where blocks
+//! The changes by one more statement, and how they are taken back: the names and the last declarations of symbols, where blocks
 //! end, and what is active behind it.
 ghost use Rattle.std.specs.Prelude.{◌≡◌, ℕ, ◌+◌, ◌≤◌, ◌==◌, ◌++◌, ◌∷◌, [], Some, length, slice_get, OnOk, if◌then◌else◌, map, take};
 ghost use Rattle.{std.specs.List.list_any, mm_read.specs.declared.stmt.Stmt.Stmt as Statement, scope.specs.Active.label_of, scope.specs.Declares.IsNotedBy, scope.specs.Declares.MayDeclare, scope.specs.Declares.declared_with, entries.specs.Stored.Spans.Extends, frame.specs.Below.AreBelow, frame.specs.Links.links_of, frame.specs.declared.storage.Symbol.Symbol as Declared, frame.specs.Stored.Whole.AreStored, frame.specs.Stored.EntryMeanings.option_position, frame.specs.Stored.EntryMeanings.statements_of, frame.specs.Stored.EntryMeanings.declared_by, frame.specs.Stored.EntryMeanings.last_of, frame.specs.Stored.EntryMeanings.with_last, frame.specs.Stored.EntryMeanings.ReadsAs, frame.specs.Stored.EntryMeanings.replaced_of, frame.specs.Stored.EntryMeanings.symbol_of, frame.specs.Stored.Counts.Grown, frame.specs.Stored.Counts.HasRoom, frame.specs.Stored.Counts.kind_of, frame.specs.Stored.Counts.next_links, frame.specs.Stored.Counts.HasTwo, frame.specs.Stored.Ends.with_end, frame.specs.Stored.Ends.TellEnds};
@@ -46,7 +46,7 @@ pub fn declare_next(
     Ok(())
 }
 
-/// What is active behind one more statement of a kind.
+/// Returns what is active behind one more statement of a kind.
 pub fn links_after(stock: &Stock, kind: Kind) -> Links
     requires { AreStored stock.now }
     ensures { (s : Statement) → kind_of s ≡ kind → result ≡ links_of (statements_of stock.now ++ s ∷ []) }
@@ -69,7 +69,7 @@ pub fn links_after(stock: &Stock, kind: Kind) -> Links
     }
 }
 
-/// What is active behind a statement of a kind at `at`, if it is no `$}`.
+/// Returns what is active behind a statement of a kind at `at`, if it is no `$}`.
 fn links_with(links: Links, kind: Kind, at: u32) -> Links
     ensures { result ≡ next_links links at kind }
 {
@@ -187,7 +187,7 @@ pub fn take_away(stock: &mut Stock, len: usize)
     }
 }
 
-/// What a statement of this kind that declares these symbols replaced is their last declaration again.
+/// Makes the declarations that a statement of this kind replaced the last ones of its symbols again.
 fn restore(symbols: &mut Vec<Symbol>, kind: Kind, declared: &[u32], replaced: &[usize])
     requires below { AreBelow (length symbols.old.items) declared.now }
     requires count { length replaced.now ≡ length declared.now }

@@ -126,7 +126,7 @@ impl Frames {
         }
     }
 
-    /// What a citation of the statement at i means at `at`.
+    /// Returns the meaning of a citation of the statement at i at `at`.
     pub fn meaning(&self, at: usize, i: usize) -> Meaning<'_>
         requires { (1 ≤ at) × (at ≤ length self.now.statements) }
         ensures { IsMeaning self.now.statements self.now.names at i result }

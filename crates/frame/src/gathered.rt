@@ -1,4 +1,4 @@
-//! What is found out about an assertion.
+//! The gathered parts of an assertion.
 ghost use Rattle.std.specs.Prelude.{◌≡◌, length, false};
 ghost use Rattle.{entries.specs.Entries.AreShapedParts, entries.specs.Entries.assertion_of, entries.specs.Entries.partless};
 
@@ -18,7 +18,7 @@ pub struct Gathered {
     pub(crate) noted: Stack,
     /// The positions of its hypotheses, in order.
     pub(crate) hypotheses: Vec<u32>,
-    /// What each hypothesis is, as one number.
+    /// Each hypothesis as one number.
     pub(crate) asked: Vec<u32>,
     /// The first symbol of each.
     pub(crate) heads: Vec<u32>,
@@ -53,7 +53,7 @@ impl Gathered {
         }
     }
 
-    /// What is kept of a statement with these symbols.
+    /// Returns the parts of a statement with these symbols.
     pub(crate) fn parts<'a>(&'a self, symbols: &'a [u32]) -> AssertionParts<'a>
         requires asked { length self.now.asked ≡ length self.now.hypotheses }
         requires heads { length self.now.heads ≡ length self.now.hypotheses }

@@ -15,7 +15,7 @@ use entries::buffer_part::item;
 use entries::{Kind, PositionSets};
 use std::alloc::{AllocError, Global};
 
-/// What is kept by one statement.
+/// The set that one statement keeps.
 #[derive(Clone, Copy, Drop)]
 pub struct KeptSet {
     /// The number of the set, or 0 where none is kept.
@@ -30,7 +30,7 @@ pub struct KeptSet {
 pub struct GivenSets {
     pub alloc: Global,
     pub sets: PositionSets,
-    /// What is kept by each statement.
+    /// The set of each statement, by index.
     pub kept: Vec<KeptSet>,
 }
 

@@ -1,4 +1,4 @@
-//! What an assertion asks of who cites it.
+//! The parts of an assertion that a citation asks for.
 //!
 //! `Frames` keeps the statements of a database by position, and reads off them what a verifier asks: what a citation means at a
 //! statement, the parts of an assertion, and the disjoint variables. `frame` gathers the `Frame` of one assertion from

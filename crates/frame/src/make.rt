@@ -25,7 +25,7 @@ fn head(codes: &[u32]) -> u32
     }
 }
 
-/// What the hypothesis at a position is.
+/// Returns the hypothesis at a position, by its entry.
 fn hypothesis(entry: EntryRef<'_>, position: u32) -> Hypothesis
     requires { HasTwo entry.kind entry.symbols.now }
     ensures { result ≡ asked_by position entry.entry.kind entry.entry.symbols.now }

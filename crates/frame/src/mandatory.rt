@@ -99,7 +99,7 @@ pub fn add_essentials(stock: &Stock, at: usize, list: &mut Vec<u32>) -> Result<(
     Ok(())
 }
 
-/// Of so many `$d` at most, with twice as many symbols, the groups are kept with an assertion.
+/// The groups of at most so many `$d`, with twice as many symbols, are kept with an assertion.
 const FEW: usize = 64;
 
 /// From more hypotheses than this on that the active `$e` bring along, they are kept as a set.

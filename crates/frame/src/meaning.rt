@@ -1,6 +1,6 @@
-//! What the citation of a statement means.
+//! The meaning of a citation of a statement.
 
-/// What the citation of a statement means at another.
+/// The meaning of a citation of one statement at another.
 #[derive(Clone, Copy, Drop)]
 pub enum Meaning<'a> {
     /// An active hypothesis, and its expression.

@@ -113,7 +113,7 @@ fn has(used: &NameTable, name: &[u8]) -> bool
     used.find(name).is_some()
 }
 
-/// Of each `$d` those of the variables, where they are two or more.
+/// Returns the mandatory variables of each `$d`, where they are two or more.
 fn groups(alloc: Global, standing: &[Standing], used: &NameTable) -> Result<Vec<Words>, AllocError>
     ensures { IfOk result (λ groups. groups.items ≡ groups_among used.now standing.now) }
 {

@@ -18,9 +18,9 @@ pub struct Stock {
     pub numbering: Numbering,
     pub positions: Vec<u32>,
     pub symbols: Vec<Symbol>,
-    /// What each `$f`, and each symbol of each `$v`, replaced in `symbols`, in order.
+    /// The declarations that each `$f`, and each symbol of each `$v`, replaced in `symbols`, in order.
     pub replaced: Vec<usize>,
-    /// Of each `${` the position of its `$}`, or 0 while its block is open; of another statement 0.
+    /// For each `${` the position of its `$}`, or 0 while its block is open; for another statement 0.
     pub ends: Vec<u32>,
     pub entries: Entries,
     /// The active `$d` that have a symbol, by its number.
