@@ -10,3 +10,5 @@ pub mod Naming
 pub mod Ends
 pub mod Stacks
 pub mod Whole
+pub mod GivenSets
+pub mod Merged
