@@ -42,4 +42,5 @@ pub mod CollectedLemmas
 pub mod OneFrameLemmas
 pub mod LabelLemmas
 pub mod PositionLemmas
+pub mod LongExpressionLemmas
 mod Rows

@@ -68,7 +68,7 @@ fn extend(
     note_active(
         &mut stock.disjoints,
         &mut stock.variables,
-        &stock.entries,
+        stock.entries.list(),
         &next,
     )?;
     stock.entries.push(head, &draft.parts(codes))?;

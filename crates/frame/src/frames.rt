@@ -1,6 +1,6 @@
 //! The statements of a database by position.
 ghost use Rattle.std.specs.Prelude.{◌≡◌, ◌≤◌, [], IfOk, length, Some, option_map, OnOk, IfSome};
-ghost use Rattle.{mm_read.specs.declared.stmt.Stmt.Stmt as Statement, names.specs.Codes.name_at, names.specs.Codes.decode, scope.specs.Active.before, scope.specs.Active.stmt_at, scope.specs.Active.label_of, scope.specs.Active.expr_of, frame.specs.AtPosition.IsPosition, frame.specs.AtPosition.ArePositions, frame.specs.AtPosition.AreLegal, frame.specs.AtPosition.IsMeaning, frame.specs.FrameOf.HasAssertion, frame.specs.FrameOf.hypotheses, frame.specs.Cited.IsGathered, frame.specs.Cited.IsCited, frame.specs.Below.AreBelow};
+ghost use Rattle.{mm_read.specs.declared.stmt.Stmt.Stmt as Statement, names.specs.Codes.name_at, names.specs.Codes.decode, scope.specs.Active.before, scope.specs.Active.stmt_at, scope.specs.Active.label_of, scope.specs.Active.expr_of, frame.specs.AtPosition.IsPosition, frame.specs.AtPosition.ArePositions, frame.specs.AtPosition.AreLegal, frame.specs.AtPosition.IsMeaning, frame.specs.FrameOf.HasAssertion, frame.specs.FrameOf.hypotheses, frame.specs.Cited.IsGathered, frame.specs.Cited.IsCited, frame.specs.ExprPlaces.AreExprPlaces, frame.specs.Below.AreBelow};
 
 use crate::at_position::{is_active_at, links_at};
 use crate::gathered::Gathered;
@@ -11,8 +11,9 @@ use crate::meaning::Meaning;
 use crate::pairs::Pairs;
 use crate::shape::has_label;
 use crate::storage::Stock;
+use crate::stored_entries::StoredEntries;
 use crate::symbol_numbers::label_number;
-use entries::{Cited, Entries, Groups, Histories, Hypotheses, Kind, Links};
+use entries::{Cited, Groups, Histories, Hypotheses, Kind, Links, SymbolPlaces};
 use mm_lex::Words;
 use scope::{Noted, Numbering};
 use std::alloc::{AllocError, Global};
@@ -58,7 +59,7 @@ impl Frames {
                 symbols: Vec::new(alloc),
                 replaced: Vec::new(alloc),
                 ends: Vec::new(alloc),
-                entries: Entries::new(alloc),
+                entries: StoredEntries::new(alloc),
                 disjoints: Histories::new(alloc),
                 variables: Histories::new(alloc),
                 links: Links {
@@ -123,6 +124,22 @@ impl Frames {
             entry.symbols
         } else {
             &[]
+        }
+    }
+
+    /// Returns where each symbol of the expression of the statement at a position stands, if the expression has at least
+    /// `LONG_EXPRESSION` symbols.
+    ///
+    /// Cost: log n for n such expressions.
+    pub fn places(&self, at: usize) -> Option<&SymbolPlaces>
+        requires { (1 ≤ at) × (at ≤ length self.now.statements) }
+        ensures { (s : Statement) → stmt_at self.now.statements at ≡ Some s → IfSome result (λ places. AreExprPlaces self.now.names (expr_of s) places.now) }
+    {
+        let entry = self.stock.entries.entry(at - 1);
+        if has_label(entry.kind) {
+            self.stock.entries.places(at - 1)
+        } else {
+            None
         }
     }
 

@@ -26,6 +26,7 @@ mod row;
 mod shape;
 mod stacks;
 mod storage;
+mod stored_entries;
 mod symbol_numbers;
 
 pub use assertion::Frame;
@@ -38,3 +39,4 @@ pub use one_frame::frame;
 pub use pairs::Pairs;
 pub use row::Row;
 pub use shape::is_assertion;
+pub use stored_entries::LONG_EXPRESSION;
