@@ -11,3 +11,5 @@ pub mod Ends
 pub mod Stacks
 pub mod LongExpressions
 pub mod Whole
+pub mod GivenSets
+pub mod Merged

@@ -2,7 +2,7 @@
 //!
 //! `Frames` keeps the statements of a database by position, and reads off them what a verifier needs: what a citation means at a
 //! statement, the parts of an assertion, and the disjoint variables. `frame` gathers the `Frame` of one assertion from
-//! what is active. Reading order: `stored_entries`, `storage`, `shape`, `gathered`; `symbol_numbers`, `at_position`, `stacks`, `declare`, `mandatory`,
+//! what is active. Reading order: `storage`, `shape`, `gathered`; `symbol_numbers`, `at_position`, `stacks`, `declare`, `mandatory`,
 //! `make`, `extend` (appending and truncating); `meaning`, `frames`, `row`, `pairs`, `active_apart` (queries); `assertion`,
 //! `one_frame`; `laws`.
 #![tactic(auto)]
@@ -14,9 +14,11 @@ mod declare;
 mod extend;
 mod frames;
 mod gathered;
+mod given_sets;
 mod laws;
 mod make;
 mod mandatory;
+mod mandatory_view;
 mod meaning;
 mod one_frame;
 mod pairs;
@@ -31,6 +33,7 @@ pub use assertion::Frame;
 pub use frames::Frames;
 pub use gathered::Gathered;
 pub use laws::groups_are_pairs;
+pub use mandatory_view::MandatoryView;
 pub use meaning::Meaning;
 pub use one_frame::frame;
 pub use pairs::Pairs;

@@ -115,5 +115,6 @@ returns c =
       };
       added = statements;
       numbers = added-numbers e c.in-Some.ensures.numbers extended;
+      more = (made h codes a ∷ [], entries);
       behind = tt;
     }
