@@ -2,7 +2,7 @@ use Rattle.verify.proofs.Words.{◌≡◌, ◌↔◌, Bool, IsTrue, List, CodeIm
 use Rattle.verify.proofs.Named.{all-drop}
 use Rattle.verify.proofs.ResultPlaceLemmas.{seen_place}
 use Rattle.verify.proofs.ReadImageLemmas.{standing-at, fits-essential, one-more}
-use Rattle.verify.proofs.results.Results.fits.Goals.{in-Essential+else-not-matches, in_default}
+use Rattle.verify.proofs.results.Results.fits.Goals.{in-Essential+in_ok-expr+else-not-matches, in_default}
 use Rattle.verify.proofs.results.Results.fits.Goals as goal
 
 -- what is left of an expression is held against the result in its place
@@ -37,7 +37,7 @@ pub loop-k-preserved : goal.loop-k-preserved
 loop-k-preserved c =
     let P : ℕ → Hypothesis → Type 0 = λ j h. FitsOne c.args.frames.now.statements (images_of_names c.args.frames.now.names c.args.self.now.images) h (get_or (map (decode c.args.frames.now.names) (top (length c.args.hypotheses.now) c.args.self.now.results.stack)) j []) in
     elim c.match-get.branch [
-      | in-Essential+else-not-matches w ↦
+      | in-Essential+in_ok-expr+else-not-matches w ↦
           let at = c.get.ensures ∙ ap Some w.in-Essential.is in
           let place = seen_place c.self.inside.symbols c.self.inside.stack.items c.deref.result.now c.args.self.now.results.stack (c.len.result - c.len-2.result) c.len-2.result c.loop-k.k _ c.deref.ensures.value (ap (λ v. v.results.stack) c.self.view_is) (omega (arith, c.len.ensures)) (omega (arith, c.requires.count, c.len-2.ensures)) (let w = slice_get_within c.args.hypotheses.now c.loop-k.k c.get.result c.get.ensures in omega (arith, w, c.len-2.ensures)) c.self.invariant.kept.stack_within in
           let iff = fits-essential _ _ _ _ _ _ _ _ _ _ _ c.requires.legal.distinct c.requires.standing at w.expr-whole.ensures.same w.expr-whole.ensures.codes c.requires.over (all-drop _ (length c.args.self.now.results.stack - length c.args.hypotheses.now) _ c.requires.named)

@@ -2,7 +2,7 @@ use Rattle.verify.proofs.Words.{◌≡◌, ◌<◌, ℕ, Bool, List, [], ◌∷�
 use Rattle.entries.specs.SymbolPlaces.{ArePlacesOf}
 use Rattle.frame.specs.ExprPlaces.{AreExprPlaces}
 use Rattle.subst.specs.Vanishing.{is_left}
-use Rattle.std.proofs.Common.{cond}
+use Rattle.std.proofs.Common.{cond, inl, inr}
 use Rattle.std.proofs.lemmas.Bool.{cases_Bool}
 use Rattle.verify.proofs.results.Results.shorten.Goals as goal
 
@@ -25,10 +25,10 @@ of-requires c =
     let is = c.requires.stands.1 in
     places-of c.args.frames.now.names c.args.expr.now (expr_of s) _ c.requires.distinct c.requires.below is.same (rw c.in-Some.is at (c.places.ensures s is.stands))
 
-pub returns-in-Some-clause-same : goal.returns-in-Some-clause-same
-returns-in-Some-clause-same c = rw (← c.self.view_is) ((rw c.in-Some-2.is at c.in_ok-of.ensures.same) c.self.inside.symbols)
+pub returns-in-Some-2-clause-same : goal.returns-in-Some-2-clause-same
+returns-in-Some-2-clause-same c = rw (← c.self.view_is) ((rw c.in-Some-2.is at c.in_ok-of.ensures.same) c.self.inside.symbols)
 
-pub returns-in-Some-clause-below : goal.returns-in-Some-clause-below
-returns-in-Some-clause-below c =
+pub returns-in-Some-2-clause-below : goal.returns-in-Some-2-clause-below
+returns-in-Some-2-clause-below c =
     let left = rw c.in-Some-2.is at c.in_ok-of.ensures.left in
     subst (AreBelow (length c.args.frames.now.names)) (sym left) (some-below (length c.args.frames.now.names) (is_left c.self.inside.images) c.args.expr.now c.requires.below)
