@@ -19,7 +19,7 @@ use scope::{Noted, Numbering};
 use std::alloc::{AllocError, Global};
 use std::marker::Model;
 
-/// More mandatory hypotheses than this that active `$e` bring along are many.
+/// Active `$e` that bring along more mandatory hypotheses than this bring along many.
 const LONG: usize = 64;
 
 /// The statements of a database by position, without their proofs, with their symbols as numbers.

@@ -1,4 +1,4 @@
-//! The hypotheses that the active `$e` bring along, as sets that are kept by the `$e`.
+//! The mandatory hypotheses that the active `$e` bring along, as sets that are kept with each `$e`.
 ghost use Rattle.std.specs.Prelude.{◌≡◌, ◌+◌, ◌-◌, ◌<◌, ◌≤◌, ◌++◌, ℕ, List, [], length, take, IfOk, OnErr, OnOk};
 ghost use Rattle.entries.specs.PositionSets.{Ascends, set_at};
 ghost use Rattle.entries.specs.Stored.Spans.{Extends};
@@ -18,14 +18,14 @@ use std::alloc::{AllocError, Global};
 /// The set that one statement keeps.
 #[derive(Clone, Copy, Drop)]
 pub struct KeptSet {
-    /// The number of the set, or 0 where none is kept.
+    /// The number of the set, or 0 if none is kept.
     pub set: u32,
     /// How many sets there were before the statement.
     pub before: u32,
 }
 
-/// The mandatory hypotheses that the active `$e` up to a `$e` bring along, as a set, where they are many; where they
-/// are few they are collected by a walk.
+/// The mandatory hypotheses that the active `$e` up to a `$e` bring along, as a set if they are many. If they are few, a
+/// walk collects them.
 #[derive(Drop)]
 pub struct GivenSets {
     pub alloc: Global,
@@ -35,7 +35,7 @@ pub struct GivenSets {
 }
 
 impl GivenSets {
-    /// Makes what is kept by no statements. Does not allocate.
+    /// Returns the sets of an empty database. Does not allocate.
     pub fn new(alloc: Global) -> GivenSets
         ensures sets { AreGivenSets result [] [] }
         ensures count { length result.kept.items ≡ 0 }
@@ -47,7 +47,7 @@ impl GivenSets {
         }
     }
 
-    /// Returns the number of the set that is kept by the statement at a position, or 0.
+    /// Returns the number of the set that is kept with the statement at a position, or 0 if none is.
     pub fn set(&self, at: u32) -> u32
         ensures { result ≡ kept_set self.now.kept.items at }
     {
@@ -60,14 +60,14 @@ impl GivenSets {
         }
     }
 
-    /// Returns how many hypotheses a set has.
+    /// Returns the number of hypotheses in a set.
     pub fn count(&self, set: u32) -> usize {
         self.sets.len(set)
     }
 
-    /// Adds the `$e` that are active at `at`, and the `$f` that are kept with them, all in order.
+    /// Appends the `$e` that are active at `at`, and the `$f` that are kept with them, and sorts the list.
     ///
-    /// Cost: how many these are, times a logarithm; where they are few, that of a walk over the `$e`.
+    /// Cost: n log n for n of them; if they are few, a walk over the `$e`.
     pub fn add(&self, stock: &Stock, at: usize, list: &mut Vec<u32>) -> Result<(), AllocError>
         requires stored { AreStored stock.now }
         requires sets { AreGivenSets self.now stock.now.entries (statements_of stock.now) }
@@ -83,10 +83,10 @@ impl GivenSets {
         Ok(())
     }
 
-    /// Keeps what belongs to the last statement.
+    /// Records the set of the last statement.
     ///
-    /// Errors: an allocation fails; everything is then as before. Cost: of a `$e` that of its `$f`, times a logarithm;
-    /// where the hypotheses become many, that of collecting them; of another statement a constant.
+    /// Errors: an allocation fails; the sets are as before. Cost: for a `$e` its `$f`, times a logarithm, or the size of
+    /// the set if it is the first; for another statement a constant.
     pub fn note(&mut self, stock: &Stock) -> Result<(), AllocError>
         requires stored { AreStored stock.now }
         requires sets { AreGivenSets self.old stock.now.entries (statements_of stock.now) }
@@ -103,7 +103,7 @@ impl GivenSets {
         noted
     }
 
-    /// Keeps the set of the last statement, and how many there were before.
+    /// Records the set of the last statement, and how many sets there were before it.
     fn note_next(&mut self, stock: &Stock, size: u32) -> Result<(), AllocError>
         requires stored { AreStored stock.now }
         requires sets { AreGivenSets self.old stock.now.entries (statements_of stock.now) }
@@ -119,7 +119,7 @@ impl GivenSets {
         Ok(())
     }
 
-    /// Returns the number of the set of the last statement; 0 where none is kept.
+    /// Makes the set of the last statement, and returns its number, or 0 if it needs none.
     fn next_set(&mut self, stock: &Stock) -> Result<u32, AllocError>
         requires stored { AreStored stock.now }
         requires sets { AreGivenSets self.old stock.now.entries (statements_of stock.now) }
@@ -142,7 +142,8 @@ impl GivenSets {
         self.sets.insert(set, last as u32 + 1)
     }
 
-    /// Makes the set of what the active `$e` behind all statements bring along, if this is much; else answers 0.
+    /// Makes the set of the hypotheses that the active `$e` after all statements bring along, and returns its number, or 0 if
+    /// they are few.
     fn collect(&mut self, stock: &Stock) -> Result<u32, AllocError>
         requires stored { AreStored stock.now }
         requires some { 1 ≤ length self.old.sets }
@@ -159,7 +160,7 @@ impl GivenSets {
         self.sets.of_ascending(&list)
     }
 
-    /// Keeps what belongs to the first `len` statements alone. Does not allocate.
+    /// Truncates to the sets of the first `len` statements. Does not allocate.
     pub fn truncate(&mut self, len: usize)
         ensures { (es : List Entry) (S : Database) → AreGivenSets self.old es S → length self.old.kept.items ≡ length es → AreGivenSets self.new (take len es) (take len S) × (length self.new.kept.items ≡ length (take len es)) }
     {
@@ -171,9 +172,9 @@ impl GivenSets {
     }
 }
 
-/// Adds the positions of a set at the end of a list.
+/// Appends the positions of a set to a list.
 ///
-/// Cost: how many these are, times a logarithm.
+/// Cost: n log n for n positions.
 fn add_set(sets: &PositionSets, set: u32, list: &mut Vec<u32>) -> Result<(), AllocError>
     ensures { OnOk result (list.new.items ≡ list.old.items ++ set_at sets.now set) }
 {
@@ -186,7 +187,7 @@ fn add_set(sets: &PositionSets, set: u32, list: &mut Vec<u32>) -> Result<(), All
     Ok(())
 }
 
-/// Makes the set with the positions in their places, and returns its number.
+/// Makes the set that has these positions too, and returns its number.
 fn insert_each(sets: &mut PositionSets, set: u32, positions: &[u32]) -> Result<u32, AllocError>
     requires within { set < length sets.old }
     requires ascends { Ascends (set_at sets.old set) }

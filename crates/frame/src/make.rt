@@ -135,9 +135,8 @@ pub fn spread(stock: &Stock, at: usize, draft: &mut Gathered) -> Result<(), Allo
     Ok(())
 }
 
-/// Finds the parts of an assertion or a `$e` after all statements, by the recorded numbers of its symbols: the
-/// `$f` of its own variables, or all mandatory hypotheses, where it may keep more than its own and these are few.
-/// Another statement has none.
+/// Finds the parts of an assertion or a `$e` after all statements, by the recorded numbers of its symbols: all mandatory
+/// hypotheses and groups of an assertion if these are few, else the `$f` of its own variables. Another statement has none.
 pub fn enter_parts(
     stock: &Stock,
     given: &GivenSets,
@@ -169,7 +168,7 @@ pub fn enter_parts(
     enter_own(stock, draft, codes)
 }
 
-/// Finds the `$f` of the variables of an assertion behind all statements, and no other parts.
+/// Finds the `$f` of the variables of an assertion after all statements, and no other parts.
 fn enter_own(stock: &Stock, draft: &mut Gathered, codes: &[u32]) -> Result<(), AllocError>
     requires stored { AreStored stock.now }
     requires codes { AreBelow (length (names_in stock.now)) codes.now }
@@ -180,5 +179,5 @@ fn enter_own(stock: &Stock, draft: &mut Gathered, codes: &[u32]) -> Result<(), A
     describe(stock, &draft.hypotheses, &mut draft.asked, &mut draft.heads)
 }
 
-/// The parts of an assertion are kept whole where they take at most so many numbers.
+/// The parts of an assertion are kept whole if they have at most so many numbers.
 const MOST_KEPT: usize = 96;

@@ -121,8 +121,8 @@ pub fn given_count(stock: &Stock) -> usize {
     count
 }
 
-/// Returns whether the mandatory hypotheses of an assertion with so many `$f` of its own, and the active `$d`, are few,
-/// or may be. Whatever is answered, what is kept is right.
+/// Returns whether the mandatory hypotheses and groups of an assertion with so many `$f` of its own are few, or may be.
+/// The kept parts are right either way.
 ///
 /// Cost: at most a few steps, however much is active.
 pub fn are_few(stock: &Stock, given: &GivenSets, own: usize) -> bool {

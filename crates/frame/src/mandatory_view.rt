@@ -1,4 +1,4 @@
-//! The mandatory hypotheses of an assertion, where they are many.
+//! The mandatory hypotheses of an assertion that has many of them.
 ghost use Rattle.std.specs.Prelude.{◌≡◌, ◌+◌, ◌<◌, ◌≤◌, ℕ, suc, get_or, length, slice_get, Some, not, IfOk};
 ghost use Rattle.std.specs.List.{filter};
 ghost use Rattle.entries.specs.PositionSets.{count_below, has_position, set_at};
@@ -9,8 +9,8 @@ use std::marker::Model;
 
 /// The mandatory hypotheses of an assertion by position, in order, without a list of them.
 ///
-/// Contracts see the list. Inside it is the set that the active `$e` bring along, and the assertion's own `$f` that
-/// the set has not.
+/// Contracts see the list. It is kept as the set that the active `$e` bring along, and those `$f` of the assertion's own
+/// variables that are not in the set.
 #[derive(Drop)]
 pub struct MandatoryView<'a> {
     pub(crate) sets: &'a PositionSets,
@@ -31,7 +31,7 @@ impl<'a> Model for MandatoryView<'a> {
 }
 
 impl<'a> MandatoryView<'a> {
-    /// Returns how many there are.
+    /// Returns the number of mandatory hypotheses.
     pub fn len(&self) -> usize
         ensures { result ≡ length self.now }
     {
@@ -40,7 +40,7 @@ impl<'a> MandatoryView<'a> {
 
     /// Returns the position at an index, from 0.
     ///
-    /// Cost: the square of the logarithm of how many there are.
+    /// Cost: (log n)² for n hypotheses.
     pub fn get(&self, index: usize) -> u32
         requires { index < length self.now }
         ensures { slice_get self.now index ≡ Some result }
@@ -57,7 +57,7 @@ impl<'a> MandatoryView<'a> {
 
     /// Returns whether the statement at a position is one of them.
     ///
-    /// Cost: the logarithm of how many there are.
+    /// Cost: log n for n hypotheses.
     pub fn has(&self, position: usize) -> bool
         ensures { result ≡ has_position position self.now }
     {
@@ -70,7 +70,7 @@ impl<'a> MandatoryView<'a> {
     }
 }
 
-/// Returns the index of one of its own `$f` among all.
+/// Returns the index of one of the assertion's own `$f` among all hypotheses.
 fn place(sets: &PositionSets, set: u32, own: &[u32], at: usize) -> usize
     requires { at < length own.now }
     ensures { result ≡ count_below (get_or own.now at 0) (set_at sets.now set) + at }
@@ -78,7 +78,7 @@ fn place(sets: &PositionSets, set: u32, own: &[u32], at: usize) -> usize
     sets.rank(set, own[at]) + at
 }
 
-/// Returns how many of its own `$f` have a smaller index among all, by binary search.
+/// Returns how many of the assertion's own `$f` have a smaller index among all hypotheses, by binary search.
 fn own_before(sets: &PositionSets, set: u32, own: &[u32], index: usize) -> usize
     ensures within { result ≤ length own.now }
     ensures before { (k : ℕ) → suc k ≡ result → count_below (get_or own.now k 0) (set_at sets.now set) + k < index }
@@ -97,7 +97,9 @@ fn own_before(sets: &PositionSets, set: u32, own: &[u32], index: usize) -> usize
     low
 }
 
-/// Returns those of the positions that a set has not.
+/// Returns the positions that are not in a set.
+///
+/// Errors: an allocation fails.
 pub(crate) fn missing(
     alloc: Global,
     sets: &PositionSets,

@@ -15,9 +15,9 @@ returns-then-has_label c = λ s h.
     (some-map c.places.result (λ r. ArePlacesOf e.symbols r.now) (λ r. AreExprPlaces (names_in k) (expr_of s) r.now)
     (λ r p. record {
       codes = e.symbols;
-      below = numbered-at (length (names_in k)) (length (labels_in k)) k.entries c.self.invariant.kept.coded (c.args.at - 1) e g;
+      below = numbered-at (length (names_in k)) (length (labels_in k)) k.entries c.self.invariant.stored.kept.coded (c.args.at - 1) e g;
       named =
-          entry-expr (names_in k) (labels_in k) e (sym c.has_label.ensures ∙ c.if-has_label.true) (two-of (length (names_in k)) (length (labels_in k)) k.entries c.self.invariant.kept.coded (c.args.at - 1) e g)
+          entry-expr (names_in k) (labels_in k) e (sym c.has_label.ensures ∙ c.if-has_label.true) (two-of (length (names_in k)) (length (labels_in k)) k.entries c.self.invariant.stored.kept.coded (c.args.at - 1) e g)
           ∙ ap expr_of (is-entry (names_in k) (labels_in k) k.entries c.args.at e s c.requires.0 g (rw (← c.self.view_is) at h));
       places = p;
     })
