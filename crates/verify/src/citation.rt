@@ -1,19 +1,20 @@
 //! One item of a proof.
 
-ghost use Rattle.std.specs.Prelude.{◌≡◌, List, Some, IfOk};
+ghost use Rattle.std.specs.Prelude.{◌≡◌, ◌++◌, List, Some, IfOk, map, option_map};
 ghost use Rattle.frame.specs.Cited.{IsCited};
 ghost use Rattle.mm_lex.specs.Alphabet.{Name};
 ghost use Rattle.mm_read.specs.declared.stmt.Stmt.{Stmt as Statement};
 ghost use Rattle.proof_code.specs.ItemNumbers.{item_of};
 ghost use Rattle.scope.specs.Active.{stmt_at};
 ghost use Rattle.verify.specs.Goes.{AreKnown, AreNamed, GoesOn, HasCited, IsReady, MayCite};
-ghost use Rattle.verify.specs.LabelTable.{AreEntries, IsEntry};
+ghost use Rattle.verify.specs.LabelTable.{AreEntries, IsEntry, viewed};
 ghost use Rattle.verify.specs.ResultPlaces.{Stays};
+ghost use Rattle.verify.specs.declared.label_table.LabelEntry.TheVariants.{Hypothesis};
 
 use crate::label_table::LabelEntry;
 use crate::results::Results;
 use entries::Cited;
-use frame::{Frames, Gathered, Pairs};
+use frame::{Frames, Gathered, MandatoryView, Pairs};
 use std::alloc::AllocError;
 use subst::Remaining;
 
@@ -124,6 +125,7 @@ fn cite_entry(
 /// Runs one item, by its number. The result of a citation that takes no results is kept for its label.
 ///
 /// Errors: an allocation fails.
+#[inline(always)]
 pub fn step(
     claim: &Claim<'_>,
     table: &[LabelEntry],
@@ -151,4 +153,61 @@ pub fn step(
         buffers.results.keep(index);
     }
     Ok(done)
+}
+
+/// Runs one item, by its number, where the first numbers may be those of mandatory hypotheses that are viewed.
+///
+/// Errors: an allocation fails.
+#[inline(always)]
+pub fn step_at(
+    claim: &Claim<'_>,
+    view: Option<&MandatoryView<'_>>,
+    table: &[LabelEntry],
+    number: u32,
+    buffers: &mut Buffers,
+) -> Result<bool, AllocError>
+    requires ready { IsReady claim.now buffers.old.results.about }
+    requires known { AreKnown claim.now.frames.now.statements claim.now.at claim.now.frames.now.names table.now buffers.old.results.results }
+    requires entries { (labels : List Name) × AreEntries claim.now.frames.now.statements claim.now.at labels (viewed (option_map (λ v. v.now) view) ++ table.now) }
+    ensures about { buffers.new.results.about ≡ claim.now.pairs }
+    ensures goes { (labels : List Name) → AreEntries claim.now.frames.now.statements claim.now.at labels (viewed (option_map (λ v. v.now) view.entry) ++ table.now)
+        → IfOk result (λ ok. GoesOn ok claim.now.frames.now.statements claim.now.at claim.now.frames.now.names table.now (item_of labels number) buffers.old.results.results buffers.new.results.results) }
+    ensures stays { IfOk result (λ ok. Stays ok buffers.old.results.results buffers.new.results.results) }
+{
+    match view {
+        Some(view) => step_many(claim, view, table, number, buffers),
+        None => step(claim, table, number, buffers),
+    }
+}
+
+/// Runs one item, by its number, where the first numbers are those of many mandatory hypotheses.
+///
+/// Errors: an allocation fails. Cost: that of `step`, and of finding the hypothesis by its index.
+#[cold]
+#[inline(never)]
+fn step_many(
+    claim: &Claim<'_>,
+    view: &MandatoryView<'_>,
+    table: &[LabelEntry],
+    number: u32,
+    buffers: &mut Buffers,
+) -> Result<bool, AllocError>
+    requires ready { IsReady claim.now buffers.old.results.about }
+    requires known { AreKnown claim.now.frames.now.statements claim.now.at claim.now.frames.now.names table.now buffers.old.results.results }
+    requires entries { (labels : List Name) × AreEntries claim.now.frames.now.statements claim.now.at labels (map Hypothesis view.now ++ table.now) }
+    ensures about { buffers.new.results.about ≡ claim.now.pairs }
+    ensures goes { (labels : List Name) → AreEntries claim.now.frames.now.statements claim.now.at labels (map Hypothesis view.now ++ table.now)
+        → IfOk result (λ ok. GoesOn ok claim.now.frames.now.statements claim.now.at claim.now.frames.now.names table.now (item_of labels number) buffers.old.results.results buffers.new.results.results) }
+    ensures stays { IfOk result (λ ok. Stays ok buffers.old.results.results buffers.new.results.results) }
+{
+    let many = view.len();
+    let number = number as usize;
+    if number == 0 {
+        return buffers.results.mark();
+    }
+    if number <= many {
+        let position = view.get(number - 1) as usize;
+        return cite_entry(claim, LabelEntry::Hypothesis(position), buffers);
+    }
+    step(claim, table, (number - many) as u32, buffers)
 }

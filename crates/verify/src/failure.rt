@@ -1,12 +1,18 @@
 //! The run over the items of a proof, up to the first that cannot be done.
 
-ghost use Rattle.std.specs.Prelude.{◌≡◌, List, length, IfOk, IfSome, MatchOption};
-ghost use Rattle.{mm_lex.specs.Alphabet.Name, mm_read.specs.declared.stmt.Stmt.Stmt as Statement, proof_code.specs.ItemNumbers.items_of, verify.specs.Goes.IsReady, verify.specs.Goes.behind, verify.specs.LabelTable.AreEntries, verify.specs.Right.IsProvable, verify.specs.Right.IsRight, verify.specs.Stops.StopsAt, verify.specs.Stops.IsFirstFailure};
+ghost use Rattle.std.specs.Prelude.{◌≡◌, ◌++◌, List, length, IfOk, IfSome, MatchOption, option_map};
+ghost use Rattle.mm_lex.specs.Alphabet.{Name};
+ghost use Rattle.mm_read.specs.declared.stmt.Stmt.{Stmt as Statement};
+ghost use Rattle.proof_code.specs.ItemNumbers.{items_of};
+ghost use Rattle.verify.specs.Goes.{IsReady, behind};
+ghost use Rattle.verify.specs.LabelTable.{AreEntries, viewed};
+ghost use Rattle.verify.specs.Right.{IsProvable, IsRight};
+ghost use Rattle.verify.specs.Stops.{IsFirstFailure, StopsAt};
 
-use crate::citation::{Buffers, Claim, step};
+use crate::citation::{Buffers, Claim, step_at};
 use crate::label_table::{LabelEntry, fill_table};
 use crate::results::Results;
-use frame::{Frames, Gathered};
+use frame::{Frames, Gathered, MandatoryView};
 use proof_code::Items;
 use std::alloc::{AllocError, Global};
 use subst::Remaining;
@@ -27,24 +33,26 @@ pub enum Failure {
     },
 }
 
-/// Runs the items with these numbers, over a table of the meanings of the labels, up to the first that cannot be done, and
-/// returns how many were done.
+/// Runs the items with these numbers, over the mandatory hypotheses that are viewed and a table of the meanings of the other
+/// labels, up to the first that cannot be done, and returns how many were done.
 ///
 /// Errors: an allocation fails, or the results would pass the limit of `Results::limit`.
+#[inline(always)]
 pub(crate) fn run_items(
     claim: &Claim<'_>,
+    view: Option<&MandatoryView<'_>>,
     table: &[LabelEntry],
     numbers: &[u32],
     buffers: &mut Buffers,
 ) -> Result<usize, AllocError>
     requires ready { IsReady claim.now claim.now.pairs }
-    requires entries { (labels : List Name) × AreEntries claim.now.frames.now.statements claim.now.at labels table.now }
-    ensures { (labels : List Name) → AreEntries claim.now.frames.now.statements claim.now.at labels table.now
+    requires entries { (labels : List Name) × AreEntries claim.now.frames.now.statements claim.now.at labels (viewed (option_map (λ v. v.now) view) ++ table.now) }
+    ensures { (labels : List Name) → AreEntries claim.now.frames.now.statements claim.now.at labels (viewed (option_map (λ v. v.now) view.entry) ++ table.now)
         → IfOk result (λ done. StopsAt claim.now.frames.now.statements claim.now.at claim.now.frames.now.names (items_of labels numbers.now) done (behind (length table.now) buffers.new.results.results)) }
 {
     buffers.results.start(&claim.pairs, table.len())?;
     for (done, number) in numbers.iter().enumerate() {
-        if !step(claim, table, *number, buffers)? {
+        if !step_at(claim, view, table, *number, buffers)? {
             return Ok(done);
         }
     }
@@ -74,7 +82,7 @@ pub fn first_failure(
     };
     let pairs = frames.active_pairs(at);
     let claim = Claim { frames, at, pairs };
-    let done = run_items(&claim, &table, parts.numbers, &mut buffers)?;
+    let done = run_items(&claim, None, &table, parts.numbers, &mut buffers)?;
     let results = buffers.results;
     let is_only = results.is_only(frames.expr(at));
     if done < parts.numbers.len() {

@@ -1,8 +1,8 @@
-use Rattle.verify.proofs.Words.{◌≡◌, ◌<◌, ℕ, Bool, List, [], ◌∷◌, length, filter, true, false, sym, ◌∙◌, subst, ap, Name, Expr, decode, decode-injective, expr_of, stands-within, AreBelow, AreDistinct}
+use Rattle.verify.proofs.Words.{◌≡◌, ℕ, Bool, List, [], ◌∷◌, length, filter, sym, ◌∙◌, subst, Name, Expr, decode, decode-injective, expr_of, stands-within, AreBelow, AreDistinct}
 use Rattle.entries.specs.SymbolPlaces.{ArePlacesOf}
 use Rattle.frame.specs.ExprPlaces.{AreExprPlaces}
 use Rattle.subst.specs.Vanishing.{is_left}
-use Rattle.std.proofs.Common.{cond, inl, inr}
+use Rattle.std.proofs.Common.{inl, inr}
 use Rattle.std.proofs.lemmas.Bool.{cases_Bool}
 use Rattle.verify.proofs.results.Results.shorten.Goals as goal
 
@@ -26,9 +26,9 @@ of-requires c =
     places-of c.args.frames.now.names c.args.expr.now (expr_of s) _ c.requires.distinct c.requires.below is.same (rw c.in-Some.is at (c.places.ensures s is.stands))
 
 pub returns-in-Some-2-clause-same : goal.returns-in-Some-2-clause-same
-returns-in-Some-2-clause-same c = rw (← c.self.view_is) ((rw c.in-Some-2.is at c.in_ok-of.ensures.same) c.self.inside.symbols)
+returns-in-Some-2-clause-same c = rw (← c.self.view_is) ((rw c.in-Some-2.is at c.in_ok-left.ensures.same) c.self.inside.symbols)
 
 pub returns-in-Some-2-clause-below : goal.returns-in-Some-2-clause-below
 returns-in-Some-2-clause-below c =
-    let left = rw c.in-Some-2.is at c.in_ok-of.ensures.left in
+    let left = rw c.in-Some-2.is at c.in_ok-left.ensures.left in
     subst (AreBelow (length c.args.frames.now.names)) (sym left) (some-below (length c.args.frames.now.names) (is_left c.self.inside.images) c.args.expr.now c.requires.below)
