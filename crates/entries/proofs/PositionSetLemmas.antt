@@ -2,7 +2,7 @@
 -- In a set l ++ x ∷ r the positions of l are below x, and those of r above it.
 use Rattle.std.proofs.Common.{◌≡◌, ℕ, ◌+◌, ◌<◌, ◌≤◌, ◌==◌, ◌||◌, nat_lt, true, false, List, [], ◌∷◌, ◌++◌, length, slice_get, Some, ap, sym, ◌∙◌, refl, inl, inr, suc, zero, arith}
 use Rattle.std.proofs.lemmas.Bool.Decides.{nat_tests}
-use Rattle.std.proofs.lemmas.Bool.{cases_lt, cond_both, lt-ltb, ltb-true}
+use Rattle.std.proofs.lemmas.Bool.{cases_eq, cases_lt, cond_both, lt-ltb, ltb-true}
 use Rattle.std.proofs.Math.Nat.{eq-or-lt_of_le}
 use Rattle.std.proofs.lemmas.Option.{same_Some}
 use Rattle.entries.specs.PositionSets.{AreAbove, Ascends, with_position, has_position, count_below}
@@ -25,7 +25,7 @@ pub ascends-back : (xs ys : List ℕ) → Ascends (xs ++ ys) → Ascends ys
 ascends-back [] ys h = h
 ascends-back (x ∷ xs) ys h = ascends-back xs ys h.1
 
-above-all : (p q : ℕ) (xs : List ℕ) → p ≤ q → AreAbove q xs → AreAbove p xs
+pub above-all : (p q : ℕ) (xs : List ℕ) → p ≤ q → AreAbove q xs → AreAbove p xs
 above-all p q [] below h = tt
 above-all p q (x ∷ xs) below h = let here = h.0 in (omega arith, above-all p q xs below h.1)
 
@@ -47,7 +47,7 @@ with-above p x (y ∷ l) r above h =
 
 -- ---- a position looked for
 
-has-above : (p : ℕ) (xs : List ℕ) → AreAbove p xs → has_position p xs ≡ false
+pub has-above : (p : ℕ) (xs : List ℕ) → AreAbove p xs → has_position p xs ≡ false
 has-above p [] h = refl
 has-above p (x ∷ xs) h = let rest = has-above p xs h.1 in let first = h.0 in grind (arith, nat_tests)
 
@@ -66,7 +66,7 @@ has-beyond p x (y ∷ l) r above h =
 
 -- ---- positions counted
 
-count-above : (p : ℕ) (xs : List ℕ) → AreAbove p xs → count_below p xs ≡ 0
+pub count-above : (p : ℕ) (xs : List ℕ) → AreAbove p xs → count_below p xs ≡ 0
 count-above p [] h = refl
 count-above p (x ∷ xs) h = let rest = count-above p xs h.1 in let first = h.0 in grind (arith, nat_tests)
 
@@ -151,3 +151,54 @@ pub has-get : (p : ℕ) (xs : List ℕ) (k : ℕ) → slice_get xs k ≡ Some p 
 has-get p [] k at = absurd (cc)
 has-get p (x ∷ xs) zero at = let first = same_Some x p at in grind (arith, nat_tests)
 has-get p (x ∷ xs) (suc k) at = let rest = has-get p xs k at in grind (arith, nat_tests)
+
+-- ---- how many there are, and how many below, where a position is put in that the set has not
+
+pub length-with : (p : ℕ) (xs : List ℕ) → has_position p xs ≡ false → length (with_position p xs) ≡ suc (length xs)
+length-with p [] none = refl
+length-with p (x ∷ xs) none =
+    cond_both (nat_lt p x) _ _ (λ v. length v ≡ suc (suc (length xs))) (λ _. refl)
+    (λ low. cond_both (nat_lt x p) _ _ (λ v. length v ≡ suc (suc (length xs)))
+    (λ above. ap suc (length-with p xs (grind (arith, nat_tests))))
+    (λ high. absurd (grind (arith, nat_tests))))
+
+pub count-with : (q p : ℕ) (xs : List ℕ) → has_position p xs ≡ false → count_below q (with_position p xs) ≡ count_below q (p ∷ []) + count_below q xs
+count-with q p [] none = sym (omega arith)
+count-with q p (x ∷ xs) none =
+    let rest = count-with q p xs in
+    let P : List ℕ → Type 0 = λ v. count_below q v ≡ count_below q (p ∷ []) + count_below q (x ∷ xs) in
+    cond_both (nat_lt p x) _ _ P (λ _. grind (arith, nat_tests))
+    (λ low. cond_both (nat_lt x p) _ _ P
+    (λ above. let later = rest (grind (arith, nat_tests)) in grind (arith, nat_tests))
+    (λ high. absurd (grind (arith, nat_tests))))
+
+-- what stands at an index has so many below it
+above-get : (q p : ℕ) (xs : List ℕ) (k : ℕ) → AreAbove q xs → slice_get xs k ≡ Some p → q < p
+above-get q p [] k above at = absurd (cc)
+above-get q p (x ∷ xs) zero above at = let same = same_Some x p at in let first = above.0 in omega arith
+above-get q p (x ∷ xs) (suc k) above at = above-get q p xs k above.1 at
+
+pub count-get : (p : ℕ) (xs : List ℕ) (k : ℕ) → Ascends xs → slice_get xs k ≡ Some p → count_below p xs ≡ k
+count-get p [] k ascends at = absurd (cc)
+count-get p (x ∷ xs) zero ascends at =
+    let same : x ≡ p = same_Some x p at in
+    let none = count-above p xs (above-all p x xs (omega arith) ascends.0) in grind (arith, nat_tests)
+count-get p (x ∷ xs) (suc k) ascends at =
+    let rest = count-get p xs k ascends.1 at in let less = above-get x p xs k ascends.0 at in grind (arith, nat_tests)
+
+-- more are below a greater position
+pub count-grows : (p q : ℕ) (xs : List ℕ) → p ≤ q → count_below p xs ≤ count_below q xs
+count-grows p q [] le = omega arith
+count-grows p q (x ∷ xs) le = let rest = count-grows p q xs le in grind (arith, nat_tests)
+
+pub count-less : (p q : ℕ) (xs : List ℕ) → has_position p xs ≡ true → p < q → count_below p xs < count_below q xs
+count-less p q [] known less = absurd (cc)
+count-less p q (x ∷ xs) known less =
+    elim (cases_eq x p) [
+      | inl same ↦ let rest = count-grows p q xs (omega arith) in grind (arith, nat_tests)
+      | inr other ↦ let rest = count-less p q xs (grind (arith, nat_tests)) less in grind (arith, nat_tests)
+    ]
+
+pub count-all : (p : ℕ) (xs : List ℕ) → count_below p xs ≤ length xs
+count-all p [] = omega arith
+count-all p (x ∷ xs) = let rest = count-all p xs in grind (arith, nat_tests)

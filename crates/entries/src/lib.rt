@@ -2,7 +2,8 @@
 //!
 //! `Entries` is seen as a list of statements, each with plain lists for its parts; inside, the parts of all stand in a few
 //! buffers. The crate above says which names the numbers stand for. Reading order: `kind`, `links`, `head`, `buffer_part`,
-//! `groups`, `cited_parts`, `parts`; `layout`, `statement_record`, `entries`; `symbol_places`, `long_expressions`.
+//! `groups`, `cited_parts`, `parts`; `layout`, `statement_record`, `entries`; `symbol_places`, `long_expressions`;
+//! `history`, `position_stack`, `histories`, `position_sets`.
 #![tactic(auto)]
 
 pub mod buffer_part;

@@ -129,7 +129,8 @@ impl PositionSets {
     ///
     /// Cost: the logarithm of the set's size.
     pub fn rank(&self, set: u32, position: u32) -> usize
-        ensures { result ≡ count_below position (set_at self.now set) }
+        ensures rank { result ≡ count_below position (set_at self.now set) }
+        ensures few { result < 2 ^ 32 }
     {
         let mut part = set;
         let mut below = 0;

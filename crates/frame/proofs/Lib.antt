@@ -31,6 +31,9 @@ pub mod PlacedHypotheses
 pub mod KeptStatementLemmas
 pub mod BoundLemmas
 pub mod GatheredHypotheses
+pub mod GivenSetLemmas
+pub mod MergedLemmas
+pub mod MandatoryViewLemmas
 pub mod AscendingLists
 pub mod ActivePositions
 pub mod NamedCodes
@@ -39,4 +42,5 @@ pub mod CollectedLemmas
 pub mod OneFrameLemmas
 pub mod LabelLemmas
 pub mod PositionLemmas
+pub mod LongExpressionLemmas
 mod Rows

@@ -1,10 +1,11 @@
 -- The words in which this crate is proved, and the lemmas of std and of the layers below, passed on from one place.
 pub use Rattle.entries.proofs.AddedStatement.{ok-weaker, on-err}
 pub use Rattle.entries.proofs.BufferPlaceLemmas.{get-push, take-get}
-pub use Rattle.entries.proofs.SpanLemmas.{cut-more, cut-push, extends-length, extends-refl, extends-take, range-behind, spans-push, spans-reverse}
+pub use Rattle.entries.proofs.SpanLemmas.{cut-more, cut-push, extends-length, extends-refl, extends-take, extends-trans, range-behind, spans-push, spans-reverse}
 pub use Rattle.entries.proofs.StatementRecordLemmas.{get-last, get-more}
 pub use Rattle.entries.specs.Entries.{AreWhole, Assertion, Entry, made, partless, seen}
 pub use Rattle.entries.specs.Hypotheses.{told}
+pub use Rattle.entries.specs.PositionSets.{AreAbove, Ascends, IsSet, set_at, with_position}
 pub use Rattle.entries.specs.Stored.Spans.{AreSpansIn, Extends, cut}
 pub use Rattle.entries.specs.declared.cited_parts.Cited.{Cited}
 pub use Rattle.entries.specs.declared.kind.Kind.{Kind}
@@ -23,7 +24,7 @@ pub use Rattle.frame.specs.Stored.AssertionParts.{IsKeptAs, asked_at, asked_by, 
 pub use Rattle.frame.specs.Stored.Counts.{AreNumbered, AreZero, AreZeroBehind, Grown, HasRoom, HasTwo, IsBehind, IsLabelBelow, IsPlain, KeepsCounts, kind_of, next_links, with_declared, with_entry, zero_symbol}
 pub use Rattle.frame.specs.Stored.Ends.{AreBlocks, AreEnds, TellEnds, end_from, end_of, with_end}
 pub use Rattle.frame.specs.Stored.EntryMeanings.{AreAllLegal, ReadsAs, declared_by, declares, floats, is_float_kind, is_var_kind, labels_in, last_from, last_of, last_where, names_in, option_position, positions_from, replaced_behind, replaced_by, replaced_of, second_is, statements_of, stmt_by, stmt_of, symbol_of, with_last}
-pub use Rattle.frame.specs.Stored.Hypotheses.{AreAbove, AreCollected, AreDescribed, AreFloats, AreHypotheses, AreLooked, AreThose, AreWith, Ascends, HasMore, In, IsFloatOf, IsGiven, IsSpread, IsWith, OfSome, SomeFloat, is_hypothesis_entry, kept_at, option_kept}
+pub use Rattle.frame.specs.Stored.Hypotheses.{AreCollected, AreDescribed, AreFloats, AreHypotheses, AreLooked, AreThose, AreWith, HasMore, In, IsFloatOf, IsGiven, IsSpread, IsWith, OfSome, SomeFloat, is_hypothesis_entry, kept_at, option_kept}
 pub use Rattle.frame.specs.Stored.Labels.{is_label_kind}
 pub use Rattle.frame.specs.Stored.Naming.{is_declared, naming_from, naming_of}
 pub use Rattle.frame.specs.Stored.OneFrame.{AreMandatory, among, asked, asks, groups_among, is_in_essential}

@@ -6,6 +6,7 @@ pub mod Disjoint
 pub mod Citations
 pub mod Below
 pub mod Cited
+pub mod ExprPlaces
 pub mod Bound
 pub mod AtPosition
 pub mod Links

@@ -9,4 +9,7 @@ pub mod OneFrame
 pub mod Naming
 pub mod Ends
 pub mod Stacks
+pub mod LongExpressions
 pub mod Whole
+pub mod GivenSets
+pub mod Merged

@@ -1,5 +1,6 @@
 //! Appends a statement to the storage, or nothing, or truncates it to the first statements.
 ghost use Rattle.std.specs.Prelude.{true, ◌≡◌, ◌++◌, ◌∷◌, [], Some, OnOk, OnErr, take, length, slice_get, ◌+◌, IfSome, IfErr};
+ghost use Rattle.frame.specs.Stored.GivenSets.{AreFrames};
 ghost use Rattle.{names.specs.Codes.with_names, scope.specs.Active.bare, scope.specs.Legal.IsLegal, scope.specs.Legal.broken_rule, scope.specs.Stored.Noted.AreNoted, scope.specs.Symbols.AreVariableNumbers, scope.specs.Symbols.symbols_after, scope.specs.Symbols.symbols_by, scope.specs.Symbols.symbols_in, scope.specs.Symbols.symbols_of, entries.specs.Entries.Entry, entries.specs.Histories.AreKeptUntil, entries.specs.Stored.Spans.Extends, frame.specs.Stored.Whole.AreStored, frame.specs.Stored.Counts.IsBehind, frame.specs.Stored.EntryMeanings.labels_in, frame.specs.Stored.EntryMeanings.names_in, frame.specs.Stored.EntryMeanings.statements_of};
 
 use crate::declare::{
@@ -7,6 +8,7 @@ use crate::declare::{
 };
 use crate::frames::Frames;
 use crate::gathered::Gathered;
+use crate::given_sets::GivenSets;
 use crate::make::enter_parts;
 use crate::shape::kind;
 use crate::stacks::{NextStatement, note_active};
@@ -23,6 +25,7 @@ use std::alloc::{AllocError, Global};
 fn extend(
     alloc: Global,
     stock: &mut Stock,
+    given: &GivenSets,
     draft: &mut Gathered,
     stmt: &Stmt,
     noted: &mut Noted,
@@ -33,6 +36,7 @@ fn extend(
     ensures stored { OnOk result (AreStored stock.new) }
     ensures added { OnOk result (statements_of stock.new ≡ statements_of stock.old ++ bare stmt.now ∷ []) }
     ensures numbers { OnOk result ((e : Entry) → slice_get stock.new.entries (length stock.old.entries) ≡ Some e → AreVariableNumbers (symbols_after (statements_of stock.old) stmt.now) stmt.now e.symbols) }
+    ensures more { OnOk result (Extends stock.old.entries stock.new.entries) }
     ensures behind { OnErr result (IsBehind stock.old stock.new) }
 {
     let at = stock.entries.len() + 1;
@@ -47,7 +51,7 @@ fn extend(
         },
     };
     find_numbers(&stock.numbering, stmt, noted);
-    enter_parts(stock, draft, stmt, noted)?;
+    enter_parts(stock, given, draft, stmt, noted)?;
     declare_next(alloc, stock, stmt, noted)?;
     let Some(codes) = noted.numbers() else {
         return Err(AllocError);
@@ -64,7 +68,7 @@ fn extend(
     note_active(
         &mut stock.disjoints,
         &mut stock.variables,
-        &stock.entries,
+        stock.entries.list(),
         &next,
     )?;
     stock.entries.push(head, &draft.parts(codes))?;
@@ -80,6 +84,7 @@ fn extend(
 fn extend_whole(
     alloc: Global,
     stock: &mut Stock,
+    given: &GivenSets,
     draft: &mut Gathered,
     stmt: &Stmt,
     noted: &mut Noted,
@@ -91,14 +96,63 @@ fn extend_whole(
     ensures added { OnOk result (statements_of stock.new ≡ statements_of stock.old ++ bare stmt.now ∷ []) }
     ensures numbers { OnOk result ((e : Entry) → slice_get stock.new.entries (length stock.old.entries) ≡ Some e → AreVariableNumbers (symbols_after (statements_of stock.old) stmt.now) stmt.now e.symbols) }
     ensures same { OnErr result (statements_of stock.new ≡ statements_of stock.old) }
+    ensures more { OnOk result (Extends stock.old.entries stock.new.entries) }
+    ensures same_entries { OnErr result (stock.new.entries ≡ stock.old.entries) }
 {
     let names = stock.numbering.len();
     let replaced = stock.replaced.len();
-    let result = extend(alloc, stock, draft, stmt, noted);
+    let result = extend(alloc, stock, given, draft, stmt, noted);
     if result.is_err() {
         roll_back(stock, names, replaced);
     }
     result
+}
+
+/// Appends the statement, and records the mandatory hypotheses that its active `$e` bring along.
+///
+/// If an allocation fails, the storage is as before.
+fn grow(
+    alloc: Global,
+    stock: &mut Stock,
+    given: &mut GivenSets,
+    draft: &mut Gathered,
+    stmt: &Stmt,
+    noted: &mut Noted,
+) -> Result<(), AllocError>
+    requires kept { AreFrames stock.old given.old }
+    requires legal { IsLegal (statements_of stock.old) stmt.now }
+    requires noted { AreNoted (with_names (names_in stock.old) (symbols_by stmt.now)) (symbols_in stmt.now) noted.old }
+    ensures kept { AreFrames stock.new given.new }
+    ensures added { OnOk result (statements_of stock.new ≡ statements_of stock.old ++ bare stmt.now ∷ []) }
+    ensures numbers { OnOk result ((e : Entry) → slice_get stock.new.entries (length stock.old.entries) ≡ Some e → AreVariableNumbers (symbols_after (statements_of stock.old) stmt.now) stmt.now e.symbols) }
+    ensures same { OnErr result (statements_of stock.new ≡ statements_of stock.old) }
+{
+    let front = stock.entries.len();
+    extend_whole(alloc, stock, given, draft, stmt, noted)?;
+    let kept = given.note(stock);
+    if kept.is_err() {
+        cut(stock, front);
+    }
+    kept
+}
+
+/// Truncates the storage to its first `len` statements.
+fn cut(stock: &mut Stock, len: usize)
+    requires stored { AreStored stock.old }
+    ensures stored { AreStored stock.new }
+    ensures statements { statements_of stock.new ≡ take len (statements_of stock.old) }
+    ensures entries { stock.new.entries ≡ take len stock.old.entries }
+    ensures names { Extends (names_in stock.new) (names_in stock.old) }
+{
+    if len < stock.entries.len() {
+        let first = stock.entries.entry(len);
+        let names = first.before.names as usize + first.before.label as usize;
+        let links = first.before.links;
+        take_away(stock, len);
+        stock.links = links;
+        let replaced = stock.replaced.len();
+        roll_back(stock, names, replaced);
+    }
 }
 
 /// Truncates the storage to the first names and replaced declarations, and to its statements.
@@ -140,9 +194,10 @@ impl Frames {
         let _scope = scope;
         self.noted.forget();
         steps.tick();
-        extend_whole(
+        grow(
             self.alloc,
             &mut self.stock,
+            &mut self.given,
             &mut self.draft,
             stmt,
             &mut self.noted,
@@ -175,9 +230,10 @@ impl Frames {
             return Err(rule);
         }
         let front = self.stock.entries.len();
-        extend_whole(
+        grow(
             self.alloc,
             &mut self.stock,
+            &mut self.given,
             &mut self.draft,
             stmt,
             &mut self.noted,
@@ -199,14 +255,7 @@ impl Frames {
         ensures names { Extends self.new.names self.old.names }
         ensures symbols { self.new.names ≡ symbols_of self.new.statements }
     {
-        if len < self.stock.entries.len() {
-            let first = self.stock.entries.entry(len);
-            let names = first.before.names as usize + first.before.label as usize;
-            let links = first.before.links;
-            take_away(&mut self.stock, len);
-            self.stock.links = links;
-            let replaced = self.stock.replaced.len();
-            roll_back(&mut self.stock, names, replaced);
-        }
+        cut(&mut self.stock, len);
+        self.given.truncate(len);
     }
 }

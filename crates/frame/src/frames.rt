@@ -1,21 +1,26 @@
 //! The statements of a database by position.
 ghost use Rattle.std.specs.Prelude.{◌≡◌, ◌≤◌, [], IfOk, length, Some, option_map, OnOk, IfSome};
-ghost use Rattle.{mm_read.specs.declared.stmt.Stmt.Stmt as Statement, names.specs.Codes.name_at, names.specs.Codes.decode, scope.specs.Active.before, scope.specs.Active.stmt_at, scope.specs.Active.label_of, scope.specs.Active.expr_of, frame.specs.AtPosition.IsPosition, frame.specs.AtPosition.ArePositions, frame.specs.AtPosition.AreLegal, frame.specs.AtPosition.IsMeaning, frame.specs.FrameOf.HasAssertion, frame.specs.FrameOf.hypotheses, frame.specs.Cited.IsGathered, frame.specs.Cited.IsCited, frame.specs.Below.AreBelow};
+ghost use Rattle.{mm_read.specs.declared.stmt.Stmt.Stmt as Statement, names.specs.Codes.name_at, names.specs.Codes.decode, scope.specs.Active.before, scope.specs.Active.stmt_at, scope.specs.Active.label_of, scope.specs.Active.expr_of, frame.specs.AtPosition.IsPosition, frame.specs.AtPosition.ArePositions, frame.specs.AtPosition.AreLegal, frame.specs.AtPosition.IsMeaning, frame.specs.FrameOf.HasAssertion, frame.specs.FrameOf.hypotheses, frame.specs.Cited.IsGathered, frame.specs.Cited.IsCited, frame.specs.ExprPlaces.AreExprPlaces, frame.specs.Below.AreBelow};
 
-use crate::at_position::is_active_at;
+use crate::at_position::{is_active_at, links_at};
 use crate::gathered::Gathered;
+use crate::given_sets::GivenSets;
 use crate::make::spread;
-use crate::mandatory::add_essentials;
+use crate::mandatory_view::{MandatoryView, missing};
 use crate::meaning::Meaning;
 use crate::pairs::Pairs;
 use crate::shape::has_label;
 use crate::storage::Stock;
+use crate::stored_entries::StoredEntries;
 use crate::symbol_numbers::label_number;
-use entries::{Cited, Entries, Groups, Histories, Hypotheses, Kind, Links};
+use entries::{Cited, Groups, Histories, Hypotheses, Kind, Links, SymbolPlaces};
 use mm_lex::Words;
 use scope::{Noted, Numbering};
 use std::alloc::{AllocError, Global};
 use std::marker::Model;
+
+/// Active `$e` that bring along more mandatory hypotheses than this bring along many.
+const LONG: usize = 64;
 
 /// The statements of a database by position, without their proofs, with their symbols as numbers.
 ///
@@ -25,18 +30,19 @@ use std::marker::Model;
 pub struct Frames {
     pub(crate) alloc: Global,
     pub(crate) stock: Stock,
+    pub(crate) given: GivenSets,
     pub(crate) draft: Gathered,
     pub(crate) noted: Noted,
 }
 
 impl Model for Frames {
-    ghost use Rattle.{frame.specs.Parts.Numbered, frame.specs.Stored.EntryMeanings.numbered, frame.specs.Stored.Whole.AreStored};
+    ghost use Rattle.{frame.specs.Parts.Numbered, frame.specs.Stored.EntryMeanings.numbered, frame.specs.Stored.GivenSets.AreFrames};
 
     ghost Value = { Numbered };
 
     ghost view = { λ a. numbered a.stock };
 
-    ghost invariant = { λ a. AreStored a.stock };
+    ghost invariant = { λ a. AreFrames a.stock a.given };
 }
 
 impl Frames {
@@ -53,7 +59,7 @@ impl Frames {
                 symbols: Vec::new(alloc),
                 replaced: Vec::new(alloc),
                 ends: Vec::new(alloc),
-                entries: Entries::new(alloc),
+                entries: StoredEntries::new(alloc),
                 disjoints: Histories::new(alloc),
                 variables: Histories::new(alloc),
                 links: Links {
@@ -63,6 +69,7 @@ impl Frames {
                     disjoint: 0,
                 },
             },
+            given: GivenSets::new(alloc),
             draft: Gathered::new(alloc),
             noted: Noted::new(alloc),
         }
@@ -117,6 +124,22 @@ impl Frames {
             entry.symbols
         } else {
             &[]
+        }
+    }
+
+    /// Returns where each symbol of the expression of the statement at a position stands, if the expression has at least
+    /// `LONG_EXPRESSION` symbols.
+    ///
+    /// Cost: log n for n such expressions.
+    pub fn places(&self, at: usize) -> Option<&SymbolPlaces>
+        requires { (1 ≤ at) × (at ≤ length self.now.statements) }
+        ensures { (s : Statement) → stmt_at self.now.statements at ≡ Some s → IfSome result (λ places. AreExprPlaces self.now.names (expr_of s) places.now) }
+    {
+        let entry = self.stock.entries.entry(at - 1);
+        if has_label(entry.kind) {
+            self.stock.entries.places(at - 1)
+        } else {
+            None
         }
     }
 
@@ -199,8 +222,25 @@ impl Frames {
         if self.stock.entries.is_whole(a - 1) {
             Ok(())
         } else {
-            add_essentials(&self.stock, a, list)
+            self.given.add(&self.stock, a, list)
         }
+    }
+
+    /// Returns the mandatory hypotheses of the assertion at a position without a list of them, or `None` if they are few.
+    ///
+    /// Errors: an allocation fails. Cost: the `$f` of the assertion's own variables, times a logarithm.
+    pub fn mandatory_view(&self, a: usize) -> Result<Option<MandatoryView<'_>>, AllocError>
+        requires { (s : Statement) × HasAssertion self.now.statements a s }
+        ensures { (s : Statement) → stmt_at self.now.statements a ≡ Some s → IfOk result (λ view. IfSome view (λ list. list ≡ hypotheses (before self.now.statements a) s)) }
+    {
+        let set = self.given.set(links_at(&self.stock, a).essential);
+        if set == 0 || self.given.count(set) <= LONG || self.stock.entries.is_whole(a - 1) {
+            return Ok(None);
+        }
+        let sets = &self.given.sets;
+        let own = missing(self.alloc, sets, set, self.stock.entries.hypotheses(a - 1))?;
+        let _count = self.stock.entries.len();
+        Ok(Some(MandatoryView { sets, set, own }))
     }
 
     /// Returns the label of the statement at a position, or `None` if it has none.

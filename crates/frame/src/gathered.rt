@@ -72,6 +72,15 @@ impl Gathered {
         }
     }
 
+    /// Returns how many numbers the parts have when they are kept.
+    pub(crate) fn size(&self) -> usize {
+        let hypotheses = self.hypotheses.len().saturating_mul(3);
+        let groups = self.groups.len().saturating_mul(2);
+        hypotheses
+            .saturating_add(groups)
+            .saturating_add(self.places.len())
+    }
+
     /// Empties the buffers, which keep their room.
     pub(crate) fn clear(&mut self)
         ensures { self.new ≡ partless false }

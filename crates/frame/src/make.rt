@@ -1,9 +1,11 @@
 //! The hypotheses that are kept with a statement, each as one number, and its disjoint variables.
 ghost use Rattle.std.specs.Prelude.{◌≡◌, ℕ, List, ◌+◌, ◌-◌, ◌≤◌, ◌==◌, ◌||◌, ◌++◌, ◌∷◌, [], true, false, if◌then◌else◌, length, map, take, OnOk};
-ghost use Rattle.{names.specs.Codes.with_names, scope.specs.Active.bare, scope.specs.Stored.Noted.AreNoted, scope.specs.Symbols.symbols_by, scope.specs.Symbols.symbols_in, entries.specs.Hypotheses.told, entries.specs.Stored.Spans.cut, entries.specs.Stored.Spans.AreSpansIn, frame.specs.Below.AreBelow, frame.specs.Cited.head_of, frame.specs.Stored.Whole.AreStored, frame.specs.Stored.Whole.IsDraftOf, frame.specs.Stored.Hypotheses.AreHypotheses, frame.specs.Stored.Hypotheses.IsSpread, frame.specs.Stored.Counts.HasTwo, frame.specs.Stored.Counts.kind_of, frame.specs.Stored.AssertionParts.asked_at, frame.specs.Stored.AssertionParts.asked_by, frame.specs.Stored.AssertionParts.head_at, frame.specs.Stored.AssertionParts.has_two, frame.specs.Stored.AssertionParts.is_typed, frame.specs.Stored.AssertionParts.is_typed_by, frame.specs.Stored.AssertionParts.noted_in, std.specs.List.list_any, frame.specs.Stored.AssertionParts.has_parts, frame.specs.Stored.EntryMeanings.names_in, frame.specs.Stored.EntryMeanings.statements_of, frame.specs.FrameOf.hypotheses, frame.specs.Stored.OneFrame.asked};
+ghost use Rattle.mm_read.specs.declared.stmt.Stmt.{Stmt as Statement};
+ghost use Rattle.{names.specs.Codes.decode, names.specs.Codes.with_names, scope.specs.Active.expr_of, scope.specs.Active.bare, scope.specs.Stored.Noted.AreNoted, scope.specs.Symbols.symbols_by, scope.specs.Symbols.symbols_in, entries.specs.Hypotheses.told, entries.specs.Stored.Spans.cut, entries.specs.Stored.Spans.AreSpansIn, frame.specs.Below.AreBelow, frame.specs.Cited.head_of, frame.specs.Stored.Whole.AreStored, frame.specs.Stored.Whole.IsDraftOf, frame.specs.Stored.Hypotheses.AreHypotheses, frame.specs.Stored.Hypotheses.IsSpread, frame.specs.Stored.Counts.HasTwo, frame.specs.Stored.Counts.kind_of, frame.specs.Stored.AssertionParts.asked_at, frame.specs.Stored.AssertionParts.asked_by, frame.specs.Stored.AssertionParts.head_at, frame.specs.Stored.AssertionParts.has_two, frame.specs.Stored.AssertionParts.is_typed, frame.specs.Stored.AssertionParts.is_typed_by, frame.specs.Stored.AssertionParts.noted_in, std.specs.List.list_any, frame.specs.Stored.AssertionParts.has_parts, frame.specs.Stored.EntryMeanings.names_in, frame.specs.Stored.EntryMeanings.statements_of, frame.specs.FrameOf.hypotheses, frame.specs.Stored.OneFrame.asked};
 
 use crate::at_position::links_at;
 use crate::gathered::Gathered;
+use crate::given_sets::GivenSets;
 use crate::mandatory::{add_essentials, are_few, find_floats};
 use crate::shape::{has_parts, is_essential, kind};
 use crate::storage::Stock;
@@ -133,11 +135,11 @@ pub fn spread(stock: &Stock, at: usize, draft: &mut Gathered) -> Result<(), Allo
     Ok(())
 }
 
-/// Finds the parts of an assertion or a `$e` after all statements, by the recorded numbers of its symbols: the
-/// `$f` of its own variables, or all mandatory hypotheses, where it may keep more than its own and these are few.
-/// Another statement has none.
+/// Finds the parts of an assertion or a `$e` after all statements, by the recorded numbers of its symbols: all mandatory
+/// hypotheses and groups of an assertion if these are few, else the `$f` of its own variables. Another statement has none.
 pub fn enter_parts(
     stock: &Stock,
+    given: &GivenSets,
     draft: &mut Gathered,
     stmt: &Stmt,
     noted: &Noted,
@@ -154,10 +156,28 @@ pub fn enter_parts(
         return Err(AllocError);
     };
     find_floats(stock, &mut draft.noted, &mut draft.hypotheses, codes)?;
-    if is_essential(stmt) || !are_few(stock, draft.hypotheses.len()) {
+    if is_essential(stmt) || !are_few(stock, given, draft.hypotheses.len()) {
         return describe(stock, &draft.hypotheses, &mut draft.asked, &mut draft.heads);
     }
     let at = stock.entries.len() + 1;
     add_essentials(stock, at, &mut draft.hypotheses)?;
-    spread(stock, at, draft)
+    spread(stock, at, draft)?;
+    if draft.size() <= MOST_KEPT {
+        return Ok(());
+    }
+    enter_own(stock, draft, codes)
 }
+
+/// Finds the `$f` of the variables of an assertion after all statements, and no other parts.
+fn enter_own(stock: &Stock, draft: &mut Gathered, codes: &[u32]) -> Result<(), AllocError>
+    requires stored { AreStored stock.now }
+    requires codes { AreBelow (length (names_in stock.now)) codes.now }
+    ensures { (s : Statement) → decode (names_in stock.now) codes.now ≡ expr_of s → OnOk result (IsDraftOf stock.now s draft.new) }
+{
+    draft.clear();
+    find_floats(stock, &mut draft.noted, &mut draft.hypotheses, codes)?;
+    describe(stock, &draft.hypotheses, &mut draft.asked, &mut draft.heads)
+}
+
+/// The parts of an assertion are kept whole if they have at most so many numbers.
+const MOST_KEPT: usize = 96;

@@ -3,12 +3,13 @@ ghost use Rattle.std.specs.Prelude.{◌≡◌, ◌+◌, ◌-◌, ◌≤◌, ◌<
 ghost use Rattle.{std.specs.List.list_all, std.specs.List.list_any, frame.specs.Below.AreBelow, frame.specs.Stored.Whole.AreStored, frame.specs.Stored.Hypotheses.In, frame.specs.Stored.Hypotheses.AreThose, frame.specs.Stored.Hypotheses.HasMore, frame.specs.Stored.Hypotheses.IsFloatOf, frame.specs.Stored.Hypotheses.AreLooked, frame.specs.Stored.Hypotheses.AreFloats, frame.specs.Stored.Hypotheses.AreWith, frame.specs.Stored.EntryMeanings.names_in, frame.specs.Stored.EntryMeanings.statements_of};
 
 use crate::at_position::{is_active_at, links_at};
+use crate::given_sets::GivenSets;
 use crate::storage::Stock;
 use scope::Stack;
 use std::alloc::AllocError;
 
 /// Sorts positions in ascending order, each once.
-fn order(list: &mut Vec<u32>)
+pub fn order(list: &mut Vec<u32>)
     ensures { AreThose (λ p. In p list.old.items) list.new.items }
 {
     list.sort_unstable();
@@ -98,25 +99,40 @@ pub fn add_essentials(stock: &Stock, at: usize, list: &mut Vec<u32>) -> Result<(
     Ok(())
 }
 
-/// Lists of at most so many items are kept whole, beside what an assertion adds.
+/// The groups of at most so many `$d`, with twice as many symbols, are kept with an assertion.
 const FEW: usize = 64;
 
-/// Returns whether the mandatory hypotheses and groups of an assertion with so many `$f` of its own are few, or may be. Whatever
-/// the answer is, the kept parts are right.
-///
-/// Cost: at most a few steps, however much is active.
-pub fn are_few(stock: &Stock, own: usize) -> bool {
+/// If the active `$e` bring along more mandatory hypotheses than this, these are kept as a set.
+pub const MANY: usize = 32;
+
+/// Returns how many mandatory hypotheses the active `$e` bring along, a `$f` counted for each `$e` that has its variable.
+/// Counting stops above `MANY`.
+pub fn given_count(stock: &Stock) -> usize {
     let mut essential = stock.links.essential as usize;
-    let mut count = own;
+    let mut count = 0usize;
     for _ in 0..FEW {
-        if essential == 0 || essential > stock.entries.len() || count > FEW {
+        if essential == 0 || essential > stock.entries.len() || count > MANY {
             break;
         }
         let floats = stock.entries.hypotheses(essential - 1).len();
         count = count.saturating_add(floats).saturating_add(1);
         essential = stock.entries.entry(essential - 1).before.links.essential as usize;
     }
-    if essential != 0 || count > FEW {
+    count
+}
+
+/// Returns whether the mandatory hypotheses and groups of an assertion with so many `$f` of its own are few, or may be.
+/// The kept parts are right either way.
+///
+/// Cost: at most a few steps, however much is active.
+pub fn are_few(stock: &Stock, given: &GivenSets, own: usize) -> bool {
+    let set = given.set(stock.links.essential);
+    let count = if set == 0 {
+        given_count(stock)
+    } else {
+        given.count(set)
+    };
+    if own > MANY || count > MANY {
         return false;
     }
     let mut disjoint = stock.links.disjoint as usize;

@@ -1,5 +1,6 @@
 //! The statements of a database as numbers.
-use entries::{Entries, Histories, Links};
+use crate::stored_entries::StoredEntries;
+use entries::{Histories, Links};
 use scope::Numbering;
 
 /// The last statements that declare a symbol, by position, or 0.
@@ -22,7 +23,7 @@ pub struct Stock {
     pub replaced: Vec<usize>,
     /// For each `${` the position of its `$}`, or 0 while its block is open; for another statement 0.
     pub ends: Vec<u32>,
-    pub entries: Entries,
+    pub entries: StoredEntries,
     /// The active `$d` that have a symbol, by its number.
     pub disjoints: Histories,
     /// The active `$v` that have a symbol, by its number.

@@ -19,7 +19,7 @@ front-fails s image more at end within inside none e =
     let fits : at + length image ≤ end = omega (arith, whole, ap length e, length-append image more, within) in
     none fits (sym (take-append_seam image more) ∙ (ap (take (length image)) (sym e) ∙ take-take (length image) (end - at) (drop at s) (omega (arith, fits))))
 
--- the same of one symbol
+-- so for one symbol
 one : (s : List ℕ) (at : ℕ) → at < length s → take 1 (drop at s) ≡ get_or s at 0 ∷ []
 one s at inside = ap (take 1) (drop-cons s at 0 inside)
 

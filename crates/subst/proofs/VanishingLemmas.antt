@@ -7,7 +7,8 @@ use Rattle.std.proofs.lemmas.List.Elements.{All-contains, Contains-append_cases,
 use Rattle.std.proofs.lemmas.List.{flat_map_more, take_more}
 use Rattle.std.proofs.lemmas.Option.{get_or_from_slice_get, slice_get_within}
 use Rattle.entries.specs.SymbolPlaces.{IsGroupOf, AreGroupsFrom, IsGrouped, ArePlacesOf}
-use Rattle.frame.specs.Stored.Hypotheses.{In, AreAbove, Ascends, AreThose}
+use Rattle.entries.specs.PositionSets.{AreAbove, Ascends}
+use Rattle.frame.specs.Stored.Hypotheses.{In, AreThose}
 use Rattle.frame.proofs.CollectLemmas.{contains-in, in-contains}
 use Rattle.subst.specs.Vanishing.{is_left, is_place_left, is_symbol_left, is_group_left, group_left, remaining}
 use Rattle.subst.proofs.ImageRangesLemmas.{image-some}

@@ -1,17 +1,20 @@
-//! Images that are kept apart as a cited assertion asks.
+//! The disjoint variable condition for the images of one frame.
 ghost use Rattle.std.specs.Prelude.{◌≡◌};
-ghost use Rattle.{frame.specs.Disjoint.are_apart, frame.specs.Disjoint.is_group_apart, frame.specs.Disjoint.are_groups_apart, frame.specs.Substitution.images_of_names, frame.specs.Substitution.image, subst.specs.Images.AreOver, subst.specs.Images.is_image_apart};
+ghost use Rattle.frame.specs.Disjoint.{are_apart, are_groups_apart, is_group_apart};
+ghost use Rattle.frame.specs.Substitution.{image, images_of_names};
+ghost use Rattle.subst.specs.Images.{AreOver, is_image_apart};
 
 use crate::images::Subst;
 use frame::{Frame, Pairs};
 use mm_lex::Words;
 
-/// Whether the images meet the pair clause: for each two variables that the cited frame keeps apart, no variable stands
-/// in both images, and each two variables, one from each, stand together in a `$d` that is active at the theorem.
+/// Returns whether the images meet the disjoint variable condition: for each two variables that the cited frame keeps
+/// distinct, no variable stands in both images, and each two variables, one from each, stand together in a `$d` that is
+/// active at the theorem.
 ///
 /// Numbers stand for the names that they have at the theorem, in the images too.
-/// Cost: for each two variables that the frame keeps apart, the size of their images and of the active `$d`, where one
-/// of these has the variables of both images; else, for each pair of a variable from each, the active `$d`.
+/// Cost: for each two variables that the frame keeps distinct, the size of their images and of the active `$d`, if one of
+/// these has the variables of both images; else, for each pair of a variable from each, the active `$d`.
 /// Source: Metamath, 4.2.6.
 pub fn disjoint(subst: &Subst, frame: &Frame, pairs: &Pairs<'_>) -> bool
     requires { AreOver pairs.now.names subst.now }
@@ -21,7 +24,7 @@ pub fn disjoint(subst: &Subst, frame: &Frame, pairs: &Pairs<'_>) -> bool
     groups.iter().all(|group| group_apart(subst, pairs, group))
 }
 
-/// Whether the images of each two of the variables are apart.
+/// Returns whether the images of each two of the variables are disjoint.
 fn group_apart(subst: &Subst, pairs: &Pairs<'_>, group: &Words) -> bool
     requires { AreOver pairs.now.names subst.now }
     ensures { result ≡ is_group_apart pairs.now.statements (images_of_names pairs.now.names subst.now) group.now }
@@ -29,7 +32,7 @@ fn group_apart(subst: &Subst, pairs: &Pairs<'_>, group: &Words) -> bool
     group.iter().all(|x| variable_apart(subst, pairs, x, group))
 }
 
-/// Whether the image of x is apart from those of the others.
+/// Returns whether the image of x is disjoint from those of the others.
 fn variable_apart(subst: &Subst, pairs: &Pairs<'_>, x: &[u8], group: &Words) -> bool
     requires { AreOver pairs.now.names subst.now }
     ensures { result ≡ is_image_apart pairs.now.statements (images_of_names pairs.now.names subst.now) group.now x.now (image (images_of_names pairs.now.names subst.now) x.now) }
@@ -39,7 +42,7 @@ fn variable_apart(subst: &Subst, pairs: &Pairs<'_>, x: &[u8], group: &Words) -> 
         .all(|y| x == y || are_apart(subst, pairs, x, y))
 }
 
-/// Whether the images of two variables are apart.
+/// Returns whether the images of two variables are disjoint.
 fn are_apart(subst: &Subst, pairs: &Pairs<'_>, x: &[u8], y: &[u8]) -> bool
     requires { AreOver pairs.now.names subst.now }
     ensures { result ≡ are_apart pairs.now.statements (image (images_of_names pairs.now.names subst.now) x.now) (image (images_of_names pairs.now.names subst.now) y.now) }

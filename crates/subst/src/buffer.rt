@@ -1,6 +1,8 @@
-//! A list of symbols that keeps its bound.
+//! A bounded list of symbols.
 ghost use Rattle.std.specs.Prelude.{◌≡◌, [], ◌++◌, ◌+◌, ◌≤◌, ◌↔◌, length, take, IfOk, OnOk, OnErr, IsTrue};
-ghost use Rattle.{frame.specs.Substitution.code_apply, subst.specs.SymbolRanges.images_at, subst.specs.SymbolRanges.seen_at, subst.specs.SymbolRanges.AreInside, subst.specs.Stored.Written.Appends};
+ghost use Rattle.frame.specs.Substitution.{code_apply};
+ghost use Rattle.subst.specs.Stored.Written.{Appends};
+ghost use Rattle.subst.specs.SymbolRanges.{AreInside, images_at, seen_at};
 
 use crate::copies::put_expr;
 use crate::filling::{fill, filled_len, make_room};
@@ -12,15 +14,15 @@ use std::alloc::{AllocError, Global};
 use std::marker::Model;
 use std::ops::Range;
 
-/// A buffer never holds more symbols than this.
+/// The most symbols that a buffer holds.
 pub const SYMBOLS_LIMIT: usize = 67_108_864;
 
-/// A list of symbols, never more than `SYMBOLS_LIMIT`.
+/// A list of at most `SYMBOLS_LIMIT` symbols.
 #[derive(Drop)]
 pub struct Buffer {
-    /// The symbols, and behind them room that counts for nothing.
+    /// The symbols, and after them room that does not count.
     symbols: Vec<u32>,
-    /// How many symbols there are.
+    /// The number of symbols.
     len: usize,
 }
 
@@ -36,7 +38,7 @@ impl Model for Buffer {
 }
 
 impl Buffer {
-    /// No symbols.
+    /// Returns an empty buffer. Does not allocate.
     pub fn new(alloc: Global) -> Buffer
         ensures { result ≡ [] }
     {
@@ -46,7 +48,7 @@ impl Buffer {
         }
     }
 
-    /// How many symbols there are.
+    /// Returns the number of symbols.
     pub fn len(&self) -> usize
         ensures len { result ≡ length self.now }
         ensures bound { result ≤ SYMBOLS_LIMIT }
@@ -54,7 +56,7 @@ impl Buffer {
         self.len
     }
 
-    /// The symbols.
+    /// Returns the symbols.
     pub fn as_slice(&self) -> &[u32]
         ensures symbols { result.now ≡ self.now }
         ensures bound { length self.now ≤ SYMBOLS_LIMIT }
@@ -62,7 +64,8 @@ impl Buffer {
         &self.symbols[..self.len]
     }
 
-    /// Whether the symbols at a place are the expression with all images put in. The images are places in this buffer too.
+    /// Returns whether the symbols in a range are the expression with all images put in. The images are ranges of this
+    /// buffer too.
     ///
     /// Cost: the symbols that agree, each once; nothing is written.
     #[inline(always)]
@@ -74,9 +77,9 @@ impl Buffer {
         matches(&self.symbols, images, expr, whole)
     }
 
-    /// Adds symbols at the end.
+    /// Appends symbols.
     ///
-    /// Errors: where memory is refused the buffer is as before.
+    /// Errors: an allocation fails; the buffer is as before. Cost: the symbols.
     pub fn extend(&mut self, more: &[u32]) -> Result<(), AllocError>
         requires { length self.old + length more.now ≤ SYMBOLS_LIMIT }
         ensures added { OnOk result (self.new ≡ self.old ++ more.now) }
@@ -90,18 +93,18 @@ impl Buffer {
         Ok(())
     }
 
-    /// Keeps the first `len` symbols; the room stays.
+    /// Truncates to the first `len` symbols. The memory stays.
     pub fn truncate(&mut self, len: usize)
         ensures { self.new ≡ take len self.old }
     {
         self.len = self.len.min(len);
     }
 
-    /// Adds the expression with all images put in at once at the end, if it has no more symbols than the limit. The
-    /// images are places in this buffer.
+    /// Appends the expression with all images put in at once, or returns `false` if it has more symbols than the limit.
+    /// The images are ranges of this buffer.
     ///
-    /// Errors: where memory is refused the buffer is as before.
-    /// Cost: the symbols read and written, each once; twice where the buffer has to grow.
+    /// Errors: an allocation fails; the buffer is as before.
+    /// Cost: the symbols read and written, each once; twice if the buffer has to grow.
     #[inline(always)]
     pub fn add_applied(
         &mut self,
@@ -124,7 +127,7 @@ impl Buffer {
         Ok(true)
     }
 
-    /// The same where the room does not do.
+    /// Appends the expression if the room is too small.
     #[cold]
     #[inline(never)]
     fn add_growing(
@@ -150,9 +153,9 @@ impl Buffer {
     }
 }
 
-/// Adds the expression with all images put in at once at the end, and tells where it lies.
+/// Appends the expression with all images put in at once, and returns where it lies.
 ///
-/// Errors: where memory is refused the buffer is as before.
+/// Errors: an allocation fails; the buffer is as before.
 /// Cost: the symbols read and written, each once.
 pub fn apply_into(
     subst: &Subst,

@@ -1,11 +1,12 @@
 //! Symbols copied within one buffer, many at once.
 ghost use Rattle.std.specs.Prelude.{◌≡◌, ◌+◌, ◌<◌, ◌≤◌, ◌++◌, ◌∷◌, [], length, take, drop, IfSome, IfNone};
-ghost use Rattle.{subst.specs.SymbolRanges.seen_at, subst.specs.Stored.Written.IsWritten};
+ghost use Rattle.subst.specs.Stored.Written.{IsWritten};
+ghost use Rattle.subst.specs.SymbolRanges.{seen_at};
 
 use crate::symbol_range::SymbolRange;
 use std::simd::prelude::*;
 
-/// How many symbols are copied at once, and so how many may be written over behind what is written.
+/// So many symbols are copied at once, so up to so many may be overwritten after those that are written.
 pub const LANES: usize = 32;
 
 /// Copies symbols that lie before `at` to `at`. Most runs are copied by the first block.
@@ -24,7 +25,7 @@ fn copy_run(symbols: &mut [u32], from: usize, len: usize, at: usize)
     }
 }
 
-/// Copies the symbols at a place to `at`, where they end no later than at `last`, and tells where they end.
+/// Copies the symbols in a range to `at`, and returns where they end; `None` if that is after `last`.
 #[inline(always)]
 pub fn copy_place(symbols: &mut [u32], at: usize, last: usize, place: SymbolRange) -> Option<usize>
     requires place { (place.start ≤ place.end) × (place.end ≤ at) }
@@ -44,7 +45,7 @@ pub fn copy_place(symbols: &mut [u32], at: usize, last: usize, place: SymbolRang
     Some(at + len)
 }
 
-/// Writes a symbol at `at`, and tells where it ends.
+/// Writes a symbol at `at`, and returns where it ends.
 #[inline(always)]
 pub fn put_symbol(symbols: &mut [u32], at: usize, symbol: u32) -> usize
     requires { at < length symbols.old }

@@ -1,14 +1,17 @@
-//! An expression with the images put in, written behind them in their buffer.
+//! An expression with the images put in, written after them in their buffer.
 ghost use Rattle.std.specs.Prelude.{◌≡◌, ◌+◌, ◌<◌, ◌≤◌, ◌^◌, length, take, IfSome, IfNone, OnOk};
-ghost use Rattle.{frame.specs.Substitution.code_apply, subst.specs.SymbolRanges.images_at, subst.specs.SymbolRanges.AreInside, subst.specs.Stored.Written.IsWritten, subst.specs.Stored.Written.LacksRoom, subst.specs.declared.buffer.TheConstants.SYMBOLS_LIMIT};
+ghost use Rattle.frame.specs.Substitution.{code_apply};
+ghost use Rattle.subst.specs.Stored.Written.{IsWritten, LacksRoom};
+ghost use Rattle.subst.specs.SymbolRanges.{AreInside, images_at};
+ghost use Rattle.subst.specs.declared.buffer.TheConstants.{SYMBOLS_LIMIT};
 
 use crate::buffer::SYMBOLS_LIMIT;
 use crate::copies::{LANES, copy_place, put_symbol};
 use crate::image_ranges::ImageRanges;
 use std::alloc::AllocError;
 
-/// Writes the expression with all images put in at `at`, and tells where it ends; nothing where the room behind `at`
-/// is too small for as many symbols and those of the expression besides.
+/// Writes the expression with all images put in at `at`, and returns where it ends; `None` if the room after `at` is too
+/// small for the result, the symbols of the expression and those that are overwritten.
 #[inline(always)]
 pub fn fill(symbols: &mut [u32], at: usize, images: &ImageRanges, expr: &[u32]) -> Option<usize>
     requires within { AreInside at images.now }
@@ -33,7 +36,7 @@ pub fn fill(symbols: &mut [u32], at: usize, images: &ImageRanges, expr: &[u32]) 
     Some(end)
 }
 
-/// How many symbols the expression has with all images put in, where they are no more than `room`.
+/// Returns the number of symbols of the expression with all images put in, or `None` if it is more than `room`.
 pub fn filled_len(symbols: &[u32], images: &ImageRanges, expr: &[u32], room: usize) -> Option<usize>
     requires { AreInside (length symbols.now) images.now }
     ensures some { IfSome result (λ len. (len ≡ length (code_apply (images_at symbols.now images.now) expr.now)) × (len ≤ room)) }
@@ -54,9 +57,10 @@ pub fn filled_len(symbols: &[u32], images: &ImageRanges, expr: &[u32], room: usi
     Some(len)
 }
 
-/// Makes room for so many symbols behind the first `len`, and for those that are written over.
+/// Makes room for so many symbols after the first `len`, and for those that are overwritten.
 ///
-/// Cost: the buffer grows to twice its symbols, but no further than its bound asks for, or by a sixteenth.
+/// Errors: an allocation fails; the first `len` symbols are as before.
+/// Cost: the buffer grows to twice its symbols; near the bound of a buffer no further than that, or by a sixteenth.
 #[cold]
 #[inline(never)]
 pub fn make_room(buffer: &mut Vec<u32>, len: usize, more: usize) -> Result<(), AllocError>

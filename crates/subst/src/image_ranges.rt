@@ -1,4 +1,4 @@
-//! Images that are places in a buffer, by the number of their symbol.
+//! Images that are ranges of a buffer, by the number of their symbol.
 ghost use Rattle.std.specs.Prelude.{◌≡◌, ℕ, ◌+◌, ◌<◌, ◌≤◌, ◌++◌, [], ◌==◌, ◌^◌, nat_eq, if◌then◌else◌, length, replicate, Some, OnOk, OnErr};
 ghost use Rattle.std.specs.Map.{lookup};
 
@@ -13,16 +13,16 @@ struct Slot {
     place: SymbolRange,
 }
 
-/// What was set in no round.
+/// A slot that was set in no round.
 const UNSET: Slot = Slot {
     round: 0,
     place: SymbolRange { start: 0, end: 0 },
 };
 
-/// So many slots a table has more than twice its greatest number: those of constants are then mostly in it.
+/// A table has so many more slots than twice its greatest number, so that it mostly has those of constants.
 const SPARE: usize = 1024;
 
-/// A table of images as it is read: what makes it longer or takes them away needs the table itself.
+/// A table of images for reading only: in a loop its parts stay at hand.
 #[derive(Drop)]
 pub(crate) struct ImageTable<'a> {
     slots: &'a [Slot],
@@ -39,7 +39,7 @@ impl<'a> Model for ImageTable<'a> {
 }
 
 impl<'a> ImageTable<'a> {
-    /// The place of a symbol's image, if it was given one.
+    /// Returns the range of a symbol's image, if it was given one.
     #[inline(always)]
     pub(crate) fn get(&self, symbol: u32) -> Option<SymbolRange>
         ensures { result ≡ lookup (nat_eq symbol) self.now }
@@ -51,10 +51,10 @@ impl<'a> ImageTable<'a> {
     }
 }
 
-/// Images of symbols, each a place in a buffer that stands beside. Contracts see the symbols with their places.
+/// Images of symbols, each a range of a buffer that stands beside. Contracts see the symbols with their ranges.
 ///
-/// Cost: a place is set and found in one step, and all are taken away in one step. The table is about twice as long as
-/// the greatest number that was set.
+/// Cost: an image is set and found in constant time, and all are removed in constant time. The table is about twice as
+/// long as the greatest number that was set.
 #[derive(Drop)]
 pub struct ImageRanges {
     slots: Vec<Slot>,
@@ -63,7 +63,8 @@ pub struct ImageRanges {
 
 impl Model for ImageRanges {
     ghost use Rattle.std.specs.Prelude.{ℕ, ◌≤◌, List};
-    ghost use Rattle.{subst.specs.declared.symbol_range.SymbolRange.SymbolRange, subst.specs.Stored.Slots.placed, subst.specs.Stored.Slots.AreUpTo};
+    ghost use Rattle.subst.specs.Stored.Slots.{AreUpTo, placed};
+    ghost use Rattle.subst.specs.declared.symbol_range.SymbolRange.{SymbolRange};
 
     ghost Value = { List (ℕ × SymbolRange) };
 
@@ -73,7 +74,7 @@ impl Model for ImageRanges {
 }
 
 impl ImageRanges {
-    /// No images.
+    /// Returns a table without images. Does not allocate.
     pub fn new(alloc: Global) -> ImageRanges
         ensures { result ≡ [] }
     {
@@ -83,7 +84,7 @@ impl ImageRanges {
         }
     }
 
-    /// Takes all images away.
+    /// Removes all images, in constant time.
     pub fn clear(&mut self)
         ensures { self.new ≡ [] }
     {
@@ -95,9 +96,9 @@ impl ImageRanges {
         }
     }
 
-    /// Gives the symbol the image at this place.
+    /// Gives the symbol the image in this range.
     ///
-    /// Errors: where memory is refused all images are as before.
+    /// Errors: an allocation fails; all images are as before.
     #[inline(always)]
     pub fn set(&mut self, symbol: u32, place: SymbolRange) -> Result<(), AllocError>
         ensures ok { OnOk result ((x : ℕ) → lookup (nat_eq x) self.new ≡ (if x == symbol then Some place else lookup (nat_eq x) self.old)) }
@@ -112,7 +113,7 @@ impl ImageRanges {
         Ok(())
     }
 
-    /// The place of a symbol's image, if it was given one.
+    /// Returns the range of a symbol's image, if it was given one.
     #[inline(always)]
     pub fn get(&self, symbol: u32) -> Option<SymbolRange>
         ensures { result ≡ lookup (nat_eq symbol) self.now }
@@ -120,7 +121,7 @@ impl ImageRanges {
         self.table().get(symbol)
     }
 
-    /// The table, to be read: in a loop its parts stay at hand.
+    /// Returns the table for reading.
     #[inline(always)]
     pub(crate) fn table(&self) -> ImageTable<'_>
         ensures { result ≡ self.now }
@@ -132,7 +133,9 @@ impl ImageRanges {
     }
 }
 
-/// Makes a slot of that index, those before it, and as many behind it.
+/// Appends slots up to that index, and about as many more.
+///
+/// Errors: an allocation fails; the slots are as before.
 #[cold]
 #[inline(never)]
 fn add_slots(slots: &mut Vec<Slot>, index: usize) -> Result<(), AllocError>

@@ -19,6 +19,10 @@ use std::marker::Model;
 /// Results with more symbols keep their variables.
 pub const LONG_RESULT: usize = 1024;
 
+/// A result keeps its variables if they are at most one in so many of its symbols: with more of them, to read it again costs
+/// about as much as its variables, and these would need about as much memory as it does.
+const SYMBOLS_PER_VARIABLE: usize = 8;
+
 /// Where places lie in a list of places.
 #[derive(Clone, Copy, Drop)]
 pub struct PlaceRange {
@@ -359,7 +363,9 @@ impl ImageVariables {
         Ok(range)
     }
 
-    /// Notes that the list that was begun has the places of the variables of a long image.
+    /// Notes that the list that was begun has the places of the variables of a long image, if these are few.
+    ///
+    /// Errors: an allocation fails. Cost: a constant.
     pub fn note(&mut self, image: SymbolRange) -> Result<(), AllocError>
         ensures { NotesImage self.old self.new image }
     {
@@ -367,6 +373,10 @@ impl ImageVariables {
             start: self.begun,
             end: self.places.len(),
         };
+        let len = image.end.saturating_sub(image.start) as usize;
+        if places.end - places.start > len / SYMBOLS_PER_VARIABLE {
+            return Ok(());
+        }
         self.long.push(LongImage { image, places })?;
         self.kept = self.places.len();
         Ok(())

@@ -1,6 +1,7 @@
 //! Images of symbols.
 ghost use Rattle.std.specs.Prelude.{◌≡◌, ℕ, [], ◌∷◌, ◌==◌, ◌++◌, ◌+◌, ◌≤◌, ◌↔◌, take, IsTrue, IfOk, if◌then◌else◌, length, OnOk, OnErr, IfSome, IfNone};
-ghost use Rattle.{frame.specs.Substitution.code_image, frame.specs.Substitution.code_apply, subst.specs.declared.buffer.TheConstants.SYMBOLS_LIMIT};
+ghost use Rattle.frame.specs.Substitution.{code_apply, code_image};
+ghost use Rattle.subst.specs.declared.buffer.TheConstants.{SYMBOLS_LIMIT};
 
 use crate::buffer::{Buffer, SYMBOLS_LIMIT};
 use crate::filling::filled_len;
@@ -32,7 +33,7 @@ impl Model for Subst {
 }
 
 impl Subst {
-    /// No images.
+    /// Returns a table without images. Does not allocate.
     pub fn new(alloc: Global) -> Subst
         ensures { result ≡ [] }
     {
@@ -42,7 +43,7 @@ impl Subst {
         }
     }
 
-    /// Gives the symbol this image, in place of any before.
+    /// Gives the symbol this image, which replaces an earlier one.
     ///
     /// Errors: an allocation fails, or the images that were set, those replaced among them, would have more than
     /// `SYMBOLS_LIMIT` symbols together. All images are then as before.
@@ -65,7 +66,7 @@ impl Subst {
         }
     }
 
-    /// The image of a symbol, if it was given one.
+    /// Returns the image of a symbol, if it was given one. Cost: a constant.
     pub fn image(&self, symbol: u32) -> Option<&[u32]>
         ensures some { IfSome result (λ image. image.now ≡ code_image self.now symbol) }
         ensures none { IfNone result (code_image self.now symbol ≡ symbol ∷ []) }
@@ -75,8 +76,9 @@ impl Subst {
     }
 }
 
-/// The expression with all images put in at once.
+/// Returns the expression with all images put in at once.
 ///
+/// Errors: an allocation fails.
 /// Cost: the symbols read and written, each once.
 /// Source: Metamath, 4.1: images are not looked through again.
 pub fn apply(alloc: Global, subst: &Subst, expr: &[u32]) -> Result<Vec<u32>, AllocError>
@@ -87,7 +89,9 @@ pub fn apply(alloc: Global, subst: &Subst, expr: &[u32]) -> Result<Vec<u32>, All
     Ok(applied)
 }
 
-/// Adds the expression with all images put in at the end.
+/// Appends the expression with all images put in.
+///
+/// Errors: an allocation fails; a part may have been appended.
 pub(crate) fn write(subst: &Subst, expr: &[u32], out: &mut Vec<u32>) -> Result<(), AllocError>
     ensures ok { OnOk result (out.new.items ≡ out.old.items ++ code_apply subst.now expr.now) }
     ensures kept { take (length out.old.items) out.new.items ≡ out.old.items }
@@ -101,7 +105,7 @@ pub(crate) fn write(subst: &Subst, expr: &[u32], out: &mut Vec<u32>) -> Result<(
     Ok(())
 }
 
-/// Whether the buffer stays within its bound when the expression with all images put in is added.
+/// Returns whether the buffer stays within its bound if the expression with all images put in is appended.
 ///
 /// Cost: one look-up for each symbol of the expression; nothing is written.
 pub fn has_room(subst: &Subst, expr: &[u32], buffer: &Buffer) -> bool

@@ -1,4 +1,4 @@
-//! The laws of substitution and of the pair clause, each a call that does nothing.
+//! The laws of substitution and of the disjoint variable condition, each a call that does nothing.
 ghost use Rattle.subst.specs.Laws.{SubstitutionOverNames, PairClause};
 
 /// Substitution over numbers is substitution over the names that they stand for.
@@ -6,7 +6,7 @@ pub fn substitution_over_names()
     ensures { SubstitutionOverNames }
 {}
 
-/// Images are kept apart as the two sentences of the pair clause say.
+/// The disjoint variable condition is the two sentences of the book.
 pub fn pair_clause()
     ensures { PairClause }
 {}

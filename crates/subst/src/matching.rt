@@ -1,15 +1,16 @@
-//! An expression with the images put in, against symbols that stand, without writing it.
+//! An expression with the images put in, compared with symbols of the buffer without writing it.
 ghost use Rattle.std.specs.Prelude.{◌≡◌, ℕ, ◌∷◌, ◌++◌, ◌↔◌, ◌<◌, ◌≤◌, [], List, length, take, slice_range, IfSome, IfNone, IsTrue};
-ghost use Rattle.{frame.specs.Substitution.code_image, frame.specs.Substitution.code_apply, subst.specs.SymbolRanges.images_at, subst.specs.SymbolRanges.seen_at, subst.specs.SymbolRanges.AreInside};
+ghost use Rattle.frame.specs.Substitution.{code_apply, code_image};
+ghost use Rattle.subst.specs.SymbolRanges.{AreInside, images_at, seen_at};
 
 use crate::image_ranges::{ImageRanges, ImageTable};
 use crate::symbol_range::SymbolRange;
 use std::simd::prelude::*;
 
-/// How many symbols are compared at once.
+/// So many symbols are compared at once.
 const LANES: usize = 16;
 
-/// How many of the first symbols of two lists are the same at least.
+/// Returns a number of first symbols in which two lists agree.
 #[inline(always)]
 fn count_alike(left: &[u32], right: &[u32]) -> usize
     requires left { 16 ≤ length left.now }
@@ -25,7 +26,7 @@ fn count_alike(left: &[u32], right: &[u32]) -> usize
     }
 }
 
-/// Whether the first `len` symbols of two lists are the same. Most are few, and compared at once, however many they are.
+/// Returns whether the first `len` symbols of two lists agree. Mostly they are few, and compared at once.
 #[inline(always)]
 fn begin_alike(left: &[u32], right: &[u32], len: usize) -> bool
     requires left { len ≤ length left.now }
@@ -39,7 +40,7 @@ fn begin_alike(left: &[u32], right: &[u32], len: usize) -> bool
     left[..len] == right[..len]
 }
 
-/// Where the image at a place ends, where the symbols from `at` up to `end` begin with it.
+/// Returns where the image in a range ends, if the symbols from `at` up to `end` begin with it.
 #[inline(always)]
 fn behind_image(symbols: &[u32], place: SymbolRange, at: usize, end: usize) -> Option<usize>
     requires image { (place.start ≤ place.end) × (place.end ≤ length symbols.now) }
@@ -58,7 +59,7 @@ fn behind_image(symbols: &[u32], place: SymbolRange, at: usize, end: usize) -> O
     }
 }
 
-/// Where the image of a symbol ends, where the symbols from `at` up to `end` begin with it.
+/// Returns where the image of a symbol ends, if the symbols from `at` up to `end` begin with it.
 #[inline(always)]
 fn behind(
     symbols: &[u32],
@@ -79,7 +80,7 @@ fn behind(
     }
 }
 
-/// Whether the symbols at a place are the expression with all images put in. The images lie in the same list of symbols.
+/// Returns whether the symbols in a range are the expression with all images put in. The images lie in the same list.
 #[inline(always)]
 pub(crate) fn matches(
     symbols: &[u32],

@@ -1,15 +1,16 @@
-//! Where symbols lie in a buffer.
+//! Ranges of a buffer of symbols.
 ghost use Rattle.std.specs.Prelude.{◌≡◌, ◌≤◌, length};
-ghost use Rattle.{subst.specs.SymbolRanges.seen_at, subst.specs.declared.buffer.TheConstants.SYMBOLS_LIMIT};
+ghost use Rattle.subst.specs.SymbolRanges.{seen_at};
+ghost use Rattle.subst.specs.declared.buffer.TheConstants.{SYMBOLS_LIMIT};
 
-/// Where symbols lie.
+/// A range of a buffer of symbols: from `start` up to, and not including, `end`.
 #[derive(Clone, Copy, Drop)]
 pub struct SymbolRange {
     pub start: u32,
     pub end: u32,
 }
 
-/// The symbols at a place.
+/// Returns the symbols in a range.
 pub fn symbols_at(symbols: &[u32], place: SymbolRange) -> &[u32]
     requires { (place.start ≤ place.end) × (place.end ≤ length symbols.now) }
     ensures { result.now ≡ seen_at symbols.now place }
@@ -17,7 +18,7 @@ pub fn symbols_at(symbols: &[u32], place: SymbolRange) -> &[u32]
     &symbols[place.start as usize..place.end as usize]
 }
 
-/// The place between two that are within the bound of a buffer.
+/// Returns the range between two indexes within the bound of a buffer.
 pub fn place_between(start: usize, end: usize) -> SymbolRange
     requires { (start ≤ SYMBOLS_LIMIT) × (end ≤ SYMBOLS_LIMIT) }
     ensures { (result.start ≡ start) × (result.end ≡ end) }

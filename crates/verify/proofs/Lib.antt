@@ -20,3 +20,4 @@ pub mod LawsHold
 pub mod Computed
 pub mod MarkLemmas
 mod Rows
+pub mod StopLemmas

@@ -1,6 +1,8 @@
 -- What the code knows at each exit of a step, as a fact of the machine.
 use Rattle.verify.proofs.Words.{◌≡◌, ℕ, suc, ◌+◌, ◌-◌, ◌<◌, ◌≤◌, Bool, true, false, List, [], ◌∷◌, ◌++◌, length, map, take, drop, get_or, Some, refl, IsTrue, nat_lt, nat_eq, replicate, slice_get, slice_set, sym, ◌∙◌, ap, subst, arith, true≢false, length-append, nat_tests, length-map, map-append, take-append-drop, take_all, take_more, same_from_push, map_push, append-nil, nil_from_length, drop_all, drop_more, map_more, drop-append-le, drop-set-lt, length-set, length-replicate, get_or-set_same, get_or-set_other, get_or-replicate, get_or_from_slice_get, get_or_default, slice_get-get_or}
 use Rattle.verify.proofs.Words.{item-cite, item-recall, Name, Stmt, Database, stmt_at, expr_of, name_at, decode, Item, Cite, Recall, Results, State, start, Cites, of_hypothesis, of_assertion, premises, Expr, Runs, with_result, Adds, Marks, Recalls, Keeps, AreBelow, AllBelow, named, AreNamed, Goes, behind, HasCited, IsGiven, AreGiven, AreKnown, GoesOn, AreLegal, item_of, IsRight, weight_limit, decode-injective, below-group, LabelEntry, Nothing, IsEntry, AreEntries, get-front}
+use Rattle.std.proofs.Common.{length-drop}
+use Rattle.std.proofs.lemmas.List.{get_or-append_right, get_or-drop}
 use Rattle.verify.proofs.Named.{goes-recall, goes-mark, named-result, result-named, all-drop, all-set, all-snoc, all-none, all-at, get-drop}
 use Rattle.verify.proofs.Decide.{cites_same, refuted_at_end, refuted_at_step, accepts_right}
 use Rattle.verify.proofs.Complete.{runs_append}
@@ -164,6 +166,18 @@ module _ (S : Database) (names : List Name) (at : ℕ) where
             sym (ap (behind (length table)) kept ∙ results-same new.stack new.stack (drop (length table) (slice_set new.saved k e)) (drop (length table) new.saved) new.weight new.weight refl (drop-set-lt (length table) new.saved k e within) refl) in
             (subst (Goes true S at names (item_of labels number) (behind (length table) old)) same on.0, λ t. kept-known (on.1 refl))
 
+    -- ---- a label before those of the table
+
+    module _ (labels : List Name) (number k : ℕ) (front : List LabelEntry) (d : LabelEntry) (by_number : number ≡ suc k) (are : AreEntries S at labels (front ++ table)) (within : k < length front) where
+      pub viewed-on : (ok : Bool) → HasCited S at names (get_or front k d) old new ok → GoesOn ok S at names table (item_of labels number) old new
+      viewed-on ok cited =
+          let all = length-append front table in
+          let entry = subst (IsEntry S at (get_or labels k [])) (get-front front table k d within) (entry_at S at labels (front ++ table) k d are (omega arith)) in
+          let goes = cited.0 (get_or labels k []) entry in (
+            cite-number S names at legal (behind (length table) old) (behind (length table) new) ok labels number k by_number (let c = are.count in omega arith) (cite-behind (length table) ok (get_or labels k []) old new goes),
+            λ t. known-if (λ b. Goes b S at names (Cite (get_or labels k [])) old new) (λ g. record { are_named = g.1; given = subst (AreGiven S at names table) (sym (cited.1 t)) known.given }) ok goes t,
+          )
+
     -- ---- a result that is saved
 
     recall-known : (k : ℕ) → Recalls true old new (suc k) → AreKnown S at names table new
@@ -257,3 +271,30 @@ module _ (S : Database) (names : List Name) (at : ℕ) where
 
 pub start-behind : (n : ℕ) (st : Results ℕ) → st ≡ (let r : Results ℕ = record { stack = []; saved = replicate n []; weight = 0 } in r) → behind n st ≡ (let r : Results ℕ = record { stack = []; saved = []; weight = 0 } in r)
 start-behind n st is = ap (behind n) is ∙ results-same [] [] (drop n (replicate n [])) [] 0 0 refl (drop_all n (replicate n []) (omega (arith, length-replicate n (let r : List ℕ = [] in r)))) refl
+
+-- ---- the labels behind some
+
+pub rest-entries : (S : Database) (at : ℕ) (labels : List Name) (front table : List LabelEntry) (n : ℕ) → n ≡ length front → AreEntries S at labels (front ++ table) → AreEntries S at (drop n labels) table
+rest-entries S at labels front table n is are =
+    let count = are.count in let all = length-append front table in let left = length-drop n labels in
+    record {
+      count = omega arith;
+      each = λ k less.
+          let entry = are.each (n + k) (omega arith) in
+          let same : get_or (front ++ table) (n + k) Nothing ≡ get_or table k Nothing = get_or-append_right front table n (n + k) Nothing (sym is) (omega arith) ∙ ap (λ i. get_or table i Nothing) (omega arith) in
+          subst (λ l. IsEntry S at l (get_or table k Nothing)) (sym (get_or-drop n labels k [])) (subst (IsEntry S at (get_or labels (n + k) [])) same entry);
+    }
+
+pub item-rest : (labels : List Name) (n number : ℕ) → n < number → n ≤ length labels → item_of labels number ≡ item_of (drop n labels) (number - n)
+item-rest labels n number above within = by (nat_lt (number - 1) (length labels)) refl
+  where
+    by : (b : Bool) → nat_lt (number - 1) (length labels) ≡ b → item_of labels number ≡ item_of (drop n labels) (number - n)
+    by true e =
+        let less : number - 1 < length labels = grind (arith, nat_tests) in
+        let left = length-drop n labels in
+        let here = get_or-drop n labels (number - 1 - n) [] ∙ ap (λ i. get_or labels i []) (omega arith) in
+        item-cite labels number (number - 1) (omega arith) less ∙ (ap Cite (sym here) ∙ sym (item-cite (drop n labels) (number - n) (number - 1 - n) (omega arith) (omega arith)))
+    by false e =
+        let over : length labels ≤ number - 1 = grind (arith, nat_tests) in
+        let left = length-drop n labels in
+        item-recall labels number (number - 1) (omega arith) over ∙ (ap Recall (omega arith) ∙ sym (item-recall (drop n labels) (number - n) (number - 1 - n) (omega arith) (omega arith)))

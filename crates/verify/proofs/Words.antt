@@ -57,8 +57,9 @@ pub use Rattle.verify.specs.Machine.{Cites, IsSaved, Results, Runs, State, Steps
 pub use Rattle.verify.specs.Plan.{AreOrdered, IsAfter, IsPlan, built, built_from, derive, pick, trees_of}
 pub use Rattle.verify.specs.Proves.{Proves, label_or_none, mandatory_labels}
 pub use Rattle.verify.specs.ReadPlaces.{BeginsWith, IsMistyped, ReadTo, ReadsAll, tail_of}
-pub use Rattle.verify.specs.ResultPlaces.{Adds, AreHeld, AreKept, Held, Keeps, Marks, Recalls, below, held, seen, top}
+pub use Rattle.verify.specs.ResultPlaces.{Adds, AreHeld, AreKept, Held, Keeps, Marks, Recalls, Stays, below, held, seen, top}
 pub use Rattle.verify.specs.Right.{Derives, IsProvable, IsRight, IsSmall, Says, weight_limit}
+pub use Rattle.verify.specs.Stops.{IsOther, StopsAt}
 pub use Rattle.verify.specs.Spells.{IsCitable, Spells, SpellsAll, cites_assertion, cites_hypothesis, marks, recalls, spells_more, spells_none}
 pub use Rattle.verify.specs.declared.label_table.LabelEntry.{LabelEntry}
 pub use Rattle.verify.specs.declared.label_table.LabelEntry.TheVariants.{Assertion, Nothing}

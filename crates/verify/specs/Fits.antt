@@ -2,7 +2,8 @@
 -- Metamath, 4.2.6: what stands behind the first symbol of the result for a `$f` is the image of its variable.
 -- The code looks at first symbols, reads the images off the results, and holds each `$e` under them against its result.
 use Rattle.std.specs.Prelude.{◌≡◌, ℕ, ◌<◌, ◌≤◌, Bool, true, false, List, [], ◌∷◌, length, drop, get_or, slice_get, Some}
-use Rattle.verify.specs.Words.{Stmt, Expr, Database, stmt_at, Images, applied, CodeImages, code_image, expr_at, Hypothesis, Float, Essential}
+use Rattle.names.specs.Codes.{decode}
+use Rattle.verify.specs.Words.{Name, Stmt, Expr, Database, stmt_at, expr_of, Images, applied, CodeImages, code_image, expr_at, Hypothesis, Float, Essential}
 use Rattle.frame.specs.Cited.{head_of}
 
 -- the `$f` are of different variables
@@ -26,6 +27,11 @@ IsStanding S (Essential p) = (s : Stmt) × (stmt_at S p ≡ Some s)
 abbrev pub AreStanding : Database → List Hypothesis → Type 0
 AreStanding S [] = Unit {0}
 AreStanding S (h ∷ hs) = IsStanding S h × AreStanding S hs
+
+-- a statement stands at the position, and the codes stand for its expression
+pub record IsExprAt (S : Database) (names : List Name) (at : ℕ) (codes : List ℕ) (s : Stmt) : Type 0 where
+  pub stands : stmt_at S at ≡ Some s
+  pub same : decode names codes ≡ expr_of s
 
 -- the result begins with this symbol
 pub record IsTyped (head : ℕ) (r : List ℕ) : Type 0 where

@@ -1,11 +1,13 @@
 -- What the labels of a proof name.
 -- Metamath, 4.2.6: a proof cites active hypotheses and earlier assertions by their labels.
--- The code looks each label up once for a proof.
-use Rattle.std.specs.Prelude.{◌≡◌, ◌==◌, ℕ, ◌<◌, Bool, false, List, [], length, get_or}
+-- The code looks each label up once for a proof; many mandatory hypotheses are not looked up, but found by their index.
+use Rattle.std.specs.Prelude.{◌≡◌, ◌==◌, ℕ, ◌<◌, Bool, false, List, [], length, map, get_or, Option, Some, None}
 use Rattle.std.specs.List.{list_any}
 use Rattle.verify.specs.Words.{Name, Stmt, Database, Carries, IsHypothesis}
 use Rattle.verify.specs.declared.label_table.LabelEntry.{LabelEntry}
 use Rattle.verify.specs.declared.label_table.LabelEntry.TheVariants.{Hypothesis, Assertion, Nothing}
+use Rattle.verify.specs.declared.label_table.Mandatory.{Mandatory}
+use Rattle.verify.specs.declared.label_table.Mandatory.TheVariants.{Few, Many}
 use Rattle.verify.specs.Spells.{IsCitable}
 
 -- what a label names at `at`: an active hypothesis, an earlier assertion, or nothing that may be cited there
@@ -23,3 +25,13 @@ pub record AreEntries (S : Database) (at : ℕ) (labels : List Name) (table : Li
 abbrev pub is_hypothesis_among : List ℕ → LabelEntry → Bool
 is_hypothesis_among positions (Hypothesis i) = list_any (λ p. p == i) positions
 is_hypothesis_among positions other = false
+
+-- the mandatory hypotheses by position
+abbrev pub positions_in : Mandatory → List ℕ
+positions_in (Few positions) = positions.now
+positions_in (Many view) = view.now
+
+-- what the labels name that are found by their index
+abbrev pub viewed : Option (List ℕ) → List LabelEntry
+viewed None = []
+viewed (Some positions) = map Hypothesis positions

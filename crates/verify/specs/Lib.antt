@@ -8,6 +8,7 @@ pub mod ResultPlaces
 pub mod Fits
 pub mod ReadPlaces
 pub mod Goes
+pub mod Stops
 pub mod LabelTable
 pub mod Growth
 pub mod Plan

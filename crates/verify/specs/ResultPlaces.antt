@@ -43,6 +43,11 @@ abbrev pub Adds : {A : Type 0} → Bool → Results A → Results A → List (Li
 Adds true old new stack e = new ≡ with_result old stack e
 Adds false old new stack e = weight_limit < old.weight + length e
 
+-- where it is not done, the results are as before
+abbrev pub Stays : {A : Type 0} → Bool → Results A → Results A → Type 0
+Stays true old new = Unit {0}
+Stays false old new = new ≡ old
+
 -- the last result is kept as number k from 0
 abbrev pub Keeps : {A : Type 0} → Results A → Results A → ℕ → Type 0
 Keeps {A} old new k = (stack : List (List A)) (e : List A) → old.stack ≡ stack ++ e ∷ [] → new ≡ record { stack = old.stack; saved = slice_set old.saved k e; weight = old.weight }

@@ -1,16 +1,26 @@
 //! The check of a whole proof.
 
-ghost use Rattle.std.specs.Prelude.{◌≡◌, List, IfOk};
-ghost use Rattle.{mm_lex.specs.Alphabet.Name, mm_read.specs.declared.stmt.Stmt.Stmt as Statement, proof_code.specs.ItemNumbers.items_of, verify.specs.LabelTable.AreEntries, verify.specs.Proves.Proves, verify.specs.Right.IsProvable, verify.specs.Right.IsRight, verify.specs.Right.Says};
+ghost use Rattle.std.specs.Prelude.{◌≡◌, ◌++◌, List, IfOk, IsTrue, option_map};
+ghost use Rattle.frame.specs.FrameOf.{hypotheses};
+ghost use Rattle.mm_lex.specs.Alphabet.{Name};
+ghost use Rattle.mm_read.specs.declared.stmt.Stmt.{Stmt as Statement};
+ghost use Rattle.proof_code.specs.ItemNumbers.{items_of};
+ghost use Rattle.proof_code.specs.Writes.{is_compressed};
+ghost use Rattle.scope.specs.Active.{before};
+ghost use Rattle.verify.specs.LabelTable.{AreEntries, viewed};
+ghost use Rattle.verify.specs.Proves.{Proves};
+ghost use Rattle.verify.specs.Right.{IsProvable, IsRight, Says};
 
 use crate::answer::Answer;
-use crate::citation::{Buffers, Claim, step};
-use crate::label_table::{LabelEntry, add_listed, fill_mandatory, fill_table};
+use crate::citation::{Buffers, Claim};
+use crate::failure::run_items;
+use crate::label_table::{LabelEntry, Mandatory, add_listed, fill_mandatory, fill_table};
 use crate::results::Results;
-use frame::{Frames, Gathered};
+use frame::{Frames, Gathered, MandatoryView};
 use mm_lex::Words;
 use proof_code::{CodeFault, Items, Reader, is_compressed, normal};
 use std::alloc::{AllocError, Global};
+use subst::Remaining;
 
 /// A checker keeps the memory that proofs up to this size needed: 1 MB for as many symbols.
 const KEPT_SIZE: usize = 262_144;
@@ -39,6 +49,7 @@ impl Checker {
             mandatory: Vec::new(alloc),
             buffers: Buffers {
                 gathered: Gathered::new(alloc),
+                remaining: Remaining::new(alloc),
                 results: Results::new(alloc),
             },
         }
@@ -84,7 +95,14 @@ impl Checker {
         let parts = items.parts();
         self.note_size(parts.numbers.len());
         fill_table(frames, at, parts.labels, &mut self.table)?;
-        run(frames, at, &self.table, parts.numbers, &mut self.buffers)
+        run(
+            frames,
+            at,
+            None,
+            &self.table,
+            parts.numbers,
+            &mut self.buffers,
+        )
     }
 
     /// Returns whether the tokens write a right proof of the `$p` at that position.
@@ -109,16 +127,63 @@ impl Checker {
                 Err(_) => Ok(Answer::Wrong),
             };
         }
+        if let Some(view) = frames.mandatory_view(at)? {
+            return self.prove_many(frames, at, tokens, &view);
+        }
         fill_mandatory(frames, at, &mut self.mandatory, &mut self.table)?;
         let count = self.mandatory.as_slice().len();
         let Some(heading) = self.reader.read(tokens, count)? else {
             return Ok(Answer::Wrong);
         };
-        if !add_listed(frames, at, &self.mandatory, heading, &mut self.table)? {
+        if !add_listed(
+            frames,
+            at,
+            Mandatory::Few(&self.mandatory),
+            heading,
+            &mut self.table,
+        )? {
             return Ok(Answer::Wrong);
         }
         let numbers = self.reader.numbers();
-        run(frames, at, &self.table, numbers, &mut self.buffers)
+        run(frames, at, None, &self.table, numbers, &mut self.buffers)
+    }
+
+    /// Returns whether the tokens write a right proof, in compressed form, of the `$p` at that position, whose mandatory
+    /// hypotheses are many.
+    ///
+    /// Errors: an allocation fails, or the results would pass the limit of `limit`.
+    #[cold]
+    #[inline(never)]
+    fn prove_many(
+        &mut self,
+        frames: &Frames,
+        at: usize,
+        tokens: &Words,
+        view: &MandatoryView<'_>,
+    ) -> Result<Answer, AllocError>
+        requires provable { (s : Statement) × IsProvable frames.now.statements at s }
+        requires compressed { IsTrue (is_compressed tokens.now) }
+        requires view { (s : Statement) → IsProvable frames.now.statements at s → view.now ≡ hypotheses (before frames.now.statements at) s }
+        ensures { IfOk result (λ answer. Says answer (Proves frames.now.statements at tokens.now)) }
+    {
+        let Some(heading) = self.reader.read(tokens, view.len())? else {
+            return Ok(Answer::Wrong);
+        };
+        // This call's clause says that the statements are legal.
+        let _pairs = frames.active_pairs(at);
+        self.table.clear();
+        if !add_listed(frames, at, Mandatory::Many(view), heading, &mut self.table)? {
+            return Ok(Answer::Wrong);
+        }
+        let numbers = self.reader.numbers();
+        run(
+            frames,
+            at,
+            Some(view),
+            &self.table,
+            numbers,
+            &mut self.buffers,
+        )
     }
 }
 
@@ -132,31 +197,28 @@ pub fn check(alloc: Global, frames: &Frames, at: usize, items: &Items) -> Result
     Checker::new(alloc).check(frames, at, items)
 }
 
-/// Returns whether the items with these numbers, over a table of the meanings of the labels, are a right proof of the `$p`
-/// at that position.
+/// Returns whether the items with these numbers, over the mandatory hypotheses that are viewed and a table of the meanings of
+/// the other labels, are a right proof of the `$p` at that position.
 ///
 /// Errors: an allocation fails.
+#[inline(always)]
 fn run(
     frames: &Frames,
     at: usize,
+    view: Option<&MandatoryView<'_>>,
     table: &[LabelEntry],
     numbers: &[u32],
     buffers: &mut Buffers,
 ) -> Result<Answer, AllocError>
     requires provable { (s : Statement) × IsProvable frames.now.statements at s }
-    requires entries { (labels : List Name) × AreEntries frames.now.statements at labels table.now }
-    ensures { (labels : List Name) → AreEntries frames.now.statements at labels table.now
+    requires entries { (labels : List Name) × AreEntries frames.now.statements at labels (viewed (option_map (λ v. v.now) view) ++ table.now) }
+    ensures { (labels : List Name) → AreEntries frames.now.statements at labels (viewed (option_map (λ v. v.now) view.entry) ++ table.now)
         → IfOk result (λ answer. Says answer (IsRight frames.now.statements at (items_of labels numbers.now))) }
 {
     let pairs = frames.active_pairs(at);
     let claim = Claim { frames, at, pairs };
-    buffers.results.start(&claim.pairs, table.len())?;
-    for number in numbers {
-        if !step(&claim, table, *number, buffers)? {
-            return Ok(Answer::Wrong);
-        }
-    }
-    if buffers.results.is_only(frames.expr(at)) {
+    let done = run_items(&claim, view, table, numbers, buffers)?;
+    if done == numbers.len() && buffers.results.is_only(frames.expr(at)) {
         Ok(Answer::Proved)
     } else {
         Ok(Answer::Wrong)

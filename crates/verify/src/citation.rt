@@ -1,13 +1,22 @@
 //! One item of a proof.
 
-ghost use Rattle.std.specs.Prelude.{◌≡◌, List, Some, IfOk};
-ghost use Rattle.{mm_lex.specs.Alphabet.Name, mm_read.specs.declared.stmt.Stmt.Stmt as Statement, scope.specs.Active.stmt_at, frame.specs.Cited.IsCited, proof_code.specs.ItemNumbers.item_of, verify.specs.Goes.AreKnown, verify.specs.Goes.AreNamed, verify.specs.Goes.HasCited, verify.specs.Goes.GoesOn, verify.specs.Goes.IsReady, verify.specs.Goes.MayCite, verify.specs.LabelTable.AreEntries, verify.specs.LabelTable.IsEntry};
+ghost use Rattle.std.specs.Prelude.{◌≡◌, ◌++◌, List, Some, IfOk, map, option_map};
+ghost use Rattle.frame.specs.Cited.{IsCited};
+ghost use Rattle.mm_lex.specs.Alphabet.{Name};
+ghost use Rattle.mm_read.specs.declared.stmt.Stmt.{Stmt as Statement};
+ghost use Rattle.proof_code.specs.ItemNumbers.{item_of};
+ghost use Rattle.scope.specs.Active.{stmt_at};
+ghost use Rattle.verify.specs.Goes.{AreKnown, AreNamed, GoesOn, HasCited, IsReady, MayCite};
+ghost use Rattle.verify.specs.LabelTable.{AreEntries, IsEntry, viewed};
+ghost use Rattle.verify.specs.ResultPlaces.{Stays};
+ghost use Rattle.verify.specs.declared.label_table.LabelEntry.TheVariants.{Hypothesis};
 
 use crate::label_table::LabelEntry;
 use crate::results::Results;
 use entries::Cited;
-use frame::{Frames, Gathered, Pairs};
+use frame::{Frames, Gathered, MandatoryView, Pairs};
 use std::alloc::AllocError;
+use subst::Remaining;
 
 /// The statement that a proof is to show: the `$p` at a position, and the pairs that are active there.
 #[derive(Drop)]
@@ -21,6 +30,7 @@ pub struct Claim<'a> {
 #[derive(Drop)]
 pub struct Buffers {
     pub gathered: Gathered,
+    pub remaining: Remaining,
     pub results: Results,
 }
 
@@ -32,11 +42,13 @@ fn cite_parts(
     claim: &Claim<'_>,
     position: usize,
     cited: &Cited<'_>,
+    remaining: &mut Remaining,
     results: &mut Results,
 ) -> Result<bool, AllocError>
     requires may { MayCite claim.now position results.old.about results.old.results }
     requires cited { (s : Statement) → stmt_at claim.now.frames.now.statements position ≡ Some s → IsCited claim.now.frames.now.statements claim.now.frames.now.names position s cited.now }
     ensures goes { IfOk result (HasCited claim.now.frames.now.statements claim.now.at claim.now.frames.now.names (LabelEntry.Assertion position) results.old.results results.new.results) }
+    ensures stays { IfOk result (λ ok. Stays ok results.old.results results.new.results) }
     ensures about { results.new.about ≡ claim.now.pairs }
 {
     let count = cited.hypotheses.len();
@@ -46,13 +58,15 @@ fn cite_parts(
     let Some(front) = results.read_images(cited.heads, &cited.hypotheses)? else {
         return Ok(false);
     };
-    if !results.fits(claim.frames, &cited.hypotheses, front) {
+    let fit = results.fits(claim.frames, &cited.hypotheses, front, remaining)?;
+    if !fit {
         return Ok(false);
     }
     if !results.are_disjoint(&claim.pairs, &cited.groups)? {
         return Ok(false);
     }
-    results.apply(&claim.pairs, count, cited.conclusion)
+    let conclusion = results.shortened(claim.frames, position, cited.conclusion, remaining)?;
+    results.apply(&claim.pairs, count, conclusion)
 }
 
 /// Cites an assertion whose lists are long, and so are gathered first.
@@ -61,11 +75,14 @@ fn cite_parts(
 fn cite_long(claim: &Claim<'_>, position: usize, buffers: &mut Buffers) -> Result<bool, AllocError>
     requires { MayCite claim.now position buffers.old.results.about buffers.old.results.results }
     ensures goes { IfOk result (HasCited claim.now.frames.now.statements claim.now.at claim.now.frames.now.names (LabelEntry.Assertion position) buffers.old.results.results buffers.new.results.results) }
+    ensures stays { IfOk result (λ ok. Stays ok buffers.old.results.results buffers.new.results.results) }
     ensures about { buffers.new.results.about ≡ claim.now.pairs }
 {
     claim.frames.gather(position, &mut buffers.gathered)?;
     let cited = claim.frames.gathered(position, &buffers.gathered);
-    cite_parts(claim, position, &cited, &mut buffers.results)
+    let remaining = &mut buffers.remaining;
+    let results = &mut buffers.results;
+    cite_parts(claim, position, &cited, remaining, results)
 }
 
 /// Takes the results for the hypotheses of an assertion, and adds the result that it gives.
@@ -73,12 +90,15 @@ fn cite_long(claim: &Claim<'_>, position: usize, buffers: &mut Buffers) -> Resul
 fn cite(claim: &Claim<'_>, position: usize, buffers: &mut Buffers) -> Result<bool, AllocError>
     requires { MayCite claim.now position buffers.old.results.about buffers.old.results.results }
     ensures goes { IfOk result (HasCited claim.now.frames.now.statements claim.now.at claim.now.frames.now.names (LabelEntry.Assertion position) buffers.old.results.results buffers.new.results.results) }
+    ensures stays { IfOk result (λ ok. Stays ok buffers.old.results.results buffers.new.results.results) }
     ensures about { buffers.new.results.about ≡ claim.now.pairs }
 {
     let Some(cited) = claim.frames.cited(position) else {
         return cite_long(claim, position, buffers);
     };
-    cite_parts(claim, position, &cited, &mut buffers.results)
+    let remaining = &mut buffers.remaining;
+    let results = &mut buffers.results;
+    cite_parts(claim, position, &cited, remaining, results)
 }
 
 /// Cites a label by its meaning.
@@ -93,6 +113,7 @@ fn cite_entry(
     requires entry { (label : Name) × IsEntry claim.now.frames.now.statements claim.now.at label entry }
     ensures about { buffers.new.results.about ≡ claim.now.pairs }
     ensures goes { IfOk result (HasCited claim.now.frames.now.statements claim.now.at claim.now.frames.now.names entry buffers.old.results.results buffers.new.results.results) }
+    ensures stays { IfOk result (λ ok. Stays ok buffers.old.results.results buffers.new.results.results) }
 {
     match entry {
         LabelEntry::Hypothesis(i) => buffers.results.add(&claim.pairs, claim.frames.expr(i)),
@@ -104,6 +125,7 @@ fn cite_entry(
 /// Runs one item, by its number. The result of a citation that takes no results is kept for its label.
 ///
 /// Errors: an allocation fails.
+#[inline(always)]
 pub fn step(
     claim: &Claim<'_>,
     table: &[LabelEntry],
@@ -116,6 +138,7 @@ pub fn step(
     ensures about { buffers.new.results.about ≡ claim.now.pairs }
     ensures goes { (labels : List Name) → AreEntries claim.now.frames.now.statements claim.now.at labels table.now
         → IfOk result (λ ok. GoesOn ok claim.now.frames.now.statements claim.now.at claim.now.frames.now.names table.now (item_of labels number) buffers.old.results.results buffers.new.results.results) }
+    ensures stays { IfOk result (λ ok. Stays ok buffers.old.results.results buffers.new.results.results) }
 {
     if number == 0 {
         return buffers.results.mark();
@@ -130,4 +153,61 @@ pub fn step(
         buffers.results.keep(index);
     }
     Ok(done)
+}
+
+/// Runs one item, by its number, where the first numbers may be those of mandatory hypotheses that are viewed.
+///
+/// Errors: an allocation fails.
+#[inline(always)]
+pub fn step_at(
+    claim: &Claim<'_>,
+    view: Option<&MandatoryView<'_>>,
+    table: &[LabelEntry],
+    number: u32,
+    buffers: &mut Buffers,
+) -> Result<bool, AllocError>
+    requires ready { IsReady claim.now buffers.old.results.about }
+    requires known { AreKnown claim.now.frames.now.statements claim.now.at claim.now.frames.now.names table.now buffers.old.results.results }
+    requires entries { (labels : List Name) × AreEntries claim.now.frames.now.statements claim.now.at labels (viewed (option_map (λ v. v.now) view) ++ table.now) }
+    ensures about { buffers.new.results.about ≡ claim.now.pairs }
+    ensures goes { (labels : List Name) → AreEntries claim.now.frames.now.statements claim.now.at labels (viewed (option_map (λ v. v.now) view.entry) ++ table.now)
+        → IfOk result (λ ok. GoesOn ok claim.now.frames.now.statements claim.now.at claim.now.frames.now.names table.now (item_of labels number) buffers.old.results.results buffers.new.results.results) }
+    ensures stays { IfOk result (λ ok. Stays ok buffers.old.results.results buffers.new.results.results) }
+{
+    match view {
+        Some(view) => step_many(claim, view, table, number, buffers),
+        None => step(claim, table, number, buffers),
+    }
+}
+
+/// Runs one item, by its number, where the first numbers are those of many mandatory hypotheses.
+///
+/// Errors: an allocation fails. Cost: that of `step`, and of finding the hypothesis by its index.
+#[cold]
+#[inline(never)]
+fn step_many(
+    claim: &Claim<'_>,
+    view: &MandatoryView<'_>,
+    table: &[LabelEntry],
+    number: u32,
+    buffers: &mut Buffers,
+) -> Result<bool, AllocError>
+    requires ready { IsReady claim.now buffers.old.results.about }
+    requires known { AreKnown claim.now.frames.now.statements claim.now.at claim.now.frames.now.names table.now buffers.old.results.results }
+    requires entries { (labels : List Name) × AreEntries claim.now.frames.now.statements claim.now.at labels (map Hypothesis view.now ++ table.now) }
+    ensures about { buffers.new.results.about ≡ claim.now.pairs }
+    ensures goes { (labels : List Name) → AreEntries claim.now.frames.now.statements claim.now.at labels (map Hypothesis view.now ++ table.now)
+        → IfOk result (λ ok. GoesOn ok claim.now.frames.now.statements claim.now.at claim.now.frames.now.names table.now (item_of labels number) buffers.old.results.results buffers.new.results.results) }
+    ensures stays { IfOk result (λ ok. Stays ok buffers.old.results.results buffers.new.results.results) }
+{
+    let many = view.len();
+    let number = number as usize;
+    if number == 0 {
+        return buffers.results.mark();
+    }
+    if number <= many {
+        let position = view.get(number - 1) as usize;
+        return cite_entry(claim, LabelEntry::Hypothesis(position), buffers);
+    }
+    step(claim, table, (number - many) as u32, buffers)
 }

@@ -2,15 +2,16 @@
 //!
 //! The crate above uses one contract: `Checker::prove` answers `Proved` exactly where the tokens write items by which some
 //! derivation is spelled that concludes the statement's expression and weighs no more than the limit; else it answers `Wrong`.
-//! `check` answers so for the items themselves.
+//! `check` answers so for the items themselves, and `first_failure` tells where their run fails.
 //!
-//! Reading order: `answer`, `tree`; `results` (as ranges of one buffer), `label_table`, `citation` (one item), `checker` (a
-//! whole proof); `plan` (the derivation); `laws`.
+//! Reading order: `answer`, `tree`; `results` (as ranges of one buffer), `label_table`, `citation` (one item), `failure` (all
+//! items), `checker` (a whole proof); `plan` (the derivation); `laws`.
 #![tactic(auto)]
 
 mod answer;
 mod checker;
 mod citation;
+mod failure;
 mod label_table;
 pub mod laws;
 mod plan;
@@ -19,6 +20,7 @@ mod tree;
 
 pub use answer::{Answer, TreeFault};
 pub use checker::{Checker, check};
+pub use failure::{Failure, first_failure};
 pub use plan::{MOST_DEPTH, MOST_NODES, derivation};
-pub use results::read_off;
+pub use results::{Results, read_off};
 pub use tree::Tree;

@@ -4,7 +4,17 @@
 //! measured, before it is made.
 
 ghost use Rattle.std.specs.Prelude.{◌≡◌, ℕ, ◌<◌, ◌≤◌, ◌↔◌, [], IsTrue, List, OnOk, IfOk, Some, length, map, slice_get, ◌⊎◌, MatchOption};
-ghost use Rattle.{mm_lex.specs.Alphabet.Name, mm_read.specs.declared.stmt.Stmt.Stmt as Statement, frame.specs.AtPosition.HasLabelsOnce, proof_code.specs.declared.item.Item.TheVariants.Cite, proof_code.specs.ItemNumbers.item_of, verify.specs.Growth.trees, verify.specs.Growth.with_tree, verify.specs.Growth.Grew, verify.specs.Plan.derive, verify.specs.Plan.built, verify.specs.Plan.IsAfter, verify.specs.Plan.trees_of, verify.specs.Plan.IsPlan, verify.specs.Plan.AreOrdered, verify.specs.Extents.extent_of, verify.specs.Right.most_nodes, verify.specs.Right.most_depth, verify.specs.Derivations.Derivation, verify.specs.LabelTable.IsEntry, verify.specs.LabelTable.AreEntries, verify.specs.Derivations.derivation_of, verify.specs.Right.IsProvable, verify.specs.Right.IsRight, verify.specs.Right.Derives, verify.specs.Right.IsSmall, verify.specs.Growth.Trees, verify.specs.Growth.GrowsBy, verify.specs.Plan.pick};
+ghost use Rattle.frame.specs.AtPosition.{HasLabelsOnce};
+ghost use Rattle.mm_lex.specs.Alphabet.{Name};
+ghost use Rattle.mm_read.specs.declared.stmt.Stmt.{Stmt as Statement};
+ghost use Rattle.proof_code.specs.ItemNumbers.{item_of};
+ghost use Rattle.proof_code.specs.declared.item.Item.TheVariants.{Cite};
+ghost use Rattle.verify.specs.Derivations.{Derivation, derivation_of};
+ghost use Rattle.verify.specs.Extents.{extent_of};
+ghost use Rattle.verify.specs.Growth.{Grew, GrowsBy, Trees, trees, with_tree};
+ghost use Rattle.verify.specs.LabelTable.{AreEntries, IsEntry};
+ghost use Rattle.verify.specs.Plan.{AreOrdered, IsAfter, IsPlan, built, derive, pick, trees_of};
+ghost use Rattle.verify.specs.Right.{Derives, IsProvable, IsRight, IsSmall, most_depth, most_nodes};
 
 use crate::answer::{Answer, TreeFault};
 use crate::checker::check;

@@ -1,14 +1,28 @@
 //! The results of a proof so far, as ranges of one buffer.
 
-ghost use Rattle.std.specs.Prelude.{take, ℕ, ◌≡◌, suc, ◌<◌, ◌≤◌, ◌↔◌, ◌∷◌, ◌++◌, [], length, map, get_or, replicate, nat_eq, ◌==◌, Some, is_some, if◌then◌else◌, IfOk, IfSome, MatchOption, OnOk, OnErr, IsTrue};
-ghost use Rattle.{names.specs.Codes.decode, names.specs.Codes.AreDistinct, frame.specs.Below.AllBelow, frame.specs.Below.AreBelow, frame.specs.Disjoint.are_groups_apart, frame.specs.AtPosition.AreLegal, frame.specs.Substitution.code_apply, frame.specs.Substitution.images_of_names, subst.specs.Images.AreOver, subst.specs.SymbolRanges.AreWithin, subst.specs.SymbolRanges.AreInside, std.specs.Map.lookup, verify.specs.ReadPlaces.ReadTo, verify.specs.ReadPlaces.ReadsAll, verify.specs.ReadPlaces.IsMistyped, verify.specs.ReadPlaces.BeginsWith, verify.specs.ReadPlaces.tail_of, verify.specs.Fits.AreFront, verify.specs.Fits.AreDifferent, verify.specs.Fits.AreStanding, verify.specs.Fits.Reads, verify.specs.Fits.DoFit, verify.specs.Machine.with_result, verify.specs.Machine.with_mark, verify.specs.Machine.IsSaved, verify.specs.ResultPlaces.below, verify.specs.ResultPlaces.top, verify.specs.ResultPlaces.Adds, verify.specs.ResultPlaces.Keeps, verify.specs.ResultPlaces.Marks, verify.specs.ResultPlaces.Finds, verify.specs.Right.weight_limit};
+ghost use Rattle.std.specs.Prelude.{take, ℕ, ◌≡◌, suc, ◌<◌, ◌≤◌, ◌↔◌, ◌∷◌, ◌++◌, [], length, map, get_or, slice_get, replicate, nat_eq, ◌==◌, Some, is_some, if◌then◌else◌, IfOk, IfSome, MatchOption, OnOk, OnErr, IsTrue};
+ghost use Rattle.mm_read.specs.declared.stmt.Stmt.{Stmt as Statement};
+ghost use Rattle.frame.specs.AtPosition.{AreLegal};
+ghost use Rattle.frame.specs.Below.{AllBelow, AreBelow};
+ghost use Rattle.frame.specs.Disjoint.{are_groups_apart};
+ghost use Rattle.frame.specs.Substitution.{code_apply, images_of_names};
+ghost use Rattle.names.specs.Codes.{AreDistinct, decode};
+ghost use Rattle.std.specs.Map.{lookup};
+ghost use Rattle.subst.specs.Images.{AreOver};
+ghost use Rattle.subst.specs.SymbolRanges.{AreInside, AreWithin};
+ghost use Rattle.verify.specs.Fits.{AreDifferent, AreFront, AreStanding, DoFit, IsExprAt, Reads};
+ghost use Rattle.verify.specs.Machine.{IsSaved, with_mark, with_result};
+ghost use Rattle.verify.specs.ReadPlaces.{BeginsWith, IsMistyped, ReadTo, ReadsAll, tail_of};
+ghost use Rattle.verify.specs.ResultPlaces.{Adds, Finds, Keeps, Marks, Stays, below, top};
+ghost use Rattle.verify.specs.Right.{weight_limit};
 
 use entries::{Groups, Hypotheses, Hypothesis};
-use frame::{Frames, Pairs};
+use frame::{Frames, LONG_EXPRESSION, Pairs};
 use std::alloc::{AllocError, Global};
 use std::marker::Model;
 use subst::{
-    Buffer, DisjointCache, ImageRanges, SYMBOLS_LIMIT, SymbolRange, place_between, symbols_at,
+    Buffer, DisjointCache, ImageRanges, Remaining, SYMBOLS_LIMIT, SymbolRange, place_between,
+    symbols_at,
 };
 
 /// The results of a proof so far, their symbols in one buffer, and the images that were read off the last of them.
@@ -88,6 +102,7 @@ impl Results {
         requires below { AreBelow (length pairs.now.names) expr.now }
         ensures about { self.new.about ≡ self.old.about }
         ensures adds { IfOk result (λ ok. Adds ok self.old.results self.new.results self.old.results.stack expr.now) }
+        ensures stays { IfOk result (λ ok. Stays ok self.old.results self.new.results) }
     {
         if expr.len() > SYMBOLS_LIMIT - self.weight {
             return Ok(false);
@@ -120,6 +135,7 @@ impl Results {
     pub fn mark(&mut self) -> Result<bool, AllocError>
         ensures about { self.new.about ≡ self.old.about }
         ensures marks { IfOk result (λ ok. Marks ok self.old.results self.new.results) }
+        ensures stays { IfOk result (λ ok. Stays ok self.old.results self.new.results) }
     {
         let Some(&place) = self.stack.last() else {
             return Ok(false);
@@ -137,6 +153,7 @@ impl Results {
         requires { labels ≤ length self.old.results.saved }
         ensures about { self.new.about ≡ self.old.about }
         ensures finds { IfOk result (λ done. Finds done labels self.old.results self.new.results index) }
+        ensures stays { IfOk result (λ done. IfSome done (λ ok. Stays ok self.old.results self.new.results)) }
     {
         if index >= self.saved.len() {
             return Ok(Some(false));
@@ -184,27 +201,83 @@ impl Results {
     /// Returns whether the last results are the expressions of the `$e`, before which `front` `$f` stand, with the images
     /// put in. Results for `$f` are not looked at.
     ///
-    /// Cost: the symbols that agree.
+    /// Errors: an allocation fails. Cost: the symbols that agree; for each long `$e` that of `shortened`.
     #[inline(always)]
-    pub fn fits(&self, frames: &Frames, hypotheses: &Hypotheses<'_>, front: usize) -> bool
+    pub fn fits(
+        &self,
+        frames: &Frames,
+        hypotheses: &Hypotheses<'_>,
+        front: usize,
+        remaining: &mut Remaining,
+    ) -> Result<bool, AllocError>
         requires front { AreFront hypotheses.now front }
         requires legal { AreLegal frames.now.statements frames.now.names }
         requires standing { AreStanding frames.now.statements hypotheses.now }
         requires count { length hypotheses.now ≤ length self.now.results.stack }
         requires over { AreOver frames.now.names self.now.images }
         requires named { AllBelow (length frames.now.names) self.now.results.stack }
-        ensures { IsTrue result ↔ DoFit frames.now.statements (images_of_names frames.now.names self.now.images) hypotheses.now (map (decode frames.now.names) (top (length hypotheses.now) self.now.results.stack)) }
+        ensures { IfOk result (λ ok. IsTrue ok ↔ DoFit frames.now.statements (images_of_names frames.now.names self.now.images) hypotheses.now (map (decode frames.now.names) (top (length hypotheses.now) self.now.results.stack))) }
     {
         let places = &self.stack[self.stack.len() - hypotheses.len()..];
         for k in front..hypotheses.len() {
             if let Hypothesis::Essential(position) = hypotheses.get(k) {
-                let expr = frames.expr(position as usize);
+                let whole = frames.expr(position as usize);
+                let expr = self.shortened(frames, position as usize, whole, remaining)?;
                 if !self.symbols.matches(&self.images, expr, places[k]) {
-                    return false;
+                    return Ok(false);
                 }
             }
         }
-        true
+        Ok(true)
+    }
+
+    /// Returns the symbols of the expression of the statement at a position whose images are not empty, if the expression
+    /// is long and these are few; else the expression. With the images put in, both give the same.
+    ///
+    /// Errors: an allocation fails. Cost: the distinct symbols of a long expression, and the symbols that are returned.
+    #[inline(always)]
+    pub fn shortened<'a>(
+        &self,
+        frames: &Frames,
+        position: usize,
+        expr: &'a [u32],
+        remaining: &'a mut Remaining,
+    ) -> Result<&'a [u32], AllocError>
+        requires distinct { AreDistinct frames.now.names }
+        requires below { AreBelow (length frames.now.names) expr.now }
+        requires stands { (s : Statement) × IsExprAt frames.now.statements frames.now.names position expr.now s }
+        ensures same { IfOk result (λ short. code_apply self.now.images short.now ≡ code_apply self.now.images expr.now) }
+        ensures below { IfOk result (λ short. AreBelow (length frames.now.names) short.now) }
+    {
+        if expr.len() < LONG_EXPRESSION {
+            return Ok(expr);
+        }
+        self.shorten(frames, position, expr, remaining)
+    }
+
+    /// Returns the symbols whose images are not empty, if these are few.
+    #[cold]
+    #[inline(never)]
+    fn shorten<'a>(
+        &self,
+        frames: &Frames,
+        position: usize,
+        expr: &'a [u32],
+        remaining: &'a mut Remaining,
+    ) -> Result<&'a [u32], AllocError>
+        requires distinct { AreDistinct frames.now.names }
+        requires below { AreBelow (length frames.now.names) expr.now }
+        requires stands { (s : Statement) × IsExprAt frames.now.statements frames.now.names position expr.now s }
+        ensures same { IfOk result (λ short. code_apply self.now.images short.now ≡ code_apply self.now.images expr.now) }
+        ensures below { IfOk result (λ short. AreBelow (length frames.now.names) short.now) }
+    {
+        let Some(places) = frames.places(position) else {
+            return Ok(expr);
+        };
+        match remaining.of(&self.images, expr, places)? {
+            Some(left) => Ok(left),
+            None => Ok(expr),
+        }
     }
 
     /// Returns whether the images of each two variables of each group are disjoint at the statement of the pairs.
@@ -239,6 +312,7 @@ impl Results {
         requires count { r ≤ length self.old.results.stack }
         ensures about { self.new.about ≡ self.old.about }
         ensures adds { IfOk result (λ ok. Adds ok self.old.results self.new.results (below r self.old.results.stack) (code_apply self.old.images expr.now)) }
+        ensures stays { IfOk result (λ ok. Stays ok self.old.results self.new.results) }
     {
         let keep = self.stack.len() - r;
         let start = self.symbols.len();
@@ -285,6 +359,22 @@ impl Results {
         ensures { result ≡ length self.now.results.stack }
     {
         self.stack.len()
+    }
+
+    /// Returns the result at that index, from 0: the last one is that which the next citation takes last.
+    pub fn get(&self, index: usize) -> &[u32]
+        requires { index < length self.now.results.stack }
+        ensures { slice_get self.now.results.stack index ≡ Some result.now }
+    {
+        let place = self.stack[index];
+        symbols_at(self.symbols.as_slice(), place)
+    }
+
+    /// Returns how many results are saved: one for each label, and those that were marked.
+    pub fn saved_len(&self) -> usize
+        ensures { result ≡ length self.now.results.saved }
+    {
+        self.saved.len()
     }
 
     /// Returns whether the expression is the only result.

@@ -1,7 +1,8 @@
 -- How the mandatory hypotheses are found: the `$f` of the symbols of the assertion and of the active `$e`, and these. The code's own form: no public clause cites it.
-use Rattle.std.specs.Prelude.{◌≡◌, ℕ, ◌+◌, ◌-◌, ◌<◌, ◌≤◌, ◌==◌, ◌⊎◌, Bool, true, false, List, [], ◌∷◌, length, map, slice_get, Option, Some, None}
+use Rattle.std.specs.Prelude.{◌≡◌, ℕ, ◌+◌, ◌-◌, ◌≤◌, ◌==◌, ◌⊎◌, Bool, true, false, List, [], ◌∷◌, length, map, slice_get, Option, Some, None}
 use Rattle.frame.specs.Words.{Database, is_active, is_essential, Kind, Float, Ess, Entry, Assertion}
 use Rattle.std.specs.List.{list_any}
+use Rattle.entries.specs.PositionSets.{Ascends}
 use Rattle.frame.specs.Links.{actives, is_disj}
 use Rattle.frame.specs.Stored.EntryMeanings.{floats, last_where}
 use Rattle.frame.specs.Stored.AssertionParts.{symbols_at, groups_by, head_at, asked_at}
@@ -11,15 +12,6 @@ use Rattle.frame.specs.Stored.AssertionParts.{symbols_at, groups_by, head_at, as
 abbrev pub In : ℕ → List ℕ → Type 0
 In p [] = ⊥
 In p (q ∷ qs) = (p ≡ q) ⊎ In p qs
-
--- in ascending order, each once
-abbrev pub AreAbove : ℕ → List ℕ → Type 0
-AreAbove p [] = Unit {0}
-AreAbove p (q ∷ qs) = (p < q) × AreAbove p qs
-
-abbrev pub Ascends : List ℕ → Type 0
-Ascends [] = Unit {0}
-Ascends (p ∷ ps) = AreAbove p ps × Ascends ps
 
 -- the list has just those that P holds of, in ascending order, each once
 pub record AreThose (P : ℕ → Type 0) (list : List ℕ) : Type 0 where

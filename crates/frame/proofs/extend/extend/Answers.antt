@@ -40,12 +40,12 @@ note_replaced-requires c =
 pub note_active-requires-clause-disjoints : goal.note_active-requires-clause-disjoints
 note_active-requires-clause-disjoints c =
     let g = c.in_ok-declare_next.ensures.grown in
-    walked-disj c.args.stock.now c.declare_next.new.stock.entries c.declare_next.new.stock.links c.declare_next.new.stock.disjoints c.requires.stored g.entries g.links g.disjoints
+    rw c.list.ensures (walked-disj c.args.stock.now c.declare_next.new.stock.entries c.declare_next.new.stock.links c.declare_next.new.stock.disjoints c.requires.stored g.entries g.links g.disjoints)
 
 pub note_active-requires-clause-variables : goal.note_active-requires-clause-variables
 note_active-requires-clause-variables c =
     let g = c.in_ok-declare_next.ensures.grown in
-    walked-var c.args.stock.now c.declare_next.new.stock.entries c.declare_next.new.stock.links c.declare_next.new.stock.variables c.requires.stored g.entries g.links g.variables
+    rw c.list.ensures (walked-var c.args.stock.now c.declare_next.new.stock.entries c.declare_next.new.stock.links c.declare_next.new.stock.variables c.requires.stored g.entries g.links g.variables)
 
 pub declare-requires : goal.declare-requires
 declare-requires c = c.declared-declared.ensures.below _ (below (goal.at.declare-requires c).In-Some)
@@ -115,5 +115,6 @@ returns c =
       };
       added = statements;
       numbers = added-numbers e c.in-Some.ensures.numbers extended;
+      more = (made h codes a ∷ [], entries);
       behind = tt;
     }

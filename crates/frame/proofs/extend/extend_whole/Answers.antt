@@ -1,6 +1,10 @@
-use Rattle.frame.proofs.Words.{◌∙◌, ap, sym, take, arith, IsBehind, on-err}
+use Rattle.frame.proofs.Words.{◌∙◌, ap, sym, take, arith, IsBehind, on-err, Result, Ok, Err, OnErr}
 use Rattle.frame.proofs.CutStorage.{back-stored}
 use Rattle.frame.proofs.extend.extend_whole.Goals as goal
+
+any-err : {T E P : Type 0} (r : Result T E) → P → OnErr r P
+any-err (Ok x) p = tt
+any-err (Err e) p = p
 
 pub returns-then-is_err-clause-stored : goal.returns-then-is_err-clause-stored
 returns-then-is_err-clause-stored c =
@@ -20,3 +24,10 @@ returns-then-is_err-clause-stored c =
       variables_cut = cut.variables;
       links_cut = cut.links;
     })
+
+pub returns-then-is_err-clause-same_entries : goal.returns-then-is_err-clause-same_entries
+returns-then-is_err-clause-same_entries c =
+    let old = c.args.stock.now in
+    let mid = c.extend-result.new.stock in
+    let behind = on-err c.extend-result.result (IsBehind old mid) (sym c.is_err.ensures.value ∙ c.if-is_err.true) c.extend-result.ensures.behind in
+    any-err c.extend-result.result (c.roll_back.ensures.entries ∙ behind.entries)

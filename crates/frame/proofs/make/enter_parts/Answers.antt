@@ -1,4 +1,4 @@
-use Rattle.frame.proofs.Words.{◌≡◌, map, false, asked_at, head_at, kept_with, ◌∙◌, ◌+◌, ◌-◌, ap, sym, subst, arith, refl, length, take, take_all, length-map, false≢true, ℕ, List, Option, decode, with_names, bare, expr_of, AreNoted, symbols_by, symbols_in, AreBelow, floats_in, has_parts, names_in, labels_in, statements_of, stmt_of, AreFloats, AreCollected, AreHypotheses, hypotheses, ok-weaker, IsSpread}
+use Rattle.frame.proofs.Words.{◌≡◌, map, false, asked_at, head_at, kept_with, ◌∙◌, ◌+◌, ◌-◌, ap, sym, subst, arith, refl, length, take, take_all, length-map, false≢true, ℕ, List, Option, decode, with_names, bare, expr_of, AreNoted, symbols_by, symbols_in, AreBelow, floats_in, has_parts, names_in, labels_in, statements_of, stmt_of, AreFloats, AreCollected, AreHypotheses, hypotheses, IsSpread}
 use Rattle.frame.proofs.AssertionLemmas.{hypotheses-are, floats-are, ok-both, spread-kept, drafted-of}
 use Rattle.frame.proofs.CollectLemmas.{collected-from}
 use Rattle.frame.proofs.CollectedLemmas.{collected-hypotheses, found-floats}
@@ -61,9 +61,9 @@ spread-requires-clause-hypotheses c =
     subst (AreHypotheses k.entries) (sym (all w list (collected-from k.entries S (take (c.len-at.result + 1 - 1) S) c.in-Some.codes.now c.find_floats.new.list.items list before c.in_ok-find_floats.ensures c.in_ok-add_essentials.ensures)))
     (hypotheses-are (names_in k) (labels_in k) k.entries (bare c.args.stmt.now))
 
-pub returns : goal.returns
-returns c =
-    let w = (goal.at.returns c).In-Some in
+pub returns-then-size-le-MOST_KEPT : goal.returns-then-size-le-MOST_KEPT
+returns-then-size-le-MOST_KEPT c =
+    let w = (goal.at.returns-then-size-le-MOST_KEPT c).In-Some in
     let k = c.args.stock.now in
     let S = statements_of k in
     let s = bare c.args.stmt.now in
@@ -71,7 +71,11 @@ returns c =
     let list = c.add_essentials.new.list.items in
     let before = take_all (c.len-at.result + 1 - 1) S (omega (arith, n, c.len-at.ensures.len)) in
     let found = collected-from k.entries S (take (c.len-at.result + 1 - 1) S) c.in-Some.codes.now c.find_floats.new.list.items list before c.in_ok-find_floats.ensures c.in_ok-add_essentials.ensures in
-    ok-weaker c.spread.result _ _
-    (λ p. drafted-of k s c.spread.new.draft (spread-kept k.entries S s list c.spread.new.draft (all w list found) (λ e. false≢true (sym c.if-is_essential.false ∙ (c.is_essential.ensures ∙ (sym (essential-bare c.args.stmt.now) ∙ e))))
-    (subst (λ T. IsSpread k.entries T list c.spread.new.draft) before p)))
-    c.spread.ensures
+    drafted-of k s c.spread.new.draft (spread-kept k.entries S s list c.spread.new.draft (all w list found) (λ e. false≢true (sym c.if-is_essential.false ∙ (c.is_essential.ensures ∙ (sym (essential-bare c.args.stmt.now) ∙ e))))
+    (subst (λ T. IsSpread k.entries T list c.spread.new.draft) before c.in_ok-spread.ensures))
+
+pub enter_own-requires-clause-codes : goal.enter_own-requires-clause-codes
+enter_own-requires-clause-codes c = (found (goal.at.enter_own-requires-clause-codes c).In-Some).0
+
+pub returns : goal.returns
+returns c = c.enter_own.ensures (bare c.args.stmt.now) (found (goal.at.returns c).In-Some).1

@@ -1,13 +1,17 @@
 use Rattle.std.proofs.Common.{rules}
-use Rattle.frame.proofs.Words.{is_disj, is_var}
+use Rattle.frame.proofs.Words.{◌∙◌, ap, sym, length, is_disj, is_var}
 use Rattle.frame.proofs.StackLemmas.{stacks-none}
 use Rattle.frame.proofs.frames.Frames.new.Goals as goal
 
 pub invariant_of-result : goal.invariant_of-result
 invariant_of-result c = record {
-  kept = search rules;
-  numbered = search rules;
-  ended = search rules;
-  disjoints = rw (c.new-7.ensures, c.new-6.ensures) (stacks-none is_disj);
-  variables = rw (c.new-8.ensures, c.new-6.ensures) (stacks-none is_var);
+  stored = record {
+    kept = search rules;
+    numbered = search rules;
+    ended = search rules;
+    disjoints = rw (c.new-7.ensures, c.new-6.ensures) (stacks-none is_disj);
+    variables = rw (c.new-8.ensures, c.new-6.ensures) (stacks-none is_var);
+  };
+  sets = rw c.new-6.ensures c.new-9.ensures.sets;
+  count = c.new-9.ensures.count ∙ sym (ap length c.new-6.ensures);
 }

@@ -1,0 +1,45 @@
+-- The mandatory hypotheses of an assertion, of which the active `$e` bring along a set: this, with its own `$f` that the set has not.
+use Rattle.frame.proofs.Words.{◌≡◌, ◌∙◌, ap, sym, subst, arith, refl, ⊎_map, ℕ, ◌-◌, ◌<◌, ◌≤◌, true, false, not, List, [], ◌∷◌, length, length-append, length-take, filter, take, Stmt, Entry, Links, Stock, hypotheses, is_hypothesis, is_assertion, is_float_in, expr_of, links_of, statements_of, Ascends, AreThose, IsGiven, In, set_at}
+use Rattle.std.specs.Prelude.{◌^◌}
+use Rattle.entries.specs.PositionSets.{has_position}
+use Rattle.frame.specs.declared.given_sets.GivenSets.{GivenSets}
+use Rattle.frame.specs.Stored.GivenSets.{AreFrames, kept_set}
+use Rattle.frame.specs.Stored.Merged.{AreMerged, with_each}
+use Rattle.frame.proofs.ActivePositions.{active-members, ascends-active}
+use Rattle.frame.proofs.CitedLemmas.{IsThere}
+use Rattle.frame.proofs.CollectLemmas.{those-by}
+use Rattle.frame.proofs.GatheredHypotheses.{kept-by, mandatory-own}
+use Rattle.frame.proofs.GivenSetLemmas.{given-at}
+use Rattle.frame.proofs.KindWalk.{as-many}
+use Rattle.frame.proofs.MergedLemmas.{has-in, merged-are, missing-of}
+
+-- a mandatory hypothesis stands among the statements
+within : (S : List Stmt) (s : Stmt) (p : ℕ) → In p (hypotheses S s) → p ≤ length S
+within S s p i =
+    let h = active-members S (is_hypothesis S s) p [] S 1 refl refl i in
+    let at = h.at in
+    let all = ap length h.whole ∙ length-append h.front (h.stmt ∷ h.rest) in omega arith
+
+module _ (k : Stock) (g : GivenSets) (a i : ℕ) (s : Stmt) (e : Entry) (l : Links) (held : AreFrames k g) (asserts : is_assertion s ≡ true) (t : IsThere k a i s e) (own : e.assertion.whole ≡ false)
+    (is : l ≡ links_of (take (a - 1) (statements_of k))) (some : kept_set g.kept.items l.essential ≡ 0 → ⊥) (low : 1 ≤ a) (high : a ≤ length (statements_of k)) where
+  abbrev set : List ℕ
+  set = set_at g.sets (kept_set g.kept.items l.essential)
+
+  given : AreThose (IsGiven k.entries (take (a - 1) (statements_of k))) set
+  given = given-at k g a l.essential l held.stored held.sets low (omega (arith, high)) is refl some
+
+  abbrev all : List ℕ
+  all = with_each (filter (λ p. not (has_position p set)) e.assertion.hypotheses) set
+
+  pub view-is : all ≡ hypotheses (take (a - 1) (statements_of k)) s
+  view-is =
+      let merged = merged-are set e.assertion.hypotheses given.ascends in
+      mandatory-own k a i s e held.stored asserts t own all (those-by merged (λ p. ⊎_map (λ j. j) (given.only p)) (λ p. ⊎_map (λ j. j) (given.all p)))
+
+  pub view-merged : length k.entries < 2 ^ 32 → AreMerged set (filter (λ p. not (has_position p set)) e.assertion.hypotheses)
+  view-merged few = record {
+    parts = missing-of set e.assertion.hypotheses given.ascends (subst Ascends (sym (kept-by k a i s e held.stored asserts t false own)) (ascends-active (is_float_in (expr_of s)) 1 (take (a - 1) (statements_of k))).1);
+    few = λ p known.
+        let le = within (take (a - 1) (statements_of k)) s p (subst (In p) view-is (has-in p all known)) in
+        let cut = length-take (a - 1) (statements_of k) in let many = as-many k in omega arith;
+  }

@@ -1,0 +1,12 @@
+use Rattle.frame.proofs.Words.{◌≡◌, Some}
+use Rattle.std.proofs.Common.{nat_eq}
+use Rattle.std.specs.Map.{lookup}
+use Rattle.entries.specs.SymbolPlaces.{ArePlacesOf}
+use Rattle.frame.proofs.GatheredHypotheses.{some-map}
+use Rattle.frame.proofs.LongExpressionLemmas.{found-places}
+use Rattle.frame.proofs.stored_entries.StoredEntries.places.Goals as goal
+
+pub returns : goal.returns
+returns c = λ e stands.
+    some-map c.get.result (λ r. lookup (nat_eq c.args.index) c.self.inside.long ≡ Some r.now) (λ r. ArePlacesOf e.symbols r.now)
+    (λ r found. found-places c.self.inside.list c.args.index c.self.inside.long r.now e c.self.invariant found (rw (← c.self.view_is) at stands)) c.get.ensures.some

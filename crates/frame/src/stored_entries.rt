@@ -1,0 +1,146 @@
+//! The statements as numbers, with the places of the symbols of long expressions.
+ghost use Rattle.std.specs.Prelude.{◌≡◌, ◌≤◌, ◌<◌, ◌+◌, ◌^◌, ◌++◌, ◌∷◌, [], length, take, slice_get, Some, OnOk, OnErr, IfSome};
+ghost use Rattle.entries.specs.Entries.{AreShapedParts, AreWhole, Entry, IsEntry, assertion_of, made};
+ghost use Rattle.entries.specs.SymbolPlaces.{ArePlacesOf};
+
+use entries::{
+    AssertionParts, Cited, Entries, EntryRef, Head, Kind, LongExpressions, SymbolPlaces,
+};
+use std::alloc::{AllocError, Global};
+use std::marker::Model;
+
+/// An expression with at least so many symbols is long: the places of its symbols are kept.
+pub const LONG_EXPRESSION: usize = 128;
+
+/// The statements as numbers, with the places of the symbols of long expressions. Contracts see the list of the statements.
+#[derive(Drop)]
+pub struct StoredEntries {
+    list: Entries,
+    long: LongExpressions,
+}
+
+impl Model for StoredEntries {
+    ghost use Rattle.std.specs.Prelude.{List};
+    ghost use Rattle.entries.specs.Entries.{Entry};
+    ghost use Rattle.frame.specs.Stored.LongExpressions.{AreLongIn};
+
+    ghost Value = { List Entry };
+
+    ghost view = { λ a. a.list };
+
+    ghost invariant = { λ a. AreLongIn a.list a.long };
+}
+
+impl StoredEntries {
+    /// Returns an empty list. Does not allocate.
+    pub fn new(alloc: Global) -> StoredEntries
+        ensures { result ≡ [] }
+    {
+        StoredEntries {
+            list: Entries::new(alloc),
+            long: LongExpressions::new(alloc),
+        }
+    }
+
+    /// Returns the statements.
+    #[inline(always)]
+    pub fn list(&self) -> &Entries
+        ensures { result.now ≡ self.now }
+    {
+        &self.list
+    }
+
+    /// Returns the number of statements.
+    #[inline(always)]
+    pub fn len(&self) -> usize
+        ensures len { result ≡ length self.now }
+        ensures few { result + 1 < 2 ^ 32 }
+    {
+        self.list.len()
+    }
+
+    /// Returns the statement at an index, from 0.
+    #[inline(always)]
+    pub fn entry(&self, index: usize) -> EntryRef<'_>
+        requires { index < length self.now }
+        ensures { IsEntry self.now index result }
+    {
+        self.list.entry(index)
+    }
+
+    /// Returns the positions of the hypotheses of the assertion at an index.
+    #[inline(always)]
+    pub fn hypotheses(&self, index: usize) -> &[u32]
+        requires { index < length self.now }
+        ensures { (e : Entry) → slice_get self.now index ≡ Some e → result.now ≡ e.assertion.hypotheses }
+    {
+        self.list.hypotheses(index)
+    }
+
+    /// Returns whether the parts of the assertion at an index are whole.
+    #[inline(always)]
+    pub fn is_whole(&self, index: usize) -> bool
+        requires { index < length self.now }
+        ensures { (e : Entry) → slice_get self.now index ≡ Some e → result ≡ e.assertion.whole }
+    {
+        self.list.is_whole(index)
+    }
+
+    /// Returns the parts of the assertion at an index, if they are whole.
+    #[inline(always)]
+    pub fn cited(&self, index: usize) -> Option<Cited<'_>>
+        requires { index < length self.now }
+        ensures { (e : Entry) → slice_get self.now index ≡ Some e → IfSome result (AreWhole e) }
+    {
+        self.list.cited(index)
+    }
+
+    /// Returns where each symbol of the expression at an index stands, if the expression is long.
+    ///
+    /// Cost: log n for n long expressions.
+    pub fn places(&self, index: usize) -> Option<&SymbolPlaces>
+        ensures { (e : Entry) → slice_get self.now index ≡ Some e → IfSome result (λ places. ArePlacesOf e.symbols places.now) }
+    {
+        self.long.get(index)
+    }
+
+    /// Appends a statement, and notes where its symbols stand if it has a long expression.
+    ///
+    /// Errors: an allocation fails; the list is as before.
+    /// Cost: its size; n log n for n symbols of a long expression.
+    pub fn push(&mut self, head: Head, parts: &AssertionParts<'_>) -> Result<(), AllocError>
+        requires { AreShapedParts parts.now }
+        ensures added { OnOk result (self.new ≡ self.old ++ made head parts.now.symbols.now (assertion_of parts.now) ∷ []) }
+        ensures same { OnErr result (self.new ≡ self.old) }
+    {
+        let index = self.list.len();
+        self.list.push(head, parts)?;
+        if !is_long(head.kind, parts.symbols) {
+            return Ok(());
+        }
+        match self.long.push(index, parts.symbols) {
+            Ok(()) => Ok(()),
+            Err(error) => {
+                self.list.truncate(index);
+                Err(error)
+            }
+        }
+    }
+
+    /// Truncates to the first `len` statements. Does not allocate.
+    pub fn truncate(&mut self, len: usize)
+        ensures { self.new ≡ take len self.old }
+    {
+        self.list.truncate(len);
+        self.long.truncate(len);
+    }
+}
+
+/// Returns whether a statement has an expression in which images may be put, and a long one.
+#[inline(always)]
+fn is_long(kind: Kind, symbols: &[u32]) -> bool {
+    match kind {
+        Kind::Ess | Kind::Axiom | Kind::Prove => symbols.len() >= LONG_EXPRESSION,
+        _ => false,
+    }
+}

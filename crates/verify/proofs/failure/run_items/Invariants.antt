@@ -1,0 +1,14 @@
+use Rattle.verify.proofs.Words.{◌≡◌, List, length, map, take, Name, AreLegal, item_of, behind, AreKnown, AreEntries}
+use Rattle.std.specs.Prelude.{option_map, ◌++◌}
+use Rattle.verify.specs.LabelTable.{viewed}
+use Rattle.verify.proofs.StepLemmas.{Reached}
+use Rattle.verify.proofs.failure.run_items.Given as goal
+
+-- behind the items so far
+abbrev pub invariant-loop-done : goal.invariant-loop-done
+invariant-loop-done l =
+    (legal : AreLegal l.claim.frames.now.statements l.claim.frames.now.names)
+    × AreKnown l.claim.frames.now.statements l.claim.at l.claim.frames.now.names l.table l.buffers.results.results
+    × ((labels : List Name) → AreEntries l.claim.frames.now.statements l.claim.at labels (viewed (option_map (λ v. v.now) l.view) ++ l.table)
+    → Reached l.claim.frames.now.statements l.claim.frames.now.names l.claim.at legal (map (item_of labels) (take l.done l.numbers)) (behind (length l.table) l.buffers.results.results))
+    × (l.buffers.results.about ≡ l.claim.pairs)

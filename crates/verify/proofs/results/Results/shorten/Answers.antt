@@ -1,0 +1,34 @@
+use Rattle.verify.proofs.Words.{◌≡◌, ℕ, Bool, List, [], ◌∷◌, length, filter, sym, ◌∙◌, subst, Name, Expr, decode, decode-injective, expr_of, stands-within, AreBelow, AreDistinct}
+use Rattle.entries.specs.SymbolPlaces.{ArePlacesOf}
+use Rattle.frame.specs.ExprPlaces.{AreExprPlaces}
+use Rattle.subst.specs.Vanishing.{is_left}
+use Rattle.std.proofs.Common.{inl, inr}
+use Rattle.std.proofs.lemmas.Bool.{cases_Bool}
+use Rattle.verify.proofs.results.Results.shorten.Goals as goal
+
+-- the numbers of the expression are those whose places are kept
+places-of : (names : List Name) (e : List ℕ) (x : Expr) (groups : List (List ℕ)) → AreDistinct names → AreBelow (length names) e → decode names e ≡ x → AreExprPlaces names x groups → ArePlacesOf e groups
+places-of names e x groups distinct below same p =
+    subst (λ c. ArePlacesOf c groups) (decode-injective names p.codes e distinct p.below below (p.named ∙ sym same)) p.places
+
+-- some of the numbers
+some-below : (n : ℕ) (keep : ℕ → Bool) (e : List ℕ) → AreBelow n e → AreBelow n (filter keep e)
+some-below n keep [] b = tt
+some-below n keep (x ∷ e) b = elim (cases_Bool (keep x)) [ inl h ↦ rw h (b.0, some-below n keep e b.1) | inr h ↦ rw h (some-below n keep e b.1) ]
+
+pub places-requires : goal.places-requires
+places-requires c = stands-within c.args.frames.now.statements c.args.position c.requires.stands.0 c.requires.stands.1.stands
+
+pub of-requires : goal.of-requires
+of-requires c =
+    let s = c.requires.stands.0 in
+    let is = c.requires.stands.1 in
+    places-of c.args.frames.now.names c.args.expr.now (expr_of s) _ c.requires.distinct c.requires.below is.same (rw c.in-Some.is at (c.places.ensures s is.stands))
+
+pub returns-in-Some-2-clause-same : goal.returns-in-Some-2-clause-same
+returns-in-Some-2-clause-same c = rw (← c.self.view_is) ((rw c.in-Some-2.is at c.in_ok-left.ensures.same) c.self.inside.symbols)
+
+pub returns-in-Some-2-clause-below : goal.returns-in-Some-2-clause-below
+returns-in-Some-2-clause-below c =
+    let left = rw c.in-Some-2.is at c.in_ok-left.ensures.left in
+    subst (AreBelow (length c.args.frames.now.names)) (sym left) (some-below (length c.args.frames.now.names) (is_left c.self.inside.images) c.args.expr.now c.requires.below)

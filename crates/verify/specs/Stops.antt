@@ -1,0 +1,33 @@
+-- Where a run over the items of a proof stops.
+-- Metamath, 4.2.6 and appendix B: one item after another, from no results; the limit on the weight is this project's.
+-- The code runs over the items once, up to the first that cannot be done.
+use Rattle.std.specs.Prelude.{◌≡◌, ℕ, ◌<◌, ◌≤◌, List, [], ◌∷◌, length, map, take, slice_get, Some}
+use Rattle.verify.specs.Words.{Name, Stmt, Database, stmt_at, expr_of, Item}
+use Rattle.names.specs.Codes.{decode}
+use Rattle.verify.specs.Goes.{named, AreNamed, behind}
+use Rattle.verify.specs.Machine.{Results, State, start, Runs, Steps}
+use Rattle.verify.specs.Right.{weight_limit}
+use Rattle.verify.specs.declared.failure.Failure.{Failure}
+use Rattle.verify.specs.declared.failure.Failure.TheVariants as failure
+
+-- so many items run to these results, and the item behind them, where there is one, gives nothing or passes the limit
+pub record StopsAt (S : Database) (at : ℕ) (names : List Name) (items : List Item) (done : ℕ) (st : Results ℕ) : Type 0 where
+  pub within : done ≤ length items
+  pub runs : Runs S at start (take done items) (named names st)
+  pub are_named : AreNamed names st
+  pub stuck : (item : Item) → slice_get items done ≡ Some item → (next : State) → Steps S at (named names st) item next → weight_limit < next.weight
+
+-- the results are not the expression alone
+abbrev pub IsOther : List Name → Results ℕ → Stmt → Type 0
+IsOther names st s = map (decode names) st.stack ≡ expr_of s ∷ [] → ⊥
+
+-- the first item that cannot be done, or the end, where the results are others than the statement's expression; in both
+-- cases the results are those before it, within the limit, behind those that are kept for labels
+pub record IsStopped (S : Database) (at : ℕ) (names : List Name) (items : List Item) (done labels : ℕ) (st : Results ℕ) : Type 0 where
+  pub stops : StopsAt S at names items done (behind labels st)
+  pub light : st.weight ≤ weight_limit
+
+abbrev pub IsFirstFailure : Database → ℕ → List Name → List Item → Failure → Type 0
+IsFirstFailure S at names items (failure.Item item labels results) = (item < length items) × IsStopped S at names items item labels results.results
+IsFirstFailure S at names items (failure.End results) =
+    (labels : ℕ) × IsStopped S at names items (length items) labels results.results × ((s : Stmt) → stmt_at S at ≡ Some s → IsOther names results.results s)

@@ -1,0 +1,100 @@
+//! The run over the items of a proof, up to the first that cannot be done.
+
+ghost use Rattle.std.specs.Prelude.{◌≡◌, ◌++◌, List, length, IfOk, IfSome, MatchOption, option_map};
+ghost use Rattle.mm_lex.specs.Alphabet.{Name};
+ghost use Rattle.mm_read.specs.declared.stmt.Stmt.{Stmt as Statement};
+ghost use Rattle.proof_code.specs.ItemNumbers.{items_of};
+ghost use Rattle.verify.specs.Goes.{IsReady, behind};
+ghost use Rattle.verify.specs.LabelTable.{AreEntries, viewed};
+ghost use Rattle.verify.specs.Right.{IsProvable, IsRight};
+ghost use Rattle.verify.specs.Stops.{IsFirstFailure, StopsAt};
+
+use crate::citation::{Buffers, Claim, step_at};
+use crate::label_table::{LabelEntry, fill_table};
+use crate::results::Results;
+use frame::{Frames, Gathered, MandatoryView};
+use proof_code::Items;
+use std::alloc::{AllocError, Global};
+use subst::Remaining;
+
+/// Where the run over the items of a proof fails, and the results before it.
+#[derive(Drop)]
+pub enum Failure {
+    /// The item at this index, from 0, cannot be done, or it would make the proof too heavy. The results begin with one
+    /// that is kept for each of so many labels, before those that were marked.
+    Item {
+        item: usize,
+        labels: usize,
+        results: Results,
+    },
+    /// All items were done, and the results are not the statement's expression alone.
+    End {
+        results: Results,
+    },
+}
+
+/// Runs the items with these numbers, over the mandatory hypotheses that are viewed and a table of the meanings of the other
+/// labels, up to the first that cannot be done, and returns how many were done.
+///
+/// Errors: an allocation fails, or the results would pass the limit of `Results::limit`.
+#[inline(always)]
+pub(crate) fn run_items(
+    claim: &Claim<'_>,
+    view: Option<&MandatoryView<'_>>,
+    table: &[LabelEntry],
+    numbers: &[u32],
+    buffers: &mut Buffers,
+) -> Result<usize, AllocError>
+    requires ready { IsReady claim.now claim.now.pairs }
+    requires entries { (labels : List Name) × AreEntries claim.now.frames.now.statements claim.now.at labels (viewed (option_map (λ v. v.now) view) ++ table.now) }
+    ensures { (labels : List Name) → AreEntries claim.now.frames.now.statements claim.now.at labels (viewed (option_map (λ v. v.now) view.entry) ++ table.now)
+        → IfOk result (λ done. StopsAt claim.now.frames.now.statements claim.now.at claim.now.frames.now.names (items_of labels numbers.now) done (behind (length table.now) buffers.new.results.results)) }
+{
+    buffers.results.start(&claim.pairs, table.len())?;
+    for (done, number) in numbers.iter().enumerate() {
+        if !step_at(claim, view, table, *number, buffers)? {
+            return Ok(done);
+        }
+    }
+    Ok(numbers.len())
+}
+
+/// Returns where the run over the items fails as a proof of the `$p` at that position, or `None` if they are a right proof.
+///
+/// Errors: an allocation fails. Cost: that of `check`. Source: Metamath, 4.2.6 and appendix B.
+pub fn first_failure(
+    alloc: Global,
+    frames: &Frames,
+    at: usize,
+    items: &Items,
+) -> Result<Option<Failure>, AllocError>
+    requires { (s : Statement) × IsProvable frames.now.statements at s }
+    ensures right { IfOk result (λ found. MatchOption found (IsRight frames.now.statements at items.now) (λ _. ¬ IsRight frames.now.statements at items.now)) }
+    ensures first { IfOk result (λ found. IfSome found (IsFirstFailure frames.now.statements at frames.now.names items.now)) }
+{
+    let parts = items.parts();
+    let mut table = Vec::new(alloc);
+    fill_table(frames, at, parts.labels, &mut table)?;
+    let mut buffers = Buffers {
+        gathered: Gathered::new(alloc),
+        remaining: Remaining::new(alloc),
+        results: Results::new(alloc),
+    };
+    let pairs = frames.active_pairs(at);
+    let claim = Claim { frames, at, pairs };
+    let done = run_items(&claim, None, &table, parts.numbers, &mut buffers)?;
+    let results = buffers.results;
+    let is_only = results.is_only(frames.expr(at));
+    if done < parts.numbers.len() {
+        return Ok(Some(Failure::Item {
+            item: done,
+            labels: table.len(),
+            results,
+        }));
+    }
+    if is_only {
+        Ok(None)
+    } else {
+        Ok(Some(Failure::End { results }))
+    }
+}
