@@ -43,4 +43,5 @@ pub mod OneFrameLemmas
 pub mod LabelLemmas
 pub mod PositionLemmas
 pub mod LongExpressionLemmas
+pub mod PairSearchLemmas
 mod Rows

@@ -1,6 +1,6 @@
 -- The places of the symbols of long expressions, while statements come and go.
-use Rattle.frame.proofs.Words.{◌≡◌, ℕ, ◌<◌, List, [], ◌∷◌, ◌++◌, length, take, slice_get, Some, sym, ◌∙◌, ap, subst, arith, Entry}
-use Rattle.std.proofs.Common.{Bool, true, false, inl, inr, nat_eq, nat_lt, cond, refl}
+use Rattle.frame.proofs.Words.{◌≡◌, ℕ, ◌<◌, List, [], ◌∷◌, ◌++◌, length, take, slice_get, Some, sym, ◌∙◌, ap, subst, Entry}
+use Rattle.std.proofs.Common.{inl, inr, nat_eq, nat_lt, cond, refl}
 use Rattle.std.specs.List.{All, filter}
 use Rattle.std.specs.Map.{lookup}
 use Rattle.std.proofs.lemmas.Bool.{cases_Bool, eqb-true, ltb-true}

@@ -74,7 +74,7 @@ module _ (k : Stock) (stored : AreStored k) (d : AreDistinct (names_in k)) (m : 
   T = take m (statements_of k)
 
   -- a statement that is active has a symbol by its number where its list has the name
-  code-name : (kind : Stmt → Bool) (lists : Stmt → List Name) → AreLists kind lists → (x : ℕ) → x < length N → (p : ℕ × Stmt) → slice_get T (p.0 - 1) ≡ Some p.1 → kind p.1 ≡ true
+  pub code-name : (kind : Stmt → Bool) (lists : Stmt → List Name) → AreLists kind lists → (x : ℕ) → x < length N → (p : ℕ × Stmt) → slice_get T (p.0 - 1) ≡ Some p.1 → kind p.1 ≡ true
       → has_code k.entries x p.0 ≡ has_name (name_at N x) (lists p.1)
   code-name kind lists are x lt p stands of_kind =
       let g = take-get m (p.0 - 1) (statements_of k) p.1 stands in

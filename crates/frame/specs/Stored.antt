@@ -11,5 +11,6 @@ pub mod Ends
 pub mod Stacks
 pub mod LongExpressions
 pub mod Whole
+pub mod PairSearch
 pub mod GivenSets
 pub mod Merged

@@ -3,7 +3,7 @@
 //! `Frames` keeps the statements of a database by position, and reads off them what a verifier needs: what a citation means at a
 //! statement, the parts of an assertion, and the disjoint variables. `frame` gathers the `Frame` of one assertion from
 //! what is active. Reading order: `storage`, `shape`, `gathered`; `symbol_numbers`, `at_position`, `stacks`, `declare`, `mandatory`,
-//! `make`, `extend` (appending and truncating); `meaning`, `frames`, `row`, `pairs`, `active_apart` (queries); `assertion`,
+//! `make`, `extend` (appending and truncating); `meaning`, `frames`, `row`, `pair_memo`, `pairs`, `active_apart` (queries); `assertion`,
 //! `one_frame`; `laws`.
 #![tactic(auto)]
 
@@ -21,6 +21,7 @@ mod mandatory;
 mod mandatory_view;
 mod meaning;
 mod one_frame;
+mod pair_memo;
 mod pairs;
 mod row;
 mod shape;
@@ -36,6 +37,7 @@ pub use laws::groups_are_pairs;
 pub use mandatory_view::MandatoryView;
 pub use meaning::Meaning;
 pub use one_frame::frame;
+pub use pair_memo::PairMemo;
 pub use pairs::Pairs;
 pub use row::Row;
 pub use shape::is_assertion;

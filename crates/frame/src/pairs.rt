@@ -3,6 +3,7 @@ ghost use Rattle.std.specs.Prelude.{◌≡◌, ◌==◌, ◌&&◌, ◌||◌, ◌
 ghost use Rattle.{std.specs.List.list_any, mm_lex.specs.Alphabet.Name, names.specs.Codes.name_at, names.specs.Codes.code_of, scope.specs.Active.is_variable, frame.specs.Below.AllBelow, frame.specs.Below.AreBelow, frame.specs.FrameOf.is_pair, frame.specs.Links.is_disj, frame.specs.Stored.EntryMeanings.statements_of, frame.specs.Stored.Stacks.AreOfKind, frame.specs.Stored.Stacks.IsOfKind, frame.specs.Stored.Stacks.has_code, frame.specs.Stored.Whole.AreStored};
 
 use crate::at_position::links_at;
+use crate::pair_memo::{PairMemo, search};
 use crate::row::Row;
 use crate::storage::Stock;
 use crate::symbol_numbers::symbol_number;
@@ -46,6 +47,27 @@ impl<'a> Pairs<'a> {
             any_has(self.stock, with_x, y)
         } else {
             any_has(self.stock, with_y, x)
+        }
+    }
+
+    /// Returns whether x and y are different and stand together in an active `$d`, with a memo of the pairs that long
+    /// searches found. If an allocation fails, the pair is not recorded.
+    ///
+    /// Cost: that of `has`; if the memo has the pair, and the `$d` in which it was found is active, a constant, and log n
+    /// for n pairs in the memo.
+    pub fn has_by_memo(&self, memo: &mut PairMemo, x: u32, y: u32) -> bool
+        requires { (x < length self.now.names) × (y < length self.now.names) }
+        ensures { result ≡ is_pair self.now.statements (name_at self.now.names x) (name_at self.now.names y) }
+    {
+        if x == y {
+            return false;
+        }
+        let with_x = self.stock.disjoints.stack(x, self.at);
+        let with_y = self.stock.disjoints.stack(y, self.at);
+        if with_x.len() <= with_y.len() {
+            search(self.stock, self.at, memo, with_x, x, y)
+        } else {
+            search(self.stock, self.at, memo, with_y, y, x)
         }
     }
 
@@ -126,7 +148,7 @@ fn any_has(stock: &Stock, mut stack: PositionStack<'_>, code: u32) -> bool
 }
 
 /// Returns whether the `$d` at a position has the symbol.
-fn has_symbol(stock: &Stock, at: u32, code: u32) -> bool
+pub(crate) fn has_symbol(stock: &Stock, at: u32, code: u32) -> bool
     requires stored { AreStored stock.now }
     requires disjoint { IsOfKind is_disj (statements_of stock.now) at }
     ensures { result ≡ has_code stock.now.entries code at }

@@ -1,7 +1,7 @@
 -- Variables that were found to be disjoint.
 use Rattle.subst.proofs.Words.{◌≡◌, ℕ, ◌+◌, ◌*◌, ◌^◌, ◌<◌, ◌≤◌, ◌⊎◌, true, List, [], ◌∷◌, ◌++◌, length, get_or, slice_set, bit_at, bit_and, bit_not, bit_or, w64, sym, ◌∙◌, ap, subst, arith, inl, inr, cases_eq, cases_lt, get_or_append_left, get_or_push, get_or-set_same, get_or-set_other, length-set, length_push, Numbered}
 use Rattle.subst.proofs.Words.{PlaceWord, HasBit, HasPlace, no_word, RowWord, no_row, IsRowAt, HasFact, IsFact, AreFacts, NotesWord, TellsWord, TellsAll, TellsEach, Places, is_kept, Grows, IsAmong}
-use Rattle.subst.proofs.BitsLemmas.{zero-none, or-either, and-left, and-rest, IsTaken}
+use Rattle.subst.proofs.BitsLemmas.{or-either, and-left, and-rest}
 use Rattle.subst.proofs.VariablePlaceLemmas.{kept-grown, place-grown, among-more}
 
 pub facts-none : (v : Numbered) (f : Places) → AreFacts v f []
@@ -114,11 +114,7 @@ are_told-more v f places ws n first next = record {
 pub are_told-all : (v : Numbered) (f : Places) (places : List ℕ) (ws : List PlaceWord) (n : ℕ) → length places ≤ n → AreTold v f places ws n → TellsEach v f places ws true
 are_told-all v f places ws n long told = λ p q h b. told.each p q (h.0, (let low = h.1 in omega (arith, low, long)), h.2) b
 
--- the places of a word that were asked for one after another
-pub asked-facts : (v : Numbered) (f : Places) (old new : List RowWord) (p rest : ℕ) (w : PlaceWord) → AreFacts v f old → NotesWord old new p w → p < length f.variables → ((b : ℕ) → bit_at w.bits b ≡ 1 → 64 * w.index + b < length f.variables)
-    → IsTaken (λ b. is_kept v f p (64 * w.index + b) ≡ true) w.bits rest → rest ≡ 0 → AreFacts v f new
-asked-facts v f old new p rest w facts notes row below taken none = facts-noted v f old new p w facts notes (λ q h. (let place = h.place in let low = below h.bit h.set in record {
-  row = row;
-  place = omega (arith, place, low);
-  kept = elim (taken.done h.bit h.set) [ inl left ↦ absurd (zero-none h.bit (rw none at left)) | inr one ↦ rw place one ];
-}))
+-- the places of a word that were asked for
+pub told-facts : (v : Numbered) (f : Places) (old new : List RowWord) (p : ℕ) (w : PlaceWord) → AreFacts v f old → NotesWord old new p w → p < length f.variables → ((b : ℕ) → bit_at w.bits b ≡ 1 → 64 * w.index + b < length f.variables)
+    → TellsWord v f p w true → AreFacts v f new
+told-facts v f old new p w facts notes row below told = facts-noted v f old new p w facts notes (λ q h. (let place = h.place in let low = below h.bit h.set in record { row = row; place = omega (arith, place, low); kept = told q h }))

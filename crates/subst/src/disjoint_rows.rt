@@ -10,7 +10,7 @@ use crate::hints::Hints;
 use crate::place_set::PlaceSet;
 use crate::place_words::{PlaceWord, lowest, without};
 use crate::variable_places::VariablePlaces;
-use frame::Pairs;
+use frame::{PairMemo, Pairs};
 use std::alloc::{AllocError, Global};
 use std::marker::Model;
 
@@ -32,6 +32,8 @@ pub struct RowWord {
 pub struct DisjointRows {
     hints: Hints,
     words: Vec<RowWord>,
+    /// The pairs that long searches found, whatever the proof.
+    memo: PairMemo,
 }
 
 impl Model for DisjointRows {
@@ -51,6 +53,7 @@ impl DisjointRows {
         DisjointRows {
             hints: Hints::new(alloc),
             words: Vec::new(alloc),
+            memo: PairMemo::new(alloc),
         }
     }
 
@@ -120,15 +123,8 @@ impl DisjointRows {
         ensures facts { AreFacts pairs.now variables.now self.new }
         ensures tells { IfOk result (TellsWord pairs.now variables.now place word) }
     {
-        let x = variables.number(place as usize);
-        let mut rest = word.bits;
-        while rest != 0 {
-            let bit = lowest(rest);
-            let y = variables.number(64 * word.index as usize + bit);
-            if !pairs.has(x, y) {
-                return Ok(false);
-            }
-            rest = without(rest, bit);
+        if !are_pairs(pairs, variables, &mut self.memo, place, word) {
+            return Ok(false);
         }
         self.note(place, word)?;
         Ok(true)
@@ -137,7 +133,8 @@ impl DisjointRows {
     /// Whether the variable at a place is disjoint from each of those at the places of a set.
     ///
     /// Errors: an allocation fails.
-    /// Cost: a step for each word of the set; that of `Pairs::has` for each two variables that were not asked for before.
+    /// Cost: a step for each word of the set; that of `Pairs::has_by_memo` for each two variables that the proof did not ask
+    /// for before.
     #[inline(always)]
     fn is_disjoint(
         &mut self,
@@ -185,6 +182,34 @@ impl DisjointRows {
         }
         Ok(true)
     }
+}
+
+/// Returns whether the variable at a place stands together with each of those at the places of a word in an active `$d`.
+///
+/// Cost: that of `Pairs::has_by_memo` for each of them.
+fn are_pairs(
+    pairs: &Pairs<'_>,
+    variables: &VariablePlaces,
+    memo: &mut PairMemo,
+    place: u32,
+    word: PlaceWord,
+) -> bool
+    requires placed { ArePlaced pairs.now variables.now }
+    requires there { place < length variables.now.variables }
+    requires others { (b : ℕ) → bit_at word.bits b ≡ 1 → 64 * word.index + b < length variables.now.variables }
+    ensures { TellsWord pairs.now variables.now place word result }
+{
+    let x = variables.number(place as usize);
+    let mut rest = word.bits;
+    while rest != 0 {
+        let bit = lowest(rest);
+        let y = variables.number(64 * word.index as usize + bit);
+        if !pairs.has_by_memo(memo, x, y) {
+            return false;
+        }
+        rest = without(rest, bit);
+    }
+    true
 }
 
 /// The number of the hint for a place and a word of others, where these are few.

@@ -1,6 +1,6 @@
 use Rattle.subst.proofs.Words.{◌≡◌, ◌+◌, ◌*◌, true, is_kept}
 use Rattle.subst.proofs.BitsLemmas.{IsTaken}
-use Rattle.subst.proofs.disjoint_rows.DisjointRows.ask.Given as goal
+use Rattle.subst.proofs.disjoint_rows.are_pairs.Given as goal
 
 -- the variables that were taken are disjoint from that at the place
 abbrev pub invariant-loop-rest : goal.invariant-loop-rest

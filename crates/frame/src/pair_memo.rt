@@ -1,0 +1,127 @@
+//! The `$d` in which pairs of variables were found by long searches.
+ghost use Rattle.std.specs.Prelude.{◌≡◌, true};
+ghost use Rattle.frame.specs.Stored.PairSearch.{AreSought, IsLeft, are_pair};
+
+use crate::at_position::is_active_at;
+use crate::pairs::has_symbol;
+use crate::storage::Stock;
+use entries::{Kind, PositionStack};
+use std::alloc::Global;
+use std::collections::BTreeMap;
+
+/// The most pairs in a memo.
+const MOST_PAIRS: usize = 65_536;
+
+/// A search that goes through more `$d` than this is long.
+const SHORT: usize = 16;
+
+/// The positions of the `$d` in which pairs of variables were found by long searches.
+///
+/// A position only says where to look first, so one memo serves at all positions and for all databases.
+#[derive(Drop)]
+pub struct PairMemo {
+    found: BTreeMap<u64, u32>,
+}
+
+impl PairMemo {
+    /// Returns an empty memo. Does not allocate.
+    pub fn new(alloc: Global) -> PairMemo {
+        PairMemo {
+            found: BTreeMap::new(alloc),
+        }
+    }
+
+    /// Returns the position that is recorded for two variables, or 0.
+    fn position(&self, x: u32, y: u32) -> u32 {
+        match self.found.get(&key(x, y)) {
+            Some(position) => *position,
+            None => 0,
+        }
+    }
+
+    /// Records the position of a `$d` that has both variables, unless an allocation fails. A full memo begins anew.
+    fn record(&mut self, x: u32, y: u32, position: u32) {
+        if self.found.len() >= MOST_PAIRS {
+            self.found.clear();
+        }
+        let _recorded = self.found.insert(key(x, y), position);
+    }
+}
+
+/// Returns one number for two variables, whatever their order.
+fn key(x: u32, y: u32) -> u64 {
+    (x.min(y) as u64) << 32 | x.max(y) as u64
+}
+
+/// Returns whether two variables are disjoint, of which the first is in each of the `$d` that are left.
+///
+/// Cost: their number, times a binary search; if they are many and the pair is in the memo, log n for n pairs there.
+pub fn search(
+    stock: &Stock,
+    at: usize,
+    memo: &mut PairMemo,
+    mut left: PositionStack<'_>,
+    x: u32,
+    y: u32,
+) -> bool
+    requires { IsLeft stock.now at x y left }
+    ensures { result ≡ are_pair stock.now at x y }
+{
+    for _ in 0..SHORT {
+        let Some(position) = left.pop() else {
+            return false;
+        };
+        if has_symbol(stock, position, y) {
+            return true;
+        }
+    }
+    search_on(stock, at, memo, left, x, y)
+}
+
+/// Goes on with a search that is long.
+#[cold]
+#[inline(never)]
+fn search_on(
+    stock: &Stock,
+    at: usize,
+    memo: &mut PairMemo,
+    mut left: PositionStack<'_>,
+    x: u32,
+    y: u32,
+) -> bool
+    requires { IsLeft stock.now at x y left }
+    ensures { result ≡ are_pair stock.now at x y }
+{
+    let known = memo.position(x, y);
+    if has_both(stock, at, known, x, y) {
+        return true;
+    }
+    while let Some(position) = left.pop() {
+        if has_symbol(stock, position, y) {
+            memo.record(x, y, position);
+            return true;
+        }
+    }
+    false
+}
+
+/// Returns whether a `$d` that is active at `at` stands at a position and has both variables.
+///
+/// Cost: two look-ups, and a binary search for each variable.
+fn has_both(stock: &Stock, at: usize, position: u32, x: u32, y: u32) -> bool
+    requires { AreSought stock.now at x y }
+    ensures { result ≡ true → are_pair stock.now at x y ≡ true }
+{
+    let i = position as usize;
+    if i == 0 || i >= at {
+        return false;
+    }
+    match stock.entries.entry(i - 1).kind {
+        Kind::Disj => {
+            is_active_at(stock, i, at)
+                && has_symbol(stock, position, x)
+                && has_symbol(stock, position, y)
+        }
+        _ => false,
+    }
+}
