@@ -14,6 +14,7 @@ mod BitsLemmas
 pub mod VariablePlaceLemmas
 mod PlaceSetLemmas
 pub mod DisjointRowLemmas
+mod ActivePairLemmas
 pub mod ImageVariableLemmas
 mod DisjointTableLemmas
 mod GoodLemmas

@@ -25,11 +25,11 @@ pub use Rattle.std.specs.Map.{lookup}
 pub use Rattle.std.specs.Prelude.{Err, IfNone, IfSome, MatchOption, None, Ok, OnOk, Option, Result, Some, [], bytes_eq, codes, cond, if◌then◌else◌, is_err, is_ok, map, min, nat_eq, nat_lt, not, replicate, slice_get, slice_range, slice_set, suc, zero, ◌%◌, ◌&&◌, ◌*◌, ◌/◌, ◌||◌, ◌∷◌, ◌≤◌, ◌⊎◌}
 pub use Rattle.subst.specs.Apart.{are_numbers_apart, are_two_apart, image_named, is_number_apart}
 pub use Rattle.subst.specs.SymbolRanges.{AreInside, AreWithin, images_at, seen_at}
-pub use Rattle.subst.specs.Stored.DisjointRows.{AreFacts, HasFact, IsFact, IsRowAt, NotesWord, TellsAll, TellsEach, TellsWord, no_row}
+pub use Rattle.subst.specs.Stored.DisjointRows.{AreFacts, ArePairs, HasFact, IsFact, IsRowAt, NotesWord, TellsAll, TellsEach, TellsWord, no_row}
 pub use Rattle.subst.specs.Stored.DisjointTables.{AreTables}
 pub use Rattle.subst.specs.Stored.ImageVariables.{AddsImage, AddsPlace, AddsRange, AddsSymbols, AreNoted, AreRead, IsBegun, IsIn, IsLong, IsRangeOf, KeepsImage, KeepsMost, KeepsRest, Noted, NotesImage}
 pub use Rattle.subst.specs.Stored.PlaceSets.{AddsFirst, AddsPlaces, ArePlacesBelow, HasBit, HasPlace, no_word}
-pub use Rattle.subst.specs.Stored.VariablePlaces.{ArePlaced, ArePlacesOf, Grows, HasVariable, IsAmong, IsAt, IsListed, IsPlace, IsVariable, Places, is_kept, variable_name}
+pub use Rattle.subst.specs.Stored.VariablePlaces.{AreBitsOf, ArePlaced, ArePlacesOf, Grows, HasVariable, IsAmong, IsAt, IsListed, IsPlace, IsVariable, Places, is_kept, variable_name}
 pub use Rattle.subst.specs.Images.{is_image_apart}
 pub use Rattle.subst.specs.Laws.{KeepApart, PairClause, SubstitutionOverNames}
 pub use Rattle.subst.specs.Stored.Slots.{AreUpTo, placed}

@@ -2,9 +2,9 @@
 ghost use Rattle.std.specs.Prelude.{◌≡◌, ℕ, ◌+◌, ◌*◌, ◌<◌, [], length, IfOk, IfSome};
 ghost use Rattle.std.specs.Int.{bit_at};
 ghost use Rattle.frame.specs.Below.{AreBelow};
-ghost use Rattle.subst.specs.Stored.DisjointRows.{AreFacts, HasFact, IsRowAt, NotesWord, TellsAll, TellsEach, TellsWord};
+ghost use Rattle.subst.specs.Stored.DisjointRows.{AreFacts, ArePairs, HasFact, IsRowAt, NotesWord, TellsAll, TellsEach, TellsWord};
 ghost use Rattle.subst.specs.Stored.PlaceSets.{ArePlacesBelow};
-ghost use Rattle.subst.specs.Stored.VariablePlaces.{ArePlaced};
+ghost use Rattle.subst.specs.Stored.VariablePlaces.{ArePlaced, Grows};
 
 use crate::hints::Hints;
 use crate::place_set::PlaceSet;
@@ -16,6 +16,12 @@ use std::marker::Model;
 
 /// What was found is noted of so many places.
 const NOTED_PLACES: u32 = 8192;
+
+/// So many of the last active `$d` are read in a proof before the first question.
+const READ_LISTS: usize = 16;
+
+/// A `$d` with more symbols is not read.
+const READ_SYMBOLS: usize = 16;
 
 /// Places that were found to be disjoint from one place.
 #[derive(Clone, Copy, Drop)]
@@ -32,6 +38,8 @@ pub struct RowWord {
 pub struct DisjointRows {
     hints: Hints,
     words: Vec<RowWord>,
+    /// The last active `$d` were read.
+    learned: bool,
     /// The pairs that long searches found, whatever the proof.
     memo: PairMemo,
 }
@@ -53,6 +61,7 @@ impl DisjointRows {
         DisjointRows {
             hints: Hints::new(alloc),
             words: Vec::new(alloc),
+            learned: false,
             memo: PairMemo::new(alloc),
         }
     }
@@ -62,6 +71,7 @@ impl DisjointRows {
         ensures { self.new ≡ [] }
     {
         self.words.clear();
+        self.learned = false;
     }
 
     /// Returns the index of the word for a place and a word of others, if there is one.
@@ -88,6 +98,7 @@ impl DisjointRows {
     }
 
     /// Notes that places are disjoint from a place.
+    #[inline(always)]
     fn note(&mut self, place: u32, word: PlaceWord) -> Result<(), AllocError>
         ensures { NotesWord self.old self.new place word }
     {
@@ -103,6 +114,84 @@ impl DisjointRows {
         }
         self.hints.set(hint_number(place, index), self.words.len())?;
         self.words.push(RowWord { place, index, bits })?;
+        Ok(())
+    }
+
+    /// Reads the last active `$d`, once in a proof, and notes that the variables of each are disjoint.
+    ///
+    /// Errors: an allocation fails. Cost: a constant: at most 16 `$d` of at most 16 symbols are read.
+    #[inline(always)]
+    pub fn learn(
+        &mut self,
+        pairs: &Pairs<'_>,
+        variables: &mut VariablePlaces,
+    ) -> Result<(), AllocError>
+        requires placed { ArePlaced pairs.now variables.old }
+        requires facts { AreFacts pairs.now variables.old self.old }
+        ensures placed { ArePlaced pairs.now variables.new }
+        ensures grows { Grows variables.old variables.new }
+        ensures facts { AreFacts pairs.now variables.new self.new }
+    {
+        if self.learned {
+            return Ok(());
+        }
+        self.learned = true;
+        self.learn_last(pairs, variables)
+    }
+
+    /// Reads the last active `$d`.
+    #[cold]
+    #[inline(never)]
+    fn learn_last(
+        &mut self,
+        pairs: &Pairs<'_>,
+        variables: &mut VariablePlaces,
+    ) -> Result<(), AllocError>
+        requires placed { ArePlaced pairs.now variables.old }
+        requires facts { AreFacts pairs.now variables.old self.old }
+        ensures placed { ArePlaced pairs.now variables.new }
+        ensures grows { Grows variables.old variables.new }
+        ensures facts { AreFacts pairs.now variables.new self.new }
+    {
+        let mut before = pairs.copy();
+        let mut left = READ_LISTS;
+        while let Some(list) = before.take_last() {
+            self.learn_list(pairs, variables, list)?;
+            left = left.saturating_sub(1);
+            if left == 0 {
+                return Ok(());
+            }
+        }
+        Ok(())
+    }
+
+    /// Notes that the variables of an active `$d` are disjoint.
+    fn learn_list(
+        &mut self,
+        pairs: &Pairs<'_>,
+        variables: &mut VariablePlaces,
+        list: &[u32],
+    ) -> Result<(), AllocError>
+        requires placed { ArePlaced pairs.now variables.old }
+        requires facts { AreFacts pairs.now variables.old self.old }
+        requires below { AreBelow (length pairs.now.names) list.now }
+        requires pairs { ArePairs pairs.now list.now }
+        ensures placed { ArePlaced pairs.now variables.new }
+        ensures grows { Grows variables.old variables.new }
+        ensures facts { AreFacts pairs.now variables.new self.new }
+    {
+        if list.len() > READ_SYMBOLS {
+            return Ok(());
+        }
+        let listed = variables.bits_of(pairs, list)?;
+        let mut rest = listed;
+        while rest != 0 {
+            let bit = lowest(rest);
+            let index = 0;
+            let bits = without(listed, bit);
+            self.note(bit as u32, PlaceWord { index, bits })?;
+            rest = without(rest, bit);
+        }
         Ok(())
     }
 

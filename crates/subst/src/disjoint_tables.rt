@@ -1,6 +1,6 @@
 //! Groups of variables whose images are to be disjoint.
-ghost use Rattle.std.specs.Prelude.{◌≡◌, ◌+◌, ◌-◌, ◌<◌, ◌≤◌, ◌==◌, [], length, slice_get, true, IfOk};
-ghost use Rattle.std.specs.List.{list_all, list_any};
+ghost use Rattle.std.specs.Prelude.{◌≡◌, ◌+◌, ◌-◌, ◌<◌, ◌≤◌, [], length, slice_get, true, IfOk};
+ghost use Rattle.std.specs.List.{list_all};
 ghost use Rattle.frame.specs.Below.{AllBelow, AreBelow};
 ghost use Rattle.frame.specs.Substitution.{code_apply};
 ghost use Rattle.frame.specs.Parts.{Numbered};
@@ -14,7 +14,7 @@ use crate::disjoint_rows::DisjointRows;
 use crate::image_ranges::ImageRanges;
 use crate::image_variables::ImageVariables;
 use crate::place_set::PlaceSet;
-use crate::symbol_range::SymbolRange;
+use crate::symbol_range::{SymbolRange, contains};
 use crate::variable_places::VariablePlaces;
 use entries::Groups;
 use frame::Pairs;
@@ -114,6 +114,7 @@ impl DisjointTables {
         ensures tables { AreTables pairs.now symbols.now self.new }
         ensures disjoint { IfOk result (λ ok. ok ≡ list_all (are_numbers_apart pairs.now.statements (image_named pairs.now.names (images_at symbols.now images.now))) groups.now) }
     {
+        self.rows.learn(pairs, &mut self.variables)?;
         self.images.begin();
         for i in 0..groups.len() {
             if is_repeated(groups, i) {
@@ -185,13 +186,6 @@ fn is_repeated(groups: &Groups<'_>, index: usize) -> bool
     ensures { result ≡ true → (0 < index) × (slice_get groups.now index ≡ slice_get groups.now (index - 1)) }
 {
     index > 0 && groups.get(index) == groups.get(index - 1)
-}
-
-/// Whether a symbol stands in the list.
-fn contains(symbols: &[u32], symbol: u32) -> bool
-    ensures { result ≡ list_any (λ x. x == symbol) symbols.now }
-{
-    symbols.iter().any(|x| *x == symbol)
 }
 
 /// Where the symbols of a range stand without the first.

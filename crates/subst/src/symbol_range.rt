@@ -1,5 +1,6 @@
 //! Ranges of a buffer of symbols.
-ghost use Rattle.std.specs.Prelude.{◌≡◌, ◌≤◌, length};
+ghost use Rattle.std.specs.Prelude.{◌≡◌, ◌≤◌, ◌==◌, length};
+ghost use Rattle.std.specs.List.{list_any};
 ghost use Rattle.subst.specs.SymbolRanges.{seen_at};
 ghost use Rattle.subst.specs.declared.buffer.TheConstants.{SYMBOLS_LIMIT};
 
@@ -27,4 +28,12 @@ pub fn place_between(start: usize, end: usize) -> SymbolRange
         start: start as u32,
         end: end as u32,
     }
+}
+
+/// Returns whether a symbol stands in the list.
+#[inline(always)]
+pub(crate) fn contains(symbols: &[u32], symbol: u32) -> bool
+    ensures { result ≡ list_any (λ x. x == symbol) symbols.now }
+{
+    symbols.iter().any(|x| *x == symbol)
 }

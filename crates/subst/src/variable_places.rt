@@ -1,10 +1,13 @@
 //! The places of the variables of one proof.
-ghost use Rattle.std.specs.Prelude.{◌≡◌, ◌<◌, [], get_or, length, IfOk, IfSome};
+ghost use Rattle.std.specs.Prelude.{◌≡◌, ◌<◌, ℕ, [], get_or, length, IfOk, IfSome, Some};
+ghost use Rattle.std.specs.Int.{bit_at};
+ghost use Rattle.frame.specs.Below.{AreBelow};
 ghost use Rattle.names.specs.Codes.{name_at};
 ghost use Rattle.scope.specs.Active.{is_variable};
-ghost use Rattle.subst.specs.Stored.VariablePlaces.{ArePlaced, Grows, IsListed, IsPlace};
+ghost use Rattle.subst.specs.Stored.VariablePlaces.{AreBitsOf, ArePlaced, Grows, IsListed, IsPlace};
 
 use crate::hints::Hints;
+use crate::symbol_range::contains;
 use frame::Pairs;
 use std::alloc::{AllocError, Global};
 use std::marker::Model;
@@ -129,5 +132,37 @@ impl VariablePlaces {
         };
         self.variables.push(symbol)?;
         Ok(Some(place))
+    }
+
+    /// Returns the places below 64 of the variables in a list, as bits, each variable once.
+    ///
+    /// Errors: an allocation fails. Cost: the square of the count of symbols, and that of `place_of` for each.
+    pub fn bits_of(&mut self, pairs: &Pairs<'_>, list: &[u32]) -> Result<u64, AllocError>
+        requires placed { ArePlaced pairs.now self.old }
+        requires below { AreBelow (length pairs.now.names) list.now }
+        ensures placed { ArePlaced pairs.now self.new }
+        ensures grows { Grows self.old self.new }
+        ensures bits { IfOk result (λ bits. AreBitsOf self.new bits (length list.now) list.now) }
+    {
+        let mut bits = 0;
+        for (index, symbol) in list.iter().enumerate() {
+            if contains(&list[..index], *symbol) {
+                continue;
+            }
+            let place = self.place_of(pairs, *symbol)?;
+            bits |= bit_of(place);
+        }
+        Ok(bits)
+    }
+}
+
+/// Returns the bit of a place below 64, or 0.
+#[inline(always)]
+fn bit_of(place: Option<u32>) -> u64
+    ensures { (j : ℕ) → bit_at result j ≡ 1 → place ≡ Some j }
+{
+    match place {
+        Some(place) if place < 64 => 1u64 << place,
+        _ => 0,
     }
 }

@@ -4,6 +4,7 @@
 use Rattle.std.specs.Prelude.{◌≡◌, ℕ, ◌+◌, ◌*◌, ◌<◌, ◌⊎◌, Bool, true, false, List, length, get_or}
 use Rattle.std.specs.Int.{bit_at}
 use Rattle.frame.specs.Parts.{Numbered}
+use Rattle.subst.specs.Words.{is_pair, name_at}
 use Rattle.subst.specs.declared.disjoint_rows.RowWord.{RowWord}
 use Rattle.subst.specs.declared.place_words.PlaceWord.{PlaceWord}
 use Rattle.subst.specs.Stored.PlaceSets.{HasBit, HasPlace}
@@ -34,6 +35,12 @@ pub record IsFact (v : Numbered) (f : Places) (p q : ℕ) : Type 0 where
 -- what is noted is so
 pub record AreFacts (v : Numbered) (f : Places) (ws : List RowWord) : Type 0 where
   pub each : (p q : ℕ) → HasFact ws p q → IsFact v f p q
+
+-- each two symbols of the list stand together in an active `$d`
+pub record ArePairs (v : Numbered) (list : List ℕ) : Type 0 where
+  pub each :
+      (x y : ℕ) → IsAmong (length list) list x → IsAmong (length list) list y → (x ≡ y → ⊥)
+      → is_pair v.statements (name_at v.names x) (name_at v.names y) ≡ true
 
 -- the places of the word may be noted besides
 pub record NotesWord (old new : List RowWord) (p : ℕ) (w : PlaceWord) : Type 0 where

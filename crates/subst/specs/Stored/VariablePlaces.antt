@@ -2,6 +2,7 @@
 -- Source: this project's form of keeping variables.
 -- The code gives each variable a place as it is met, and notes of each other symbol that it is none.
 use Rattle.std.specs.Prelude.{◌≡◌, ℕ, ◌<◌, ◌⊎◌, Bool, true, false, List, length, get_or, Option, Some, None}
+use Rattle.std.specs.Int.{bit_at}
 use Rattle.std.specs.List.{All, Contains}
 use Rattle.subst.specs.Words.{Name, is_variable, name_at, is_pair}
 use Rattle.frame.specs.Parts.{Numbered}
@@ -58,3 +59,8 @@ pub record ArePlacesOf (v : Numbered) (f : Places) (IsIn IsOne : ℕ → Type 0)
 -- one of the first n numbers
 abbrev pub IsAmong : ℕ → List ℕ → ℕ → Type 0
 IsAmong n xs x = (k : ℕ) × (k < n) × (get_or xs k 0 ≡ x)
+
+-- each bit is the place of one of the first n symbols, and each symbol has one bit at most
+pub record AreBitsOf (f : Places) (bits n : ℕ) (list : List ℕ) : Type 0 where
+  pub only : (j : ℕ) → bit_at bits j ≡ 1 → (x : ℕ) × IsAmong n list x × IsAt f j x
+  pub once : (i j x : ℕ) → bit_at bits i ≡ 1 → bit_at bits j ≡ 1 → IsAt f i x → IsAt f j x → i ≡ j

@@ -1,13 +1,23 @@
 use Rattle.subst.proofs.Words.{◌-◌, arith, length, sym, refl, ◌∙◌, images_at, image_named, are_numbers_apart}
-use Rattle.subst.proofs.ImageVariableLemmas.{noted-begin, read-none}
+use Rattle.subst.proofs.ImageVariableLemmas.{most-own, noted-begin, noted-most, read-none}
 use Rattle.subst.proofs.GroupLemmas.{below-group, group-goes_on, group-repeated, group-stops}
 use Rattle.subst.proofs.disjoint_tables.DisjointTables.are_groups_disjoint.Goals as goal
 
+pub returns-in_err-learn-clause-tables : goal.returns-in_err-learn-clause-tables
+returns-in_err-learn-clause-tables c =
+    let t = c.requires.tables in
+    let n = c.args.self.now.images in
+    record { placed = c.learn.ensures.placed; noted = noted-most c.args.pairs.now c.args.self.now.variables c.learn.new.variables c.args.symbols.now n n c.learn.ensures.grows (most-own n) t.noted; facts = c.learn.ensures.facts }
+
 pub loop-i-init : goal.loop-i-init
 loop-i-init c =
-    let t = c.requires.tables in (
-      record { placed = t.placed; noted = rw c.begin.ensures (noted-begin c.args.pairs.now c.args.self.now.variables c.args.symbols.now c.args.self.now.images t.noted); facts = t.facts },
-      rw c.begin.ensures (read-none c.args.pairs.now c.args.self.now.variables c.args.symbols.now c.args.images.now _ refl),
+    let t = c.requires.tables in
+    let v = c.args.pairs.now in
+    let n = c.args.self.now.images in
+    let f = c.learn.new.variables in
+    let noted = noted-most v c.args.self.now.variables f c.args.symbols.now n n c.learn.ensures.grows (most-own n) t.noted in (
+      record { placed = c.learn.ensures.placed; noted = rw c.begin.ensures (noted-begin v f c.args.symbols.now n noted); facts = c.learn.ensures.facts },
+      rw c.begin.ensures (read-none v f c.args.symbols.now c.args.images.now _ refl),
       refl,
     )
 
