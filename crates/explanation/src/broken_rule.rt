@@ -171,7 +171,7 @@ fn explain_label(alloc: Global, page: &mut Page, broken: &Broken<'_>, stmt: &Stm
     push_other(alloc, page, broken, label_of(stmt), other);
 }
 
-/// What the other statement made of the name, and where.
+/// Adds how the other statement declares the name, and where.
 fn push_other(alloc: Global, page: &mut Page, broken: &Broken<'_>, name: &[u8], other: usize) {
     let Some(stmt) = broken.statements.get(other.saturating_sub(1)) else {
         page.push(b"\n");
@@ -184,7 +184,7 @@ fn push_other(alloc: Global, page: &mut Page, broken: &Broken<'_>, name: &[u8], 
     page.push(b"\n");
 }
 
-/// What a statement makes of a name, and the token at which it does.
+/// Returns how a statement declares a name, in words, and the token at which it does.
 fn told(stmt: &Stmt, name: &[u8]) -> (&'static [u8], usize) {
     match stmt {
         Stmt::Const(names) => (

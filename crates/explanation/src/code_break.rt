@@ -74,7 +74,7 @@ fn no_label(proof: &Words) -> &'static [u8] {
     }
 }
 
-/// What is wrong with letters.
+/// Returns a fault of letters in words.
 fn of_letters(fault: LetterFault) -> &'static [u8] {
     match fault {
         LetterFault::NotLetter => b"this is no letter of a compressed proof",

@@ -1,10 +1,11 @@
-//! What is explained, and the lines of its explanation.
+//! The lines that explain a refusal.
+ghost use Rattle.std.specs.Prelude.{◌≤◌, length, IfOk};
 
 use crate::broken_rule::explain_rule;
 use crate::proof::explain_proof;
 use crate::shape_fault::explain_shape;
 use crate::text_fault::explain_text;
-use crate::written_lines::Page;
+use crate::written_lines::{MOST_BYTES, Page};
 use scope::Rule;
 use std::alloc::{AllocError, Global};
 
@@ -25,14 +26,17 @@ pub enum DatabaseFault {
     Unfinished { statement: usize },
 }
 
-/// The lines that say why the text is refused; none where it is not refused so.
+/// Returns the lines that say why the text is refused, 65,536 bytes at most; none where it is not refused so.
 ///
-/// Cost: that of reading the text and of its statements once more, and of judging the one proof twice.
+/// Errors: an allocation fails. Cost: that of reading the text and of its statements once more, and of judging the one proof
+/// twice.
 pub fn explain_refusal(
     alloc: Global,
     text: &[u8],
     fault: DatabaseFault,
-) -> Result<Vec<u8>, AllocError> {
+) -> Result<Vec<u8>, AllocError>
+    ensures short { IfOk result (λ lines. length lines.items ≤ MOST_BYTES) }
+{
     let mut page = Page::new(alloc);
     push_lines(alloc, &mut page, text, fault);
     page.into_lines()

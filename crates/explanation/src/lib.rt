@@ -1,7 +1,7 @@
 //! Why a database is refused, in words, with the place in the text.
 //!
-//! `explain_refusal` writes the lines of an explanation; it runs only after a refusal and looks at the text again. What it says
-//! rests on the clauses of `places`, `offence` and `explain`; the words have no contract. Read `explained_refusal`,
+//! `explain_refusal` writes the lines of an explanation, 65,536 bytes at most; it runs only after a refusal and looks at the text
+//! again. It rests on the clauses of `places`, `offence` and `explain`; the words have no contract. Read `explained_refusal`,
 //! `written_lines`, `text_fault`, `shape_fault`, `broken_rule` with `statement_symbols`; `proof` with `theorem`, `judged`,
 //! `item_spots`, `step_fault`, `expressions` and `code_break`.
 #![tactic(auto)]
@@ -21,3 +21,4 @@ mod theorem;
 mod written_lines;
 
 pub use explained_refusal::{DatabaseFault, explain_refusal};
+pub use written_lines::MOST_BYTES;

@@ -37,7 +37,7 @@ fn explain_wrong(alloc: Global, page: &mut Page, text: &[u8], statements: &[Stmt
     }
 }
 
-/// The same of a `$p` of the statements.
+/// Explains the proof of a `$p` of the statements.
 fn explain_at(alloc: Global, page: &mut Page, statements: &[Stmt], theorem: &Theorem<'_>)
     requires shaped { AreShaped statements.now }
     requires provable { (s : Statement) × IsProvable statements.now theorem.now.at s }
@@ -47,7 +47,7 @@ fn explain_at(alloc: Global, page: &mut Page, statements: &[Stmt], theorem: &The
     explain_entered(alloc, page, statements, theorem, &mut rules, &mut frames);
 }
 
-/// The same, where the rules and the frames have no statement yet.
+/// Explains it with rules and frames that have no statement yet.
 fn explain_entered(
     alloc: Global,
     page: &mut Page,

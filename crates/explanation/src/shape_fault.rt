@@ -18,7 +18,7 @@ pub(crate) fn explain_shape(alloc: Global, page: &mut Page, text: &[u8]) {
     }
 }
 
-/// The same of the token that fits nowhere, from 1.
+/// Explains the token that fits nowhere, counted from 1.
 fn explain_among(alloc: Global, page: &mut Page, text: &[u8], token: usize) {
     match tokens(alloc, text) {
         Ok(spans) => explain_misfit(page, text, spans.as_slice(), token.saturating_sub(1)),
@@ -69,7 +69,7 @@ fn explain_token(page: &mut Page, text: &[u8], spans: &[Span], index: usize)
     page.push(b"\n");
 }
 
-/// What may stand behind these tokens of a statement.
+/// Returns in words which token may follow these tokens of a statement.
 fn what_may_stand(text: &[u8], before: &[Span]) -> &'static [u8] {
     let Some(first) = before.get(0) else {
         return b"a label, $c, $v, $d, ${ or $}";
@@ -91,7 +91,7 @@ fn symbols_or_end(len: usize, enough: usize) -> &'static [u8] {
     }
 }
 
-/// What may stand behind a label and these tokens.
+/// Returns in words which token may follow a label and these tokens.
 fn behind_label(text: &[u8], before: &[Span]) -> &'static [u8] {
     let Some(key) = before.get(1) else {
         return b"$f, $e, $a or $p";
@@ -107,7 +107,7 @@ fn behind_label(text: &[u8], before: &[Span]) -> &'static [u8] {
     }
 }
 
-/// What may stand behind these tokens of a `$p`.
+/// Returns in words which token may follow these tokens of a `$p`.
 fn behind_provable(text: &[u8], before: &[Span]) -> &'static [u8] {
     for span in before {
         if word(text, *span) == b"$=".as_slice() {

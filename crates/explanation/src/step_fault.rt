@@ -6,7 +6,7 @@ use crate::written_lines::Page;
 use frame::Frames;
 use reasons::Fault;
 
-/// What fails at the step.
+/// Adds why the step fails.
 pub(crate) fn push_fault(page: &mut Page, theorem: &Theorem<'_>, frames: &Frames, fault: &Fault) {
     match fault {
         Fault::Unknown => page.push(b"  no statement has this label\n"),
@@ -110,7 +110,7 @@ fn push_hypothesis(page: &mut Page, theorem: &Theorem<'_>, at: usize) {
     page.push(theorem.label_at(at));
 }
 
-/// Two variables that are not kept apart.
+/// Adds two variables that break a disjoint variable condition.
 fn push_together(page: &mut Page, frames: &Frames, variables: [u32; 2], images: [u32; 2]) {
     let [first, second] = variables;
     let [one, other] = images;

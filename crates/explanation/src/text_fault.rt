@@ -6,7 +6,7 @@ use mm_lex::{LexFault, tokens};
 use places::{CommentFault, comment_fault};
 use std::alloc::Global;
 
-/// What is wrong with the bytes or the comments of the text.
+/// Explains which byte or comment of the text is at fault.
 pub(crate) fn explain_text(alloc: Global, page: &mut Page, text: &[u8]) {
     match tokens(alloc, text) {
         Ok(_) => {}

@@ -54,7 +54,7 @@ impl<'a> Theorem<'a> {
         page.push(self.label);
     }
 
-    /// The same of the `$.`.
+    /// Adds the place of the `$.` and whose proof it ends.
     pub(crate) fn push_end(&self, alloc: Global, page: &mut Page) {
         let token = self.proof.len();
         self.push_spot(alloc, page, Spot { token, byte: 0 });

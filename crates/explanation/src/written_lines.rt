@@ -1,11 +1,19 @@
 //! The lines that are written.
 
+ghost use Rattle.std.specs.Prelude.{◌≤◌, length, IfOk};
+
 use itoa::Buffer;
 use mm_lex::Span;
 use places::line_and_column;
 use std::alloc::{AllocError, Global};
 
-/// The lines of an explanation, or nothing where a growth was refused: all that is pushed after that is dropped.
+/// The most bytes of an explanation.
+pub const MOST_BYTES: usize = 65_536;
+
+/// The last line of an explanation that has more bytes.
+const CUT: &[u8] = b"\n  the explanation is cut here: it has more than 65536 bytes\n";
+
+/// The lines of an explanation, or nothing where an allocation failed. Bytes beyond one more than the most are dropped.
 #[derive(Drop)]
 pub(crate) struct Page {
     lines: Vec<u8>,
@@ -20,32 +28,47 @@ impl Page {
         }
     }
 
-    /// The lines, where there was memory for all of them.
-    pub(crate) fn into_lines(self) -> Result<Vec<u8>, AllocError> {
-        let Page { lines, is_refused } = self;
+    /// Returns the lines, 65,536 bytes at most. Where more were pushed, the last line says so.
+    ///
+    /// Errors: an allocation failed.
+    pub(crate) fn into_lines(self) -> Result<Vec<u8>, AllocError>
+        ensures { IfOk result (λ lines. length lines.items ≤ MOST_BYTES) }
+    {
+        let Page {
+            mut lines,
+            is_refused,
+        } = self;
         if is_refused {
             return Err(AllocError);
+        }
+        if lines.len() > MOST_BYTES {
+            lines.truncate(MOST_BYTES - CUT.len());
+            lines.extend_from_slice(CUT)?;
         }
         Ok(lines)
     }
 
-    /// There is no memory for what comes next.
+    /// Records that an allocation failed.
     pub(crate) fn refuse(&mut self) {
         self.is_refused = true;
     }
 
+    /// Appends words, or as much of them as fits; the rest is dropped.
     pub(crate) fn push(&mut self, words: &[u8]) {
-        if self.lines.extend_from_slice(words).is_err() {
+        let room = (MOST_BYTES + 1).saturating_sub(self.lines.len());
+        let kept = words.get(..room).unwrap_or(words);
+        if self.lines.extend_from_slice(kept).is_err() {
             self.refuse();
         }
     }
 
+    /// Appends a number in decimal.
     pub(crate) fn push_number(&mut self, number: usize) {
         let mut buffer = Buffer::new();
         self.push(buffer.format(number).as_bytes());
     }
 
-    /// `LINE:COLUMN`
+    /// Appends `LINE:COLUMN` of an offset of the text.
     pub(crate) fn push_place(&mut self, text: &[u8], offset: usize) {
         let within = if offset <= text.len() {
             offset
