@@ -13,7 +13,7 @@ pub enum CodeFault {
     Unfinished,
     /// No token has, and the tokens write no list of items.
     Malformed,
-    /// A growth was refused.
+    /// An allocation failed.
     Memory,
 }
 
@@ -25,7 +25,7 @@ pub fn is_unfinished(tokens: &Words) -> bool
     tokens.as_text().contains(&b'?')
 }
 
-/// The items, or none where the tokens write none. Errors: want of memory, where the reader answered that.
+/// Returns the items, or `None` where the tokens write none. Errors: an allocation failed, where the reader answered so.
 pub fn written(items: Result<Items, CodeFault>) -> Result<Option<Items>, AllocError>
     ensures found { IfOk result (λ found. MatchOption found
         ((items ≡ Err CodeFault.Unfinished) ⊎ (items ≡ Err CodeFault.Malformed)) (λ found. items ≡ Ok found)) }

@@ -23,7 +23,7 @@ impl Model for Items {
     ghost view = { λ a. items_of a.labels a.numbers.items };
 }
 
-/// What `Items` keeps: the labels that may be cited, and for each item its number.
+/// The parts of `Items`: the labels that may be cited, and for each item its number.
 ///
 /// 0 marks, a number up to the count of the labels cites the label of that number, counted from 1, and a greater
 /// one recalls. For a compressed proof the labels are the mandatory ones and then the listed ones, and the

@@ -5,10 +5,10 @@
 ghost use Rattle.std.specs.Prelude.{◌≡◌, ◌==◌, if◌then◌else◌, ◌+◌, ◌*◌, ◌^◌, ◌<◌, ◌≤◌, ◌∷◌, ℕ, List, length, take, max, None, Some, IfNone, IfSome, MatchOption};
 ghost use Rattle.{proof_code.specs.Text.letters_of, proof_code.specs.Text.numbers_from, proof_code.specs.Text.starts_with_mark, proof_code.specs.Reading.Goes, proof_code.specs.Reading.IsLetter, proof_code.specs.Reading.ended};
 
-/// What a letter makes of the digits before it.
+/// The effect of a letter on the digits before it.
 #[derive(Clone, Copy)]
 struct Letter {
-    /// What they come to with it; a mark comes to 0, and behind digits to more than any limit.
+    /// Their value with it; a mark comes to 0, and behind digits to more than any limit.
     value: usize,
     /// The digits before the next letter.
     digits: usize,
@@ -16,7 +16,7 @@ struct Letter {
     ends: usize,
 }
 
-/// Of each letter four numbers: by what the digits before it are multiplied (for a mark they are taken from 0), what is
+/// Four numbers for each letter: by what the digits before it are multiplied (for a mark they are taken from 0), what is
 /// added, which bits of that are the digits before the next letter, and how many numbers the letter ends.
 const STEPS: [usize; 104] = [
     20, 1, 0, 1, 20, 2, 0, 1, 20, 3, 0, 1, 20, 4, 0, 1, 20, 5, 0, 1, 20, 6, 0, 1, 20, 7, 0, 1, 20,
@@ -28,7 +28,7 @@ const STEPS: [usize; 104] = [
 /// All bits.
 const ALL: usize = usize::MAX;
 
-/// What a letter A to Z makes of the digits before it.
+/// Returns the effect of a letter A to Z on the digits before it.
 #[inline(always)]
 fn letter_behind(byte: u8, digits: usize) -> Letter
     requires first { 65 ≤ byte }
@@ -47,12 +47,12 @@ fn letter_behind(byte: u8, digits: usize) -> Letter
     }
 }
 
-/// What stands between two bytes of the letters.
+/// The state between two bytes of the letters.
 #[derive(Clone, Copy)]
 struct Word {
     /// The greatest number that is possible here.
     limit: usize,
-    /// What the letters U to Y of the word that is begun come to, each counting 1 to 5 in base 5.
+    /// The value of the letters U to Y of the word that is begun, each counting 1 to 5 in base 5.
     digits: usize,
 }
 
@@ -90,7 +90,7 @@ impl Word {
 /// Writes the numbers of the letters of a text, where `labels` labels are numbered, and tells how many there are;
 /// `None` where the letters write none. Spaces may cut the letters anywhere.
 ///
-/// What the word comes to is written for each letter, and counts where the letter ends a number.
+/// The value of the word is written for each letter, and counts where the letter ends a number.
 #[inline(never)]
 pub(crate) fn write_numbers(text: &[u8], labels: usize, numbers: &mut [u32]) -> Option<usize>
     requires small { labels + length text.now < 2 ^ 32 }

@@ -9,8 +9,8 @@ use std::alloc::{AllocError, Global};
 
 /// The items of a normal proof: a citation for each token.
 ///
-/// Errors: `Unfinished` where a token has the byte `?`, else `Malformed` where a token is no label, both also where
-/// every growth is refused. Cost: the size of the tokens. Source: Metamath, 4.3.
+/// Errors: `Unfinished` where a token has the byte `?`, else `Malformed` where a token is no label, both also where an
+/// allocation fails. Cost: the size of the tokens. Source: Metamath, 4.3.
 pub fn normal(alloc: Global, tokens: &Words) -> Result<Items, CodeFault>
     ensures items { IfOk result (λ items. WritesPlain tokens.now items) }
     ensures unfinished { (result ≡ Err CodeFault.Unfinished) ↔ IsTrue (is_unfinished tokens.now) }

@@ -8,7 +8,7 @@ use mm_lex::{WordIter, Words};
 use std::alloc::{AllocError, Global};
 use std::marker::Model;
 
-/// The most labels and the most letters of one proof; more are answered as want of memory.
+/// The most labels and the most letters of one proof; more are answered as if an allocation failed.
 pub const MOST_LETTERS: usize = 1 << 30;
 
 /// Reads compressed proofs, one after another. Contracts see the numbers of the last one.
@@ -40,7 +40,7 @@ pub struct Heading<'a> {
 }
 
 impl Reader {
-    /// A reader with an empty buffer. Takes no memory.
+    /// Returns a reader with an empty buffer. Does not allocate.
     pub fn new(alloc: Global) -> Reader
         ensures { result ≡ [] }
     {
@@ -61,7 +61,7 @@ impl Reader {
     /// numbers of its items. `None` where it writes no items, whatever the mandatory labels are.
     ///
     /// It writes items where no listed label is a mandatory one, which is left to the caller.
-    /// Errors: a growth was refused; the numbers are those of before then.
+    /// Errors: an allocation fails; the numbers are those of before then.
     /// Cost: the size of the tokens. Source: Metamath, appendix B.
     pub fn read<'a>(
         &mut self,
@@ -124,7 +124,7 @@ impl Reader {
     }
 }
 
-/// Makes room for a number for each of so many letters. Errors: a growth was refused, or there are too many of them or
+/// Makes room for a number for each of so many letters. Errors: an allocation fails, or there are too many of them or
 /// of the labels.
 fn make_room(buffer: &mut Vec<u32>, labels: usize, letters: usize) -> Result<(), AllocError>
     ensures room { OnOk result (letters ≤ length buffer.new.items) }
