@@ -1,6 +1,6 @@
 //! The style of a page: short, light and dark, for wide screens and narrow ones. Eight classes of variables have a colour.
 
-/// What stands before the title.
+/// The head of a page up to its title.
 pub const HEAD: &[u8] =
     b"<!DOCTYPE html>\n<html lang=\"en\">\n<head>\n<meta charset=\"utf-8\">\n<meta name=\"viewport\" content=\"width=device-width, initial-scale=1\">\n<title>";
 

@@ -16,7 +16,7 @@ use std::alloc::{AllocError, Global};
 use std::io::Write;
 use steps::ProofTable;
 
-/// What a page tells of a theorem.
+/// A theorem, as a page tells it.
 #[derive(Drop)]
 pub struct Theorem<'a> {
     /// The statements that the frames are of.
@@ -178,7 +178,7 @@ fn push_hypothesis(
     page.extend_from_slice(b"</td></tr>\n")
 }
 
-/// Adds the groups of variables each two of which are kept apart.
+/// Adds the groups of variables, each two of which have to be disjoint.
 fn push_apart(
     alloc: Global,
     page: &mut Vec<u8>,

@@ -15,7 +15,7 @@ use steps::ProofTable;
 /// Why a proof was not written to its end.
 #[derive(Debug, Drop, PartialEq, Eq)]
 pub enum WriteFault {
-    /// A growth was refused.
+    /// An allocation failed.
     Memory,
     /// A write failed.
     Output,
