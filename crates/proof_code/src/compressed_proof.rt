@@ -1,6 +1,9 @@
 //! Compressed proofs.
 ghost use Rattle.std.specs.Prelude.{◌≡◌, ◌↔◌, ◌<◌, ◌≤◌, ◌^◌, ◌++◌, length, take, drop, IsTrue, IfOk, IfSome, Err};
-ghost use Rattle.{mm_lex.specs.Alphabet.has_name, proof_code.specs.Writes.is_unfinished, proof_code.specs.Writes.is_compressed, proof_code.specs.Writes.WritesPacked, proof_code.specs.Writes.IsMalformed, proof_code.specs.Reading.share_label, proof_code.specs.LabelNames.AreNames};
+ghost use Rattle.mm_lex.specs.Alphabet.{has_name};
+ghost use Rattle.proof_code.specs.Writes.{is_unfinished, is_compressed, WritesPacked, IsMalformed};
+ghost use Rattle.proof_code.specs.Reading.{share_label};
+ghost use Rattle.proof_code.specs.LabelNames.{AreNames};
 
 use crate::fault::{CodeFault, is_unfinished};
 use crate::items::Items;
