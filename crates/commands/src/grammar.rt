@@ -2,172 +2,151 @@
 use clap::{Arg, ArgAction, Command};
 use std::alloc::{AllocError, Global};
 
-/// What `--version` prints behind the name.
+/// The version that `--version` prints.
 const VERSION: &str = "1.0.0";
 
 /// The line that `--version` prints.
 pub const VERSION_LINE: &str = "mmlib 1.0.0\n";
 
-/// What a command takes behind its name.
+/// The form of an argument.
 enum Form {
     /// A label.
     Label,
-    /// One label or more.
+    /// One or more labels.
     Labels,
-    /// An option that is there or not.
+    /// An option without a value.
     Flag,
-    /// An option with a value, which is called so.
-    Value(&'static str),
+    /// An option without a value, which conflicts with another option.
+    FlagWithout(&'static str),
+    /// An option that must be given, with the name of its value.
+    Required(&'static str),
+    /// An option with the name of its value.
+    Optional(&'static str),
 }
 
-/// A label or an option of a command.
+/// An argument or an option of a command.
 struct Argument {
     name: &'static str,
     form: Form,
-    is_required: bool,
-    /// The option that may not stand beside it.
-    without: Option<&'static str>,
     help: &'static str,
 }
 
 const LABEL: Argument = Argument {
     name: "label",
     form: Form::Label,
-    is_required: true,
-    without: None,
     help: "A label of the database; one that begins with - stands after --",
 };
 
 const LABELS: Argument = Argument {
     name: "labels",
     form: Form::Labels,
-    is_required: true,
-    without: None,
     help: "The labels of assertions; those that begin with - stand after --",
 };
 
 const NODES: Argument = Argument {
     name: "nodes",
-    form: Form::Value("N"),
-    is_required: true,
-    without: None,
+    form: Form::Required("N"),
     help: "How many nodes there are, 1 to 9",
 };
 
 const WORKERS: Argument = Argument {
     name: "workers",
-    form: Form::Value("W"),
-    is_required: true,
-    without: None,
+    form: Form::Required("W"),
     help: "How many threads check the proofs of one entry, 1 to 16",
 };
 
 const WEIGHTS: Argument = Argument {
     name: "weights",
-    form: Form::Value("W,W,.."),
-    is_required: false,
-    without: None,
+    form: Form::Optional("W,W,.."),
     help: "The weight of each node, 1 to 100; else each weighs 1",
 };
 
 const ALL: Argument = Argument {
     name: "all",
     form: Form::Flag,
-    is_required: false,
-    without: None,
     help: "Those too that use it through others",
 };
 
 const ESSENTIAL: Argument = Argument {
     name: "essential",
     form: Form::Flag,
-    is_required: false,
-    without: None,
     help: "The last step, and those alone that are taken for an $e",
 };
 
 const DOT: Argument = Argument {
     name: "dot",
-    form: Form::Flag,
-    is_required: false,
-    without: Some("html"),
+    form: Form::FlagWithout("html"),
     help: "A picture of the steps, for Graphviz",
 };
 
 const HTML: Argument = Argument {
     name: "html",
     form: Form::Flag,
-    is_required: false,
-    without: None,
     help: "A page that stands alone",
 };
 
-/// A command: its name, what it is about, and what it takes.
-struct Shape {
-    name: &'static str,
-    about: &'static str,
-    arguments: &'static [Argument],
-}
+/// A command: its name, its help, and its arguments.
+struct Shape(&'static str, &'static str, &'static [Argument]);
 
 const COMMANDS: [Shape; 11] = [
-    Shape {
-        name: "outline",
-        about: "Print the statements of the database on standard input, one a line: mmlib outline < set.mm",
-        arguments: &[],
-    },
-    Shape {
-        name: "check",
-        about: "Check the proofs of the database on standard input: mmlib check < set.mm",
-        arguments: &[],
-    },
-    Shape {
-        name: "list",
-        about: "Print the assertions of the database on standard input, one a line: mmlib list < set.mm",
-        arguments: &[],
-    },
-    Shape {
-        name: "export",
-        about: "Print the database on standard input in the export form: mmlib export < set.mm",
-        arguments: &[],
-    },
-    Shape {
-        name: "tree",
-        about: "Print the derivation of a $p of the database on standard input, a node a line: mmlib tree id < set.mm",
-        arguments: &[LABEL],
-    },
-    Shape {
-        name: "trace",
-        about: "Print the axioms that a $p of the database on standard input rests on: mmlib trace id < set.mm",
-        arguments: &[LABEL],
-    },
-    Shape {
-        name: "usage",
-        about: "Print who cites a statement of the database on standard input: mmlib usage id < set.mm",
-        arguments: &[LABEL, ALL],
-    },
-    Shape {
-        name: "proof",
-        about: "Print the steps of the proof of a $p of the database on standard input: mmlib proof id --essential < set.mm",
-        arguments: &[LABEL, ESSENTIAL, DOT, HTML],
-    },
-    Shape {
-        name: "extract",
-        about: "Print some assertions of the database on standard input, with all that they need: mmlib extract id < set.mm",
-        arguments: &[LABELS],
-    },
-    Shape {
-        name: "play",
-        about: "Drive a world of nodes by the script on standard input",
-        arguments: &[NODES, WEIGHTS],
-    },
-    Shape {
-        name: "serve",
-        about: "Serve the script on standard input by nodes that are threads",
-        arguments: &[NODES, WORKERS, WEIGHTS],
-    },
+    Shape(
+        "outline",
+        "Print the statements of the database on standard input, one a line: mmlib outline < set.mm",
+        &[],
+    ),
+    Shape(
+        "check",
+        "Check the proofs of the database on standard input: mmlib check < set.mm",
+        &[],
+    ),
+    Shape(
+        "list",
+        "Print the assertions of the database on standard input, one a line: mmlib list < set.mm",
+        &[],
+    ),
+    Shape(
+        "export",
+        "Print the database on standard input in the export form: mmlib export < set.mm",
+        &[],
+    ),
+    Shape(
+        "tree",
+        "Print the derivation of a $p of the database on standard input, a node a line: mmlib tree id < set.mm",
+        &[LABEL],
+    ),
+    Shape(
+        "trace",
+        "Print the axioms that a $p of the database on standard input rests on: mmlib trace id < set.mm",
+        &[LABEL],
+    ),
+    Shape(
+        "usage",
+        "Print who cites a statement of the database on standard input: mmlib usage id < set.mm",
+        &[LABEL, ALL],
+    ),
+    Shape(
+        "proof",
+        "Print the steps of the proof of a $p of the database on standard input: mmlib proof id --essential < set.mm",
+        &[LABEL, ESSENTIAL, DOT, HTML],
+    ),
+    Shape(
+        "extract",
+        "Print some assertions of the database on standard input, with all that they need: mmlib extract id < set.mm",
+        &[LABELS],
+    ),
+    Shape(
+        "play",
+        "Drive a world of nodes by the script on standard input",
+        &[NODES, WEIGHTS],
+    ),
+    Shape(
+        "serve",
+        "Serve the script on standard input by nodes that are threads",
+        &[NODES, WORKERS, WEIGHTS],
+    ),
 ];
 
-/// All commands of the program.
+/// Returns all commands of the program.
 pub fn commands<'a>(alloc: Global) -> Result<Command<'a>, AllocError> {
     let mut program = Command::new(alloc, "mmlib")
         .version(VERSION)
@@ -183,34 +162,40 @@ pub fn commands<'a>(alloc: Global) -> Result<Command<'a>, AllocError> {
     Ok(program)
 }
 
-/// The command of that shape.
+/// Returns the command of a shape.
 fn command<'a>(alloc: Global, shape: &Shape) -> Result<Command<'a>, AllocError> {
-    let mut command = Command::new(alloc, shape.name).about(shape.about);
-    for argument in shape.arguments {
+    let Shape(name, help, arguments) = *shape;
+    let mut command = Command::new(alloc, name).about(help);
+    for argument in arguments {
         command = command.arg(made(alloc, argument)?)?;
     }
     Ok(command)
 }
 
-/// The argument or option so described.
+/// Makes the argument or option that is described.
 fn made<'a>(alloc: Global, argument: &Argument) -> Result<Arg<'a>, AllocError> {
-    let arg = Arg::new(alloc, argument.name)
-        .required(argument.is_required)
-        .help(argument.help);
-    let formed = match argument.form {
-        Form::Label => arg.value_name("LABEL"),
-        Form::Labels => arg
-            .value_name("LABEL")
-            .action(ArgAction::Append)
-            .num_args(1..),
-        Form::Flag => arg.long(argument.name).action(ArgAction::SetTrue),
-        Form::Value(value) => arg
-            .long(argument.name)
-            .value_name(value)
-            .action(ArgAction::Set),
-    };
-    match argument.without {
-        Some(other) => formed.conflicts_with(other),
-        None => Ok(formed),
+    let arg = Arg::new(alloc, argument.name).help(argument.help);
+    match argument.form {
+        Form::Label => Ok(arg.required(true).value_name("LABEL")),
+        Form::Labels => Ok(
+            arg.required(true)
+                .value_name("LABEL")
+                .action(ArgAction::Append)
+                .num_args(1..),
+        ),
+        Form::Flag => Ok(flag(arg, argument.name)),
+        Form::FlagWithout(other) => flag(arg, argument.name).conflicts_with(other),
+        Form::Required(value) => Ok(option(arg, argument.name, value).required(true)),
+        Form::Optional(value) => Ok(option(arg, argument.name, value)),
     }
+}
+
+/// Makes an option without a value.
+fn flag<'a>(arg: Arg<'a>, name: &'static str) -> Arg<'a> {
+    arg.long(name).action(ArgAction::SetTrue)
+}
+
+/// Makes an option with a value.
+fn option<'a>(arg: Arg<'a>, name: &'static str, value: &'static str) -> Arg<'a> {
+    arg.long(name).value_name(value).action(ArgAction::Set)
 }

@@ -1,18 +1,35 @@
-//! The words of a command line, as what they ask for.
+//! Requests to the program: command lines, and the lines of the scripts of `play` and `serve`.
 //!
-//! The crate above uses `parse_words`, whose answer is an enum of this crate. No other crate knows how a command line is read.
+//! The crate above uses `parse_words` (a `Request` of a command line) and one contract:
+//! `parse_script` gives what the definition of the command's lines reads (`specs/PlayLines`,
+//! `specs/ServeLines`), or the number of the first line that is none of them. No other crate knows
+//! `clap`.
 //!
-//! Reading order: `request` (what can be asked), `worker_count` and `weights` (numbers of a command line), `grammar` (its
-//! commands and options), `command_words`.
+//! Reading order: `request` (what a command line asks for), `weights` (numbers of a command line),
+//! `grammar` (its commands and options), `command_line`; `pieces` (a text between separators),
+//! `line_words` (the words of a line), `offered` (entries), `node_line`, `play_line` and
+//! `serve_line` (what a line asks for), `script` (all lines).
 #![tactic(auto)]
 
-mod command_words;
+mod command_line;
 mod grammar;
+mod line_words;
+mod node_line;
+mod offered;
+mod pieces;
+mod play_line;
 mod request;
+mod script;
+mod serve_line;
 mod weights;
-mod worker_count;
 
-pub use command_words::parse_words;
+pub use command_line::parse_words;
 pub use grammar::VERSION_LINE;
-pub use request::{ProofForm, Question, Request, WordsFault};
-pub use worker_count::{MOST_WORKERS, WorkerCount};
+pub use line_words::EntryAt;
+pub use node_line::NodeLine;
+pub use offered::Offered;
+pub use play_line::PlayLine;
+pub use request::{ProofForm, ProofQuestion, Question, Request, WordsFault};
+pub use script::{Line, LineFault, ScriptFault, parse_script};
+pub use serve_line::ServeLine;
+pub use weights::{MOST_WORKERS, WorkerCount};

@@ -1,32 +1,30 @@
-//! What a command line asks for.
-use crate::worker_count::WorkerCount;
+//! Requests of a command line.
+use crate::weights::WorkerCount;
 use std::alloc::AllocError;
 use synod::Weights;
 
-/// What a command line asks for.
+/// A request of a command line.
 #[derive(Drop)]
 pub enum Request<'a> {
-    /// `--version`: the name and the version.
+    /// `--version`: the name and the version of the program.
     Version,
     /// `outline`: the outline of a database.
     Outline,
     /// A question about a database.
     Ask(Question<'a>),
-    /// `play`: a script drives a world of nodes.
+    /// `play`: a script drives nodes, event by event.
     Play {
-        /// `None` where what was given are no weights of so many nodes.
-        weights: Option<Weights>,
+        weights: Weights,
     },
-    /// `serve`: a script at the desk of a cluster.
+    /// `serve`: a script is served by nodes that are threads.
     Serve {
-        /// As of `play`.
-        weights: Option<Weights>,
+        weights: Weights,
         /// How many threads check the proofs of one entry.
         workers: WorkerCount,
     },
 }
 
-/// What is asked about a database.
+/// A question about a library. It borrows the labels that it names.
 #[derive(Drop)]
 pub enum Question<'a> {
     /// `check`: how many `$p` it proves.
@@ -35,32 +33,32 @@ pub enum Question<'a> {
     List,
     /// `export`: its statements, in the export form.
     Export,
-    /// `tree`: the derivation of the `$p` of this label.
-    Tree {
-        label: &'a str,
-    },
-    /// `trace`: the `$a` that the proof of the `$p` of this label uses.
-    Trace {
-        label: &'a str,
-    },
-    /// `proof`: the steps of the proof of the `$p` of this label, or the essential ones alone.
-    Proof {
-        label: &'a str,
-        essential: bool,
-        form: ProofForm,
-    },
-    /// `usage`: the `$p` that use what has this label; through others too where all are asked for.
+    /// `tree`: the derivation of the `$p` with the label.
+    Tree(&'a [u8]),
+    /// `trace`: the `$a` that the proof of the `$p` with the label uses.
+    Trace(&'a [u8]),
+    /// `usage`: the `$p` whose proofs cite the statement with the label.
     Usage {
-        label: &'a str,
+        label: &'a [u8],
+        /// Also those that use it through others.
         all: bool,
     },
-    /// `extract`: a database of the assertions of these labels and of all that they need.
-    Extract {
-        labels: Vec<&'a str>,
-    },
+    /// `proof`: the steps of a proof.
+    Proof(ProofQuestion<'a>),
+    /// `extract`: a database of the assertions with the labels and of all that they need.
+    Extract(Vec<&'a str>),
 }
 
-/// In which form a proof is printed.
+/// A question about the proof of a `$p`.
+#[derive(Drop)]
+pub struct ProofQuestion<'a> {
+    pub label: &'a [u8],
+    /// The essential steps alone.
+    pub is_essential: bool,
+    pub form: ProofForm,
+}
+
+/// The form in which a proof is printed.
 #[derive(Clone, Copy, Debug, PartialEq, Eq)]
 pub enum ProofForm {
     /// A line a step.
@@ -71,22 +69,16 @@ pub enum ProofForm {
     Page,
 }
 
-/// Why words ask for nothing.
+/// Why words are no request.
 #[derive(Drop)]
 pub enum WordsFault {
-    /// They are no command line. The text says why, or is the help that was asked for. Where it is the last word that is too much,
-    /// as the file of a database would be, a hint stands before it.
+    /// They are no command line, or ask for help. The text is what standard error is to say.
     Bad { text: String },
-    /// A growth was refused.
+    /// An allocation failed.
     Memory,
 }
 
 impl From<AllocError> for WordsFault {
-    ghost use Rattle.std.specs.Prelude.{◌≡◌};
-    ghost use Rattle.commands.specs.declared.request.WordsFault.TheVariants.{Memory};
-
-    ghost from_gives = { λ _ fault. fault ≡ Memory };
-
     fn from(_error: AllocError) -> WordsFault {
         WordsFault::Memory
     }

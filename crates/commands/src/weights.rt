@@ -1,16 +1,47 @@
-//! The weights of a command line.
+//! The weights of nodes and the count of workers, as a command line gives them.
+ghost use Rattle.std.specs.Prelude.{◌≡◌, ◌≤◌, ◌<◌, ◌⊎◌, MatchOption};
+ghost use Rattle.commands.specs.declared.weights.TheConstants.{MOST_WORKERS};
+
+use crate::pieces::cut;
 use numbers::parse_number;
 use synod::{MOST_NODES, Weights};
 
-/// The weights that the text writes, decimal numbers joined by commas, where they are weights of so many nodes.
-pub fn parse_weights(text: &[u8], nodes: u8) -> Option<Weights> {
-    if nodes as usize > MOST_NODES {
-        return None;
+/// The most workers that there may be.
+pub const MOST_WORKERS: usize = 16;
+
+/// How many threads check the proofs of one text: 1 to 16.
+#[derive(Clone, Copy, Debug)]
+pub struct WorkerCount {
+    pub count: usize,
+    ghost some: { 1 ≤ count },
+    ghost few: { count ≤ MOST_WORKERS },
+}
+
+impl WorkerCount {
+    /// Makes a count of workers. Returns `None` if it is not 1 to 16.
+    pub fn new(count: u64) -> Option<WorkerCount>
+        ensures { MatchOption result
+            ((count ≡ 0) ⊎ (MOST_WORKERS < count))
+            (λ workers. workers.count ≡ count) }
+    {
+        if count == 0 || count > MOST_WORKERS as u64 {
+            return None;
+        }
+        Some(WorkerCount {
+            count: count as usize,
+        })
     }
+}
+
+/// Parses decimal numbers that are joined by commas. Returns `None` if they are no weights of so
+/// many nodes.
+pub(crate) fn parse_weights(text: &[u8], nodes: u8) -> Option<Weights>
+    requires { nodes ≤ MOST_NODES }
+{
     let mut weights = [0u8; MOST_NODES];
     let mut rest = Some(text);
     for place in 0..nodes as usize {
-        let (word, left) = cut(rest?);
+        let (word, left) = cut(rest?, b',');
         weights[place] = u8::try_from(parse_number(word)?).ok()?;
         rest = left;
     }
@@ -18,14 +49,4 @@ pub fn parse_weights(text: &[u8], nodes: u8) -> Option<Weights> {
         return None;
     }
     Weights::new(&weights[..nodes as usize])
-}
-
-/// What stands before the first comma, and what stands behind it where there is one.
-fn cut(text: &[u8]) -> (&[u8], Option<&[u8]>) {
-    for place in 0..text.len() {
-        if text[place] == b',' {
-            return (&text[..place], Some(&text[place + 1..]));
-        }
-    }
-    (text, None)
 }

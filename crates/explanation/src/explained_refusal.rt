@@ -1,10 +1,12 @@
 //! The refusals that are explained, and the lines of an explanation.
 
+ghost use Rattle.std.specs.Prelude.{◌≤◌, length, IfOk};
+
 use crate::broken_rule::explain_rule;
 use crate::proof::explain_proof;
 use crate::shape_fault::explain_shape;
 use crate::text_fault::explain_text;
-use crate::written_lines::Page;
+use crate::written_lines::{MOST_BYTES, Page};
 use scope::Rule;
 use std::alloc::{AllocError, Global};
 
@@ -25,14 +27,17 @@ pub enum DatabaseFault {
     Unfinished { statement: usize },
 }
 
-/// Returns the lines that say why the text is refused; none if it is not refused for that.
+/// Returns the lines that say why the text is refused, at most 65,536 bytes; none if it is not refused for that.
 ///
-/// Cost: that of reading the text and of its statements once more, and of judging the one proof twice.
+/// Errors: an allocation fails. Cost: that of reading the text and of its statements once more, and of judging the one
+/// proof twice.
 pub fn explain_refusal(
     alloc: Global,
     text: &[u8],
     fault: DatabaseFault,
-) -> Result<Vec<u8>, AllocError> {
+) -> Result<Vec<u8>, AllocError>
+    ensures short { IfOk result (λ lines. length lines.items ≤ MOST_BYTES) }
+{
     let mut page = Page::new(alloc);
     push_lines(alloc, &mut page, text, fault);
     page.into_lines()

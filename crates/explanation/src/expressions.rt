@@ -3,19 +3,28 @@
 use crate::written_lines::Page;
 use frame::Frames;
 
-/// The number of symbols after which an expression is cut.
-const MOST: usize = 400;
+/// The most symbols of an expression that are written.
+const MOST_SYMBOLS: usize = 400;
 
-/// Writes the symbols, with a space before each; for a long expression the first ones, and how many there are.
+/// The most bytes of an expression that are written, with a space before each symbol.
+const MOST_EXPRESSION_BYTES: usize = 4_096;
+
+/// Writes the symbols of an expression, with a space before each. Cuts a long one before the first symbol that is too
+/// many or goes beyond the most bytes, and writes the number of its symbols.
+///
+/// Cost: the bytes that are written.
 pub(crate) fn push_expression(page: &mut Page, frames: &Frames, expr: &[u32]) {
+    let mut left = MOST_EXPRESSION_BYTES;
     for (index, number) in expr.iter().enumerate() {
-        if index == MOST {
+        let symbol = frames.symbol(*number);
+        if index == MOST_SYMBOLS || symbol.len() >= left {
             page.push(b" .. (");
             page.push_number(expr.len());
             page.push(b" symbols)");
             return;
         }
         page.push(b" ");
-        page.push(frames.symbol(*number));
+        page.push(symbol);
+        left -= symbol.len() + 1;
     }
 }

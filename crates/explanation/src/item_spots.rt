@@ -24,13 +24,13 @@ pub(crate) fn spot_of(proof: &Words, item: usize) -> Spot {
 
 /// Returns where the word or mark of that index begins among the letters; after the last token if there are fewer.
 fn word_spot(proof: &Words, item: usize) -> Spot {
-    let mut behind = false;
+    let mut is_past = false;
     let mut left = proof.iter();
     let mut token = 0usize;
     let mut before = item;
     let mut begun = None;
     while let Some(word) = left.next() {
-        if behind {
+        if is_past {
             for (byte, letter) in word.iter().enumerate() {
                 let begin = begun.unwrap_or(Spot { token, byte });
                 begun = Some(begin);
@@ -43,7 +43,7 @@ fn word_spot(proof: &Words, item: usize) -> Spot {
                 }
             }
         }
-        behind = behind || word == b")".as_slice();
+        is_past = is_past || word == b")".as_slice();
         token = token.saturating_add(1);
     }
     Spot { token, byte: 0 }
@@ -51,18 +51,18 @@ fn word_spot(proof: &Words, item: usize) -> Spot {
 
 /// Returns where the letter of that index stands, of all tokens after `)`; after the last token if there are fewer.
 pub(crate) fn letter_spot(proof: &Words, letter: usize) -> Spot {
-    let mut behind = false;
+    let mut is_past = false;
     let mut left = proof.iter();
     let mut token = 0usize;
     let mut byte = letter;
     while let Some(word) = left.next() {
-        if behind {
+        if is_past {
             if byte < word.len() {
                 return Spot { token, byte };
             }
             byte -= word.len();
         }
-        behind = behind || word == b")".as_slice();
+        is_past = is_past || word == b")".as_slice();
         token = token.saturating_add(1);
     }
     Spot { token, byte: 0 }

@@ -1,9 +1,9 @@
 //! Explains in words why a database is refused, with the place in the text.
 //!
-//! `explain_refusal` writes the lines of an explanation; it runs only after a refusal and reads the text again. The explanation
-//! rests on the clauses of `places`, `offence` and `explain`; the words have no contract. Read `explained_refusal`,
-//! `written_lines`, `text_fault`, `shape_fault`, `broken_rule` with `statement_symbols`; `proof` with `theorem`, `judged`,
-//! `item_spots`, `step_fault`, `expressions` and `code_break`.
+//! `explain_refusal` writes the lines of an explanation, at most 65,536 bytes; it runs only after a refusal and reads the
+//! text again. The explanation rests on the clauses of `places`, `offence` and `explain`; the words have no contract. Read
+//! `explained_refusal`, `written_lines`, `text_fault`, `shape_fault`, `broken_rule` with `statement_symbols`; `proof` with
+//! `theorem`, `judged`, `item_spots`, `step_fault`, `expressions` and `code_break`.
 #![tactic(auto)]
 
 mod broken_rule;
@@ -21,3 +21,4 @@ mod theorem;
 mod written_lines;
 
 pub use explained_refusal::{DatabaseFault, explain_refusal};
+pub use written_lines::MOST_BYTES;

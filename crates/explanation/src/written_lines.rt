@@ -1,11 +1,19 @@
 //! The lines that are written.
 
+ghost use Rattle.std.specs.Prelude.{◌≤◌, length, IfOk};
+
 use itoa::Buffer;
 use mm_lex::Span;
 use places::line_and_column;
 use std::alloc::{AllocError, Global};
 
-/// The lines of an explanation, or nothing if an allocation failed: all that is pushed after that is dropped.
+/// The most bytes of an explanation.
+pub const MOST_BYTES: usize = 65_536;
+
+/// The last line of an explanation that has more bytes.
+const CUT: &[u8] = b"\n  the explanation is cut here: it has more than 65536 bytes\n";
+
+/// The lines of an explanation, or nothing if an allocation failed. Keeps one byte more than the most, and drops the rest.
 #[derive(Drop)]
 pub(crate) struct Page {
     lines: Vec<u8>,
@@ -20,11 +28,22 @@ impl Page {
         }
     }
 
-    /// Returns the lines, if memory sufficed for all of them.
-    pub(crate) fn into_lines(self) -> Result<Vec<u8>, AllocError> {
-        let Page { lines, is_refused } = self;
+    /// Returns the lines, at most 65,536 bytes. If more were pushed, the last line says so.
+    ///
+    /// Errors: an allocation failed.
+    pub(crate) fn into_lines(self) -> Result<Vec<u8>, AllocError>
+        ensures { IfOk result (λ lines. length lines.items ≤ MOST_BYTES) }
+    {
+        let Page {
+            mut lines,
+            is_refused,
+        } = self;
         if is_refused {
             return Err(AllocError);
+        }
+        if lines.len() > MOST_BYTES {
+            lines.truncate(MOST_BYTES - CUT.len());
+            lines.extend_from_slice(CUT)?;
         }
         Ok(lines)
     }
@@ -34,12 +53,16 @@ impl Page {
         self.is_refused = true;
     }
 
+    /// Appends words, or as much of them as fits; the rest is dropped.
     pub(crate) fn push(&mut self, words: &[u8]) {
-        if self.lines.extend_from_slice(words).is_err() {
+        let room = (MOST_BYTES + 1).saturating_sub(self.lines.len());
+        let kept = words.get(..room).unwrap_or(words);
+        if self.lines.extend_from_slice(kept).is_err() {
             self.refuse();
         }
     }
 
+    /// Appends a number in decimal.
     pub(crate) fn push_number(&mut self, number: usize) {
         let mut buffer = Buffer::new();
         self.push(buffer.format(number).as_bytes());

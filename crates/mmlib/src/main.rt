@@ -1,7 +1,8 @@
-//! `mmlib`: formal mathematics in the Metamath language. The program's arguments and streams; crate `program` says what it does.
+//! `mmlib`: formal mathematics in the Metamath language. The program's arguments and streams; crate
+//! `program` says what it does.
 #![tactic(auto)]
 
-use program::{print, print_no_memory, run};
+use program::{Fault, print, run};
 use std::alloc::{AllocError, Global};
 use std::process::ExitCode;
 use std::{env, io};
@@ -18,15 +19,20 @@ fn main(rt: HostRuntime) -> ExitCode {
                 &mut output,
                 &mut faults,
             ),
-            Err(AllocError) => print_no_memory(&mut output),
+            Err(AllocError) => Fault::from(AllocError).print(&mut output),
         },
-        Err(error) if error.kind() == io::ErrorKind::OutOfMemory => { print_no_memory(&mut output) }
-        Err(_) => print(&mut faults, b"error: the arguments are no text\n", 2),
+        Err(error) if error.kind() == io::ErrorKind::OutOfMemory => {
+            Fault::from(AllocError).print(&mut output)
+        }
+        Err(_) => match print(&mut faults, b"error: the arguments are no text\n") {
+            Ok(()) => 2,
+            Err(_) => 1,
+        },
     };
     ExitCode::from(status)
 }
 
-/// The arguments, without the program's own name.
+/// Returns the arguments, without the program's own name.
 fn arguments(rt: &HostRuntime) -> io::Result<Vec<String>> {
     let mut words = Vec::new(rt.alloc());
     for word in env::args(rt)?.skip(1) {
@@ -35,6 +41,7 @@ fn arguments(rt: &HostRuntime) -> io::Result<Vec<String>> {
     Ok(words)
 }
 
+/// Returns the arguments as words.
 fn as_words<'a>(alloc: Global, arguments: &'a [String]) -> Result<Vec<&'a str>, AllocError> {
     let mut words = Vec::new(alloc);
     for argument in arguments {

@@ -1,4 +1,4 @@
--- What a desk does is an event of the switch: the call under the lock says so.
+-- Each change by a desk is an event of the switch: the call under the lock says so.
 use Rattle.nodes.proofs.Words.{◌≡◌, ℕ, List, [], ◌∷◌, ◌++◌, Result, Ok, Err, refl, sym, subst, IfErr, IsErrAnd, Event, Deliver, StepFault, SwitchView, Plays, Carried, carried_size, AnswersAs, DeliversAll}
 
 -- A fault that `?` hands on.
@@ -6,7 +6,7 @@ pub handed : {A : Type 0} (P : StepFault → Type 0) (r : Result A StepFault) (f
 handed P (Err f) fault same p = subst P (sym same) p
 handed P (Ok x) fault same p = elim same [ ]
 
--- the same of the fault of an event
+-- a fault of an event that `?` hands on
 pub answers_err : {A : Type 0} (old new : SwitchView Carried) (e : Event Carried) (r : Result A StepFault) (fault : StepFault) → IsErrAnd r (λ f. f ≡ fault) → Plays carried_size old new e (Err fault) → AnswersAs old new e r
 answers_err old new e (Err f) fault same p = subst (λ (x : StepFault). Plays carried_size old new e (Err x)) (sym same) p
 answers_err old new e (Ok x) fault same p = elim same [ ]

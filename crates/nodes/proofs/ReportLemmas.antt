@@ -1,4 +1,4 @@
--- What a report counts: one event more.
+-- The counts of a report, with one event more.
 use Rattle.nodes.proofs.Words.{◌≡◌, ℕ, zero, suc, ◌+◌, ◌*◌, ◌<◌, ◌≤◌, ◌==◌, nat_lt, Bool, true, false, List, [], ◌∷◌, ◌++◌, length, get_or, set, take, replicate, sum, Option, Some, None, Result, Ok, Err, refl, sym, ap, ◌∙◌, arith, if◌then◌else◌, IsOk, ForOk, nat_tests, take_more, sum_by-replicate}
 use Rattle.nodes.proofs.Words.{World, Event, StepFault, node_of, SwitchView, world_of, Carried, carried_size, is_own, own_events, own_counts, with_one, IsReport}
 

@@ -84,12 +84,13 @@ impl<G: Gate, K: Keep<Carried>> Desk<G, K> {
             let Ok(lock) = self.shared.cell(k) else {
                 return Err(self.shared.switch.lock(rt).without_node());
             };
-            let mut cell = lock.lock(rt);
-            if cell.at() != k {
+            let mut node = lock.lock(rt);
+            if node.cell.at() != k {
                 return Err(StepFault::Apart);
             }
+            node.try_at_once();
             let mut switch = self.shared.switch.lock(rt);
-            switch.restart(self.shared.alloc, &mut cell, others)?
+            switch.restart(self.shared.alloc, &mut node.cell, others)?
         };
         self.shared.send(rt, &hints);
         Ok(())
@@ -103,11 +104,11 @@ impl<G: Gate, K: Keep<Carried>> Desk<G, K> {
         ensures no_node { self.now ≤ k → result ≡ Err NoNode }
         ensures only_memory { k < self.now → IfErr result (λ fault. (fault ≡ Apart) ⊎ (fault ≡ Memory)) }
     {
-        let cell = self.shared.cell(k)?.lock(rt);
-        if cell.at() != k {
+        let node = self.shared.cell(k)?.lock(rt);
+        if node.cell.at() != k {
             return Err(StepFault::Apart);
         }
-        Ok(list_on(&cell)?)
+        Ok(list_on(&node.cell)?)
     }
 
     /// Returns the verdict of node `k`'s library on the author's entry of that serial number, if it is decided there.
@@ -124,11 +125,11 @@ impl<G: Gate, K: Keep<Carried>> Desk<G, K> {
         ensures no_node { self.now ≤ k → result ≡ Err NoNode }
         ensures only_apart { k < self.now → IsOkUnless result Apart }
     {
-        let cell = self.shared.cell(k)?.lock(rt);
-        if cell.at() != k {
+        let node = self.shared.cell(k)?.lock(rt);
+        if node.cell.at() != k {
             return Err(StepFault::Apart);
         }
-        Ok(cell.library().status(author, serial))
+        Ok(node.cell.library().status(author, serial))
     }
 
     /// Tells which of two nodes has the library with more statements.

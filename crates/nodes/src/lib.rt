@@ -4,14 +4,15 @@
 //! history, or applies one entry to its own library. A call that waits for a lock promises nothing but if it returns; the type of
 //! a `Report` keeps that its counts add up.
 //!
-//! Read `weather`, `shared_switch` (what the switch's lock guards), `shared_nodes` (the locks), `node_loop` (a node's thread), then
-//! `node_threads`, `desk` and `report`.
+//! Read `weather`, `shared_switch` and `shared_cell` (what the switch's and a node's lock guard), `shared_nodes` (the locks),
+//! `node_loop` (a node's thread), then `node_threads`, `desk` and `report`.
 #![tactic(auto)]
 
 mod desk;
 mod node_loop;
 mod node_threads;
 mod report;
+mod shared_cell;
 mod shared_nodes;
 mod shared_switch;
 mod weather;

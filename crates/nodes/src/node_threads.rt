@@ -11,6 +11,7 @@ ghost use Rattle.nodes.specs.Report.{IsReport};
 use crate::desk::Desk;
 use crate::node_loop::run_node;
 use crate::report::{Report, count_events};
+use crate::shared_cell::SharedCell;
 use crate::shared_nodes::SharedNodes;
 use crate::shared_switch::SharedSwitch;
 use crate::weather::Weather;
@@ -118,12 +119,12 @@ fn share<G: Gate + Drop, K: Keep<Carried>>(
 }
 
 /// Makes a lock for each cell.
-fn locks(alloc: Global, cells: Vec<NodeCell>) -> Result<Vec<Mutex<NodeCell>>, AllocError>
+fn locks(alloc: Global, cells: Vec<NodeCell>) -> Result<Vec<Mutex<SharedCell>>, AllocError>
     ensures { IfOk result (λ locks. vec_len locks ≡ vec_len cells) }
 {
     let mut locks = Vec::new(alloc);
     for cell in cells {
-        locks.push(Mutex::new(cell))?;
+        locks.push(Mutex::new(SharedCell::new(cell)))?;
     }
     Ok(locks)
 }

@@ -4,6 +4,7 @@ ghost use Rattle.cluster.specs.Belongs.{Belongs};
 ghost use Rattle.net.specs.declared.fault.StepFault.TheVariants.{NoNode, Apart};
 ghost use Rattle.nodes.specs.Desk.{IsCompared};
 
+use crate::shared_cell::SharedCell;
 use crate::shared_switch::{Hint, SharedSwitch};
 use cluster::{Ahead, NodeCell, Switch, apply_on_with, belongs, compare_on, take_on};
 use crossbeam_channel::Sender;
@@ -24,7 +25,7 @@ pub(crate) struct SharedNodes<G: Gate, K: Keep<Carried>> {
     pub workers: Workers,
     pub gate: Arc<G>,
     pub switch: Mutex<SharedSwitch<K>>,
-    pub cells: Vec<Mutex<NodeCell>>,
+    pub cells: Vec<Mutex<SharedCell>>,
     /// The sending ends of the nodes' channels; none once the cluster is stopped.
     pub senders: Mutex<Vec<Sender<u64>>>,
 }
@@ -36,7 +37,7 @@ impl<G: Gate, K: Keep<Carried>> SharedNodes<G, K> {
     }
 
     /// Returns the lock of node `k`.
-    pub fn cell(&self, k: u8) -> Result<&Mutex<NodeCell>, StepFault>
+    pub fn cell(&self, k: u8) -> Result<&Mutex<SharedCell>, StepFault>
         ensures found { k < vec_len self.now.cells → IsOk result }
         ensures no_node { vec_len self.now.cells ≤ k → result ≡ Err NoNode }
     {
@@ -57,7 +58,7 @@ impl<G: Gate, K: Keep<Carried>> SharedNodes<G, K> {
     }
 
     /// Delivers packets at node `k` one after another, takes over what its log has then, sends the hints of their posts, and applies.
-    /// Where an allocation fails, an entry is taken over or applied at a later hint.
+    /// Where an allocation fails, an entry is taken over at a later hint, and applied at a later one of those at which it is due.
     pub fn handle<R: Threads + Wait + Sync>(&self, rt: &R, k: u8, packets: &[u64])
     where
         G: Sync,
@@ -65,31 +66,35 @@ impl<G: Gate, K: Keep<Carried>> SharedNodes<G, K> {
         let Ok(lock) = self.cell(k) else {
             return;
         };
-        let mut cell = lock.lock(rt);
+        let mut node = lock.lock(rt);
         let hints = {
             let mut switch = self.switch.lock(rt);
             let hints = switch.deliver_all(self.alloc, packets);
-            take_all(&mut cell, &switch.switch);
+            take_all(&mut node.cell, &switch.switch);
             hints
         };
         self.send(rt, &hints);
-        self.apply_all(rt, &mut cell, k);
+        if node.is_due(packets.len()) {
+            self.apply_all(rt, &mut node, k);
+        }
     }
 
-    /// Applies the entries taken over one by one, and passes the gate before each.
-    fn apply_all<R: Threads + Sync>(&self, rt: &R, cell: &mut NodeCell, k: u8)
+    /// Applies the entries taken over one by one, and passes the gate before each. Postpones the entry for which an allocation fails.
+    fn apply_all<R: Threads + Sync>(&self, rt: &R, node: &mut SharedCell, k: u8)
     where
         G: Sync,
     {
         let gate: &G = &self.gate;
         for _entry in 0..SLOTS {
-            if !cell.is_behind() {
+            if !node.cell.is_behind() {
                 break;
             }
             gate.pass(Place::Apply(k));
-            if apply_on_with(rt, cell, self.workers, gate).is_err() {
+            if apply_on_with(rt, &mut node.cell, self.workers, gate).is_err() {
+                node.postpone();
                 break;
             }
+            node.try_at_once();
         }
     }
 
@@ -101,8 +106,8 @@ impl<G: Gate, K: Keep<Carried>> SharedNodes<G, K> {
         let one = self.cell(low)?.lock(rt);
         let other = self.cell(high)?.lock(rt);
         let shared = self.switch.lock(rt);
-        if is_at(&one, low, &shared.switch) && is_at(&other, high, &shared.switch) {
-            Ok(compare_on(&one, &other, &shared.switch))
+        if is_at(&one.cell, low, &shared.switch) && is_at(&other.cell, high, &shared.switch) {
+            Ok(compare_on(&one.cell, &other.cell, &shared.switch))
         } else {
             Err(StepFault::Apart)
         }

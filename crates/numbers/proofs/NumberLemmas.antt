@@ -6,12 +6,12 @@ use Rattle.std.proofs.lemmas.Bool.{lt-ltb, le-ltb}
 use Rattle.std.proofs.lemmas.List.{drop_all}
 use Rattle.numbers.specs.Numbers.{number_from}
 
--- a test that leads to nothing on both arms
+-- a test with `None` on both arms
 none_then : (b : Bool) (x : Option ℕ) → (b ≡ true → x ≡ None) → (if b then x else None) ≡ None
 none_then true x h = h refl
 none_then false x h = refl
 
--- what has reached the limit stays no number
+-- a value at the limit or above is no number, whatever digits follow
 too_large : (cs : List ℕ) (value : ℕ) → 2 ^ 64 ≤ value → number_from value cs ≡ None
 too_large [] value large = rw (le-ltb value (2 ^ 64) large) refl
 too_large (c ∷ cs) value large = none_then (is_ascii_digit c) (number_from (value * 10 + (c - 48)) cs) (λ digit. too_large cs (value * 10 + (c - 48)) (omega arith))

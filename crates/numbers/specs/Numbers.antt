@@ -1,15 +1,15 @@
 -- Decimal numbers, as a script and a command line write them.
--- Source: positional notation; leading zeros are allowed, a sign is none of it.
+-- Source: positional notation; leading zeros are allowed, a sign is not.
 -- The code reads the digits once, and stops where the value no longer fits; here they are all read.
 use Rattle.std.specs.Prelude.{ℕ, ◌+◌, ◌-◌, ◌*◌, ◌^◌, nat_lt, List, [], ◌∷◌, Option, Some, None, if◌then◌else◌}
 use Rattle.std.specs.Char.{is_ascii_digit}
 
--- the number of these digits behind those of a value, where it is below 2^64
+-- the value with these digits after its own, if the result is below 2^64
 abbrev pub number_from : ℕ → List ℕ → Option ℕ
 number_from value [] = if nat_lt value (2 ^ 64) then Some value else None
 number_from value (c ∷ cs) = if is_ascii_digit c then number_from (value * 10 + (c - 48)) cs else None
 
--- the number that a word writes: digits alone, at least one, of a value below 2^64
+-- the number of a word: digits alone, at least one, of a value below 2^64
 abbrev pub number_of : List ℕ → Option ℕ
 number_of [] = None
 number_of (c ∷ cs) = number_from 0 (c ∷ cs)

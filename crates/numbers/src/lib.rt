@@ -1,6 +1,6 @@
-//! Decimal numbers, as a script and a command line write them.
+//! Decimal numbers: read from a word, and appended to a text.
 #![tactic(auto)]
 
 mod number;
 
-pub use number::parse_number;
+pub use number::{parse_number, push_number};

@@ -1,9 +1,14 @@
 //! Decimal numbers.
-ghost use Rattle.std.specs.Prelude.{◌≡◌, ◌+◌, ◌-◌, ◌*◌, ◌^◌, ◌<◌, ◌≤◌, true, MatchOption};
+ghost use Rattle.std.specs.Prelude.{◌≡◌, ◌+◌, ◌-◌, ◌*◌, ◌^◌, ◌<◌, ◌≤◌, ◌++◌, true, decimal};
+ghost use Rattle.std.specs.Prelude.{MatchOption, OnOk};
 ghost use Rattle.std.specs.Char.{is_ascii_digit};
 ghost use Rattle.numbers.specs.Numbers.{number_of};
 
-/// The number that the word writes: decimal digits alone, at least one, of a value below 2^64.
+use itoa::Buffer;
+use std::alloc::AllocError;
+
+/// Parses a word of decimal digits. Returns `None` if the word is empty, has another byte, or its
+/// value is 2^64 or more. Leading zeros are allowed; a sign is not.
 pub fn parse_number(word: &[u8]) -> Option<u64>
     ensures { result ≡ number_of word.now }
 {
@@ -20,12 +25,25 @@ pub fn parse_number(word: &[u8]) -> Option<u64>
     Some(value)
 }
 
-/// The value with one digit more, where it is one and the value is below 2^64.
+/// Appends a digit to a value. Returns `None` if the byte is no digit or the result does not fit.
 fn with_digit(value: u64, digit: u8) -> Option<u64>
-    ensures { MatchOption result (is_ascii_digit digit ≡ true → 2 ^ 64 ≤ value * 10 + (digit - 48)) (λ longer. (is_ascii_digit digit ≡ true) × (longer ≡ value * 10 + (digit - 48)) × (longer < 2 ^ 64)) }
+    ensures { MatchOption result
+        (is_ascii_digit digit ≡ true → 2 ^ 64 ≤ value * 10 + (digit - 48))
+        (λ longer. (is_ascii_digit digit ≡ true)
+        × (longer ≡ value * 10 + (digit - 48)) × (longer < 2 ^ 64)) }
 {
     if !digit.is_ascii_digit() {
         return None;
     }
     value.checked_mul(10)?.checked_add(u64::from(digit - b'0'))
+}
+
+/// Appends the digits of a number, without leading zeros.
+///
+/// Errors: an allocation fails; what is in the text then is not specified.
+pub fn push_number(text: &mut Vec<u8>, number: u64) -> Result<(), AllocError>
+    ensures { OnOk result (text.new.items ≡ text.old.items ++ decimal number) }
+{
+    let mut digits = Buffer::new();
+    text.extend_from_slice(digits.format(number).as_bytes())
 }

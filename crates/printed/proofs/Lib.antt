@@ -1,1 +1,3 @@
 mod TreesLemmas
+mod PrintedNumbers
+mod Rows

@@ -1,6 +1,6 @@
--- What the program prints of packets, verdicts and libraries.
+-- The texts that the program prints of packets, verdicts and libraries.
 -- Source: this project's own forms; a ballot is written round first (Lamport, Paxos Made Simple, 2.2, orders them so).
--- The code adds each text to the end of the answer.
+-- The code appends each text to the answer.
 use Rattle.std.specs.Prelude.{ℕ, ◌==◌, List, [], ◌++◌, length, codes, decimal, flat_map, Option, Some, None, if◌then◌else◌}
 use Rattle.mm_read.specs.Statements.{Database}
 use Rattle.mm_read.specs.Export.{export_of}
@@ -18,7 +18,8 @@ use Rattle.synod.specs.declared.packet.Body.{Body}
 use Rattle.synod.specs.declared.packet.Body.TheVariants.{Prepare, Promise, Accept, Accepted, Nack, Ask, Told}
 use Rattle.world.specs.declared.carried.Carried.{Carried}
 use Rattle.world.specs.Carried.{entry_of}
-use Rattle.outline.specs.Outline.{rule_text}
+use Rattle.scope.specs.declared.rule.Rule.{Rule as BrokenRule}
+use Rattle.scope.specs.declared.rule.Rule.TheVariants.{G1, G2, G3, G4, G5, G6, G7, G8, G9, G10, Memory}
 
 -- a ballot R.N
 abbrev pub ballot_text : Ballot → List ℕ
@@ -32,7 +33,7 @@ entry_text (Some entry) = decimal (author_of entry) ++ codes "/" ++ decimal (ser
 abbrev pub report_text : SlotReport Carried → List ℕ
 report_text r = codes " " ++ decimal r.slot ++ codes "@" ++ ballot_text r.ballot
 
--- which page it is, where there are more than one
+-- the number of the page, if there are more than one
 abbrev pub page_text : ℕ → ℕ → List ℕ
 page_text page count = if count == 1 then [] else (codes " page " ++ decimal page ++ codes " of " ++ decimal count)
 
@@ -53,7 +54,21 @@ body_text (Told slot value) = codes "told " ++ decimal slot ++ codes " " ++ entr
 abbrev pub packet_text : Packet Carried → List ℕ
 packet_text p = decimal p.from ++ codes ">" ++ decimal p.to ++ codes " " ++ body_text p.body
 
--- a cause of refusal: its code, then the statement and the rule where it has them
+-- the name of a rule
+abbrev pub rule_text : BrokenRule → List ℕ
+rule_text G1 = codes "G1"
+rule_text G2 = codes "G2"
+rule_text G3 = codes "G3"
+rule_text G4 = codes "G4"
+rule_text G5 = codes "G5"
+rule_text G6 = codes "G6"
+rule_text G7 = codes "G7"
+rule_text G8 = codes "G8"
+rule_text G9 = codes "G9"
+rule_text G10 = codes "G10"
+rule_text Memory = []
+
+-- a cause of refusal: its code, then the statement and the rule if it has them
 abbrev pub cause_text : Cause → List ℕ
 cause_text TooLong = codes "C1"
 cause_text Text = codes "C2"

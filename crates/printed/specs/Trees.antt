@@ -1,6 +1,6 @@
--- What the program prints of derivations, and of the labels that a proof rests on.
+-- The texts that the program prints of derivations, and of labels.
 -- Source: this project's own forms; a derivation is a tree (Metamath, 4.2.6).
--- The code walks the tree once, and adds each line to the end of the answer.
+-- The code walks the tree once, and appends each line to the answer.
 use Rattle.std.specs.Prelude.{ℕ, ◌+◌, List, [], ◌++◌, codes, decimal}
 use Rattle.mm_lex.specs.Alphabet.{Name}
 use Rattle.mm_read.specs.Statements.{Database}

@@ -1,27 +1,28 @@
-//! What the lines of a script answer: each call adds an answer to a text, with its line feeds.
-ghost use Rattle.std.specs.Prelude.{◌≡◌, ◌++◌, codes, decimal, length, flat_map, option_map, OnOk};
+//! The answers to lines of a script, with their line feeds.
+ghost use Rattle.std.specs.Prelude.{◌≡◌, ◌++◌, codes, decimal, flat_map, OnOk};
 ghost use Rattle.mm_read.specs.Statements.{AreShaped};
 ghost use Rattle.mm_read.specs.Export.{export_of};
 ghost use Rattle.library.specs.Listed.{listed};
-ghost use Rattle.printed.specs.Printed.{verdict_text, logged_text, log_text, listed_text, list_text, export_text};
+ghost use Rattle.printed.specs.Printed.{log_text, listed_text, list_text, export_text};
 
 use crate::packets::push_entry;
 use crate::verdict_text::push_verdict;
 use library::{Entry, Library, Listed, Verdict};
 use mm_read::{Stmt, push_line};
-use outline::push_number;
+use numbers::push_number;
 use std::alloc::AllocError;
 
-/// Adds `ok` and how many packets were posted so far.
+/// Appends `ok` and how many packets were posted so far.
 pub fn push_posted(text: &mut Vec<u8>, posted: u64) -> Result<(), AllocError>
-    ensures { OnOk result (text.new.items ≡ text.old.items ++ (codes "ok " ++ decimal posted ++ codes "\n")) }
+    ensures { OnOk result (text.new.items
+        ≡ text.old.items ++ (codes "ok " ++ decimal posted ++ codes "\n")) }
 {
     text.extend_from_slice(b"ok ")?;
     push_number(text, posted)?;
     text.extend_from_slice(b"\n")
 }
 
-/// Adds what was decided, or a word where nothing was.
+/// Appends the verdict, or a word if nothing was decided.
 pub fn push_decided(
     text: &mut Vec<u8>,
     verdict: Option<Verdict>,
@@ -34,7 +35,7 @@ pub fn push_decided(
     text.extend_from_slice(b"\n")
 }
 
-/// Adds a log: each entry, or `idle` for a no-operation.
+/// Appends a log: each entry, or `idle` for a no-operation.
 pub fn push_log(text: &mut Vec<u8>, log: &[Option<Entry>]) -> Result<(), AllocError>
     ensures { OnOk result (text.new.items ≡ text.old.items ++ (log_text log.now ++ codes "\n")) }
 {
@@ -45,15 +46,16 @@ pub fn push_log(text: &mut Vec<u8>, log: &[Option<Entry>]) -> Result<(), AllocEr
     text.extend_from_slice(b"\n")
 }
 
-/// Adds the assertions of a library.
+/// Appends the assertions of a library.
 pub fn push_library(text: &mut Vec<u8>, library: &Library) -> Result<(), AllocError>
-    ensures { OnOk result (text.new.items ≡ text.old.items ++ list_text (listed library.now.replica.statements)) }
+    ensures { OnOk result (text.new.items
+        ≡ text.old.items ++ list_text (listed library.now.replica.statements)) }
 {
     let list = library.list()?;
     push_list(text, list.as_slice())
 }
 
-/// Adds these assertions: their count, and a line for each.
+/// Appends the count of the assertions, and a line for each.
 pub fn push_list(text: &mut Vec<u8>, list: &[Listed]) -> Result<(), AllocError>
     ensures { OnOk result (text.new.items ≡ text.old.items ++ list_text list.now) }
 {
@@ -63,7 +65,7 @@ pub fn push_list(text: &mut Vec<u8>, list: &[Listed]) -> Result<(), AllocError>
     push_assertions(text, list)
 }
 
-/// Adds a line for each of these assertions.
+/// Appends a line for each assertion.
 pub fn push_assertions(text: &mut Vec<u8>, list: &[Listed]) -> Result<(), AllocError>
     ensures { OnOk result (text.new.items ≡ text.old.items ++ flat_map listed_text list.now) }
 {
@@ -73,6 +75,7 @@ pub fn push_assertions(text: &mut Vec<u8>, list: &[Listed]) -> Result<(), AllocE
     Ok(())
 }
 
+/// Appends the line of an assertion.
 fn push_listed(text: &mut Vec<u8>, assertion: &Listed) -> Result<(), AllocError>
     ensures { OnOk result (text.new.items ≡ text.old.items ++ listed_text assertion.now) }
 {
@@ -86,9 +89,10 @@ fn push_listed(text: &mut Vec<u8>, assertion: &Listed) -> Result<(), AllocError>
     text.extend_from_slice(b"\n")
 }
 
-/// Adds the statements of a library: their count, and the export form.
+/// Appends the count of the statements of a library, and their export form.
 pub fn push_export(text: &mut Vec<u8>, library: &Library) -> Result<(), AllocError>
-    ensures { OnOk result (text.new.items ≡ text.old.items ++ export_text library.now.replica.statements) }
+    ensures { OnOk result (text.new.items
+        ≡ text.old.items ++ export_text library.now.replica.statements) }
 {
     let statements = library.statements();
     text.extend_from_slice(b"export ")?;
@@ -97,6 +101,7 @@ pub fn push_export(text: &mut Vec<u8>, library: &Library) -> Result<(), AllocErr
     push_lines(text, statements)
 }
 
+/// Appends the export form of statements.
 fn push_lines(text: &mut Vec<u8>, statements: &[Stmt]) -> Result<(), AllocError>
     requires { AreShaped statements.now }
     ensures { OnOk result (text.new.items ≡ text.old.items ++ export_of statements.now) }

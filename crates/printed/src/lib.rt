@@ -1,11 +1,16 @@
-//! What the program prints of packets, verdicts, libraries and derivations: each call adds a text to the end of an answer.
+//! The texts that the program prints of databases, verdicts, packets, libraries and derivations.
+//! Each `push_` call appends a text to an answer.
 //!
-//! The crate above uses the clause of each call, which gives exactly the text of `specs/Printed` or `specs/Trees`.
+//! The crate above uses the clause of each call, which gives exactly the text of `specs/Printed`,
+//! `specs/Trees` or `specs/Outline`.
 //!
-//! Reading order: `verdict_text`, `packets`, `answers` (logs, lists and exports), `tree_text`.
+//! Reading order: `verdict_text`, `packets`, `answers` (logs, lists and exports), `tree_text`;
+//! `broken_rules` (the first statement of a database that breaks a rule) and `outline`.
 #![tactic(auto)]
 
 mod answers;
+mod broken_rules;
+mod outline;
 mod packets;
 mod tree_text;
 mod verdict_text;
@@ -13,6 +18,8 @@ mod verdict_text;
 pub use answers::{
     push_assertions, push_decided, push_export, push_library, push_list, push_log, push_posted,
 };
+pub use broken_rules::first_broken_rule;
+pub use outline::outline_text;
 pub use packets::push_packet;
 pub use tree_text::{push_labels, push_tree};
 pub use verdict_text::push_verdict;

@@ -1,15 +1,16 @@
-//! Packets and entries as the program prints them: each call adds a text to the end of an answer.
+//! Packets and entries.
 ghost use Rattle.std.specs.Prelude.{◌≡◌, ◌++◌, codes, decimal, flat_map, option_map, OnOk};
 ghost use Rattle.world.specs.Carried.{entry_of};
-ghost use Rattle.printed.specs.Printed.{ballot_text, entry_text, report_text, page_text, vote_text, body_text, packet_text};
+ghost use Rattle.printed.specs.Printed.{ballot_text, entry_text, report_text, page_text};
+ghost use Rattle.printed.specs.Printed.{vote_text, body_text, packet_text};
 
 use library::Entry;
-use outline::push_number;
+use numbers::push_number;
 use std::alloc::AllocError;
 use synod::{Ballot, Body, Packet, SlotReport};
 use world::Carried;
 
-/// Adds `FROM>TO`, a space, and what the packet says.
+/// Appends `FROM>TO`, a space, and the body of the packet.
 pub fn push_packet(text: &mut Vec<u8>, packet: &Packet<Carried>) -> Result<(), AllocError>
     ensures { OnOk result (text.new.items ≡ text.old.items ++ packet_text packet.now) }
 {
@@ -20,6 +21,7 @@ pub fn push_packet(text: &mut Vec<u8>, packet: &Packet<Carried>) -> Result<(), A
     push_body(text, &packet.body)
 }
 
+/// Appends the name of the body and its values.
 fn push_body(text: &mut Vec<u8>, body: &Body<Carried>) -> Result<(), AllocError>
     ensures { OnOk result (text.new.items ≡ text.old.items ++ body_text body.now) }
 {
@@ -74,7 +76,7 @@ fn push_body(text: &mut Vec<u8>, body: &Body<Carried>) -> Result<(), AllocError>
     }
 }
 
-/// Adds which page it is, where there are more than one.
+/// Appends the number of the page, if there are more than one.
 fn push_page(text: &mut Vec<u8>, page: u32, count: u32) -> Result<(), AllocError>
     ensures { OnOk result (text.new.items ≡ text.old.items ++ page_text page count) }
 {
@@ -87,6 +89,7 @@ fn push_page(text: &mut Vec<u8>, page: u32, count: u32) -> Result<(), AllocError
     push_number(text, u64::from(count))
 }
 
+/// Appends the reports of a promise.
 fn push_reports(text: &mut Vec<u8>, reports: &[SlotReport<Carried>]) -> Result<(), AllocError>
     ensures { OnOk result (text.new.items ≡ text.old.items ++ flat_map report_text reports.now) }
 {
@@ -96,7 +99,7 @@ fn push_reports(text: &mut Vec<u8>, reports: &[SlotReport<Carried>]) -> Result<(
     Ok(())
 }
 
-/// Adds a space and `SLOT@R.N`.
+/// Appends a space and `SLOT@R.N`.
 fn push_report(text: &mut Vec<u8>, report: &SlotReport<Carried>) -> Result<(), AllocError>
     ensures { OnOk result (text.new.items ≡ text.old.items ++ report_text report.now) }
 {
@@ -105,7 +108,7 @@ fn push_report(text: &mut Vec<u8>, report: &SlotReport<Carried>) -> Result<(), A
     push_ballot(text, report.ballot)
 }
 
-/// Adds a ballot, a slot and a value.
+/// Appends a ballot, a slot and a value.
 fn push_vote(
     text: &mut Vec<u8>,
     ballot: Ballot,
@@ -119,9 +122,10 @@ fn push_vote(
     push_value(text, value)
 }
 
-/// Adds a space and the value.
+/// Appends a space and the value.
 fn push_value(text: &mut Vec<u8>, value: &Option<Carried>) -> Result<(), AllocError>
-    ensures { OnOk result (text.new.items ≡ text.old.items ++ (codes " " ++ entry_text (entry_of value.now))) }
+    ensures { OnOk result (text.new.items
+        ≡ text.old.items ++ (codes " " ++ entry_text (entry_of value.now))) }
 {
     match value {
         Some(Carried(entry)) => push_entry(text, Some(entry)),
@@ -129,9 +133,10 @@ fn push_value(text: &mut Vec<u8>, value: &Option<Carried>) -> Result<(), AllocEr
     }
 }
 
-/// Adds a space and `AUTHOR/SERIAL`, or `idle` for a no-operation.
+/// Appends a space and `AUTHOR/SERIAL`, or `idle` for a no-operation.
 pub fn push_entry(text: &mut Vec<u8>, entry: Option<&Entry>) -> Result<(), AllocError>
-    ensures { OnOk result (text.new.items ≡ text.old.items ++ (codes " " ++ entry_text (option_map (λ e. e.now) entry.entry))) }
+    ensures { OnOk result (text.new.items
+        ≡ text.old.items ++ (codes " " ++ entry_text (option_map (λ e. e.now) entry.entry))) }
 {
     match entry {
         Some(entry) => {
@@ -144,7 +149,7 @@ pub fn push_entry(text: &mut Vec<u8>, entry: Option<&Entry>) -> Result<(), Alloc
     }
 }
 
-/// Adds `R.N`.
+/// Appends `R.N`.
 fn push_ballot(text: &mut Vec<u8>, ballot: Ballot) -> Result<(), AllocError>
     ensures { OnOk result (text.new.items ≡ text.old.items ++ ballot_text ballot) }
 {
@@ -153,7 +158,7 @@ fn push_ballot(text: &mut Vec<u8>, ballot: Ballot) -> Result<(), AllocError>
     push_number(text, u64::from(ballot.node))
 }
 
-/// Adds a space and the slot.
+/// Appends a space and the slot.
 fn push_slot(text: &mut Vec<u8>, slot: u32) -> Result<(), AllocError>
     ensures { OnOk result (text.new.items ≡ text.old.items ++ (codes " " ++ decimal slot)) }
 {

@@ -1,4 +1,4 @@
-//! Derivations and labels as the program prints them: each call adds a text to the end of an answer.
+//! Derivations and labels.
 ghost use Rattle.std.specs.Prelude.{◌≡◌, ◌+◌, ◌++◌, flat_map, option_map, IfOk, OnOk};
 ghost use Rattle.scope.specs.Active.{stmt_at, label_of};
 ghost use Rattle.verify.specs.Derivations.{derivation_of};
@@ -7,19 +7,20 @@ ghost use Rattle.printed.specs.Trees.{label_line, node_line, tree_lines};
 
 use mm_lex::Word;
 use mm_read::Stmt;
-use outline::push_number;
+use numbers::push_number;
 use std::alloc::AllocError;
 use verify::Tree;
 
-/// Adds a line for each node of a derivation over these statements, parents before children, children in order: its depth,
-/// a space, its label. The first node has the depth that is given.
+/// Appends a line for each node of a derivation over these statements, parents before children,
+/// children in order: its depth, a space, its label. The first node has the depth that is given.
 pub fn push_tree(
     text: &mut Vec<u8>,
     statements: &[Stmt],
     tree: &Tree,
     depth: u64,
 ) -> Result<(), AllocError>
-    ensures { OnOk result (text.new.items ≡ text.old.items ++ tree_lines statements.now depth (derivation_of tree.now)) }
+    ensures { OnOk result (text.new.items
+        ≡ text.old.items ++ tree_lines statements.now depth (derivation_of tree.now)) }
 {
     match tree {
         Tree::Hyp(at) => push_node(text, statements, *at, depth),
@@ -34,14 +35,14 @@ pub fn push_tree(
     }
 }
 
-/// The depth of the children of a node. No derivation that is given out lies so deep that it has none.
+/// Returns the depth of the children of a node, which every derivation of a library has.
 fn depth_below(depth: u64) -> Result<u64, AllocError>
     ensures { IfOk result (λ below. below ≡ depth + 1) }
 {
     depth.checked_add(1).ok_or(AllocError)
 }
 
-/// Adds the depth, a space, and the label of the statement at a position.
+/// Appends the depth, a space, and the label of the statement at a position.
 fn push_node(
     text: &mut Vec<u8>,
     statements: &[Stmt],
@@ -56,40 +57,34 @@ fn push_node(
     text.extend_from_slice(b"\n")
 }
 
-/// Adds the label of the statement at a position, where it has one.
+/// Appends the label of the statement at a position, if it has one.
 fn push_label_at(text: &mut Vec<u8>, statements: &[Stmt], at: usize) -> Result<(), AllocError>
-    ensures { OnOk result (text.new.items ≡ text.old.items ++ label_or_none (stmt_at statements.now at)) }
+    ensures { OnOk result (text.new.items
+        ≡ text.old.items ++ label_or_none (stmt_at statements.now at)) }
 {
-    if at == 0 {
-        return Ok(());
+    if at > 0
+        && let Some(statement) = statements.get(at - 1)
+        && let Some(label) = label(statement)
+    {
+        return text.extend_from_slice(label.as_bytes());
     }
-    match statements.get(at - 1) {
-        Some(statement) => match label(statement) {
-            Some(label) => text.extend_from_slice(label.as_bytes()),
-            None => Ok(()),
-        },
-        None => Ok(()),
-    }
+    Ok(())
 }
 
-/// The label of a statement, where it has one.
+/// Returns the label of a statement, if it has one.
 fn label(statement: &Stmt) -> Option<&Word>
     ensures { option_map (λ label. label.now) result ≡ label_of statement.now }
 {
     match statement {
-        Stmt::Float { label, .. } => Some(label),
-        Stmt::Ess { label, .. } => Some(label),
-        Stmt::Axiom { label, .. } => Some(label),
-        Stmt::Prove { label, .. } => Some(label),
-        Stmt::Open => None,
-        Stmt::Close => None,
-        Stmt::Const(_) => None,
-        Stmt::Var(_) => None,
-        Stmt::Disj(_) => None,
+        Stmt::Float { label, .. }
+        | Stmt::Ess { label, .. }
+        | Stmt::Axiom { label, .. }
+        | Stmt::Prove { label, .. } => Some(label),
+        Stmt::Open | Stmt::Close | Stmt::Const(_) | Stmt::Var(_) | Stmt::Disj(_) => None,
     }
 }
 
-/// Adds a line for each label.
+/// Appends a line for each label.
 pub fn push_labels(text: &mut Vec<u8>, labels: &[Word]) -> Result<(), AllocError>
     ensures { OnOk result (text.new.items ≡ text.old.items ++ flat_map label_line labels.now) }
 {
@@ -99,6 +94,7 @@ pub fn push_labels(text: &mut Vec<u8>, labels: &[Word]) -> Result<(), AllocError
     Ok(())
 }
 
+/// Appends a label and a line feed.
 fn push_label(text: &mut Vec<u8>, label: &Word) -> Result<(), AllocError>
     ensures { OnOk result (text.new.items ≡ text.old.items ++ label_line label.now) }
 {

@@ -1,12 +1,13 @@
-//! Verdicts and their causes as the program prints them.
+//! Verdicts and their causes.
 ghost use Rattle.std.specs.Prelude.{◌≡◌, ◌++◌, decimal, OnOk};
-ghost use Rattle.printed.specs.Printed.{cause_text, verdict_text};
+ghost use Rattle.printed.specs.Printed.{cause_text, rule_text, verdict_text};
 
 use library::{Cause, Verdict};
-use outline::{printed_rule, push_number};
+use numbers::push_number;
+use scope::Rule;
 use std::alloc::AllocError;
 
-/// Adds the verdict; of a refusal the cause too.
+/// Appends the verdict, with the cause of a refusal.
 pub fn push_verdict(text: &mut Vec<u8>, verdict: Verdict) -> Result<(), AllocError>
     ensures { OnOk result (text.new.items ≡ text.old.items ++ verdict_text verdict) }
 {
@@ -21,7 +22,7 @@ pub fn push_verdict(text: &mut Vec<u8>, verdict: Verdict) -> Result<(), AllocErr
     }
 }
 
-/// Adds the cause's code, then the statement and the rule where it has them.
+/// Appends the code of a cause, with its statement and rule if it has them.
 fn push_cause(text: &mut Vec<u8>, cause: Cause) -> Result<(), AllocError>
     ensures { OnOk result (text.new.items ≡ text.old.items ++ cause_text cause) }
 {
@@ -29,21 +30,40 @@ fn push_cause(text: &mut Vec<u8>, cause: Cause) -> Result<(), AllocError>
         Cause::TooLong => text.extend_from_slice(b"C1"),
         Cause::Text => text.extend_from_slice(b"C2"),
         Cause::Shape => text.extend_from_slice(b"C3"),
-        Cause::NotChartered { statement } => push_statement(text, b"C7 ", statement),
+        Cause::NotChartered { statement } => push_coded(text, b"C7 ", statement),
         Cause::Rule { statement, rule } => {
-            push_statement(text, b"C4 ", statement)?;
+            push_coded(text, b"C4 ", statement)?;
             text.extend_from_slice(b" ")?;
-            text.extend_from_slice(printed_rule(rule))
+            text.extend_from_slice(rule_name(rule))
         }
-        Cause::Proof { statement } => push_statement(text, b"C5 ", statement),
-        Cause::Unfinished { statement } => push_statement(text, b"C6 ", statement),
+        Cause::Proof { statement } => push_coded(text, b"C5 ", statement),
+        Cause::Unfinished { statement } => push_coded(text, b"C6 ", statement),
     }
 }
 
-/// Adds the code and the statement's number.
-fn push_statement(text: &mut Vec<u8>, code: &[u8], statement: usize) -> Result<(), AllocError>
+/// Appends a code and the number of a statement.
+fn push_coded(text: &mut Vec<u8>, code: &[u8], statement: usize) -> Result<(), AllocError>
     ensures { OnOk result (text.new.items ≡ text.old.items ++ code.now ++ decimal statement) }
 {
     text.extend_from_slice(code)?;
     push_number(text, statement as u64)
+}
+
+/// Returns the name of a rule.
+fn rule_name(rule: Rule) -> &'static [u8]
+    ensures { result.now ≡ rule_text rule }
+{
+    match rule {
+        Rule::G1 => b"G1",
+        Rule::G2 => b"G2",
+        Rule::G3 => b"G3",
+        Rule::G4 => b"G4",
+        Rule::G5 => b"G5",
+        Rule::G6 => b"G6",
+        Rule::G7 => b"G7",
+        Rule::G8 => b"G8",
+        Rule::G9 => b"G9",
+        Rule::G10 => b"G10",
+        Rule::Memory => b"",
+    }
 }

@@ -1,21 +1,25 @@
-//! What `mmlib` does: a command line, an input and an output to an exit status.
+//! The program `mmlib`: from a command line, an input and an output to an exit status.
 //!
-//! Reading order: `command_line` (`run`, what a command line does), `input_output` (what is read and written),
-//! `database_commands` (what is asked of one), `proofs` (the steps of a proof) and `printed_refusal` (a database that is
-//! refused); `play`, with `script_input` (its lines, which crate `scripts` reads) and `line_answer` (what a line prints);
-//! `serve`, with `served_nodes`.
+//! Reading order: `command_line` (`run`, which does what a command line asks for), `fault` (why a
+//! command ends without its answer, and the line that says so), `streams` (reading and printing);
+//! `databases` (a database that is read and judged), `answers` (the one place that answers a
+//! question about a library), `proofs` (the steps of a proof) and `refused_texts` (why a database
+//! is refused); `scripts` (the lines of a script, answered one by one), `play`, `serve` and
+//! `served_nodes`.
 #![tactic(auto)]
 
+mod answers;
 mod command_line;
-mod database_commands;
-mod input_output;
-mod line_answer;
+mod databases;
+mod fault;
 mod play;
-mod printed_refusal;
 mod proofs;
-mod script_input;
+mod refused_texts;
+mod scripts;
 mod serve;
 mod served_nodes;
+mod streams;
 
 pub use command_line::run;
-pub use input_output::{print, print_no_memory};
+pub use fault::Fault;
+pub use streams::print;

@@ -1,90 +1,60 @@
-//! The command `play`: a script drives one world of nodes.
-use crate::input_output::{print, print_no_memory};
-use crate::line_answer::{ANSWER_ROOM, answer_bytes};
-use crate::script_input::{print_unread, read_script};
-use net::{Event, StepFault};
+//! The command `play`: a script drives nodes, event by event.
+use crate::fault::Fault;
+use crate::scripts::{Answers, answer_lines, read_script};
+use commands::{NodeLine, PlayLine};
+use library::Entry;
+use net::Event;
 use printed::{push_decided, push_export, push_library, push_log, push_packet, push_posted};
-use scripts::PlayLine;
 use std::alloc::Global;
 use std::io::{Read, Write};
 use synod::Weights;
 use world::World;
 
-/// Reads a script, and prints what each line of it answers; the answer is the exit status.
+/// Reads a script, prints the answers to its lines, and returns the exit status.
 pub fn play<I: Read, O: Write>(
     alloc: Global,
     weights: Weights,
     input: &mut I,
     output: &mut O,
-) -> u8 {
-    let lines = match read_script(alloc, input) {
-        Ok(lines) => lines,
-        Err(unread) => return print_unread(output, unread),
-    };
-    match drive(alloc, weights, lines, output) {
-        Ok(status) => status,
-        Err(_) => print_no_memory(output),
-    }
-}
-
-/// Runs the lines one after another on a new world, and prints their answers.
-///
-/// Errors: there was no memory to start; nothing is printed then.
-fn drive<O: Write>(
-    alloc: Global,
-    weights: Weights,
-    lines: Vec<PlayLine>,
-    output: &mut O,
-) -> Result<u8, StepFault> {
+) -> Result<u8, Fault> {
+    let lines = read_script(alloc, input)?;
     let mut world = World::new(alloc, weights)?;
-    answer_all(alloc, &mut world, lines, output)
+    answer_lines::<PlayLine, World, O>(alloc, &mut world, lines, output)
 }
 
-/// Runs the lines on a world.
-fn answer_all<O: Write>(
-    alloc: Global,
-    world: &mut World,
-    lines: Vec<PlayLine>,
-    output: &mut O,
-) -> Result<u8, StepFault> {
-    let mut text = Vec::with_capacity(alloc, ANSWER_ROOM)?;
-    let mut status = 0;
-    for line in lines {
-        text.clear();
-        let answered = answer(world, line, &mut text);
-        let bytes = answer_bytes(answered, text.as_slice());
-        if bytes.starts_with(b"refused") {
-            status = 1;
-        }
-        if output.write_all(bytes).is_err() {
-            return Ok(1);
+impl Answers<PlayLine> for World {
+    fn answer(&mut self, line: PlayLine, text: &mut Vec<u8>) -> Result<(), Fault> {
+        match line {
+            PlayLine::Node(line) => answer_node_line(self, line, text),
+            PlayLine::Deliver { packet } => push_step(self, Event::Deliver(packet), text),
+            PlayLine::Apply { node } => Ok(push_decided(text, self.apply_next(node)?, b"none")?),
+            PlayLine::Show { packet } => {
+                push_packet(text, self.packet(packet)?)?;
+                Ok(text.extend_from_slice(b"\n")?)
+            }
+            PlayLine::Log { node } => Ok(push_log(text, self.log(node)?.as_slice())?),
+            PlayLine::Export { node } => Ok(push_export(text, self.library(node)?)?),
         }
     }
-    Ok(print(output, b"", status))
 }
 
-/// Does what the line says, and adds its answer to the text.
-fn answer(world: &mut World, line: PlayLine, text: &mut Vec<u8>) -> Result<(), StepFault> {
+/// Does what a line for one node asks for, and appends its answer.
+fn answer_node_line(world: &mut World, line: NodeLine, text: &mut Vec<u8>) -> Result<(), Fault> {
     match line {
-        PlayLine::Offer(offered) => {
-            push_posted(text, world.step(Event::Offer(offered.node, offered.entry))?)?
+        NodeLine::Offer(offered) => {
+            push_step(world, Event::Offer(offered.node, offered.entry), text)
         }
-        PlayLine::Begin { node } => push_posted(text, world.step(Event::Begin(node))?)?,
-        PlayLine::Deliver { packet } => push_posted(text, world.step(Event::Deliver(packet))?)?,
-        PlayLine::Restart { node } => push_posted(text, world.step(Event::Restart(node))?)?,
-        PlayLine::Apply { node } => push_decided(text, world.apply_next(node)?, b"none")?,
-        PlayLine::Show { packet } => {
-            push_packet(text, world.packet(packet)?)?;
-            text.extend_from_slice(b"\n")?;
+        NodeLine::Begin { node } => push_step(world, Event::Begin(node), text),
+        NodeLine::Restart { node } => push_step(world, Event::Restart(node), text),
+        NodeLine::List { node } => Ok(push_library(text, world.library(node)?)?),
+        NodeLine::Status(at) => {
+            let verdict = world.library(at.node)?.status(at.author, at.serial);
+            Ok(push_decided(text, verdict, b"unknown")?)
         }
-        PlayLine::Log { node } => push_log(text, world.log(node)?.as_slice())?,
-        PlayLine::List { node } => push_library(text, world.library(node)?)?,
-        PlayLine::Status(at) => push_decided(
-            text,
-            world.library(at.node)?.status(at.author, at.serial),
-            b"unknown",
-        )?,
-        PlayLine::Export { node } => push_export(text, world.library(node)?)?,
     }
-    Ok(())
+}
+
+/// Plays an event, and appends how many packets were posted so far.
+fn push_step(world: &mut World, event: Event<Entry>, text: &mut Vec<u8>) -> Result<(), Fault> {
+    Ok(push_posted(text, world.step(event)?)?)
 }

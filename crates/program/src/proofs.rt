@@ -1,151 +1,117 @@
 //! The command `proof`: the steps of a proof as lines, as a picture or as a page.
 ghost use Rattle.std.specs.Prelude.{◌≤◌, length};
 ghost use Rattle.mm_read.specs.declared.stmt.Stmt.{Stmt as Statement};
-ghost use Rattle.verify.specs.Right.{IsProvable};
 ghost use Rattle.steps.specs.Rows.{AreRows};
+ghost use Rattle.verify.specs.Right.{IsProvable};
 
-use crate::database_commands::fault_line;
-use crate::input_output::print;
-use commands::ProofForm;
+use crate::fault::Fault;
+use crate::streams::print;
+use commands::{ProofForm, ProofQuestion};
 use frame::Frames;
-use library::{AskFault, Library};
-use proof_pages::{Theorem, WriteFault, write_dot, write_page, write_plain};
-use std::alloc::{AllocError, Global};
+use library::Library;
+use proof_pages::{Theorem, write_dot, write_page, write_plain};
+use std::alloc::Global;
 use std::io::Write;
 use steps::{ProofTable, essential_table, proof_table};
 
-/// What is wanted of a proof.
+/// The proof of a `$p`.
 #[derive(Drop)]
-pub struct WantedSteps<'a> {
-    pub label: &'a [u8],
-    /// The essential steps alone.
-    pub is_essential: bool,
-    pub form: ProofForm,
+struct Proof<'a> {
+    library: &'a Library,
+    /// The frames of the library.
+    frames: &'a Frames,
+    /// The position of the `$p`.
+    at: usize,
+    /// All its steps.
+    steps: &'a ProofTable,
 }
 
-/// Why a proof was not printed.
-enum ProofFault {
-    /// There is none, or a growth was refused.
-    Asked(AskFault),
-    /// A write failed.
-    Output,
-}
-
-impl From<AllocError> for ProofFault {
-    fn from(_error: AllocError) -> ProofFault {
-        ProofFault::Asked(AskFault::Memory)
-    }
-}
-
-impl From<AskFault> for ProofFault {
-    fn from(fault: AskFault) -> ProofFault {
-        ProofFault::Asked(fault)
-    }
-}
-
-impl From<WriteFault> for ProofFault {
-    fn from(fault: WriteFault) -> ProofFault {
-        match fault {
-            WriteFault::Memory => ProofFault::Asked(AskFault::Memory),
-            WriteFault::Output => ProofFault::Output,
-        }
-    }
-}
-
-/// Prints what is wanted of the proof of a label, or why there is none; the answer is the exit status. Where memory
-/// runs out while it is printed, the line that says so stands behind what was printed.
-pub fn print_proof<O: Write>(
+/// Writes what is asked of the proof of a label.
+///
+/// Errors: those of `Library::items`; `Output`; if an allocation fails, `Memory`, after some steps.
+pub fn write_proof<O: Write>(
     alloc: Global,
     library: &Library,
-    wanted: &WantedSteps<'_>,
+    asked: &ProofQuestion<'_>,
     output: &mut O,
-) -> u8 {
-    match write_proof(alloc, library, wanted, output) {
-        Ok(()) => print(output, b"", 0),
-        Err(ProofFault::Asked(fault)) => print(output, fault_line(fault), 1),
-        Err(ProofFault::Output) => 1,
-    }
-}
-
-/// Writes what is wanted of a proof.
-fn write_proof<O: Write>(
-    alloc: Global,
-    library: &Library,
-    wanted: &WantedSteps<'_>,
-    output: &mut O,
-) -> Result<(), ProofFault> {
-    let (at, items) = library.items(wanted.label)?;
+) -> Result<(), Fault> {
+    let (at, items) = library.items(asked.label)?;
     let frames = library.frames();
     let steps = proof_table(alloc, frames, at, &items)?;
-    write_steps(alloc, library, frames, at, &steps, wanted, output)
+    let proof = Proof {
+        library,
+        frames,
+        at,
+        steps: &steps,
+    };
+    write_steps(alloc, &proof, asked, output)?;
+    print(output, b"")
 }
 
-/// Writes these steps of the `$p` at a position as they are wanted.
+/// Writes the steps that are asked for, in the form that is asked for.
 fn write_steps<O: Write>(
     alloc: Global,
-    library: &Library,
-    frames: &Frames,
-    at: usize,
-    steps: &ProofTable,
-    wanted: &WantedSteps<'_>,
+    proof: &Proof<'_>,
+    asked: &ProofQuestion<'_>,
     output: &mut O,
-) -> Result<(), ProofFault>
-    requires at { (1 ≤ at) × (at ≤ length frames.now.statements) }
-    requires provable { (s : Statement) × IsProvable frames.now.statements at s }
-    requires rows { AreRows frames.now.statements at frames.now.names steps.now }
+) -> Result<(), Fault>
+    requires at { (1 ≤ proof.now.at) × (proof.now.at ≤ length proof.now.frames.now.statements) }
+    requires provable { (s : Statement)
+        × IsProvable proof.now.frames.now.statements proof.now.at s }
+    requires rows { AreRows proof.now.frames.now.statements proof.now.at
+        proof.now.frames.now.names proof.now.steps.now }
 {
-    if matches!(wanted.form, ProofForm::Page) {
-        write_theorem(alloc, library, frames, at, steps, wanted, output)
-    } else if wanted.is_essential {
-        let essential = essential_table(alloc, frames, at, steps)?;
-        write_listed(alloc, frames, &essential, wanted, output)
+    if matches!(asked.form, ProofForm::Page) {
+        write_theorem(alloc, proof, asked, output)
+    } else if asked.is_essential {
+        let essential = essential_table(alloc, proof.frames, proof.at, proof.steps)?;
+        write_listed(alloc, proof.frames, &essential, asked, output)
     } else {
-        write_listed(alloc, frames, steps, wanted, output)
+        write_listed(alloc, proof.frames, proof.steps, asked, output)
     }
 }
 
-/// Writes these steps as lines or as a picture.
+/// Writes steps as lines or as a picture.
 fn write_listed<O: Write>(
     alloc: Global,
     frames: &Frames,
     steps: &ProofTable,
-    wanted: &WantedSteps<'_>,
+    asked: &ProofQuestion<'_>,
     output: &mut O,
-) -> Result<(), ProofFault> {
-    if matches!(wanted.form, ProofForm::Picture) {
-        write_dot(alloc, output, frames, wanted.label, steps)?;
+) -> Result<(), Fault> {
+    if matches!(asked.form, ProofForm::Picture) {
+        write_dot(alloc, output, frames, asked.label, steps)?;
     } else {
         write_plain(alloc, output, frames, steps)?;
     }
     Ok(())
 }
 
-/// Writes the page of the `$p` at a position, which has these steps.
+/// Writes the page of the `$p`.
 fn write_theorem<O: Write>(
     alloc: Global,
-    library: &Library,
-    frames: &Frames,
-    at: usize,
-    steps: &ProofTable,
-    wanted: &WantedSteps<'_>,
+    proof: &Proof<'_>,
+    asked: &ProofQuestion<'_>,
     output: &mut O,
-) -> Result<(), ProofFault>
-    requires at { (1 ≤ at) × (at ≤ length frames.now.statements) }
-    requires provable { (s : Statement) × IsProvable frames.now.statements at s }
-    requires rows { AreRows frames.now.statements at frames.now.names steps.now }
+) -> Result<(), Fault>
+    requires at { (1 ≤ proof.now.at) × (proof.now.at ≤ length proof.now.frames.now.statements) }
+    requires provable { (s : Statement)
+        × IsProvable proof.now.frames.now.statements proof.now.at s }
+    requires rows { AreRows proof.now.frames.now.statements proof.now.at
+        proof.now.frames.now.names proof.now.steps.now }
 {
-    let essential = essential_table(alloc, frames, at, steps)?;
-    let axioms = library.trace(wanted.label)?;
-    let users = library.usage(wanted.label, false)?;
+    let essential = essential_table(alloc, proof.frames, proof.at, proof.steps)?;
+    let axioms = proof.library.trace(asked.label)?;
+    let users = proof.library.usage(asked.label, false)?;
     let theorem = Theorem {
-        statements: library.statements(),
-        frames,
-        at,
-        steps,
+        statements: proof.library.statements(),
+        frames: proof.frames,
+        at: proof.at,
+        steps: proof.steps,
         essential: &essential,
         axioms: &axioms,
         users: &users,
     };
-    write_page(alloc, output, &theorem, !wanted.is_essential)?;
+    write_page(alloc, output, &theorem, !asked.is_essential)?;
     Ok(())
 }

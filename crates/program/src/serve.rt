@@ -1,20 +1,18 @@
 //! The command `serve`: a script at the desk of a cluster, whose nodes are threads.
 ghost use Rattle.std.specs.Prelude.{◌≡◌, ◌++◌, ◌≤◌, ◌<◌, List, Err, OnOk, IfOk, IsOkUnless};
-ghost use Rattle.net.specs.declared.fault.StepFault.TheVariants.{NoNode, Apart};
 ghost use Rattle.library.specs.declared.listed.Listed.{Listed};
+ghost use Rattle.net.specs.declared.fault.StepFault.TheVariants.{NoNode, Apart};
 ghost use Rattle.nodes.specs.Desk.{IsListed, IsStatus};
 ghost use Rattle.printed.specs.Printed.{list_text};
 
-use crate::input_output::{print, print_no_memory};
-use crate::line_answer::{ANSWER_ROOM, answer_bytes};
-use crate::script_input::{print_unread, read_script};
+use crate::fault::Fault;
+use crate::scripts::{Answers, answer_lines, read_script};
 use crate::served_nodes::{Nodes, NodesDesk, start_nodes, stop_nodes};
-use commands::WorkerCount;
+use crate::streams::print;
+use commands::{EntryAt, NodeLine, ServeLine, WorkerCount};
 use library::Verdict;
 use net::StepFault;
 use printed::{push_decided, push_list};
-use scripts::{EntryAt, ServeLine};
-use std::alloc::Global;
 use std::io::{Read, Write};
 use std::sync::Wait;
 use std::thread;
@@ -24,119 +22,90 @@ use synod::Weights;
 /// How many turns `settle` waits at most.
 const MOST_TURNS: u32 = 10_000_000;
 
-/// It asks once in so many turns, since an ask takes the lock that the node needs for its work.
+/// In how many turns `settle` asks once, since an ask takes the lock that the node needs.
 const TURNS_AN_ASK: u32 = 64;
 
-/// Reads a script, starts the nodes, prints what each line answers, and stops the nodes; the answer is the exit status. Every
-/// thread is joined, also where an answer cannot be written.
-pub fn serve<R: Threads + Wait + Copy + Send + Sync + Drop + 'static, I: Read, O: Write>(
+/// Reads a script, starts the nodes, prints the answers to the lines, and stops the nodes; returns
+/// the exit status. Every thread is joined, also after a write that failed.
+pub fn serve<
+    R: AllocGlobal + Threads + Wait + Copy + Send + Sync + Drop + 'static,
+    I: Read,
+    O: Write,
+>(
     rt: &R,
-    alloc: Global,
     weights: Weights,
     workers: WorkerCount,
     input: &mut I,
     output: &mut O,
-) -> u8 {
-    match read_script(alloc, input) {
-        Ok(lines) => match start_nodes(rt, alloc, weights, workers) {
-            Ok(mut nodes) => serve_on(rt, alloc, &mut nodes, lines, output),
-            Err(_) => print_no_memory(output),
-        },
-        Err(unread) => print_unread(output, unread),
-    }
+) -> Result<u8, Fault> {
+    let lines = read_script(rt.alloc(), input)?;
+    let mut nodes = start_nodes(rt, rt.alloc(), weights, workers)?;
+    let answered = answer_at_desk(rt, &nodes, lines, output);
+    let stopped = stop_nodes(rt, &mut nodes);
+    let status = answered?;
+    stopped?;
+    print(output, b"stopped\n")?;
+    Ok(status)
 }
 
-/// Prints what each line answers at the nodes, and stops them; the answer is the exit status.
-fn serve_on<R: Threads + Wait, O: Write>(
+/// Prints the answers to the lines at a desk of the nodes, and returns the exit status.
+fn answer_at_desk<R: AllocGlobal + Wait, O: Write>(
     rt: &R,
-    alloc: Global,
-    nodes: &mut Nodes,
+    nodes: &Nodes,
     lines: Vec<ServeLine>,
     output: &mut O,
-) -> u8 {
-    let answered = match (nodes.desk(), Vec::with_capacity(alloc, ANSWER_ROOM)) {
-        (Ok(desk), Ok(text)) => answer_all(rt, &desk, lines, text, output),
-        _ => Answered::WithoutMemory,
-    };
-    let stopped = stop_nodes(rt, nodes);
-    match answered {
-        Answered::All { status } => match stopped {
-            Ok(()) => print(output, b"stopped\n", status),
-            Err(_) => print_no_memory(output),
-        },
-        Answered::WithoutMemory => print_no_memory(output),
-        Answered::Unwritten => 1,
-    }
+) -> Result<u8, Fault> {
+    let desk = nodes.desk()?;
+    let mut served = Served { rt, desk: &desk };
+    answer_lines::<ServeLine, Served<'_, R>, O>(rt.alloc(), &mut served, lines, output)
 }
 
-/// How a script was answered.
-enum Answered {
-    /// Each line was answered, and the answers are written.
-    All { status: u8 },
-    /// There was no memory to start.
-    WithoutMemory,
-    /// An answer could not be written, and the lines behind it were left out.
-    Unwritten,
+/// Nodes that are asked at a desk.
+#[derive(Drop)]
+struct Served<'a, R: Wait> {
+    rt: &'a R,
+    desk: &'a NodesDesk,
 }
 
-/// Does what the lines say one after another, and prints their answers.
-fn answer_all<R: Wait, O: Write>(
-    rt: &R,
-    desk: &NodesDesk,
-    lines: Vec<ServeLine>,
-    mut text: Vec<u8>,
-    output: &mut O,
-) -> Answered {
-    let mut status = 0;
-    for line in lines {
-        text.clear();
-        let answered = answer(rt, desk, line, &mut text);
-        let bytes = answer_bytes(answered, text.as_slice());
-        if bytes.starts_with(b"refused") {
-            status = 1;
-        }
-        if output.write_all(bytes).is_err() {
-            return Answered::Unwritten;
+impl<R: Wait> Answers<ServeLine> for Served<'_, R> {
+    fn answer(&mut self, line: ServeLine, text: &mut Vec<u8>) -> Result<(), Fault> {
+        match line {
+            ServeLine::Node(line) => answer_node_line(self.rt, self.desk, line, text),
+            ServeLine::Settle(at) => {
+                Ok(push_decided(text, settled(self.rt, self.desk, at)?, b"unknown")?)
+            }
         }
     }
-    Answered::All { status }
 }
 
-/// Does what the line says, and adds its answer to the text.
-fn answer<R: Wait>(
+/// Does what a line for one node asks for, and appends its answer.
+fn answer_node_line<R: Wait>(
     rt: &R,
     desk: &NodesDesk,
-    line: ServeLine,
+    line: NodeLine,
     text: &mut Vec<u8>,
-) -> Result<(), StepFault> {
+) -> Result<(), Fault> {
     match line {
-        ServeLine::Submit(offered) => {
-            desk.submit(rt, offered.node, offered.entry)?;
-            text.extend_from_slice(b"ok\n")?;
+        NodeLine::Offer(offered) => desk.submit(rt, offered.node, offered.entry)?,
+        NodeLine::Begin { node } => desk.begin(rt, node)?,
+        NodeLine::Restart { node } => desk.restart(rt, node)?,
+        NodeLine::List { node } => return Ok(push_node_list(rt, desk, node, text)?),
+        NodeLine::Status(at) => {
+            return Ok(push_decided(text, status(rt, desk, at)?, b"unknown")?);
         }
-        ServeLine::Begin { node } => {
-            desk.begin(rt, node)?;
-            text.extend_from_slice(b"ok\n")?;
-        }
-        ServeLine::Restart { node } => {
-            desk.restart(rt, node)?;
-            text.extend_from_slice(b"ok\n")?;
-        }
-        ServeLine::List { node } => push_node_list(rt, desk, node, text)?,
-        ServeLine::Status(at) => push_decided(text, status(rt, desk, at)?, b"unknown")?,
-        ServeLine::Settle(at) => push_decided(text, settled(rt, desk, at)?, b"unknown")?,
     }
-    Ok(())
+    Ok(text.extend_from_slice(b"ok\n")?)
 }
 
-/// Adds the assertions of the node's library.
+/// Appends the assertions of the node's library.
 fn push_node_list<R: Wait>(
     rt: &R,
     desk: &NodesDesk,
     node: u8,
     text: &mut Vec<u8>,
 ) -> Result<(), StepFault>
-    ensures listed { OnOk result ((list : List Listed) × IsListed node list × (text.new.items ≡ text.old.items ++ list_text list)) }
+    ensures listed { OnOk result ((list : List Listed) × IsListed node list
+        × (text.new.items ≡ text.old.items ++ list_text list)) }
     ensures no_node { desk.now ≤ node → result ≡ Err NoNode }
 {
     let list = desk.list(rt, node)?;
@@ -144,7 +113,7 @@ fn push_node_list<R: Wait>(
     Ok(())
 }
 
-/// What the node's library decided on the entry, if anything.
+/// Returns what the node's library decided on the entry, if it did.
 fn status<R: Wait>(rt: &R, desk: &NodesDesk, at: EntryAt) -> Result<Option<Verdict>, StepFault>
     ensures status { IfOk result (IsStatus at.node at.author at.serial) }
     ensures no_node { desk.now ≤ at.node → result ≡ Err NoNode }
@@ -153,7 +122,7 @@ fn status<R: Wait>(rt: &R, desk: &NodesDesk, at: EntryAt) -> Result<Option<Verdi
     desk.status(rt, at.node, at.author, at.serial)
 }
 
-/// The same, asked again and again until it is known, but not for ever.
+/// Returns the status as soon as it is known, or after `MOST_TURNS` turns.
 fn settled<R: Wait>(rt: &R, desk: &NodesDesk, at: EntryAt) -> Result<Option<Verdict>, StepFault>
     ensures status { IfOk result (IsStatus at.node at.author at.serial) }
     ensures no_node { desk.now ≤ at.node → result ≡ Err NoNode }

@@ -15,7 +15,7 @@ use synod::{Keep, Weights};
 use verify_pool::{OpenGate, Workers};
 use world::Carried;
 
-/// How often a cluster that finds no memory to stop is asked again.
+/// How often a cluster is asked again to stop while an allocation fails.
 const MOST_RETRIES: u32 = 1000;
 
 /// The nodes of one process, each with a keep in memory.
@@ -24,9 +24,10 @@ pub type Nodes = Cluster<OpenGate, MemoryKeep<Carried>>;
 /// A desk of such nodes.
 pub type NodesDesk = Desk<OpenGate, MemoryKeep<Carried>>;
 
-/// Starts a node for each weight. No hint is lost, repeated or delayed, and each thread passes the gate at once.
+/// Starts a node for each weight. No hint is lost, repeated or delayed, and each thread passes the
+/// gate at once.
 ///
-/// Errors: `Memory`; no thread is left then.
+/// Errors: `Memory` if an allocation fails; no thread is left then.
 pub fn start_nodes<R: Threads + Wait + Copy + Send + Sync + Drop + 'static>(
     rt: &R,
     alloc: Global,
@@ -53,10 +54,11 @@ pub fn start_nodes<R: Threads + Wait + Copy + Send + Sync + Drop + 'static>(
     )
 }
 
-/// So many keeps of new nodes.
+/// Returns so many keeps of new nodes.
 fn keeps(alloc: Global, count: u8) -> Result<Vec<MemoryKeep<Carried>>, AllocError>
     ensures count { IfOk result (λ keeps. vec_len keeps ≡ count) }
-    ensures new { IfOk result (λ keeps. AllByRecursion (λ keep. ⟦<MemoryKeep<Carried> as Keep<Carried>>⟧.kept keep ≡ new_kept) keeps.items) }
+    ensures new { IfOk result (λ keeps. AllByRecursion
+        (λ keep. ⟦<MemoryKeep<Carried> as Keep<Carried>>⟧.kept keep ≡ new_kept) keeps.items) }
 {
     if count == 0 {
         return Ok(Vec::new(alloc));
@@ -67,9 +69,10 @@ fn keeps(alloc: Global, count: u8) -> Result<Vec<MemoryKeep<Carried>>, AllocErro
     Ok(all)
 }
 
-/// Stops the nodes, and joins their threads. Where there is no memory for their report they are asked again.
+/// Stops the nodes and joins their threads. If the allocation of their report fails, they are asked
+/// again.
 ///
-/// Errors: as of the last time that they were asked.
+/// Errors: those of the last time that they were asked.
 pub fn stop_nodes<R: Threads + Wait>(rt: &R, nodes: &mut Nodes) -> Result<(), StepFault>
     ensures { nodes.new ≡ nodes.old }
 {

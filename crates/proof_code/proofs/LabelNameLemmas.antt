@@ -1,14 +1,15 @@
 -- The names of labels, put into a set one by one.
 use Rattle.proof_code.proofs.Words.{◌≡◌, true, List, [], ◌∷◌, ◌++◌, bytes_eq, cond, sym, ◌∙◌, ap, append_assoc, list_any-append, same_from_decides, Decides-like, bytes_eq-Decides, Name, name_eq, has_name}
-use Rattle.std.specs.HashSet.{HashSet, contains}
-use Rattle.std.specs.declared.hash.FoldHasher.{FoldHasher}
-use Rattle.std.specs.declared.hash.BuildHasherDefault.{BuildHasherDefault}
+use Rattle.std.specs.BTreeSet.{BTreeSet, contains}
+use Rattle.std.specs.Ordering.{nat_cmp, is_eq}
+use Rattle.std.specs.Cmp.Lexicographic.{slice_cmp}
 use Rattle.std.specs.Borrow.{Bor}
+use Rattle.std.proofs.lemmas.Map.Text.{is_eq-slice_cmp}
 use Rattle.mm_lex.proofs.NameLemmas.{tried_first}
 use Rattle.proof_code.specs.LabelNames.{AreNames}
 
 -- the set has the names of the labels before those that are left
-pub record NamesTo (labels left : List Name) (names : HashSet (Bor Name) (BuildHasherDefault FoldHasher)) : Type 0 where
+pub record NamesTo (labels left : List Name) (names : BTreeSet (Bor Name)) : Type 0 where
   pub done : List Name
   pub whole : labels ≡ done ++ left
   pub named : AreNames names done
@@ -16,12 +17,16 @@ pub record NamesTo (labels left : List Name) (names : HashSet (Bor Name) (BuildH
 bytes_eq-sym : (a b : Name) → bytes_eq a b ≡ bytes_eq b a
 bytes_eq-sym a b = same_from_decides (bytes_eq a b) (bytes_eq b a) (bytes_eq-Decides a b) (Decides-like (bytes_eq b a) sym sym (bytes_eq-Decides b a))
 
+-- names that compare equal have the same bytes
+equal_names : (a b : Name) → is_eq (slice_cmp nat_cmp a b) ≡ bytes_eq b a
+equal_names a b = is_eq-slice_cmp a b ∙ bytes_eq-sym a b
+
 -- one more label comes into the set
-pub names_more : (labels left rest : List Name) (label : Bor Name) (old new : HashSet (Bor Name) (BuildHasherDefault FoldHasher)) → NamesTo labels left old → left ≡ label.now ∷ rest
-    → ((q : Bor Name) → contains (λ a b. bytes_eq a.now b.now) new q ≡ cond (bytes_eq label.now q.now) true (contains (λ a b. bytes_eq a.now b.now) old q)) → NamesTo labels rest new
+pub names_more : (labels left rest : List Name) (label : Bor Name) (old new : BTreeSet (Bor Name)) → NamesTo labels left old → left ≡ label.now ∷ rest
+    → ((q : Bor Name) → contains (λ a b. slice_cmp nat_cmp a.now b.now) new q ≡ cond (is_eq (slice_cmp nat_cmp label.now q.now)) true (contains (λ a b. slice_cmp nat_cmp a.now b.now) old q)) → NamesTo labels rest new
 names_more labels left rest label old new m first updates = record {
   done = m.done ++ label.now ∷ [];
   whole = m.whole ∙ (ap (λ ws. m.done ++ ws) first ∙ sym (append_assoc m.done (label.now ∷ []) rest));
-  named = λ q. updates q ∙ (ap (λ t. cond (bytes_eq label.now q.now) true t) (m.named q) ∙ (ap (λ t. cond t true (has_name q.now m.done)) (bytes_eq-sym label.now q.now)
+  named = λ q. updates q ∙ (ap (λ t. cond (is_eq (slice_cmp nat_cmp label.now q.now)) true t) (m.named q) ∙ (ap (λ t. cond t true (has_name q.now m.done)) (equal_names label.now q.now)
       ∙ (tried_first (bytes_eq q.now label.now) (has_name q.now m.done) ∙ sym (list_any-append (name_eq q.now) m.done (label.now ∷ [])))));
 }

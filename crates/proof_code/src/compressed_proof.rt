@@ -1,13 +1,16 @@
 //! Compressed proofs.
 ghost use Rattle.std.specs.Prelude.{◌≡◌, ◌↔◌, ◌<◌, ◌≤◌, ◌^◌, ◌++◌, length, take, drop, IsTrue, IfOk, IfSome, Err};
-ghost use Rattle.{mm_lex.specs.Alphabet.has_name, proof_code.specs.Writes.is_unfinished, proof_code.specs.Writes.is_compressed, proof_code.specs.Writes.WritesPacked, proof_code.specs.Writes.IsMalformed, proof_code.specs.Reading.share_label, proof_code.specs.LabelNames.AreNames};
+ghost use Rattle.mm_lex.specs.Alphabet.{has_name};
+ghost use Rattle.proof_code.specs.Writes.{is_unfinished, is_compressed, WritesPacked, IsMalformed};
+ghost use Rattle.proof_code.specs.Reading.{share_label};
+ghost use Rattle.proof_code.specs.LabelNames.{AreNames};
 
 use crate::fault::{CodeFault, is_unfinished};
 use crate::items::Items;
 use crate::reader::{Heading, Reader};
 use mm_lex::{WordIter, Words};
 use std::alloc::{AllocError, Global};
-use std::collections::HashSet;
+use std::collections::BTreeSet;
 
 /// Returns whether the tokens are those of a compressed proof: the first one is `(`.
 pub fn is_compressed(tokens: &Words) -> bool
@@ -19,8 +22,9 @@ pub fn is_compressed(tokens: &Words) -> bool
 /// Returns the items of a compressed proof, where `mandatory` are the labels of the mandatory hypotheses in frame order.
 ///
 /// Errors: `Unfinished` if a token has the byte `?`, else `Malformed` if the tokens write no items, both even
-/// if every allocation fails. Cost: the sizes of the tokens and of the mandatory labels (if no memory is left
-/// to hash mandatory labels, each listed label is looked for among them). Source: Metamath, appendix B.
+/// if every allocation fails. Cost: the sizes of the tokens and of the mandatory labels, times the logarithm of
+/// their number (if the mandatory labels cannot be put in order since an allocation fails, each listed label is
+/// compared with each of them). Source: Metamath, appendix B.
 pub fn packed(alloc: Global, tokens: &Words, mandatory: &Words) -> Result<Items, CodeFault>
     requires { IsTrue (is_compressed tokens.now) }
     ensures items { IfOk result (λ items. WritesPacked tokens.now mandatory.now items) }
@@ -61,7 +65,7 @@ fn shares_label(alloc: Global, mandatory: &Words, words: WordIter<'_>, count: us
 {
     let mut listed = words.take(count);
     match names_of(alloc, mandatory) {
-        Some(names) => listed.any(|label| names.contains(&label)),
+        Some(names) => listed.any(|label| names.contains(label)),
         None => listed.any(|label| is_among(label, mandatory)),
     }
 }
@@ -73,12 +77,13 @@ fn is_among(label: &[u8], labels: &Words) -> bool
     labels.iter().any(|other| label == other)
 }
 
-/// Returns the names of the labels, or `None` if an allocation failed. Cost: the size of the labels.
+/// Returns the names of the labels in order, or `None` if an allocation failed. Cost: the size of the labels,
+/// times the logarithm of their number.
 #[tactic(auto, using(crate::proofs::LabelNameLemmas::names_more))]
-fn names_of<'a>(alloc: Global, labels: &'a Words) -> Option<HashSet<&'a [u8]>>
+fn names_of<'a>(alloc: Global, labels: &'a Words) -> Option<BTreeSet<&'a [u8]>>
     ensures { IfSome result (λ names. AreNames names labels.entry.now) }
 {
-    let mut names = HashSet::new(alloc);
+    let mut names = BTreeSet::new(alloc);
     let mut left = labels.iter();
     while let Some(label) = left.next() {
         let Ok(_) = names.insert(label) else {

@@ -16,7 +16,8 @@ pub struct Items {
 
 impl Model for Items {
     ghost use Rattle.std.specs.Prelude.{List};
-    ghost use Rattle.{proof_code.specs.declared.item.Item.Item, proof_code.specs.ItemNumbers.items_of};
+    ghost use Rattle.proof_code.specs.declared.item.Item.{Item};
+    ghost use Rattle.proof_code.specs.ItemNumbers.{items_of};
 
     ghost Value = { List Item };
 

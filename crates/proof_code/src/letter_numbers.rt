@@ -3,7 +3,8 @@
 //! The next letter cannot be foreseen, so no branch depends on it: a table has the numbers by which a letter
 //! changes what stands before it, and the one test of each is whether a number is over the limit.
 ghost use Rattle.std.specs.Prelude.{◌≡◌, ◌==◌, if◌then◌else◌, ◌+◌, ◌*◌, ◌^◌, ◌<◌, ◌≤◌, ◌∷◌, ℕ, List, length, take, max, None, Some, IfNone, IfSome, MatchOption};
-ghost use Rattle.{proof_code.specs.Text.letters_of, proof_code.specs.Text.numbers_from, proof_code.specs.Text.starts_with_mark, proof_code.specs.Reading.Goes, proof_code.specs.Reading.IsLetter, proof_code.specs.Reading.ended};
+ghost use Rattle.proof_code.specs.Text.{letters_of, numbers_from, starts_with_mark};
+ghost use Rattle.proof_code.specs.Reading.{Goes, IsLetter, ended};
 
 /// The effect of a letter on the digits before it.
 #[derive(Clone, Copy)]

@@ -1,6 +1,9 @@
 //! Normal proofs.
 ghost use Rattle.std.specs.Prelude.{◌≡◌, ◌↔◌, IsTrue, IfOk, Err, map};
-ghost use Rattle.{std.specs.List.list_all, mm_lex.specs.Alphabet.is_label, proof_code.specs.declared.item.Item.TheVariants.Cite, proof_code.specs.Writes.is_unfinished, proof_code.specs.Writes.WritesPlain, proof_code.specs.Writes.IsMalformed};
+ghost use Rattle.std.specs.List.{list_all};
+ghost use Rattle.mm_lex.specs.Alphabet.{is_label};
+ghost use Rattle.proof_code.specs.declared.item.Item.TheVariants.{Cite};
+ghost use Rattle.proof_code.specs.Writes.{is_unfinished, WritesPlain, IsMalformed};
 
 use crate::fault::{CodeFault, is_unfinished};
 use crate::items::Items;

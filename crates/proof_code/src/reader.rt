@@ -1,6 +1,10 @@
 //! Compressed proofs read into a buffer that is kept.
 ghost use Rattle.std.specs.Prelude.{◌≡◌, ℕ, ◌+◌, ◌*◌, ◌^◌, ◌<◌, ◌≤◌, [], ◌∷◌, List, length, take, IsTrue, IfOk, IfSome, MatchOption, OnOk, OnErr, Some, None};
-ghost use Rattle.{mm_lex.specs.Alphabet.Name, proof_code.specs.declared.item.Item.Item, proof_code.specs.Text.letters_of, proof_code.specs.Text.numbers_from, proof_code.specs.Writes.begin, proof_code.specs.Writes.is_compressed, proof_code.specs.Writes.WritesCompressed, proof_code.specs.Reading.IsHeading};
+ghost use Rattle.mm_lex.specs.Alphabet.{Name};
+ghost use Rattle.proof_code.specs.declared.item.Item.{Item};
+ghost use Rattle.proof_code.specs.Text.{letters_of, numbers_from};
+ghost use Rattle.proof_code.specs.Writes.{begin, is_compressed, WritesCompressed};
+ghost use Rattle.proof_code.specs.Reading.{IsHeading};
 
 use crate::letter_numbers::{pass_letters, starts_with_mark, write_numbers};
 use crate::listing::count_listed;

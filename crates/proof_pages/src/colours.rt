@@ -3,23 +3,28 @@ use frame::Frames;
 use mm_read::Stmt;
 use std::alloc::{AllocError, Global};
 
-/// The class of each symbol, 0 where it has none, and the typecode of each class from 1.
+/// The class of each symbol by number, 0 where it has none, and the typecode of each class from 1.
 #[derive(Drop)]
 pub struct Colours {
     pub classes: Vec<u32>,
     pub constants: Vec<u32>,
+    /// The class of the variables of each typecode by number, 0 where it has none yet.
+    typecodes: Vec<u32>,
 }
 
 impl Colours {
-    /// Returns colours in which no symbol has a class.
+    /// Returns colours in which no symbol has a class. Does not allocate.
     pub fn new(alloc: Global) -> Colours {
         Colours {
             classes: Vec::new(alloc),
             constants: Vec::new(alloc),
+            typecodes: Vec::new(alloc),
         }
     }
 
     /// Gives the variable of the statement at a position the class of its typecode, if that statement is a `$f`.
+    ///
+    /// Errors: an allocation fails. Cost: constant, except for tables that grow with the greatest number of a symbol.
     pub fn note(
         &mut self,
         statements: &[Stmt],
@@ -34,34 +39,32 @@ impl Colours {
             frames.expr(position),
         ) {
             let class = self.class_of(*constant)?;
-            self.set(*variable, class)?;
+            set(&mut self.classes, *variable, class)?;
         }
         Ok(())
     }
 
     /// Returns the class of the variables of a typecode, made if there is none yet.
     fn class_of(&mut self, constant: u32) -> Result<u32, AllocError> {
-        let place = match self.constants.iter().position(|known| *known == constant) {
-            Some(place) => place,
-            None => {
-                self.constants.push(constant)?;
-                self.constants.len() - 1
-            }
-        };
-        u32::try_from(place)
-            .ok()
-            .and_then(|place| place.checked_add(1))
-            .ok_or(AllocError)
+        match self.typecodes.get(constant as usize) {
+            Some(class) if *class != 0 => return Ok(*class),
+            _ => {}
+        }
+        self.constants.push(constant)?;
+        let class = u32::try_from(self.constants.len()).map_err(|_| AllocError)?;
+        set(&mut self.typecodes, constant, class)?;
+        Ok(class)
     }
+}
 
-    fn set(&mut self, variable: u32, class: u32) -> Result<(), AllocError> {
-        let place = variable as usize;
-        if place >= self.classes.len() {
-            self.classes.resize(place + 1, 0)?;
-        }
-        if let Some(slot) = self.classes.get_mut(place) {
-            *slot = class;
-        }
-        Ok(())
+/// Gives a symbol a class.
+fn set(classes: &mut Vec<u32>, symbol: u32, class: u32) -> Result<(), AllocError> {
+    let place = symbol as usize;
+    if place >= classes.len() {
+        classes.resize(place + 1, 0)?;
     }
+    if let Some(slot) = classes.get_mut(place) {
+        *slot = class;
+    }
+    Ok(())
 }

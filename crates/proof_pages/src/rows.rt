@@ -6,7 +6,7 @@ ghost use Rattle.proof_pages.specs.TableRows.{variable_html, coloured, symbol_ht
 use crate::escapes::push_html;
 use crate::step_lines::{label_at, push_place};
 use frame::Frames;
-use outline::push_number;
+use numbers::push_number;
 use std::alloc::AllocError;
 use steps::ProofTable;
 

@@ -6,7 +6,7 @@ ghost use Rattle.steps.specs.Rows.{no_row};
 ghost use Rattle.proof_pages.specs.StepLines.{number_text, behind_comma, taken_text, symbol_text, expr_text, step_line};
 
 use frame::Frames;
-use outline::push_number;
+use numbers::push_number;
 use std::alloc::AllocError;
 use steps::ProofTable;
 

@@ -4,7 +4,7 @@ use std::fs::DirEntry;
 use std::rt::Files;
 use std::{fs, io};
 
-/// Adds the names of the files of rows in a folder to names, and puts them in order.
+/// Appends the names of the files of rows in a folder, in order.
 pub fn push_row_files<R: Files + AllocGlobal + Clone + Drop>(
     rt: &R,
     folder: &str,
@@ -25,7 +25,7 @@ fn push_entry<R: Files + Drop>(
     Ok(push_name(alloc, entry.file_name(), names)?)
 }
 
-/// Adds the name of a file of rows.
+/// Appends the name of a file of rows.
 fn push_name(alloc: Global, name: &str, names: &mut Vec<String>) -> Result<(), AllocError> {
     if name.ends_with(".rows") {
         names.push(String::from_str(alloc, name)?)?;
@@ -33,7 +33,7 @@ fn push_name(alloc: Global, name: &str, names: &mut Vec<String>) -> Result<(), A
     Ok(())
 }
 
-/// Adds the text of a file of rows. A line `include FILE` gives the lines of that file.
+/// Appends the text of a file of rows. A line `include FILE` stands for the lines of that file.
 pub fn push_text<R: Files + AllocGlobal>(
     rt: &R,
     folder: &str,
@@ -60,7 +60,7 @@ fn push_lines<R: Files + AllocGlobal>(
     Ok(())
 }
 
-/// Adds the lines of a file.
+/// Appends the lines of a file.
 fn push_part<R: Files + AllocGlobal>(
     rt: &R,
     folder: &str,

@@ -1,12 +1,18 @@
 //! Runs the rows of a folder: each is a command line, an input, and what the program prints of it.
 //!
-//! What a row says and how it is written stands in the crate `cases`. Reading order: `judging` (whether a row holds), `files` and
-//! `folder` (`run_files`).
+//! Reading order: `row` (a row), `row_texts` and `row_parser` (how it is written), `files` (the files
+//! of a folder); `failing_streams` (readers and writers that fail), `wanted_output` (whether an output
+//! is as wanted), `judging` (whether a row holds), `folder` (`run_files`).
 #![tactic(auto)]
 
+mod failing_streams;
 mod files;
 mod folder;
 mod judging;
+mod row;
+mod row_parser;
+mod row_texts;
+mod wanted_output;
 
 use folder::run_files;
 use std::process::ExitCode;
@@ -28,7 +34,7 @@ fn main(rt: HostRuntime) -> ExitCode {
     }
 }
 
-/// The folder of rows, where one is named; else it is the one where the program runs.
+/// Returns the folder of rows, if one is named; else it is the one where the program runs.
 fn asked_folder(rt: &HostRuntime) -> io::Result<Option<String>> {
     Ok(env::args(rt)?.nth(1))
 }

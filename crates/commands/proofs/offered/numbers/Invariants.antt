@@ -1,0 +1,10 @@
+use Rattle.std.specs.Prelude.{◌≡◌, ◌++◌, option_map}
+use Rattle.std.proofs.Common.{length}
+use Rattle.commands.specs.Offered.{numbers_of}
+use Rattle.commands.proofs.offered.numbers.Given as goal
+
+abbrev pub decreases-loop-word : goal.decreases-loop-word
+decreases-loop-word l = length l.words
+
+abbrev pub invariant-loop-word : goal.invariant-loop-word
+invariant-loop-word l = numbers_of l.fn.words ≡ option_map (λ more. l.numbers.items ++ more) (numbers_of l.words)

@@ -1,0 +1,60 @@
+-- The words of a line: a verb, then numbers, nodes, entries by their author and serial number.
+-- Source: this project's own form.
+-- The code takes one word after another; here a definition has what it reads, and the words after it.
+use Rattle.std.specs.Prelude.{ℕ, List, [], ◌∷◌, Option, Some, None, option_map, option_and_then, nat_lt, if◌then◌else◌}
+use Rattle.numbers.specs.Numbers.{number_of}
+use Rattle.commands.specs.Pieces.{split_at}
+use Rattle.commands.specs.declared.line_words.TheConstants.{SPACE}
+use Rattle.commands.specs.declared.line_words.EntryAt.{EntryAt}
+
+infixl 10 ◌>>=◌
+abbrev pub ◌>>=◌ : {A B : Type 0} → Option A → (A → Option B) → Option B
+o >>= f = option_and_then f o
+
+-- words of a line
+abbrev pub Words : Type 0
+Words = List (List ℕ)
+
+-- what the first word and the words after it say
+abbrev pub by_first : {L : Type 0} → (List ℕ → Words → Option L) → Words → Option L
+by_first by [] = None
+by_first by (verb ∷ ws) = by verb ws
+
+-- a line by its verb, which is the first word, and the words after it
+abbrev pub line_by : {L : Type 0} → (List ℕ → Words → Option L) → List ℕ → Option L
+line_by by line = by_first by (split_at SPACE line)
+
+-- a number
+abbrev pub number_at : Words → Option (ℕ × Words)
+number_at [] = None
+number_at (w ∷ ws) = option_map (λ n. (n, ws)) (number_of w)
+
+-- what is read, if no word follows it
+abbrev pub alone : {A : Type 0} → A × Words → Option A
+alone (x, []) = Some x
+alone (x, w ∷ ws) = None
+
+abbrev pub one_number : Words → Option ℕ
+one_number ws = do
+  n ← number_at ws
+  alone n
+
+-- the node of a number: 256 and above are no node, and 255 is none either
+abbrev pub node_of : ℕ → ℕ
+node_of n = if nat_lt n 256 then n else 255
+
+abbrev pub one_node : Words → Option ℕ
+one_node ws = option_map node_of (one_number ws)
+
+-- K AUTHOR SERIAL
+abbrev pub entry_at : Words → Option (EntryAt × Words)
+entry_at ws = do
+  k ← number_at ws
+  a ← number_at k.1
+  s ← number_at a.1
+  Some (record { node = node_of k.0; author = a.0; serial = s.0 }, s.1)
+
+abbrev pub one_entry : Words → Option EntryAt
+one_entry ws = do
+  e ← entry_at ws
+  alone e

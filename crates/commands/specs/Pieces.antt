@@ -1,0 +1,13 @@
+-- The pieces of a text between the places of one byte: the lines of a script, the words of a line.
+-- Source: this project's own form.
+-- The code cuts off one piece after another; here all are listed at once.
+use Rattle.std.specs.Prelude.{ℕ, ◌==◌, List, [], Option, Some, None}
+use Rattle.std.specs.List.{slice_split}
+
+abbrev pub split_at : ℕ → List ℕ → List (List ℕ)
+split_at separator bytes = slice_split (λ b. b == separator) bytes
+
+-- the pieces of what is left; none after the last
+abbrev pub pieces_left : ℕ → Option (List ℕ) → List (List ℕ)
+pieces_left separator None = []
+pieces_left separator (Some rest) = split_at separator rest

@@ -1,0 +1,197 @@
+//! The words of a command line.
+ghost use Rattle.std.specs.Prelude.{◌≤◌, IfOk};
+
+use crate::grammar::commands;
+use crate::request::{ProofForm, ProofQuestion, Question, Request, WordsFault};
+use crate::weights::{WorkerCount, parse_weights};
+use clap::error::ErrorKind;
+use clap::{ArgMatches, Error};
+use numbers::parse_number;
+use std::alloc::{AllocError, Global};
+use synod::{MOST_NODES, Weights};
+
+/// Parses the words of a command line, without the program's own name.
+///
+/// Errors: `Bad` if they are no command line or ask for help; `Memory` if an allocation fails.
+pub fn parse_words<'a>(alloc: Global, words: &'a [&'a str]) -> Result<Request<'a>, WordsFault> {
+    match matches_of(alloc, words) {
+        Ok(matches) => request(alloc, &matches),
+        Err(error) => answered(alloc, &error, words),
+    }
+}
+
+/// Returns what `clap` finds in the words.
+fn matches_of<'a>(alloc: Global, words: &'a [&'a str]) -> Result<ArgMatches<'a>, Error> {
+    commands(alloc)?.try_get_matches_from(words)
+}
+
+/// Returns what is told of words that are no command line, or the request for the version.
+fn answered<'a>(alloc: Global, error: &Error, words: &[&str]) -> Result<Request<'a>, WordsFault> {
+    match error.kind() {
+        ErrorKind::OutOfMemory => Err(WordsFault::Memory),
+        ErrorKind::DisplayVersion => Ok(Request::Version),
+        ErrorKind::UnknownArgument => Err(WordsFault::Bad {
+            text: with_hint(alloc, error, words)?,
+        }),
+        _ => Err(WordsFault::Bad {
+            text: format!(in alloc; "{error}")?,
+        }),
+    }
+}
+
+/// Returns the text of an error. If the words but the last are a request about a database and the
+/// last is no option, it may be the file of a database: then a hint comes before the text.
+fn with_hint(alloc: Global, error: &Error, words: &[&str]) -> Result<String, WordsFault> {
+    let mut text = String::new(alloc);
+    if let Some((file, front)) = words.split_last()
+        && !file.starts_with('-')
+        && asks_about_database(alloc, front)
+    {
+        text.push_str("the database is read from standard input: mmlib ")?;
+        for word in front {
+            text.push_str(word)?;
+            text.push_str(" ")?;
+        }
+        text.push_str("< ")?;
+        text.push_str(file)?;
+        text.push_str("\n")?;
+    }
+    let told = format!(in alloc; "{error}")?;
+    text.push_str(told.as_str())?;
+    Ok(text)
+}
+
+/// Tells whether the words are a request about a database.
+fn asks_about_database(alloc: Global, words: &[&str]) -> bool {
+    match matches_of(alloc, words) {
+        Ok(matches) => !matches!(matches.subcommand(), None | Some(("play" | "serve", _))),
+        Err(_) => false,
+    }
+}
+
+/// Returns the request of a command and its options.
+fn request<'a>(alloc: Global, matches: &ArgMatches<'a>) -> Result<Request<'a>, WordsFault> {
+    match matches.subcommand() {
+        Some(("outline", _)) => Ok(Request::Outline),
+        Some(("play", options)) => {
+            let nodes = node_count(alloc, options)?;
+            Ok(Request::Play {
+                weights: weights(alloc, options, nodes)?,
+            })
+        }
+        Some(("serve", options)) => {
+            let nodes = node_count(alloc, options)?;
+            let workers = worker_count(alloc, options)?;
+            Ok(Request::Serve {
+                weights: weights(alloc, options, nodes)?,
+                workers,
+            })
+        }
+        Some((name, options)) => Ok(Request::Ask(question(alloc, name, options)?)),
+        None => Err(no_command(alloc)),
+    }
+}
+
+/// Returns the question of a command and its options.
+fn question<'a>(
+    alloc: Global,
+    name: &str,
+    options: &ArgMatches<'a>,
+) -> Result<Question<'a>, WordsFault> {
+    let label = options.get_str("label").unwrap_or("").as_bytes();
+    Ok(match name {
+        "check" => Question::Check,
+        "list" => Question::List,
+        "export" => Question::Export,
+        "tree" => Question::Tree(label),
+        "trace" => Question::Trace(label),
+        "usage" => Question::Usage {
+            label,
+            all: options.get_flag("all"),
+        },
+        "proof" => Question::Proof(ProofQuestion {
+            label,
+            is_essential: options.get_flag("essential"),
+            form: proof_form(options),
+        }),
+        "extract" => Question::Extract(Vec::from_slice(
+            alloc,
+            options.get_strs("labels").unwrap_or(&[]),
+        )?),
+        _ => return Err(no_command(alloc)),
+    })
+}
+
+/// Returns the form that the options of `proof` give.
+fn proof_form(options: &ArgMatches) -> ProofForm {
+    if options.get_flag("dot") {
+        ProofForm::Picture
+    } else if options.get_flag("html") {
+        ProofForm::Page
+    } else {
+        ProofForm::Steps
+    }
+}
+
+/// Returns the count of nodes, 1 to 9.
+fn node_count(alloc: Global, options: &ArgMatches) -> Result<u8, WordsFault>
+    ensures { IfOk result (λ nodes. (1 ≤ nodes) × (nodes ≤ MOST_NODES)) }
+{
+    if let Some(number) = number(options, "nodes")
+        && 1 <= number
+        && number <= MOST_NODES as u64
+    {
+        return Ok(number as u8);
+    }
+    Err(invalid(alloc, "--nodes is a number from 1 to 9"))
+}
+
+/// Returns the count of workers.
+fn worker_count(alloc: Global, options: &ArgMatches) -> Result<WorkerCount, WordsFault> {
+    match number(options, "workers").and_then(WorkerCount::new) {
+        Some(workers) => Ok(workers),
+        None => Err(invalid(alloc, "--workers is a number from 1 to 16")),
+    }
+}
+
+/// Returns the number that an option gives.
+fn number(options: &ArgMatches, name: &str) -> Option<u64> {
+    parse_number(options.get_str(name)?.as_bytes())
+}
+
+/// Returns the weights of so many nodes; without the option each weighs 1.
+fn weights(alloc: Global, options: &ArgMatches, nodes: u8) -> Result<Weights, WordsFault>
+    requires { (1 ≤ nodes) × (nodes ≤ MOST_NODES) }
+{
+    let given = match options.get_str("weights") {
+        Some(text) => parse_weights(text.as_bytes(), nodes),
+        None => Some(Weights::equal(nodes)),
+    };
+    match given {
+        Some(weights) => Ok(weights),
+        None => Err(WordsFault::Bad {
+            text: String::from_str(alloc, "bad weights\n")?,
+        }),
+    }
+}
+
+fn invalid(alloc: Global, text: &str) -> WordsFault {
+    refused(alloc, ErrorKind::InvalidValue, text)
+}
+
+fn no_command(alloc: Global) -> WordsFault {
+    refused(alloc, ErrorKind::MissingSubcommand, "a command is wanted")
+}
+
+/// Returns the fault of this kind, with this text.
+fn refused(alloc: Global, kind: ErrorKind, text: &str) -> WordsFault {
+    match refusal_text(alloc, kind, text) {
+        Ok(text) => WordsFault::Bad { text },
+        Err(AllocError) => WordsFault::Memory,
+    }
+}
+
+fn refusal_text(alloc: Global, kind: ErrorKind, text: &str) -> Result<String, AllocError> {
+    let error = commands(alloc)?.error(kind, text)?;
+    format!(in alloc; "{error}")
+}

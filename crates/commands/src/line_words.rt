@@ -1,0 +1,91 @@
+//! The words of a line.
+ghost use Rattle.std.specs.Prelude.{◌≡◌, option_map};
+ghost use Rattle.std.specs.List.{join_with_byte};
+ghost use Rattle.commands.specs.LineWords.{number_at, one_number, node_of, one_node};
+ghost use Rattle.commands.specs.LineWords.{entry_at, one_entry};
+
+use crate::pieces::Pieces;
+use numbers::parse_number;
+
+/// The byte between two words of a line.
+pub const SPACE: u8 = b' ';
+
+/// The words of a line that are not taken yet.
+pub(crate) type Words<'a> = Pieces<'a, SPACE>;
+
+/// An entry, which its author and number name, and a node.
+#[derive(Clone, Copy, Debug, PartialEq, Eq)]
+pub struct EntryAt {
+    pub node: u8,
+    pub author: u64,
+    pub serial: u64,
+}
+
+impl<'a> Pieces<'a, SPACE> {
+    /// Returns all bytes that are left, with the spaces between the words.
+    pub fn text(self) -> &'a [u8]
+        ensures { result.now ≡ join_with_byte SPACE self.entry }
+    {
+        match self.rest {
+            Some(rest) => rest,
+            None => b"",
+        }
+    }
+
+    /// Takes a number.
+    pub fn number(&mut self) -> Option<u64>
+        ensures { option_map (λ number. (number, self.new)) result ≡ number_at self.old }
+    {
+        parse_number(self.take()?)
+    }
+
+    /// Takes `K AUTHOR SERIAL`.
+    pub fn entry(&mut self) -> Option<EntryAt>
+        ensures { option_map (λ entry. (entry, self.new)) result ≡ entry_at self.old }
+    {
+        let node = node(self.number()?);
+        let author = self.number()?;
+        let serial = self.number()?;
+        Some(EntryAt {
+            node,
+            author,
+            serial,
+        })
+    }
+
+    /// Returns the one number that is left.
+    pub fn only_number(mut self) -> Option<u64>
+        ensures { result ≡ one_number self.entry }
+    {
+        let number = self.number()?;
+        match self.take() {
+            Some(_word) => None,
+            None => Some(number),
+        }
+    }
+
+    /// Returns the number of a node that alone is left.
+    pub fn only_node(self) -> Option<u8>
+        ensures { result ≡ one_node self.entry }
+    {
+        Some(node(self.only_number()?))
+    }
+
+    /// Returns `K AUTHOR SERIAL`, which alone is left.
+    pub fn only_entry(mut self) -> Option<EntryAt>
+        ensures { result ≡ one_entry self.entry }
+    {
+        let entry = self.entry()?;
+        match self.take() {
+            Some(_word) => None,
+            None => Some(entry),
+        }
+    }
+}
+
+/// Returns the node of this number, or 255, which is no node, for a number above it.
+fn node(number: u64) -> u8
+    ensures { result ≡ node_of number }
+{
+    u8::try_from(number).unwrap_or(u8::MAX)
+}

@@ -1,0 +1,105 @@
+//! Entries that a line offers at a node.
+ghost use Rattle.std.specs.Prelude.{◌≡◌, Some, None, MatchResult, is_some};
+ghost use Rattle.commands.specs.declared.script.LineFault.TheVariants.{Bad};
+ghost use Rattle.commands.specs.Scripts.{Parses};
+ghost use Rattle.commands.specs.Offered.{text_offered, charter_offered, names_of};
+ghost use Rattle.commands.specs.Offered.{numbers_of, rises};
+
+use crate::line_words::Words;
+use crate::script::LineFault;
+use bytes::Bytes;
+use library::{Entry, MOST_NAMES, Names, Submission};
+use numbers::parse_number;
+use std::alloc::{AllocError, Global};
+
+/// An entry, and the node at which it is offered.
+#[derive(Drop)]
+pub struct Offered {
+    pub node: u8,
+    pub entry: Entry,
+}
+
+/// Parses `K AUTHOR SERIAL TEXT`. The text is all that follows the space after the serial, and may
+/// be empty.
+pub(crate) fn parse_text(alloc: Global, mut words: Words<'_>) -> Result<Offered, LineFault>
+    ensures { Parses (text_offered words.entry) result }
+{
+    let at = words.entry().ok_or(LineFault::Bad)?;
+    let Ok(text) = Bytes::copy_from_slice(alloc, words.text()) else {
+        return Err(LineFault::Memory);
+    };
+    Ok(Offered {
+        node: at.node,
+        entry: Entry::Text(Submission {
+            author: at.author,
+            serial: at.serial,
+            text,
+        }),
+    })
+}
+
+/// Parses `K AUTHOR SERIAL NAME ..`, with the names of a charter.
+pub(crate) fn parse_charter(alloc: Global, mut words: Words<'_>) -> Result<Offered, LineFault>
+    ensures { Parses (charter_offered words.entry) result }
+{
+    let at = words.entry().ok_or(LineFault::Bad)?;
+    if !are_names(words.copy()) {
+        return Err(LineFault::Bad);
+    }
+    let names = Names::new(numbers(alloc, words)?).ok_or(LineFault::Bad)?;
+    Ok(Offered {
+        node: at.node,
+        entry: Entry::Charter {
+            author: at.author,
+            serial: at.serial,
+            names,
+        },
+    })
+}
+
+/// Tells whether the words that are left are the names of a charter. Does not allocate.
+fn are_names(mut words: Words<'_>) -> bool
+    ensures { result ≡ is_some (names_of words.entry) }
+{
+    let mut count = 0usize;
+    let mut last = None;
+    while let Some(word) = words.take() {
+        let Some(number) = parse_number(word) else {
+            return false;
+        };
+        if count >= MOST_NAMES || !is_above(number, last) {
+            return false;
+        }
+        count += 1;
+        last = Some(number);
+    }
+    count > 0
+}
+
+/// Tells whether the number is above the last one, if there is a last one.
+fn is_above(number: u64, last: Option<u64>) -> bool
+    ensures { result ≡ rises last number }
+{
+    match last {
+        Some(last) => last < number,
+        None => true,
+    }
+}
+
+/// Returns the numbers that the words are.
+fn numbers(alloc: Global, mut words: Words<'_>) -> Result<Vec<u64>, LineFault>
+    ensures { MatchResult result
+        (λ numbers. numbers_of words.entry ≡ Some numbers.items)
+        (λ fault. fault ≡ Bad → numbers_of words.entry ≡ None) }
+{
+    let mut numbers = Vec::new(alloc);
+    while let Some(word) = words.take() {
+        let Some(number) = parse_number(word) else {
+            return Err(LineFault::Bad);
+        };
+        if numbers.push(number).is_err() {
+            return Err(LineFault::Memory);
+        }
+    }
+    Ok(numbers)
+}

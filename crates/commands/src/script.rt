@@ -1,0 +1,77 @@
+//! A script: the lines of one command.
+ghost use Rattle.std.specs.Prelude.{◌≡◌, ◌++◌, [], ◌∷◌, Option, IsTrue};
+ghost use Rattle.commands.specs.Scripts.{script_of, Parses, ParsesScript};
+
+use crate::pieces::Pieces;
+use std::alloc::Global;
+
+/// The byte that ends a line.
+pub const LINE_FEED: u8 = b'\n';
+
+/// Why a line is not parsed.
+#[derive(Debug, Drop, PartialEq, Eq)]
+pub enum LineFault {
+    /// It is none of the lines of its command.
+    Bad,
+    /// An allocation failed.
+    Memory,
+}
+
+/// Why a script is not parsed.
+#[derive(Debug, Drop, PartialEq, Eq)]
+pub enum ScriptFault {
+    /// A line is none of its command's. The least such line is counted from 1, empty lines too.
+    BadLine { number: usize },
+    /// An allocation failed.
+    Memory,
+}
+
+/// A line of the scripts of one command.
+pub trait Line: Sized + Drop {
+    ghost use Rattle.std.specs.Prelude.{ℕ, List, Option};
+
+    /// The line that these bytes write, if they are a line of the command.
+    ghost said: { List ℕ → Option Self };
+
+    /// Parses the bytes between two line feeds.
+    ///
+    /// Errors: `Bad` if they are no line of the command; else `Memory` if an allocation fails.
+    fn parse(alloc: Global, line: &[u8]) -> Result<Self, LineFault>
+        ensures { Parses (said line.now) result };
+}
+
+/// Parses the lines of a script. Each ends with a line feed, which the last may lack; empty ones
+/// are skipped.
+///
+/// Errors: the least line that is none of the command's; else `Memory` if an allocation fails.
+/// Cost: the size of the script.
+pub fn parse_script<L: Line>(alloc: Global, script: &[u8]) -> Result<Vec<L>, ScriptFault>
+    ensures { ParsesScript (script_of L.said script.now) result }
+{
+    let mut rest = Pieces::<LINE_FEED>::new(script);
+    let mut lines = Vec::new(alloc);
+    let mut number = 0usize;
+    let mut is_out_of_memory = false;
+    while let Some(line) = rest.take() {
+        number += 1;
+        if line.is_empty() {
+            continue;
+        }
+        match L::parse(alloc, line) {
+            Ok(line) => is_out_of_memory |= !is_pushed(&mut lines, line),
+            Err(LineFault::Bad) => return Err(ScriptFault::BadLine { number }),
+            Err(LineFault::Memory) => is_out_of_memory = true,
+        }
+    }
+    if is_out_of_memory {
+        return Err(ScriptFault::Memory);
+    }
+    Ok(lines)
+}
+
+/// Appends a line, and tells whether the allocation succeeded.
+fn is_pushed<L: Drop>(lines: &mut Vec<L>, line: L) -> bool
+    ensures { IsTrue result → lines.new.items ≡ lines.old.items ++ line ∷ [] }
+{
+    lines.push(line).is_ok()
+}

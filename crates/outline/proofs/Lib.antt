@@ -1,3 +1,0 @@
-mod OutlineLemmas
-mod FirstBrokenLemmas
-mod Rows

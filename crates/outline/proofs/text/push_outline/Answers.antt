@@ -1,7 +1,0 @@
-use Rattle.std.proofs.Common.{◌∙◌, ap, arith}
-use Rattle.mm_lex.specs.Words.{is_word}
-use Rattle.outline.proofs.OutlineLemmas.{is_word-decimal}
-use Rattle.outline.proofs.text.push_outline.Goals as goal
-
-pub push_line_with_proof-requires-clause-word : goal.push_line_with_proof-requires-clause-word
-push_line_with_proof-requires-clause-word c = ap is_word (c.as_bytes-2.ensures.value ∙ c.format-2.ensures.text) ∙ is_word-decimal c.proof_len-count.result (omega arith)

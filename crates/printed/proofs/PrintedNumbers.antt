@@ -1,0 +1,27 @@
+-- A printed number is a word.
+use Rattle.std.specs.Prelude.{◌≡◌, ℕ, ◌+◌, ◌<◌, ◌^◌, ◌%◌, true, [], ◌∷◌, ◌++◌, decimal, refl}
+use Rattle.std.proofs.Common.{◌∙◌, arith, leb}
+use Rattle.std.proofs.lemmas.Bool.{le-leb}
+use Rattle.std.proofs.lemmas.Fmt.{decimal_by_steps}
+use Rattle.std.proofs.lemmas.List.Folds.{list_all-append}
+use Rattle.mm_lex.specs.Alphabet.{Name, is_visible}
+use Rattle.mm_lex.specs.Words.{is_word}
+
+-- a decimal digit is a visible byte
+digit_visible : (d : ℕ) → d < 10 → is_visible (48 + d) ≡ true
+digit_visible d small =
+    let low : leb 33 (48 + d) ≡ true = le-leb 33 (48 + d) (omega arith) in
+    let high : leb (48 + d) 126 ≡ true = le-leb (48 + d) 126 (omega arith) in
+    rw (low, high) refl
+
+-- a word followed by a visible byte is a word
+word_more : (w : Name) (b : ℕ) → is_word w ≡ true → is_visible b ≡ true → is_word (w ++ b ∷ []) ≡ true
+word_more [] b h k = cc
+word_more (c ∷ w) b h k = list_all-append is_visible (c ∷ w) (b ∷ []) ∙ rw (h, k) refl
+
+-- a number, printed, is a word
+pub is_word-decimal : (n : ℕ) → n < 2 ^ 64 → is_word (decimal n) ≡ true
+is_word-decimal n fits = decimal_by_steps (λ m w. is_word w ≡ true)
+    (λ m small. rw (digit_visible m small) refl)
+    (λ m w large h. word_more w (48 + m % 10) h (digit_visible (m % 10) (omega arith)))
+    n fits

@@ -1,0 +1,79 @@
+//! The answers to questions about a library.
+use crate::fault::Fault;
+use crate::proofs::write_proof;
+use crate::streams::print;
+use commands::Question;
+use extract::extract;
+use library::Library;
+use mm_lex::Word;
+use mm_read::Stmt;
+use numbers::push_number;
+use printed::{push_assertions, push_labels, push_tree};
+use std::alloc::{AllocError, Global};
+use std::io::Write;
+
+/// Writes the answer to a question about a library.
+///
+/// Errors: those of the question, before anything is written; `Output` if a write fails. If an
+/// allocation fails while a proof is written, `Memory` after some of its steps.
+pub fn write_answer<O: Write>(
+    alloc: Global,
+    library: &Library,
+    question: &Question<'_>,
+    output: &mut O,
+) -> Result<(), Fault> {
+    match question {
+        Question::Check => print(output, proved(alloc, library.statements())?.as_slice()),
+        Question::List => print(output, list(alloc, library)?.as_slice()),
+        Question::Export => print(output, library.export()?.as_slice()),
+        Question::Tree(label) => print(output, tree(alloc, library, label)?.as_slice()),
+        Question::Trace(label) => print_labels(alloc, library.trace(label)?.as_slice(), output),
+        Question::Usage { label, all } => {
+            print_labels(alloc, library.usage(label, *all)?.as_slice(), output)
+        }
+        Question::Proof(asked) => write_proof(alloc, library, asked, output),
+        Question::Extract(labels) => {
+            print(
+                output,
+                extract(alloc, library, labels.as_slice())?.as_slice(),
+            )
+        }
+    }
+}
+
+/// Returns `proved` and the number of `$p`.
+fn proved(alloc: Global, statements: &[Stmt]) -> Result<Vec<u8>, AllocError> {
+    let mut count = 0u64;
+    for statement in statements {
+        if let Stmt::Prove { .. } = statement {
+            count = count.saturating_add(1);
+        }
+    }
+    let mut line = Vec::from_slice(alloc, b"proved ")?;
+    push_number(&mut line, count)?;
+    line.extend_from_slice(b"\n")?;
+    Ok(line)
+}
+
+/// Returns a line for each assertion.
+fn list(alloc: Global, library: &Library) -> Result<Vec<u8>, AllocError> {
+    let list = library.list()?;
+    let mut lines = Vec::new(alloc);
+    push_assertions(&mut lines, list.as_slice())?;
+    Ok(lines)
+}
+
+/// Returns a line for each node of the derivation of a `$p`.
+fn tree(alloc: Global, library: &Library, label: &[u8]) -> Result<Vec<u8>, Fault> {
+    let tree = library.tree(label)?;
+    let mut lines = Vec::new(alloc);
+    push_tree(&mut lines, library.statements(), &tree, 0)?;
+    Ok(lines)
+}
+
+/// Prints a line for each label.
+fn print_labels<O: Write>(alloc: Global, labels: &[Word], output: &mut O) -> Result<(), Fault> {
+    let mut lines = Vec::new(alloc);
+    push_labels(&mut lines, labels)?;
+    print(output, lines.as_slice())
+}

@@ -1,0 +1,79 @@
+//! Why a command ends without its answer.
+use crate::streams::print;
+use commands::ScriptFault;
+use extract::ExtractFault;
+use library::AskFault;
+use net::StepFault;
+use proof_pages::WriteFault;
+use std::alloc::AllocError;
+use std::io::{self, Write};
+use thiserror::Error;
+
+/// Why a command, or a line of a script, has no answer. Its text is the line that is printed.
+#[derive(Debug, Drop, Error)]
+pub enum Fault {
+    /// A read of the input failed.
+    #[error("refused Input")]
+    Input,
+    /// An allocation failed.
+    #[error("refused Memory")]
+    Memory(#[from(alloc)] AllocError),
+    /// A question on a label has no answer.
+    #[error("refused {0:?}")]
+    Ask(#[from] AskFault),
+    /// Assertions cannot be extracted.
+    #[error("refused {0:?}")]
+    Extract(#[from] ExtractFault),
+    /// A node refuses what a line asks for.
+    #[error("refused {0:?}")]
+    Step(#[from] StepFault),
+    /// A line is none of its command's. The least such line is counted from 1, empty lines too.
+    #[error("bad line {number}")]
+    BadLine { number: usize },
+    /// A write failed: nothing more is printed.
+    #[error("")]
+    Output,
+}
+
+impl Fault {
+    /// Writes the line that says so, unless the fault is that nothing can be written.
+    pub fn write<O: Write>(&self, output: &mut O) -> Result<(), Fault> {
+        if let Fault::Output = self {
+            return Err(Fault::Output);
+        }
+        writeln!(output, "{self}")?;
+        print(output, b"")
+    }
+
+    /// Prints that line, and returns the exit status: 2 for a bad script, else 1.
+    pub fn print<O: Write>(&self, output: &mut O) -> u8 {
+        match (self.write(output), self) {
+            (Ok(()), Fault::BadLine { .. }) => 2,
+            _ => 1,
+        }
+    }
+}
+
+impl From<io::Error> for Fault {
+    fn from(_error: io::Error) -> Fault {
+        Fault::Output
+    }
+}
+
+impl From<WriteFault> for Fault {
+    fn from(fault: WriteFault) -> Fault {
+        match fault {
+            WriteFault::Memory => Fault::Memory(AllocError),
+            WriteFault::Output => Fault::Output,
+        }
+    }
+}
+
+impl From<ScriptFault> for Fault {
+    fn from(fault: ScriptFault) -> Fault {
+        match fault {
+            ScriptFault::Memory => Fault::Memory(AllocError),
+            ScriptFault::BadLine { number } => Fault::BadLine { number },
+        }
+    }
+}

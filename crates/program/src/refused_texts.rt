@@ -1,0 +1,74 @@
+//! A database that is refused: the line that is printed of it, and the reason in words.
+use crate::fault::Fault;
+use crate::streams::print;
+use explanation::{DatabaseFault, explain_refusal};
+use library::{Cause, Verdict};
+use mm_read::{ReadFault, read};
+use printed::{first_broken_rule, push_verdict};
+use std::alloc::{AllocError, Global};
+use std::io::Write;
+
+/// Prints the line of a text that is refused, and the reason on `faults`; returns the exit status.
+///
+/// If an allocation fails for the reason, the line stands alone.
+pub fn print_refusal<O: Write, F: Write>(
+    alloc: Global,
+    text: &[u8],
+    cause: Cause,
+    output: &mut O,
+    faults: &mut F,
+) -> Result<u8, Fault> {
+    print(output, refusal_line(alloc, cause)?.as_slice())?;
+    if let Some(fault) = fault_of(cause) {
+        print_reason(alloc, text, fault, faults);
+    }
+    Ok(1)
+}
+
+/// Returns the line of a database that is refused.
+fn refusal_line(alloc: Global, cause: Cause) -> Result<Vec<u8>, AllocError> {
+    let mut line = Vec::new(alloc);
+    push_verdict(&mut line, Verdict::Refused(cause))?;
+    line.extend_from_slice(b"\n")?;
+    Ok(line)
+}
+
+/// Returns the fault that is explained; `None` for a charter, which no database has.
+fn fault_of(cause: Cause) -> Option<DatabaseFault> {
+    match cause {
+        Cause::TooLong => Some(DatabaseFault::TooLong),
+        Cause::Text => Some(DatabaseFault::Text),
+        Cause::Shape => Some(DatabaseFault::Shape),
+        Cause::Rule { statement, rule } => Some(DatabaseFault::Rule { statement, rule }),
+        Cause::Proof { statement } => Some(DatabaseFault::Proof { statement }),
+        Cause::Unfinished { statement } => Some(DatabaseFault::Unfinished { statement }),
+        Cause::NotChartered { .. } => None,
+    }
+}
+
+/// Prints why a text is refused, if allocation succeeds.
+fn print_reason<F: Write>(alloc: Global, text: &[u8], fault: DatabaseFault, faults: &mut F) {
+    if let Ok(lines) = explain_refusal(alloc, text, fault) {
+        let _ = print(faults, lines.as_slice());
+    }
+}
+
+/// Prints why the outline of a text refuses it.
+pub fn print_outline_reason<F: Write>(alloc: Global, text: &[u8], faults: &mut F) {
+    if let Ok(Some(fault)) = outline_fault(alloc, text) {
+        print_reason(alloc, text, fault, faults);
+    }
+}
+
+/// Returns the fault that the outline of a text tells, if there is one.
+fn outline_fault(alloc: Global, text: &[u8]) -> Result<Option<DatabaseFault>, AllocError> {
+    match read(alloc, text) {
+        Ok(statements) => match first_broken_rule(alloc, statements.as_slice())? {
+            Some((statement, rule)) => Ok(Some(DatabaseFault::Rule { statement, rule })),
+            None => Ok(None),
+        },
+        Err(ReadFault::Text(_)) => Ok(Some(DatabaseFault::Text)),
+        Err(ReadFault::Shape { .. }) => Ok(Some(DatabaseFault::Shape)),
+        Err(ReadFault::Memory) => Err(AllocError),
+    }
+}

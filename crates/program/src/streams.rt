@@ -1,0 +1,43 @@
+//! Reading the input and printing.
+use crate::fault::Fault;
+use library::MOST_BYTES;
+use std::alloc::Global;
+use std::io::{ErrorKind, Read, Write};
+
+/// How many bytes a read asks for.
+const PART: usize = 65_536;
+
+/// Reads a database: the whole input, or one byte more than a text may have.
+pub fn read_text<I: Read>(alloc: Global, input: &mut I) -> Result<Vec<u8>, Fault> {
+    read_at_most(alloc, input, MOST_BYTES + 1)
+}
+
+/// Reads the whole input, or so many of its first bytes.
+///
+/// Room for a text is reserved first, if allocation succeeds: what is read then stays where it is,
+/// and pages that stay empty cost nothing.
+pub fn read_at_most<I: Read>(alloc: Global, input: &mut I, most: usize) -> Result<Vec<u8>, Fault> {
+    let mut text = Vec::new(alloc);
+    let _ = text.reserve(most.min(MOST_BYTES));
+    let mut part = vec![in alloc; 0u8; PART]?;
+    for _ in 0..u64::MAX {
+        let wanted = most.saturating_sub(text.len()).min(part.len());
+        if wanted == 0 {
+            return Ok(text);
+        }
+        match input.read(&mut part[..wanted]) {
+            Ok(0) => return Ok(text),
+            Ok(count) => text.extend_from_slice(&part[..count])?,
+            Err(error) if error.kind() == ErrorKind::Interrupted => {}
+            Err(_) => return Err(Fault::Input),
+        }
+    }
+    Err(Fault::Input)
+}
+
+/// Writes a text and flushes the writer.
+pub fn print<W: Write>(writer: &mut W, text: &[u8]) -> Result<(), Fault> {
+    writer.write_all(text)?;
+    writer.flush()?;
+    Ok(())
+}

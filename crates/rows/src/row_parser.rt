@@ -1,0 +1,194 @@
+//! The rows of a file.
+use crate::row::{Choice, Cut, Faults, Row, Way};
+use crate::row_texts::{RowFault, push_line, push_lines, word_of};
+use numbers::parse_number;
+use std::alloc::{AllocError, Global};
+
+/// Why the rows of a file are not parsed.
+#[derive(Drop)]
+pub enum UnreadRows {
+    /// A line that is none of a row, or not where it stands.
+    Line(String),
+    /// An allocation failed.
+    Memory,
+}
+
+impl From<AllocError> for UnreadRows {
+    fn from(_error: AllocError) -> UnreadRows {
+        UnreadRows::Memory
+    }
+}
+
+/// Parses the rows of a text. Empty lines and lines that begin with `#` are skipped.
+pub fn parse_rows(alloc: Global, text: &str) -> Result<Vec<Row>, UnreadRows> {
+    let mut rows = Vec::new(alloc);
+    for line in text.split('\n') {
+        if line.is_empty() || line.starts_with('#') {
+            continue;
+        }
+        match read_line(alloc, &mut rows, line) {
+            Ok(()) => {}
+            Err(RowFault::Bad) => return Err(UnreadRows::Line(String::from_str(alloc, line)?)),
+            Err(RowFault::Memory) => return Err(UnreadRows::Memory),
+        }
+    }
+    Ok(rows)
+}
+
+/// Parses a line: it begins a row, or says more of the last one.
+fn read_line(alloc: Global, rows: &mut Vec<Row>, line: &str) -> Result<(), RowFault> {
+    match line.strip_prefix("row ") {
+        Some(sentence) => {
+            let row = new_row(alloc, sentence)?;
+            rows.push(row).map_err(AllocError::from)?;
+            Ok(())
+        }
+        None => match rows.last_mut() {
+            Some(row) => read_more(alloc, row, line),
+            None => Err(RowFault::Bad),
+        },
+    }
+}
+
+/// Returns a row that has only a sentence yet.
+fn new_row(alloc: Global, sentence: &str) -> Result<Row, AllocError> {
+    Ok(Row {
+        sentence: String::from_str(alloc, sentence)?,
+        commands: Vec::new(alloc),
+        input: Vec::new(alloc),
+        output: Vec::new(alloc),
+        choices: Vec::new(alloc),
+        lines: None,
+        faults: Faults::Unsaid,
+        status: None,
+        way: Way::Whole,
+        cuts: Vec::new(alloc),
+    })
+}
+
+/// Parses a line of a row: a mark, and a text after a space.
+fn read_more(alloc: Global, row: &mut Row, line: &str) -> Result<(), RowFault> {
+    let (mark, text) = line.split_once(' ').unwrap_or((line, ""));
+    match mark {
+        "run" => add_command(alloc, row, text),
+        "status" => set_status(row, text),
+        "lines" => set_lines(row, text),
+        "cut" => set_way(row, Way::Cut, text, ""),
+        "reads" if text == "none" => set_way(row, Way::NoReads, text, "none"),
+        "reads" => set_way(row, Way::FailingReads, text, "fail"),
+        "writes" => set_way(row, Way::FailingWrites, text, "fail"),
+        "!" => add_fault(alloc, row, text),
+        "!~" => set_beginning(alloc, row, text),
+        "</" => add_choice(alloc, row, text, "\\"),
+        "</>" => add_choice_with_answer(alloc, row, text),
+        _ => add_lines(alloc, row, mark, text),
+    }
+}
+
+/// Appends a command line: words between spaces.
+fn add_command(alloc: Global, row: &mut Row, text: &str) -> Result<(), RowFault> {
+    let mut words = Vec::new(alloc);
+    for word in text.split(' ').filter(|word| !word.is_empty()) {
+        let word = word_of(alloc, word)?;
+        words.push(word).map_err(AllocError::from)?;
+    }
+    row.commands.push(words).map_err(AllocError::from)?;
+    Ok(())
+}
+
+fn set_status(row: &mut Row, text: &str) -> Result<(), RowFault> {
+    let number = parse_number(text.as_bytes()).ok_or(RowFault::Bad)?;
+    let status = u8::try_from(number).map_err(|_error| RowFault::Bad)?;
+    row.status = Some(status);
+    Ok(())
+}
+
+fn set_lines(row: &mut Row, text: &str) -> Result<(), RowFault> {
+    row.lines = Some(parse_number(text.as_bytes()).ok_or(RowFault::Bad)?);
+    Ok(())
+}
+
+/// Sets the way, which is said before the input and the output.
+fn set_way(row: &mut Row, way: Way, text: &str, wanted: &str) -> Result<(), RowFault> {
+    if text != wanted || !row.input.is_empty() || !row.output.is_empty() || row.way != Way::Whole {
+        return Err(RowFault::Bad);
+    }
+    row.way = way;
+    Ok(())
+}
+
+/// Appends a line of standard error.
+fn add_fault(alloc: Global, row: &mut Row, text: &str) -> Result<(), RowFault> {
+    match &mut row.faults {
+        Faults::Exactly(told) => push_line(told, text, 0),
+        Faults::Beginning(_) => Err(RowFault::Bad),
+        Faults::Unsaid => {
+            let mut told = Vec::new(alloc);
+            push_line(&mut told, text, 0)?;
+            row.faults = Faults::Exactly(told);
+            Ok(())
+        }
+    }
+}
+
+fn set_beginning(alloc: Global, row: &mut Row, text: &str) -> Result<(), RowFault> {
+    row.faults = Faults::Beginning(word_of(alloc, text)?.into_bytes());
+    Ok(())
+}
+
+/// Appends one of several inputs.
+fn add_choice(alloc: Global, row: &mut Row, text: &str, answer: &str) -> Result<(), RowFault> {
+    let mut choice = Choice {
+        input: Vec::new(alloc),
+        output: Vec::new(alloc),
+    };
+    push_line(&mut choice.input, text, 0)?;
+    push_line(&mut choice.output, answer, 0)?;
+    row.choices.push(choice).map_err(AllocError::from)?;
+    Ok(())
+}
+
+fn add_choice_with_answer(alloc: Global, row: &mut Row, text: &str) -> Result<(), RowFault> {
+    let (text, answer) = text.rsplit_once(" => ").ok_or(RowFault::Bad)?;
+    add_choice(alloc, row, text, answer)
+}
+
+/// Appends lines to the input, the output or both. The mark may say how often, after a `*`.
+fn add_lines(alloc: Global, row: &mut Row, mark: &str, text: &str) -> Result<(), RowFault> {
+    let (mark, times) = match mark.split_once('*') {
+        Some((mark, times)) => (mark, parse_number(times.as_bytes()).ok_or(RowFault::Bad)?),
+        None => (mark, 1),
+    };
+    match mark {
+        "<" => push_lines(&mut row.input, text, times),
+        ">" => push_lines(&mut row.output, text, times),
+        "<>" => {
+            let (text, answer) = text.rsplit_once(" => ").ok_or(RowFault::Bad)?;
+            push_lines(&mut row.input, text, times)?;
+            match row.way {
+                Way::Cut => add_cut(alloc, row, text, answer),
+                _ => push_lines(&mut row.output, answer, times),
+            }
+        }
+        _ => Err(RowFault::Bad),
+    }
+}
+
+/// Appends the output of the input that is cut after its last line.
+fn add_cut(alloc: Global, row: &mut Row, text: &str, answer: &str) -> Result<(), RowFault> {
+    let after = row.input.len();
+    let mut output = Vec::new(alloc);
+    push_line(&mut output, answer, 0)?;
+    let has_line_feed = !text.ends_with('\\');
+    let cut = Cut {
+        before_line_feed: if has_line_feed {
+            after.saturating_sub(1)
+        } else {
+            after
+        },
+        after,
+        output,
+    };
+    row.cuts.push(cut).map_err(AllocError::from)?;
+    Ok(())
+}

@@ -1,0 +1,97 @@
+//! Texts of a row: bytes that stand for themselves, and escapes that begin with a backslash.
+use numbers::parse_number;
+use std::alloc::{AllocError, Global};
+use std::io::Write;
+
+/// Why a line is not parsed.
+#[derive(Drop)]
+pub enum RowFault {
+    /// It is no line of a row.
+    Bad,
+    /// An allocation failed.
+    Memory,
+}
+
+impl From<AllocError> for RowFault {
+    fn from(_error: AllocError) -> RowFault {
+        RowFault::Memory
+    }
+}
+
+/// Appends the line so many times. In each, `\{K}` and `\{K+S}` stand for the number of that time.
+pub fn push_lines(bytes: &mut Vec<u8>, text: &str, times: u64) -> Result<(), RowFault> {
+    for time in 0..times {
+        push_line(bytes, text, time)?;
+    }
+    Ok(())
+}
+
+/// Appends the line, with a line feed unless the text ends in a backslash.
+pub fn push_line(bytes: &mut Vec<u8>, text: &str, time: u64) -> Result<(), RowFault> {
+    match text.strip_suffix("\\") {
+        Some(text) => push_text(bytes, text, time),
+        None => {
+            push_text(bytes, text, time)?;
+            bytes.extend_from_slice(b"\n")?;
+            Ok(())
+        }
+    }
+}
+
+/// Returns a word of a command line.
+pub fn word_of(alloc: Global, text: &str) -> Result<String, RowFault> {
+    let mut bytes = Vec::new(alloc);
+    push_text(&mut bytes, text.strip_suffix("\\").unwrap_or(text), 0)?;
+    String::from_utf8(bytes).map_err(|_error| RowFault::Bad)
+}
+
+/// Appends the bytes of a text.
+fn push_text(bytes: &mut Vec<u8>, text: &str, time: u64) -> Result<(), RowFault> {
+    let mut pieces = text.split('\\');
+    if let Some(first) = pieces.next() {
+        bytes.extend_from_slice(first.as_bytes())?;
+    }
+    for piece in pieces {
+        push_escaped(bytes, piece, time)?;
+    }
+    Ok(())
+}
+
+/// Appends the bytes of an escape and of what follows it.
+fn push_escaped(bytes: &mut Vec<u8>, piece: &str, time: u64) -> Result<(), RowFault> {
+    if let Some(digits) = piece.strip_prefix("x") {
+        return push_byte(bytes, digits);
+    }
+    let Some((number, rest)) = piece
+        .strip_prefix("{")
+        .and_then(|rest| rest.split_once('}'))
+    else {
+        return Err(RowFault::Bad);
+    };
+    let number = number_at(number, time).ok_or(RowFault::Bad)?;
+    write!(bytes, "{number}").map_err(|_error| RowFault::Memory)?;
+    bytes.extend_from_slice(rest.as_bytes())?;
+    Ok(())
+}
+
+/// Appends the byte of two hexadecimal digits, and what follows them.
+fn push_byte(bytes: &mut Vec<u8>, digits: &str) -> Result<(), RowFault> {
+    let Some((digits, rest)) = digits.split_at_checked(2) else {
+        return Err(RowFault::Bad);
+    };
+    let Ok(byte) = u8::from_str_radix(digits, 16) else {
+        return Err(RowFault::Bad);
+    };
+    bytes.extend_from_slice(&[byte])?;
+    bytes.extend_from_slice(rest.as_bytes())?;
+    Ok(())
+}
+
+/// Returns the number that `K` or `K+S` stands for at a time, from 0.
+fn number_at(text: &str, time: u64) -> Option<u64> {
+    let (first, step) = match text.split_once('+') {
+        Some((first, step)) => (first, parse_number(step.as_bytes())?),
+        None => (text, 1),
+    };
+    parse_number(first.as_bytes())?.checked_add(step.checked_mul(time)?)
+}

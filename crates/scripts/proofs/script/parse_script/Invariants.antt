@@ -1,9 +1,0 @@
-use Rattle.std.proofs.Common.{length}
-use Rattle.scripts.proofs.ScriptsLemmas.{IsRead}
-use Rattle.scripts.proofs.script.parse_script.Given as goal
-
-abbrev pub decreases-loop-line : goal.decreases-loop-line
-decreases-loop-line g l = length l.rest
-
-abbrev pub invariant-loop-line : goal.invariant-loop-line
-invariant-loop-line g l = IsRead g.L.Line.said l.script l.lines.items l.wanting l.number l.rest
