@@ -89,7 +89,7 @@ fn comes_back<R: Wait + Clock>(
     added_by_all(rt, desk, 1)
 }
 
-/// Returns whether the cluster stops, two nodes of three having had events, and takes nothing more then.
+/// Returns whether the cluster stops, its first two nodes of three having had events, and takes nothing more then.
 fn stops<R: Threads + Wait>(
     rt: &R,
     alloc: Global,
@@ -97,8 +97,11 @@ fn stops<R: Threads + Wait>(
     desk: &Desk<OpenGate, EntryKeep>,
 ) -> Result<bool, StepFault> {
     let report = cluster.stop(rt)?;
-    let worked = report.handled.iter().filter(|count| **count > 0).count();
-    Ok(report.handled.len() == 3 && worked >= 2 && has_stopped(rt, alloc, cluster, desk)?)
+    let worked = match report.handled.as_slice() {
+        [first, second, _] => *first > 0 && *second > 0,
+        _ => false,
+    };
+    Ok(worked && has_stopped(rt, alloc, cluster, desk)?)
 }
 
 /// Returns whether node 1 lists the axiom p alone, and no node is ahead.

@@ -136,9 +136,14 @@ fn serve_at<R: Wait + Clock>(
     serves(rt, desk, 2, library)
 }
 
-/// Returns whether the first node and the last list nothing.
+/// Returns whether each node lists nothing.
 fn is_new<R: Wait>(rt: &R, desk: &Desk<OpenGate, EntryKeep>) -> Result<bool, StepFault> {
-    Ok(desk.list(rt, 0)?.is_empty() && desk.list(rt, 2)?.is_empty())
+    for k in [0, 1, 2] {
+        if !desk.list(rt, k)?.is_empty() {
+            return Ok(false);
+        }
+    }
+    Ok(true)
 }
 
 /// Begins a ballot at node 0, and submits the texts there.
