@@ -118,7 +118,7 @@ fn push_together(page: &mut Page, frames: &Frames, variables: [u32; 2], images: 
     page.push(frames.symbol(first));
     page.push(b" and ");
     page.push(frames.symbol(second));
-    page.push(b" have to be kept apart");
+    page.push(b" must be disjoint");
     if one == other {
         page.push(b", and ");
         page.push(frames.symbol(one));

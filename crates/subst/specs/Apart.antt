@@ -1,4 +1,4 @@
--- Images of numbers that are kept apart.
+-- Images of numbers that are disjoint.
 -- Metamath, 4.2.6: no variable stands in two images that a `$d` keeps apart, and each pair of one variable from each has its own `$d`.
 -- The code goes by numbers; `are_groups_apart`, one number and one group at a time.
 use Rattle.std.specs.Prelude.{ℕ, Bool, ◌||◌, ◌==◌, List}

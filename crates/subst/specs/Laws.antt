@@ -1,5 +1,5 @@
--- Laws of substitution and of the images that are kept apart.
--- Source: Metamath, 4.1 (substitution, and the two conditions on the images of variables that are kept apart).
+-- Laws of substitution and of disjoint images.
+-- Source: Metamath, 4.1 (substitution, and the two conditions on the images of disjoint variables).
 -- The code substitutes over numbers, and tests all symbols of two images against each other at once.
 use Rattle.std.specs.Prelude.{◌≡◌, ℕ, ◌↔◌, ◌&&◌, List, IsTrue}
 use Rattle.std.specs.List.{list_any}
