@@ -1,5 +1,5 @@
 -- The tables of a cache, as images are listed in them.
-use Rattle.subst.proofs.Words.{◌≡◌, ℕ, ◌+◌, ◌-◌, ◌<◌, ◌≤◌, ◌==◌, false, List, [], ◌∷◌, ◌++◌, length, take, take_all, drop, get_or, sym, ap, subst, arith, refl, Numbered, SymbolRange, seen_at}
+use Rattle.subst.proofs.Words.{◌≡◌, ℕ, ◌+◌, ◌-◌, ◌<◌, ◌≤◌, ◌==◌, false, List, [], ◌∷◌, ◌++◌, length, take, take_all, drop, get_or, sym, ap, subst, arith, Numbered, SymbolRange, seen_at}
 use Rattle.subst.proofs.Words.{Places, ArePlaced, Grows, AreNoted, Noted, KeepsRest, AddsSymbols, HasPlace, NotesImage, AreTables}
 use Rattle.subst.specs.declared.disjoint_tables.DisjointTables.{DisjointTables}
 use Rattle.subst.proofs.SymbolRangeLemmas.{length-seen}

@@ -1,4 +1,3 @@
-use Rattle.subst.proofs.Words.{HasPlace, AddsSymbols}
 use Rattle.std.proofs.lemmas.Result.{IfOk-weaker}
 use Rattle.subst.proofs.ImageVariableLemmas.{appended-range, most-twice, rest-cleared, rest-most}
 use Rattle.subst.proofs.image_variables.ImageVariables.read.Goals as goal
