@@ -1,8 +1,9 @@
 -- Variables that were found to be disjoint.
 use Rattle.subst.proofs.Words.{◌≡◌, ℕ, ◌+◌, ◌*◌, ◌^◌, ◌<◌, ◌≤◌, ◌⊎◌, true, List, [], ◌∷◌, ◌++◌, length, get_or, slice_set, bit_at, bit_and, bit_not, bit_or, w64, sym, ◌∙◌, ap, subst, arith, inl, inr, cases_eq, cases_lt, get_or_append_left, get_or_push, get_or-set_same, get_or-set_other, length-set, length_push, Numbered}
-use Rattle.subst.proofs.Words.{PlaceWord, HasBit, HasPlace, no_word, RowWord, no_row, IsRowAt, HasFact, IsFact, AreFacts, NotesWord, TellsWord, TellsAll, TellsEach, Places, is_kept, Grows, IsAmong}
-use Rattle.subst.proofs.BitsLemmas.{or-either, and-left, and-rest}
-use Rattle.subst.proofs.VariablePlaceLemmas.{kept-grown, place-grown, among-more}
+use Rattle.subst.proofs.Words.{PlaceWord, HasAmong, HasBit, HasPlace, no_word, RowWord, no_row, IsRowAt, HasFact, IsFact, AreFacts, NotesWord, TellsWord, TellsAll, TellsBits, TellsEach, Places, is_kept, Grows}
+use Rattle.subst.proofs.BitsLemmas.{zero-none, or-either, and-left, and-rest, IsTaken}
+use Rattle.subst.proofs.VariablePlaceLemmas.{kept-grown, place-grown}
+use Rattle.subst.proofs.PlaceSetLemmas.{word-more}
 
 pub facts-none : (v : Numbered) (f : Places) → AreFacts v f []
 facts-none v f = record { each = λ p q h. (let low = h.there in absurd (omega (arith, low))) }
@@ -98,21 +99,22 @@ told-word v f rows p w known fits other facts noted asked = λ q h. elim (and-re
 pub missing-bit : (w : PlaceWord) (known q : ℕ) → HasBit (record { index = w.index; bits = bit_and w.bits (bit_not w64 known) }) q → HasBit w q
 missing-bit w known q h = record { bit = h.bit; place = h.place; set = and-left w.bits (bit_not w64 known) h.bit h.set }
 
--- ---- the places of a list
+-- ---- the places of a word, and of a list of words
 
-pub record AreTold (v : Numbered) (f : Places) (places : List ℕ) (ws : List PlaceWord) (n : ℕ) : Type 0 where
-  pub each : (p q : ℕ) → IsAmong n places p → HasPlace ws q → is_kept v f p q ≡ true
+pub told-bits : (v : Numbered) (f : Places) (w : PlaceWord) (ws : List PlaceWord) (rest : ℕ) → rest ≡ 0 → IsTaken (λ b. TellsAll v f (64 * w.index + b) ws true) w.bits rest → TellsBits v f w ws true
+told-bits v f w ws rest none taken = λ p q h b. elim (taken.done h.bit h.set) [ inl left ↦ absurd (zero-none h.bit (rw none at left)) | inr one ↦ rw h.place (one q b) ]
 
-pub are_told-none : (v : Numbered) (f : Places) (places : List ℕ) (ws : List PlaceWord) → AreTold v f places ws 0
-are_told-none v f places ws = record { each = λ p q h b. absurd (omega (arith, h.1)) }
+pub record AreTold (v : Numbered) (f : Places) (words : List PlaceWord) (ws : List PlaceWord) (n : ℕ) : Type 0 where
+  pub each : (p q : ℕ) → HasAmong n words p → HasPlace ws q → is_kept v f p q ≡ true
 
-pub are_told-more : (v : Numbered) (f : Places) (places : List ℕ) (ws : List PlaceWord) (n : ℕ) → AreTold v f places ws n → TellsAll v f (get_or places n 0) ws true → AreTold v f places ws (n + 1)
-are_told-more v f places ws n first next = record {
-  each = λ p q h b. elim (among-more n places p h) [ inl before ↦ first.each p q before b | inr last ↦ subst (λ m. is_kept v f m q ≡ true) last (next q b) ];
-}
+pub are_told-none : (v : Numbered) (f : Places) (words ws : List PlaceWord) → AreTold v f words ws 0
+are_told-none v f words ws = record { each = λ p q h b. (let low = h.there in absurd (omega (arith, low))) }
 
-pub are_told-all : (v : Numbered) (f : Places) (places : List ℕ) (ws : List PlaceWord) (n : ℕ) → length places ≤ n → AreTold v f places ws n → TellsEach v f places ws true
-are_told-all v f places ws n long told = λ p q h b. told.each p q (h.0, (let low = h.1 in omega (arith, low, long)), h.2) b
+pub are_told-more : (v : Numbered) (f : Places) (words ws : List PlaceWord) (n : ℕ) → AreTold v f words ws n → TellsBits v f (get_or words n no_word) ws true → AreTold v f words ws (n + 1)
+are_told-more v f words ws n first next = record { each = λ p q h b. elim (word-more n words p h) [ inl before ↦ first.each p q before b | inr last ↦ next p q last b ] }
+
+pub are_told-all : (v : Numbered) (f : Places) (words ws : List PlaceWord) (n : ℕ) → length words ≤ n → AreTold v f words ws n → TellsEach v f words ws true
+are_told-all v f words ws n long told = λ p q h b. told.each p q (let low = h.there in record { word = h.word; there = omega (arith, low, long); has = h.has }) b
 
 -- the places of a word that were asked for
 pub told-facts : (v : Numbered) (f : Places) (old new : List RowWord) (p : ℕ) (w : PlaceWord) → AreFacts v f old → NotesWord old new p w → p < length f.variables → ((b : ℕ) → bit_at w.bits b ≡ 1 → 64 * w.index + b < length f.variables)

@@ -1,10 +1,10 @@
 -- The tables of a cache, as images are listed in them.
-use Rattle.subst.proofs.Words.{◌≡◌, ℕ, ◌+◌, ◌-◌, ◌<◌, ◌≤◌, ◌==◌, false, List, [], ◌∷◌, ◌++◌, length, take, take_all, drop, get_or, sym, ap, subst, arith, refl, length-append, Numbered, SymbolRange, seen_at}
-use Rattle.subst.proofs.Words.{Places, ArePlaced, Grows, AreNoted, Noted, KeepsRest, AddsSymbols, NotesImage, AreTables}
+use Rattle.subst.proofs.Words.{◌≡◌, ℕ, ◌+◌, ◌-◌, ◌<◌, ◌≤◌, ◌==◌, false, List, [], ◌∷◌, ◌++◌, length, take, take_all, drop, get_or, sym, ap, subst, arith, Numbered, SymbolRange, seen_at}
+use Rattle.subst.proofs.Words.{Places, ArePlaced, Grows, AreNoted, Noted, KeepsRest, AddsSymbols, HasPlace, NotesImage, AreTables}
 use Rattle.subst.specs.declared.disjoint_tables.DisjointTables.{DisjointTables}
 use Rattle.subst.proofs.SymbolRangeLemmas.{length-seen}
 use Rattle.subst.proofs.DisjointRowLemmas.{facts-grown}
-use Rattle.subst.proofs.ImageVariableLemmas.{noted-over, noted-begin, noted-most, noted-long, rest-most, begun-none, begun-range, seen-behind}
+use Rattle.subst.proofs.ImageVariableLemmas.{noted-over, noted-begin, noted-most, noted-long, rest-most, seen-behind}
 
 pub tables-over : (v w : Numbered) (over more symbols : List ℕ) (t : DisjointTables) → v ≡ w → symbols ≡ over ++ more → AreTables v over t → AreTables w symbols t
 tables-over v w over more symbols t same e h =
@@ -24,7 +24,7 @@ some-range xs rest p x low high e = let size = ap length e in omega (arith, leng
 
 -- the images behind those that are long were taken away
 abbrev pub begun_of : Noted → Noted
-begun_of n = record { places = take n.kept n.places; kept = n.kept; begun = length (take n.kept n.places); read = []; long = n.long }
+begun_of n = record { words = take n.kept n.words; list = []; kept = n.kept; read = []; long = n.long }
 
 module _ (v : Numbered) (symbols : List ℕ) (t : DisjointTables) (g : Places) (tables : AreTables v symbols t) (placed : ArePlaced v g) (grows : Grows t.variables g) (listed : Noted) (keeps : KeepsRest (begun_of t.images) listed) where
   listed-noted : AreNoted v g symbols listed
@@ -34,19 +34,14 @@ module _ (v : Numbered) (symbols : List ℕ) (t : DisjointTables) (g : Places) (
   pub tables-listed : AreTables v symbols (record { variables = g; images = listed; rows = t.rows; before = t.before })
   tables-listed = record { placed = placed; noted = listed-noted; facts = facts-grown v t.variables g t.rows grows tables.facts }
 
--- a list that was begun begins within the places
-pub begun-low : (old new : Noted) → KeepsRest old new → old.begun ≤ length old.places → new.begun ≤ length new.places
-begun-low old new keeps low = rw keeps.1 (omega (arith, low, length-append old.places keeps.0))
-
 -- the list is noted as that of what stands behind the first symbol of a range
-pub tables-noted : (v : Numbered) (symbols : List ℕ) (t : DisjointTables) (old new : Noted) (range image : SymbolRange) (x : ℕ) (rest : List ℕ) → AreTables v symbols t → length old.places ≤ old.begun → t.images.begun ≤ length t.images.places
-    → AddsSymbols v t.variables old t.images (length rest) rest → NotesImage t.images new image → range.start ≤ range.end → range.end ≤ length symbols → image.start ≡ range.start + 1 → image.end ≡ range.end → seen_at symbols range ≡ x ∷ rest
+pub tables-noted : (v : Numbered) (symbols : List ℕ) (t : DisjointTables) (new : Noted) (range image : SymbolRange) (x : ℕ) (rest : List ℕ) → AreTables v symbols t
+    → AddsSymbols v t.variables (HasPlace []) (HasPlace t.images.list) (length rest) rest → NotesImage t.images new image → range.start ≤ range.end → range.end ≤ length symbols → image.start ≡ range.start + 1 → image.end ≡ range.end → seen_at symbols range ≡ x ∷ rest
     → AreTables v symbols (record { variables = t.variables; images = new; rows = t.rows; before = t.before })
-tables-noted v symbols t old new range image x rest tables last low adds notes start end low_is high_is seen =
+tables-noted v symbols t new range image x rest tables adds notes start end low_is high_is seen =
     let some = some-range symbols rest range x start end seen in
-    let own = begun-range v t.variables old t.images (length rest) rest (λ j. begun-none old j last) low refl adds in
     let behind = seen-behind symbols rest range image x some low_is high_is seen in record {
       placed = tables.placed;
-      noted = noted-long v t.variables symbols t.images new image notes (omega (arith, low_is, high_is, some)) (omega (arith, high_is, end)) (rw behind own) tables.noted;
+      noted = noted-long v t.variables symbols t.images new image notes (omega (arith, low_is, high_is, some)) (omega (arith, high_is, end)) (rw behind adds) tables.noted;
       facts = tables.facts;
     }

@@ -1,7 +1,7 @@
 -- The images of each two numbers of a group, each held against those before it.
 use Rattle.subst.proofs.Words.{◌≡◌, ℕ, zero, suc, ◌+◌, ◌<◌, ◌≤◌, Bool, true, false, not, ◌||◌, ◌&&◌, ◌==◌, List, [], ◌∷◌, length, map, take, drop, get_or, slice_get, slice_range, Some, refl, list_all, list_any, position_or_len, sym, ◌∙◌, ap, subst, arith, inl, inr, true≢false, lt-ltb, and_from, and_parts, or_right, cases_eq, or_cases, or_left, cases_Bool, false_from_ne_true, list_all-map, list_all_at, list_all_more, list_any_at, get_or-take, get_or_default, length-take, eqb-true, last_part}
 use Rattle.subst.proofs.Words.{Name, name_eq, has_name, Expr, Database, name_at, decode, AreDistinct, name_same, same_name, name_eq-comm, is_pair, groups, Numbered, CodeImages, code_image, image, images_of_names, are_apart, is_group_apart, are_groups_apart, AreBelow, AllBelow, image_named, are_two_apart, is_number_apart, are_numbers_apart, pair_at, apart-from}
-use Rattle.subst.proofs.Words.{Places, ArePlaced, ArePlacesOf, HasVariable, IsAmong, HasPlace, PlaceWord, PlaceRange, IsIn, IsRangeOf, AddsPlaces, TellsEach}
+use Rattle.subst.proofs.Words.{Places, ArePlaced, ArePlacesOf, HasVariable, IsAmong, HasPlace, PlaceWord, WordRange, IsIn, IsRangeOf, AddsWords, TellsEach}
 use Rattle.std.proofs.lemmas.Option.{get_or_from_slice_get, slice_get-get_or, slice_get_within}
 use Rattle.std.proofs.lemmas.List.Folds.{Any-from_list_any}
 use Rattle.std.proofs.Math.Bool.{and_comm}
@@ -22,11 +22,6 @@ pub below-group : (n : ℕ) (groups : List (List ℕ)) (i : ℕ) (g : List ℕ) 
 below-group n [] i g b h = absurd (cc)
 below-group n (f ∷ groups) zero g b h = let e : f ≡ g = cc in subst (AreBelow n) e b.0
 below-group n (f ∷ groups) (suc i) g b h = below-group n groups i g b.1 h
-
--- numbers that are each below a bound
-pub below-from : (n : ℕ) (xs : List ℕ) → ((x : ℕ) → IsAmong (length xs) xs x → x < n) → AreBelow n xs
-below-from n [] h = tt
-below-from n (x ∷ xs) h = (h x (0, omega arith, refl), below-from n xs (λ y p. h y (suc p.0, omega (arith, p.1), p.2)))
 
 -- a group that is not apart, and one more that is
 pub group-stops : (p : List ℕ → Bool) (groups : List (List ℕ)) (i : ℕ) (g : List ℕ) → slice_get groups i ≡ Some g → p g ≡ false → list_all p groups ≡ false
@@ -102,22 +97,22 @@ module _ (D : Database) (image_of : ℕ → Expr) (group : List ℕ) where
 abbrev pub IsInImages : CodeImages → List ℕ → ℕ → ℕ → Type 0
 IsInImages σ group n x = (a : ℕ) × (a < n) × IsAmong (length (code_image σ (get_or group a 0))) (code_image σ (get_or group a 0)) x
 
-module _ (v : Numbered) (f : Places) (placed : ArePlaced v f) (σ : CodeImages) (group : List ℕ) (n : ℕ) (places : List ℕ) (r : PlaceRange) (set : List PlaceWord)
-    (first : ArePlacesOf v f (HasPlace set) (IsInImages σ group n)) (own : IsRangeOf v f places r (code_image σ (get_or group n 0))) where
+module _ (v : Numbered) (f : Places) (placed : ArePlaced v f) (σ : CodeImages) (group : List ℕ) (n : ℕ) (words : List PlaceWord) (r : WordRange) (set : List PlaceWord)
+    (first : ArePlacesOf v f (HasPlace set) (IsInImages σ group n)) (own : IsRangeOf v f words r (code_image σ (get_or group n 0))) where
   abbrev image_at : ℕ → List ℕ
   image_at a = code_image σ (get_or group a 0)
 
-  abbrev listed : List ℕ
-  listed = slice_range places r.start r.end
+  abbrev listed : List PlaceWord
+  listed = slice_range words r.start r.end
 
-  -- the places of the next image, as a list
-  own-listed : ArePlacesOf v f (IsAmong (length listed) listed) (IsAmong (length (image_at n)) (image_at n))
-  own-listed = places-same v f f (IsIn places r) (IsAmong (length listed) listed) _ (grows-own f) (λ j. in-listed places r j own.low own.high) (λ j. listed-in places r j own.low own.high) own.are
+  -- the places of the next image, as a list of words
+  own-listed : ArePlacesOf v f (HasPlace listed) (IsAmong (length (image_at n)) (image_at n))
+  own-listed = places-same v f f (IsIn words r) (HasPlace listed) _ (grows-own f) (λ j. in-listed words r j own.low own.high) (λ j. listed-in words r j own.low own.high) own.are
 
-  pub images-more : (new : List PlaceWord) → AddsPlaces set new listed → ArePlacesOf v f (HasPlace new) (IsInImages σ group (n + 1))
+  pub images-more : (new : List PlaceWord) → AddsWords set new listed → ArePlacesOf v f (HasPlace new) (IsInImages σ group (n + 1))
   images-more new adds = record {
     each = λ x i. elim (cases_eq i.0 n) [
-      | inl same ↦ has-more v f f (IsAmong (length listed) listed) (HasPlace new) x (grows-own f) adds.added (own-listed.each x (subst (λ m. IsAmong (length (image_at m)) (image_at m) x) same i.2))
+      | inl same ↦ has-more v f f (HasPlace listed) (HasPlace new) x (grows-own f) adds.added (own-listed.each x (subst (λ m. IsAmong (length (image_at m)) (image_at m) x) same i.2))
       | inr other ↦ has-more v f f (HasPlace set) (HasPlace new) x (grows-own f) adds.before (first.each x (i.0, omega (arith, i.1, other), i.2))
     ];
     only = λ j h. elim (adds.only j h) [
@@ -132,7 +127,7 @@ module _ (v : Numbered) (f : Places) (placed : ArePlaced v f) (σ : CodeImages) 
       or_right (get_or group a 0 == get_or group n 0) _
       (apart-from_good v (image_at a) (image_at n) (λ x y p q. good x y (first.each x (a, h, p)) (own-listed.each y q)))
     where
-      good : (x y : ℕ) → HasVariable v f (HasPlace set) x → HasVariable v f (IsAmong (length listed) listed) y → is_good v x y ≡ true
+      good : (x y : ℕ) → HasVariable v f (HasPlace set) x → HasVariable v f (HasPlace listed) y → is_good v x y ≡ true
       good x y (inl none) other = or_left _ _ (or_left _ _ (ap not none))
       good x y (inr one) (inl none) = or_left _ _ (or_right _ _ (ap not none))
       good x y (inr one) (inr two) = or_right _ _ (pair-swap v.statements (name_at v.names x) (name_at v.names y) ∙ (sym (at-names v f two.0 one.0 y x two.1 one.1) ∙ told two.0 one.0 two.2 one.2))

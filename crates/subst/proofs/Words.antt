@@ -25,10 +25,10 @@ pub use Rattle.std.specs.Map.{lookup}
 pub use Rattle.std.specs.Prelude.{Err, IfNone, IfSome, MatchOption, None, Ok, OnOk, Option, Result, Some, [], bytes_eq, codes, cond, if◌then◌else◌, is_err, is_ok, map, min, nat_eq, nat_lt, not, replicate, slice_get, slice_range, slice_set, suc, zero, ◌%◌, ◌&&◌, ◌*◌, ◌/◌, ◌||◌, ◌∷◌, ◌≤◌, ◌⊎◌}
 pub use Rattle.subst.specs.Apart.{are_numbers_apart, are_two_apart, image_named, is_number_apart}
 pub use Rattle.subst.specs.SymbolRanges.{AreInside, AreWithin, images_at, seen_at}
-pub use Rattle.subst.specs.Stored.DisjointRows.{AreFacts, ArePairs, HasFact, IsFact, IsRowAt, NotesWord, TellsAll, TellsEach, TellsWord, no_row}
+pub use Rattle.subst.specs.Stored.DisjointRows.{AreFacts, ArePairs, HasFact, IsFact, IsRowAt, NotesWord, TellsAll, TellsBits, TellsEach, TellsWord, no_row}
 pub use Rattle.subst.specs.Stored.DisjointTables.{AreTables}
-pub use Rattle.subst.specs.Stored.ImageVariables.{AddsImage, AddsPlace, AddsRange, AddsSymbols, AreNoted, AreRead, IsBegun, IsIn, IsLong, IsRangeOf, KeepsImage, KeepsMost, KeepsRest, Noted, NotesImage}
-pub use Rattle.subst.specs.Stored.PlaceSets.{AddsFirst, AddsPlaces, ArePlacesBelow, HasBit, HasPlace, no_word}
+pub use Rattle.subst.specs.Stored.ImageVariables.{AddsImage, Appends, AreNoted, AreRead, IsIn, IsLong, IsRangeOf, KeepsImage, KeepsMost, KeepsRest, Noted, NotesImage}
+pub use Rattle.subst.specs.Stored.PlaceSets.{AddsFirst, AddsSymbols, AddsWord, AddsWords, ArePlacesBelow, HasAmong, HasBit, HasEither, HasPlace, TakesPlace, no_word}
 pub use Rattle.subst.specs.Stored.VariablePlaces.{AreBitsOf, ArePlaced, ArePlacesOf, Grows, HasVariable, IsAmong, IsAt, IsListed, IsPlace, IsVariable, Places, is_kept, variable_name}
 pub use Rattle.subst.specs.Images.{is_image_apart}
 pub use Rattle.subst.specs.Laws.{KeepApart, PairClause, SubstitutionOverNames}
@@ -38,7 +38,7 @@ pub use Rattle.subst.specs.declared.symbol_range.SymbolRange.{SymbolRange}
 pub use Rattle.subst.specs.declared.disjoint_rows.RowWord.{RowWord}
 pub use Rattle.subst.specs.declared.image_ranges.Slot.{Slot}
 pub use Rattle.subst.specs.declared.image_variables.LongImage.{LongImage}
-pub use Rattle.subst.specs.declared.image_variables.PlaceRange.{PlaceRange}
+pub use Rattle.subst.specs.declared.image_variables.WordRange.{WordRange}
 pub use Rattle.subst.specs.declared.image_variables.ReadImage.{ReadImage}
 pub use Rattle.subst.specs.declared.place_words.PlaceWord.{PlaceWord}
 pub use Rattle.subst.specs.declared.variable_places.MetSymbol.{MetSymbol}

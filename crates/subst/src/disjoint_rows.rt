@@ -2,8 +2,8 @@
 ghost use Rattle.std.specs.Prelude.{◌≡◌, ℕ, ◌+◌, ◌*◌, ◌<◌, [], length, IfOk, IfSome};
 ghost use Rattle.std.specs.Int.{bit_at};
 ghost use Rattle.frame.specs.Below.{AreBelow};
-ghost use Rattle.subst.specs.Stored.DisjointRows.{AreFacts, ArePairs, HasFact, IsRowAt, NotesWord, TellsAll, TellsEach, TellsWord};
-ghost use Rattle.subst.specs.Stored.PlaceSets.{ArePlacesBelow};
+ghost use Rattle.subst.specs.Stored.DisjointRows.{AreFacts, ArePairs, HasFact, IsRowAt, NotesWord, TellsAll, TellsBits, TellsEach, TellsWord};
+ghost use Rattle.subst.specs.Stored.PlaceSets.{ArePlacesBelow, HasBit};
 ghost use Rattle.subst.specs.Stored.VariablePlaces.{ArePlaced, Grows};
 
 use crate::hints::Hints;
@@ -76,19 +76,19 @@ impl DisjointRows {
 
     /// Returns the index of the word for a place and a word of others, if there is one.
     #[inline(always)]
-    fn find(&self, place: u32, index: u32) -> Option<usize>
+    fn find(&self, place: usize, index: u32) -> Option<usize>
         ensures { IfSome result (IsRowAt self.now place index) }
     {
         let at = self.hints.get(hint_number(place, index) as usize);
         match self.words.get(at) {
-            Some(word) if word.place == place && word.index == index => Some(at),
+            Some(word) if word.place as usize == place && word.index == index => Some(at),
             _ => None,
         }
     }
 
     /// Returns those of 64 places that were found to be disjoint from a place.
     #[inline(always)]
-    fn bits(&self, place: u32, index: u32) -> u64
+    fn bits(&self, place: usize, index: u32) -> u64
         ensures { (b : ℕ) → bit_at result b ≡ 1 → HasFact self.now place (64 * index + b) }
     {
         match self.find(place, index) {
@@ -99,20 +99,23 @@ impl DisjointRows {
 
     /// Notes that places are disjoint from a place.
     #[inline(always)]
-    fn note(&mut self, place: u32, word: PlaceWord) -> Result<(), AllocError>
+    fn note(&mut self, place: usize, word: PlaceWord) -> Result<(), AllocError>
         ensures { NotesWord self.old self.new place word }
     {
-        if place >= NOTED_PLACES || word.index >= NOTED_PLACES / 64 {
+        if place >= NOTED_PLACES as usize || word.index >= NOTED_PLACES / 64 {
             return Ok(());
         }
         let index = word.index;
         let bits = word.bits;
-        if let Some(at) = self.find(place, index) {
+        let found = self.find(place, index);
+        let number = hint_number(place, index);
+        let place = place as u32;
+        if let Some(at) = found {
             let bits = self.words[at].bits | bits;
             self.words[at] = RowWord { place, index, bits };
             return Ok(());
         }
-        self.hints.set(hint_number(place, index), self.words.len())?;
+        self.hints.set(number, self.words.len())?;
         self.words.push(RowWord { place, index, bits })?;
         Ok(())
     }
@@ -189,7 +192,7 @@ impl DisjointRows {
             let bit = lowest(rest);
             let index = 0;
             let bits = without(listed, bit);
-            self.note(bit as u32, PlaceWord { index, bits })?;
+            self.note(bit, PlaceWord { index, bits })?;
             rest = without(rest, bit);
         }
         Ok(())
@@ -202,7 +205,7 @@ impl DisjointRows {
         &mut self,
         pairs: &Pairs<'_>,
         variables: &VariablePlaces,
-        place: u32,
+        place: usize,
         word: PlaceWord,
     ) -> Result<bool, AllocError>
         requires placed { ArePlaced pairs.now variables.now }
@@ -229,7 +232,7 @@ impl DisjointRows {
         &mut self,
         pairs: &Pairs<'_>,
         variables: &VariablePlaces,
-        place: u32,
+        place: usize,
         others: &PlaceSet,
     ) -> Result<bool, AllocError>
         requires placed { ArePlaced pairs.now variables.now }
@@ -249,23 +252,53 @@ impl DisjointRows {
         Ok(true)
     }
 
-    /// Whether each of the variables at the places of a list is disjoint from each of those at the places of a set.
-    pub fn are_disjoint(
+    /// Whether each of the variables at the places of a word is disjoint from each of those at the places of a set.
+    #[inline(always)]
+    fn is_word_disjoint(
         &mut self,
         pairs: &Pairs<'_>,
         variables: &VariablePlaces,
-        places: &[u32],
+        word: PlaceWord,
         others: &PlaceSet,
     ) -> Result<bool, AllocError>
         requires placed { ArePlaced pairs.now variables.now }
         requires facts { AreFacts pairs.now variables.now self.old }
-        requires there { AreBelow (length variables.now.variables) places.now }
+        requires there { (j : ℕ) → HasBit word j → j < length variables.now.variables }
         requires others { ArePlacesBelow (length variables.now.variables) others.now }
         ensures facts { AreFacts pairs.now variables.now self.new }
-        ensures tells { IfOk result (TellsEach pairs.now variables.now places.now others.now) }
+        ensures tells { IfOk result (TellsBits pairs.now variables.now word others.now) }
     {
-        for place in places {
-            if !self.is_disjoint(pairs, variables, *place, others)? {
+        let mut rest = word.bits;
+        while rest != 0 {
+            let bit = lowest(rest);
+            let place = 64 * word.index as usize + bit;
+            if !self.is_disjoint(pairs, variables, place, others)? {
+                return Ok(false);
+            }
+            rest = without(rest, bit);
+        }
+        Ok(true)
+    }
+
+    /// Whether each of the variables at the places of a list of words is disjoint from each of those at the places of a set.
+    ///
+    /// Errors: an allocation fails. Cost: a step for each place of the list and each word of the set; see `is_disjoint`.
+    pub fn are_disjoint(
+        &mut self,
+        pairs: &Pairs<'_>,
+        variables: &VariablePlaces,
+        words: &[PlaceWord],
+        others: &PlaceSet,
+    ) -> Result<bool, AllocError>
+        requires placed { ArePlaced pairs.now variables.now }
+        requires facts { AreFacts pairs.now variables.now self.old }
+        requires there { ArePlacesBelow (length variables.now.variables) words.now }
+        requires others { ArePlacesBelow (length variables.now.variables) others.now }
+        ensures facts { AreFacts pairs.now variables.now self.new }
+        ensures tells { IfOk result (TellsEach pairs.now variables.now words.now others.now) }
+    {
+        for word in words {
+            if !self.is_word_disjoint(pairs, variables, *word, others)? {
                 return Ok(false);
             }
         }
@@ -280,7 +313,7 @@ fn are_pairs(
     pairs: &Pairs<'_>,
     variables: &VariablePlaces,
     memo: &mut PairMemo,
-    place: u32,
+    place: usize,
     word: PlaceWord,
 ) -> bool
     requires placed { ArePlaced pairs.now variables.now }
@@ -288,7 +321,7 @@ fn are_pairs(
     requires others { (b : ℕ) → bit_at word.bits b ≡ 1 → 64 * word.index + b < length variables.now.variables }
     ensures { TellsWord pairs.now variables.now place word result }
 {
-    let x = variables.number(place as usize);
+    let x = variables.number(place);
     let mut rest = word.bits;
     while rest != 0 {
         let bit = lowest(rest);
@@ -303,6 +336,6 @@ fn are_pairs(
 
 /// The number of the hint for a place and a word of others, where these are few.
 #[inline(always)]
-fn hint_number(place: u32, index: u32) -> u32 {
-    NOTED_PLACES * (index % (NOTED_PLACES / 64)) + place % NOTED_PLACES
+fn hint_number(place: usize, index: u32) -> u32 {
+    NOTED_PLACES * (index % (NOTED_PLACES / 64)) + (place % NOTED_PLACES as usize) as u32
 }

@@ -86,12 +86,12 @@ impl DisjointTables {
             let range = self
                 .images
                 .image_of(pairs, &mut self.variables, symbols, images, *k)?;
-            let places = self.images.places_in(range);
+            let words = self.images.words_in(range);
             if self
                 .rows
-                .are_disjoint(pairs, &self.variables, places, &self.before)?
+                .are_disjoint(pairs, &self.variables, words, &self.before)?
             {
-                self.before.add_all(places)?;
+                self.before.add_words(words)?;
             } else if !contains(&group[..index], *k) {
                 return Ok(false);
             }

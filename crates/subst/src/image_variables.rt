@@ -5,11 +5,14 @@ ghost use Rattle.frame.specs.Below.{AreBelow};
 ghost use Rattle.frame.specs.Substitution.{code_image};
 ghost use Rattle.subst.specs.Images.{AreOver};
 ghost use Rattle.subst.specs.SymbolRanges.{AreInside, images_at};
-ghost use Rattle.subst.specs.Stored.ImageVariables.{AddsImage, AddsPlace, AddsRange, AddsSymbols, AreNoted, AreRead, IsRangeOf, KeepsImage, KeepsMost, KeepsRest, NotesImage};
+ghost use Rattle.subst.specs.Stored.ImageVariables.{AddsImage, Appends, AreNoted, AreRead, IsRangeOf, KeepsImage, KeepsMost, KeepsRest, NotesImage};
+ghost use Rattle.subst.specs.Stored.PlaceSets.{AddsWords};
 ghost use Rattle.subst.specs.Stored.VariablePlaces.{ArePlaced, Grows};
 
 use crate::hints::Hints;
 use crate::image_ranges::ImageRanges;
+use crate::place_set::PlaceSet;
+use crate::place_words::PlaceWord;
 use crate::symbol_range::{SymbolRange, symbols_at};
 use crate::variable_places::VariablePlaces;
 use frame::Pairs;
@@ -19,42 +22,42 @@ use std::marker::Model;
 /// Results with more symbols keep their variables.
 pub const LONG_RESULT: usize = 1024;
 
-/// A result keeps its variables if they are at most one in so many of its symbols: with more of them, to read it again costs
-/// about as much as its variables, and these would need about as much memory as it does.
-const SYMBOLS_PER_VARIABLE: usize = 8;
+/// A result keeps the words of its variables if these are at most one in so many of its symbols: with more of them, to read
+/// it again costs about as much as its words, and these would need about as much memory as it does.
+const SYMBOLS_PER_WORD: usize = 8;
 
-/// Where places lie in a list of places.
+/// Where words lie in a list of words.
 #[derive(Clone, Copy, Drop)]
-pub struct PlaceRange {
+pub struct WordRange {
     start: usize,
     end: usize,
 }
 
-/// A symbol whose image was read, and the places of the image's variables.
+/// A symbol whose image was read, and the words of the image's variables.
 #[derive(Clone, Copy, Drop)]
 pub struct ReadImage {
     symbol: u32,
-    places: PlaceRange,
+    words: WordRange,
 }
 
-/// Where a long image lies, and the places of its variables.
+/// Where a long image lies, and the words of its variables.
 #[derive(Clone, Copy, Drop)]
 pub struct LongImage {
     image: SymbolRange,
-    places: PlaceRange,
+    words: WordRange,
 }
 
-/// The places of the variables of images, each once: those of long images for a whole proof, the others for one citation.
+/// The places of the variables of images, as words of bits: those of long images for a whole proof, the others for one
+/// citation.
 ///
-/// Hints tell where a place and a symbol may stand, so nothing is cleared by number.
+/// Hints tell where a symbol may stand, so nothing is cleared by number.
 #[derive(Drop)]
 pub struct ImageVariables {
-    /// The first `kept` places are those of long images.
-    places: Vec<u32>,
+    /// The first `kept` words are those of long images.
+    words: Vec<PlaceWord>,
     kept: usize,
-    /// Where the places begin that are being listed.
-    begun: usize,
-    spots: Hints,
+    /// The words of the image that is being read.
+    list: PlaceSet,
     /// The images that were read in this citation.
     read: Vec<ReadImage>,
     hints: Hints,
@@ -63,14 +66,11 @@ pub struct ImageVariables {
 }
 
 impl Model for ImageVariables {
-    ghost use Rattle.std.specs.Prelude.{◌≤◌, length};
     ghost use Rattle.subst.specs.Stored.ImageVariables.{Noted};
 
     ghost Value = { Noted };
 
-    ghost view = { λ a. record { places = a.places.items; kept = a.kept; begun = a.begun; read = a.read.items; long = a.long.items } };
-
-    ghost invariant = { λ a. a.begun ≤ length a.places.items };
+    ghost view = { λ a. record { words = a.words.items; list = a.list; kept = a.kept; read = a.read.items; long = a.long.items } };
 }
 
 impl ImageVariables {
@@ -80,10 +80,9 @@ impl ImageVariables {
         ensures long { result.long ≡ [] }
     {
         ImageVariables {
-            places: Vec::new(alloc),
+            words: Vec::new(alloc),
             kept: 0,
-            begun: 0,
-            spots: Hints::new(alloc),
+            list: PlaceSet::new(alloc),
             read: Vec::new(alloc),
             hints: Hints::new(alloc),
             long: Vec::new(alloc),
@@ -104,46 +103,39 @@ impl ImageVariables {
         ensures kept { self.new.kept ≡ 0 }
         ensures long { self.new.long ≡ [] }
     {
-        self.places = Vec::new(alloc);
+        self.words = Vec::new(alloc);
         self.kept = 0;
-        self.begun = 0;
+        self.list = PlaceSet::new(alloc);
         self.read = Vec::new(alloc);
         self.long = Vec::new(alloc);
     }
 
     /// Begins a citation: forgets the images that are not long.
     pub fn begin(&mut self)
-        ensures { self.new ≡ record { places = take self.old.kept self.old.places; kept = self.old.kept; begun = length (take self.old.kept self.old.places); read = []; long = self.old.long } }
+        ensures { self.new ≡ record { words = take self.old.kept self.old.words; list = []; kept = self.old.kept; read = []; long = self.old.long } }
     {
-        self.places.truncate(self.kept);
-        self.begun = self.places.len();
+        self.words.truncate(self.kept);
+        self.list.clear();
         self.read.clear();
     }
 
-    /// Begins a list of places at the end.
-    pub fn begin_list(&mut self)
-        ensures { self.new ≡ record { places = self.old.places; kept = self.old.kept; begun = length self.old.places; read = self.old.read; long = self.old.long } }
-    {
-        self.begun = self.places.len();
-    }
-
-    /// Returns the places in a range.
+    /// Returns the words in a range.
     #[inline(always)]
-    pub fn places_in(&self, range: PlaceRange) -> &[u32]
-        requires { (range.start ≤ range.end) × (range.end ≤ length self.now.places) }
-        ensures { result.now ≡ slice_range self.now.places range.start range.end }
+    pub fn words_in(&self, range: WordRange) -> &[PlaceWord]
+        requires { (range.start ≤ range.end) × (range.end ≤ length self.now.words) }
+        ensures { result.now ≡ slice_range self.now.words range.start range.end }
     {
-        &self.places[range.start..range.end]
+        &self.words[range.start..range.end]
     }
 
     /// Returns the range of the image of a symbol that was read in this citation.
     #[inline(always)]
-    fn find(&self, symbol: u32) -> Option<PlaceRange>
-        ensures { IfSome result (λ range. Contains self.now.read (record { symbol = symbol; places = range })) }
+    fn find(&self, symbol: u32) -> Option<WordRange>
+        ensures { IfSome result (λ range. Contains self.now.read (record { symbol = symbol; words = range })) }
     {
         let image = self.read.get(self.hints.get(symbol as usize))?;
         if image.symbol == symbol {
-            Some(image.places)
+            Some(image.words)
         } else {
             None
         }
@@ -151,8 +143,8 @@ impl ImageVariables {
 
     /// Returns the range of a long image that was noted.
     #[inline(always)]
-    fn find_long(&self, image: SymbolRange) -> Option<PlaceRange>
-        ensures { IfSome result (λ range. Contains self.now.long (record { image = image; places = range })) }
+    fn find_long(&self, image: SymbolRange) -> Option<WordRange>
+        ensures { IfSome result (λ range. Contains self.now.long (record { image = image; words = range })) }
     {
         if (image.end as usize) < image.start as usize + LONG_RESULT {
             return None;
@@ -163,8 +155,8 @@ impl ImageVariables {
     /// The search of a long image.
     #[cold]
     #[inline(never)]
-    fn search_long(&self, image: SymbolRange) -> Option<PlaceRange>
-        ensures { IfSome result (λ range. Contains self.now.long (record { image = image; places = range })) }
+    fn search_long(&self, image: SymbolRange) -> Option<WordRange>
+        ensures { IfSome result (λ range. Contains self.now.long (record { image = image; words = range })) }
     {
         let mut low = 0;
         let mut high = self.long.len();
@@ -178,36 +170,13 @@ impl ImageVariables {
         }
         let found = self.long.get(low)?;
         if found.image.start == image.start && found.image.end == image.end {
-            Some(found.places)
+            Some(found.words)
         } else {
             None
         }
     }
 
-    /// Adds a place to the list that was begun, if it does not stand there.
-    #[inline(always)]
-    fn add(&mut self, place: u32) -> Result<(), AllocError>
-        ensures rest { KeepsRest self.old self.new }
-        ensures added { OnOk result (AddsPlace self.old self.new place) }
-    {
-        let spot = self.spots.get(place as usize);
-        match self.places.get(spot) {
-            Some(there) if *there == place && self.begun <= spot => Ok(()),
-            _ => self.add_new(place),
-        }
-    }
-
-    /// Adds a place to the list that was begun.
-    fn add_new(&mut self, place: u32) -> Result<(), AllocError>
-        ensures rest { KeepsRest self.old self.new }
-        ensures added { OnOk result (AddsPlace self.old self.new place) }
-    {
-        self.spots.set(place, self.places.len())?;
-        self.places.push(place)?;
-        Ok(())
-    }
-
-    /// Adds the places of the variables among the symbols to the list that was begun.
+    /// Adds the places of the variables among the symbols to the list.
     pub fn add_symbols(
         &mut self,
         pairs: &Pairs<'_>,
@@ -219,30 +188,21 @@ impl ImageVariables {
         ensures placed { ArePlaced pairs.now variables.new }
         ensures grows { Grows variables.old variables.new }
         ensures rest { KeepsRest self.old self.new }
-        ensures added { OnOk result (AddsSymbols pairs.now variables.new self.old self.new (length image.now) image.now) }
+        ensures added { OnOk result (AddsImage pairs.now variables.new self.old self.new image.now) }
     {
-        for symbol in image {
-            if let Some(place) = variables.place_of(pairs, *symbol)? {
-                self.add(place)?;
-            }
-        }
-        Ok(())
+        self.list.add_symbols(pairs, variables, image)
     }
 
-    /// Adds the places in a range to the list that was begun.
-    fn add_range(&mut self, range: PlaceRange) -> Result<(), AllocError>
-        requires { range.end ≤ length self.old.places }
+    /// Adds the words in a range to the list.
+    fn add_range(&mut self, range: WordRange) -> Result<(), AllocError>
+        requires { (range.start ≤ range.end) × (range.end ≤ length self.old.words) }
         ensures rest { KeepsRest self.old self.new }
-        ensures added { OnOk result (AddsRange self.old self.new range) }
+        ensures added { OnOk result (AddsWords self.old.list self.new.list (slice_range self.old.words range.start range.end)) }
     {
-        for index in range.start..range.end {
-            let place = self.places[index];
-            self.add(place)?;
-        }
-        Ok(())
+        self.list.add_words(&self.words[range.start..range.end])
     }
 
-    /// Adds the places of the variables of the image of a symbol to the list that was begun.
+    /// Adds the places of the variables of the image of a symbol to the list.
     ///
     /// Errors: an allocation fails. Cost: the symbols of the image; the variables of a long one.
     pub fn add_image(
@@ -272,26 +232,43 @@ impl ImageVariables {
         }
     }
 
+    /// Puts the words of the list at the end.
+    #[inline(always)]
+    fn append_list(&mut self) -> Result<WordRange, AllocError>
+        ensures rest { KeepsMost self.old self.new }
+        ensures appended { IfOk result (Appends self.old self.new) }
+    {
+        let start = self.words.len();
+        self.words.extend_from_slice(self.list.as_slice())?;
+        let end = self.words.len();
+        Ok(WordRange { start, end })
+    }
+
     /// Reads the places of the variables of an image.
     fn read(
         &mut self,
         pairs: &Pairs<'_>,
         variables: &mut VariablePlaces,
         image: &[u32],
-    ) -> Result<PlaceRange, AllocError>
+    ) -> Result<WordRange, AllocError>
         requires placed { ArePlaced pairs.now variables.old }
         requires below { AreBelow (length pairs.now.names) image.now }
         ensures placed { ArePlaced pairs.now variables.new }
         ensures grows { Grows variables.old variables.new }
         ensures rest { KeepsMost self.old self.new }
-        ensures range { IfOk result (λ range. IsRangeOf pairs.now variables.new self.new.places range image.now) }
+        ensures range { IfOk result (λ range. IsRangeOf pairs.now variables.new self.new.words range image.now) }
     {
-        self.begin_list();
+        self.clear_list();
         self.add_symbols(pairs, variables, image)?;
-        Ok(PlaceRange {
-            start: self.begun,
-            end: self.places.len(),
-        })
+        self.append_list()
+    }
+
+    /// Begins a list.
+    #[inline(always)]
+    fn clear_list(&mut self)
+        ensures { self.new ≡ record { words = self.old.words; list = []; kept = self.old.kept; read = self.old.read; long = self.old.long } }
+    {
+        self.list.clear();
     }
 
     /// Returns the range of the places of the variables of the image of a symbol, which is read, or was noted.
@@ -302,7 +279,7 @@ impl ImageVariables {
         symbols: &[u32],
         images: &ImageRanges,
         symbol: u32,
-    ) -> Result<PlaceRange, AllocError>
+    ) -> Result<WordRange, AllocError>
         requires placed { ArePlaced pairs.now variables.old }
         requires noted { AreNoted pairs.now variables.old symbols.now self.old }
         requires named { AreOver pairs.now.names (images_at symbols.now images.now) }
@@ -311,7 +288,7 @@ impl ImageVariables {
         ensures placed { ArePlaced pairs.now variables.new }
         ensures grows { Grows variables.old variables.new }
         ensures rest { KeepsMost self.old self.new }
-        ensures range { IfOk result (λ range. IsRangeOf pairs.now variables.new self.new.places range (code_image (images_at symbols.now images.now) symbol)) }
+        ensures range { IfOk result (λ range. IsRangeOf pairs.now variables.new self.new.words range (code_image (images_at symbols.now images.now) symbol)) }
     {
         let Some(place) = images.get(symbol) else {
             return self.read(pairs, variables, &[symbol]);
@@ -323,11 +300,11 @@ impl ImageVariables {
     }
 
     /// Keeps the range of the image of a symbol for this citation.
-    fn keep(&mut self, symbol: u32, places: PlaceRange) -> Result<(), AllocError>
-        ensures { KeepsImage self.old self.new symbol places }
+    fn keep(&mut self, symbol: u32, words: WordRange) -> Result<(), AllocError>
+        ensures { KeepsImage self.old self.new symbol words }
     {
         self.hints.set(symbol, self.read.len())?;
-        self.read.push(ReadImage { symbol, places })?;
+        self.read.push(ReadImage { symbol, words })?;
         Ok(())
     }
 
@@ -342,7 +319,7 @@ impl ImageVariables {
         symbols: &[u32],
         images: &ImageRanges,
         symbol: u32,
-    ) -> Result<PlaceRange, AllocError>
+    ) -> Result<WordRange, AllocError>
         requires placed { ArePlaced pairs.now variables.old }
         requires noted { AreNoted pairs.now variables.old symbols.now self.old }
         requires read { AreRead pairs.now variables.old symbols.now images.now self.old }
@@ -353,7 +330,7 @@ impl ImageVariables {
         ensures grows { Grows variables.old variables.new }
         ensures noted { AreNoted pairs.now variables.new symbols.now self.new }
         ensures read { AreRead pairs.now variables.new symbols.now images.now self.new }
-        ensures range { IfOk result (λ range. IsRangeOf pairs.now variables.new self.new.places range (code_image (images_at symbols.now images.now) symbol)) }
+        ensures range { IfOk result (λ range. IsRangeOf pairs.now variables.new self.new.words range (code_image (images_at symbols.now images.now) symbol)) }
     {
         if let Some(range) = self.find(symbol) {
             return Ok(range);
@@ -363,22 +340,19 @@ impl ImageVariables {
         Ok(range)
     }
 
-    /// Notes that the list that was begun has the places of the variables of a long image, if these are few.
+    /// Notes that the list has the places of the variables of a long image, if its words are few.
     ///
-    /// Errors: an allocation fails. Cost: a constant.
+    /// Errors: an allocation fails. Cost: the words of the list.
     pub fn note(&mut self, image: SymbolRange) -> Result<(), AllocError>
         ensures { NotesImage self.old self.new image }
     {
-        let places = PlaceRange {
-            start: self.begun,
-            end: self.places.len(),
-        };
         let len = image.end.saturating_sub(image.start) as usize;
-        if places.end - places.start > len / SYMBOLS_PER_VARIABLE {
+        if self.list.as_slice().len() > len / SYMBOLS_PER_WORD {
             return Ok(());
         }
-        self.long.push(LongImage { image, places })?;
-        self.kept = self.places.len();
+        let words = self.append_list()?;
+        self.long.push(LongImage { image, words })?;
+        self.kept = words.end;
         Ok(())
     }
 }

@@ -1,9 +1,13 @@
 //! A set of places.
-ghost use Rattle.std.specs.Prelude.{◌≡◌, ◌++◌, ◌∷◌, [], OnOk};
-ghost use Rattle.subst.specs.Stored.PlaceSets.{AddsPlace, AddsPlaces};
+ghost use Rattle.std.specs.Prelude.{◌≡◌, ◌++◌, ◌∷◌, [], length, IfOk, OnOk};
+ghost use Rattle.frame.specs.Below.{AreBelow};
+ghost use Rattle.subst.specs.Stored.PlaceSets.{AddsSymbols, AddsWord, AddsWords, HasEither, HasPlace, TakesPlace};
+ghost use Rattle.subst.specs.Stored.VariablePlaces.{ArePlaced, Grows};
 
 use crate::hints::Hints;
 use crate::place_words::PlaceWord;
+use crate::variable_places::VariablePlaces;
+use frame::Pairs;
 use std::alloc::{AllocError, Global};
 use std::marker::Model;
 
@@ -51,44 +55,105 @@ impl PlaceSet {
         &self.words
     }
 
-    /// Adds a place.
+    /// Adds the places of a word.
     ///
     /// Errors: an allocation fails.
     #[inline(always)]
-    pub fn add(&mut self, place: u32) -> Result<(), AllocError>
-        ensures { OnOk result (AddsPlace self.old self.new place) }
+    pub fn add_word(&mut self, word: PlaceWord) -> Result<(), AllocError>
+        ensures { OnOk result (AddsWord self.old self.new word) }
     {
-        let index = place / 64;
-        let bit = 1u64 << (place % 64);
+        let index = word.index;
         let at = self.hints.get(index as usize);
         match self.words.get(at) {
-            Some(word) if word.index == index => {
-                let bits = word.bits | bit;
+            Some(there) if there.index == index => {
+                let bits = there.bits | word.bits;
                 self.words[at] = PlaceWord { index, bits };
                 Ok(())
             }
-            _ => self.add_word(index, bit),
+            _ => self.add_new(word),
         }
     }
 
     /// Adds a word of which none stands there yet.
-    #[cold]
-    #[inline(never)]
-    fn add_word(&mut self, index: u32, bits: u64) -> Result<(), AllocError>
-        ensures { OnOk result (self.new ≡ self.old ++ (record { index = index; bits = bits }) ∷ []) }
+    fn add_new(&mut self, word: PlaceWord) -> Result<(), AllocError>
+        ensures { OnOk result (self.new ≡ self.old ++ word ∷ []) }
     {
-        self.hints.set(index, self.words.len())?;
-        self.words.push(PlaceWord { index, bits })?;
+        self.hints.set(word.index, self.words.len())?;
+        self.words.push(word)?;
         Ok(())
     }
 
-    /// Adds all places of a list.
-    pub fn add_all(&mut self, places: &[u32]) -> Result<(), AllocError>
-        ensures { OnOk result (AddsPlaces self.old self.new places.now) }
+    /// Adds the places of all words of a list.
+    ///
+    /// Errors: an allocation fails.
+    #[inline(always)]
+    pub fn add_words(&mut self, words: &[PlaceWord]) -> Result<(), AllocError>
+        ensures { OnOk result (AddsWords self.old self.new words.now) }
     {
-        for place in places {
-            self.add(*place)?;
+        for word in words {
+            self.add_word(*word)?;
         }
         Ok(())
+    }
+
+    /// Adds a place to the word at hand. If it is not one of the 64 places of that word, the word is added to the set, and
+    /// another one is at hand.
+    #[inline(always)]
+    fn take(&mut self, word: PlaceWord, place: u32) -> Result<PlaceWord, AllocError>
+        ensures { IfOk result (λ next. TakesPlace self.old word self.new next place) }
+    {
+        let index = place / 64;
+        let bit = 1u64 << (place % 64);
+        if word.index == index {
+            let bits = word.bits | bit;
+            return Ok(PlaceWord { index, bits });
+        }
+        self.add_word(word)?;
+        Ok(PlaceWord { index, bits: bit })
+    }
+
+    /// Adds the places of the variables among the symbols, those of the last word not yet, and returns that word.
+    #[inline(always)]
+    fn take_symbols(
+        &mut self,
+        pairs: &Pairs<'_>,
+        variables: &mut VariablePlaces,
+        image: &[u32],
+    ) -> Result<PlaceWord, AllocError>
+        requires placed { ArePlaced pairs.now variables.old }
+        requires below { AreBelow (length pairs.now.names) image.now }
+        ensures placed { ArePlaced pairs.now variables.new }
+        ensures grows { Grows variables.old variables.new }
+        ensures added { IfOk result (λ word. AddsSymbols pairs.now variables.new (HasPlace self.old) (HasEither self.new word) (length image.now) image.now) }
+    {
+        let mut word = PlaceWord { index: 0, bits: 0 };
+        for symbol in image {
+            if let Some(place) = variables.place_of(pairs, *symbol)? {
+                word = self.take(word, place)?;
+            }
+        }
+        Ok(word)
+    }
+
+    /// Adds the places of the variables among the symbols.
+    ///
+    /// Errors: an allocation fails. Cost: a step for each symbol.
+    pub fn add_symbols(
+        &mut self,
+        pairs: &Pairs<'_>,
+        variables: &mut VariablePlaces,
+        image: &[u32],
+    ) -> Result<(), AllocError>
+        requires placed { ArePlaced pairs.now variables.old }
+        requires below { AreBelow (length pairs.now.names) image.now }
+        ensures placed { ArePlaced pairs.now variables.new }
+        ensures grows { Grows variables.old variables.new }
+        ensures added { OnOk result (AddsSymbols pairs.now variables.new (HasPlace self.old) (HasPlace self.new) (length image.now) image.now) }
+    {
+        let word = self.take_symbols(pairs, variables, image)?;
+        if word.bits == 0 {
+            return Ok(());
+        }
+        self.add_word(word)
     }
 }

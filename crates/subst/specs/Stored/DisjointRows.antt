@@ -55,6 +55,10 @@ abbrev pub TellsAll : Numbered → Places → ℕ → List PlaceWord → Bool �
 TellsAll v f p ws true = (q : ℕ) → HasPlace ws q → is_kept v f p q ≡ true
 TellsAll v f p ws false = (q : ℕ) × HasPlace ws q × (is_kept v f p q ≡ false)
 
-abbrev pub TellsEach : Numbered → Places → List ℕ → List PlaceWord → Bool → Type 0
-TellsEach v f places ws true = (p q : ℕ) → IsAmong (length places) places p → HasPlace ws q → is_kept v f p q ≡ true
-TellsEach v f places ws false = (p : ℕ) × (q : ℕ) × IsAmong (length places) places p × HasPlace ws q × (is_kept v f p q ≡ false)
+abbrev pub TellsBits : Numbered → Places → PlaceWord → List PlaceWord → Bool → Type 0
+TellsBits v f w ws true = (p q : ℕ) → HasBit w p → HasPlace ws q → is_kept v f p q ≡ true
+TellsBits v f w ws false = (p : ℕ) × (q : ℕ) × HasBit w p × HasPlace ws q × (is_kept v f p q ≡ false)
+
+abbrev pub TellsEach : Numbered → Places → List PlaceWord → List PlaceWord → Bool → Type 0
+TellsEach v f own ws true = (p q : ℕ) → HasPlace own p → HasPlace ws q → is_kept v f p q ≡ true
+TellsEach v f own ws false = (p : ℕ) × (q : ℕ) × HasPlace own p × HasPlace ws q × (is_kept v f p q ≡ false)

@@ -3,8 +3,9 @@
 -- The code keeps the words that have bits, in the order in which they were met.
 use Rattle.std.specs.Prelude.{◌≡◌, ℕ, ◌+◌, ◌*◌, ◌<◌, ◌⊎◌, List, length, get_or}
 use Rattle.std.specs.Int.{bit_at}
+use Rattle.frame.specs.Parts.{Numbered}
 use Rattle.subst.specs.declared.place_words.PlaceWord.{PlaceWord}
-use Rattle.subst.specs.Stored.VariablePlaces.{IsAmong}
+use Rattle.subst.specs.Stored.VariablePlaces.{Places, IsAt, HasVariable, IsAmong}
 
 abbrev pub no_word : PlaceWord
 no_word = record { index = 0; bits = 0 }
@@ -15,26 +16,46 @@ pub record HasBit (w : PlaceWord) (j : ℕ) : Type 0 where
   pub place : j ≡ 64 * w.index + bit
   pub set : bit_at w.bits bit ≡ 1
 
--- one of the words has it
-pub record HasPlace (ws : List PlaceWord) (j : ℕ) : Type 0 where
+-- one of the first n words has it
+pub record HasAmong (n : ℕ) (ws : List PlaceWord) (j : ℕ) : Type 0 where
   pub word : ℕ
-  pub there : word < length ws
+  pub there : word < n
   pub has : HasBit (get_or ws word no_word) j
+
+-- one of the words has it
+abbrev pub HasPlace : List PlaceWord → ℕ → Type 0
+HasPlace ws j = HasAmong (length ws) ws j
 
 abbrev pub ArePlacesBelow : ℕ → List PlaceWord → Type 0
 ArePlacesBelow n ws = (j : ℕ) → HasPlace ws j → j < n
 
--- a place more
-pub record AddsPlace (old new : List PlaceWord) (place : ℕ) : Type 0 where
+-- the places of a word more
+pub record AddsWord (old new : List PlaceWord) (w : PlaceWord) : Type 0 where
   pub before : (j : ℕ) → HasPlace old j → HasPlace new j
-  pub added : HasPlace new place
-  pub only : (j : ℕ) → HasPlace new j → HasPlace old j ⊎ (j ≡ place)
+  pub added : (j : ℕ) → HasBit w j → HasPlace new j
+  pub only : (j : ℕ) → HasPlace new j → HasPlace old j ⊎ HasBit w j
 
--- the first n places of a list more
-pub record AddsFirst (old new : List PlaceWord) (n : ℕ) (places : List ℕ) : Type 0 where
+-- the places of the first n words of a list more
+pub record AddsFirst (old new : List PlaceWord) (n : ℕ) (ws : List PlaceWord) : Type 0 where
   pub before : (j : ℕ) → HasPlace old j → HasPlace new j
-  pub added : (j : ℕ) → IsAmong n places j → HasPlace new j
-  pub only : (j : ℕ) → HasPlace new j → HasPlace old j ⊎ IsAmong n places j
+  pub added : (j : ℕ) → HasAmong n ws j → HasPlace new j
+  pub only : (j : ℕ) → HasPlace new j → HasPlace old j ⊎ HasAmong n ws j
 
-abbrev pub AddsPlaces : List PlaceWord → List PlaceWord → List ℕ → Type 0
-AddsPlaces old new places = AddsFirst old new (length places) places
+abbrev pub AddsWords : List PlaceWord → List PlaceWord → List PlaceWord → Type 0
+AddsWords old new ws = AddsFirst old new (length ws) ws
+
+-- the set has the place, or the word at hand
+abbrev pub HasEither : List PlaceWord → PlaceWord → ℕ → Type 0
+HasEither ws w j = HasPlace ws j ⊎ HasBit w j
+
+-- a place more, in the set or in the word at hand
+pub record TakesPlace (old : List PlaceWord) (w : PlaceWord) (new : List PlaceWord) (next : PlaceWord) (place : ℕ) : Type 0 where
+  pub before : (j : ℕ) → HasEither old w j → HasEither new next j
+  pub added : HasEither new next place
+  pub only : (j : ℕ) → HasEither new next j → HasEither old w j ⊎ (j ≡ place)
+
+-- the places of the variables among the first n symbols more
+pub record AddsSymbols (v : Numbered) (f : Places) (Old New : ℕ → Type 0) (n : ℕ) (image : List ℕ) : Type 0 where
+  pub before : (j : ℕ) → Old j → New j
+  pub added : (x : ℕ) → IsAmong n image x → HasVariable v f New x
+  pub only : (j : ℕ) → New j → Old j ⊎ ((x : ℕ) × IsAmong n image x × IsAt f j x)

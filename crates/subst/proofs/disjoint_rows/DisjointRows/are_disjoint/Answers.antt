@@ -1,12 +1,22 @@
-use Rattle.subst.proofs.Words.{length, below-at}
-use Rattle.subst.proofs.DisjointRowLemmas.{are_told-more}
+use Rattle.subst.proofs.DisjointRowLemmas.{are_told-all, are_told-more, are_told-none}
 use Rattle.subst.proofs.disjoint_rows.DisjointRows.are_disjoint.Goals as goal
 
-pub is_disjoint-requires-clause-there : goal.is_disjoint-requires-clause-there
-is_disjoint-requires-clause-there c = below-at (length c.args.variables.now.variables) c.args.places.now c.loop-place.place-index 0 c.requires.there c.loop-place-test.true
+pub loop-word-init : goal.loop-word-init
+loop-word-init c = (c.requires.facts, are_told-none c.args.pairs.now c.args.variables.now c.args.words.now c.args.others.now)
 
-pub loop-place-preserved : goal.loop-place-preserved
-loop-place-preserved c = (
-  c.is_disjoint.ensures.facts,
-  are_told-more c.args.pairs.now c.args.variables.now c.args.places.now c.args.others.now c.loop-place.place-index c.loop-place.invariant.1 (rw c.if-not-branch.false at c.in_ok-is_disjoint.ensures.tells),
+pub is_word_disjoint-requires-clause-there : goal.is_word_disjoint-requires-clause-there
+is_word_disjoint-requires-clause-there c = λ j h. c.requires.there j (record { word = c.loop-word.word-index; there = c.loop-word-test.true; has = h })
+
+pub returns-then-not-branch-clause-tells : goal.returns-then-not-branch-clause-tells
+returns-then-not-branch-clause-tells c =
+    let told = rw c.if-not-branch.true at c.in_ok-is_word_disjoint.ensures.tells in
+    (told.0, told.1, record { word = c.loop-word.word-index; there = c.loop-word-test.true; has = told.2 }, told.3, told.4)
+
+pub loop-word-preserved : goal.loop-word-preserved
+loop-word-preserved c = (
+  c.is_word_disjoint.ensures.facts,
+  are_told-more c.args.pairs.now c.args.variables.now c.args.words.now c.args.others.now c.loop-word.word-index c.loop-word.invariant.1 (rw c.if-not-branch.false at c.in_ok-is_word_disjoint.ensures.tells),
 )
+
+pub returns-clause-tells : goal.returns-clause-tells
+returns-clause-tells c = are_told-all c.args.pairs.now c.args.variables.now c.args.words.now c.args.others.now c.loop-word.word-index c.loop-word-test.false c.loop-word.invariant.1

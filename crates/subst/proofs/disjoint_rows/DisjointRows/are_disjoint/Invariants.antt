@@ -3,5 +3,5 @@ use Rattle.subst.proofs.DisjointRowLemmas.{AreTold}
 use Rattle.subst.proofs.disjoint_rows.DisjointRows.are_disjoint.Given as goal
 
 -- the variables so far are disjoint from those of the set
-abbrev pub invariant-loop-place : goal.invariant-loop-place
-invariant-loop-place l = AreFacts l.pairs l.variables l.self × AreTold l.pairs l.variables l.places l.others l.place-index
+abbrev pub invariant-loop-word : goal.invariant-loop-word
+invariant-loop-word l = AreFacts l.pairs l.variables l.self × AreTold l.pairs l.variables l.words l.others l.word-index

@@ -1,4 +1,4 @@
-use Rattle.subst.proofs.Words.{◌∙◌, AreBelow, length, ap, subst}
+use Rattle.subst.proofs.Words.{◌∙◌}
 use Rattle.subst.proofs.VariablePlaceLemmas.{grows-own, grows-twice}
 use Rattle.subst.proofs.ActivePairLemmas.{list-pairs, pairs-fewer, pairs-own}
 use Rattle.subst.proofs.disjoint_rows.DisjointRows.learn_last.Goals as goal

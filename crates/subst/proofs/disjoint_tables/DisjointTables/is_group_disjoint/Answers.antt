@@ -1,10 +1,10 @@
-use Rattle.subst.proofs.Words.{sym, ◌∙◌, length, subst, below-at, images_at, image_named, AddsPlaces, HasPlace, IsIn, TellsEach, true, false}
+use Rattle.subst.proofs.Words.{sym, ◌∙◌, length, subst, below-at, images_at, image_named, AddsWords, HasPlace, IsIn, TellsEach, true, false}
 use Rattle.subst.proofs.VariablePlaceLemmas.{places-below, places-same}
 use Rattle.subst.proofs.DisjointRowLemmas.{facts-grown}
 use Rattle.subst.proofs.ImageVariableLemmas.{listed-in}
-use Rattle.subst.proofs.GroupLemmas.{IsInImages, below-from, images-more, next-apart, next-clash, held-clash, pairwise-more, pairwise-end, repeat-images, repeat-pairwise}
+use Rattle.subst.proofs.GroupLemmas.{IsInImages, images-more, next-apart, next-clash, held-clash, pairwise-more, pairwise-end, repeat-images, repeat-pairwise}
 use Rattle.subst.proofs.disjoint_tables.DisjointTables.is_group_disjoint.Goals as goal
-use Rattle.subst.proofs.disjoint_tables.DisjointTables.is_group_disjoint.Goals.{then-branch+in_ok-add_all, else-branch+else-not-contains}
+use Rattle.subst.proofs.disjoint_tables.DisjointTables.is_group_disjoint.Goals.{then-branch+in_ok-add_words, else-branch+else-not-contains}
 
 pub image_of-requires-clause-number : goal.image_of-requires-clause-number
 image_of-requires-clause-number c = below-at (length c.args.pairs.now.names) c.args.group.now c.loop-index.index 0 c.requires.below c.loop-index-test.true
@@ -22,10 +22,10 @@ are_disjoint-requires-clause-facts c = facts-grown c.args.pairs.now c.loop-index
 pub are_disjoint-requires-clause-there : goal.are_disjoint-requires-clause-there
 are_disjoint-requires-clause-there c =
     let f = c.image_of.new.variables in
-    let places = c.image_of.new.self.places in
+    let words = c.image_of.new.self.words in
     let r = c.in_ok-range.range in
     let own = c.in_ok-range.ensures.range in
-    rw c.places_in-places.ensures (below-from (length f.variables) _ (λ x p. places-below c.args.pairs.now f (IsIn places r) _ own.are x (listed-in places r x own.low own.high p)))
+    rw c.words_in-words.ensures (λ j h. places-below c.args.pairs.now f (IsIn words r) _ own.are j (listed-in words r j own.low own.high h))
 
 pub are_disjoint-requires-clause-others : goal.are_disjoint-requires-clause-others
 are_disjoint-requires-clause-others c = λ j h. (let o = c.loop-index.invariant.2.only j h in (c.image_of.ensures.grows.each j o.0 o.2).there)
@@ -40,7 +40,7 @@ returns-then-not-contains-clause-disjoint c =
     let set = l.self.before in
     let first = places-same v l.self.variables f (HasPlace set) (HasPlace set) (IsInImages σ group l.index) c.image_of.ensures.grows (λ j h. h) (λ j h. h) l.invariant.2 in
     let told = rw c.if-branch.false at c.in_ok-are_disjoint.ensures.tells in
-    let clash = next-clash v f c.image_of.ensures.placed σ group l.index c.image_of.new.self.places c.in_ok-range.range set first c.in_ok-range.ensures.range (subst (λ xs. TellsEach v f xs set false) c.places_in-places.ensures told) in
+    let clash = next-clash v f c.image_of.ensures.placed σ group l.index c.image_of.new.self.words c.in_ok-range.range set first c.in_ok-range.ensures.range (subst (λ xs. TellsEach v f xs set false) c.words_in-words.ensures told) in
     sym (held-clash v.statements (image_named v.names σ) group l.index clash.0 clash.1 c.loop-index-test.true clash.2 (sym c.contains.ensures ∙ c.if-not-contains.true))
 
 pub loop-index-preserved : goal.loop-index-preserved
@@ -52,21 +52,21 @@ loop-index-preserved c =
     let n = l.index in
     let group = c.args.group.now in
     let set = l.self.before in
-    let places = c.image_of.new.self.places in
+    let words = c.image_of.new.self.words in
     let r = c.in_ok-range.range in
     let own = c.in_ok-range.ensures.range in
     let image = image_named v.names σ in
     let placed = c.image_of.ensures.placed in
     let first = places-same v l.self.variables f (HasPlace set) (HasPlace set) (IsInImages σ group n) c.image_of.ensures.grows (λ j h. h) (λ j h. h) l.invariant.2 in
     elim c.if-branch.branch [
-      | then-branch+in_ok-add_all w ↦
+      | then-branch+in_ok-add_words w ↦
           let told = rw w.if-branch.true at c.in_ok-are_disjoint.ensures.tells in
-          let adds = subst (AddsPlaces set w.add_all.new.self) c.places_in-places.ensures w.in_ok-add_all.ensures in
+          let adds = subst (AddsWords set w.add_words.new.self) c.words_in-words.ensures w.in_ok-add_words.ensures in
           rw w.self-is (
             record { placed = placed; noted = c.image_of.ensures.noted; facts = c.are_disjoint.ensures.facts },
             c.image_of.ensures.read,
-            images-more v f placed σ group n places r set first own w.add_all.new.self adds,
-            pairwise-more v.statements image group n l.invariant.3 (next-apart v f placed σ group n places r set first own (subst (λ xs. TellsEach v f xs set true) c.places_in-places.ensures told)),
+            images-more v f placed σ group n words r set first own w.add_words.new.self adds,
+            pairwise-more v.statements image group n l.invariant.3 (next-apart v f placed σ group n words r set first own (subst (λ xs. TellsEach v f xs set true) c.words_in-words.ensures told)),
           )
       | else-branch+else-not-contains w ↦
           let any = sym w.contains.ensures ∙ w.if-not-contains.false in

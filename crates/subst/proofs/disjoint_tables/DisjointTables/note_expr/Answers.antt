@@ -1,5 +1,5 @@
-use Rattle.subst.proofs.Words.{get_or, arith, sym, ◌∙◌}
-use Rattle.subst.proofs.DisjointTableLemmas.{begun-low, begun_of, rest_of, tables-listed, tables-noted, whole-rest}
+use Rattle.subst.proofs.Words.{get_or, sym, ◌∙◌}
+use Rattle.subst.proofs.DisjointTableLemmas.{rest_of, tables-listed, tables-noted, whole-rest}
 use Rattle.subst.proofs.disjoint_tables.DisjointTables.note_expr.Goals as goal
 
 pub returns-in_err-add_symbols : goal.returns-in_err-add_symbols
@@ -9,10 +9,9 @@ returns-in_err-add_symbols c =
 pub returns : goal.returns
 returns c =
     let v = c.args.pairs.now in
-    let old = begun_of c.args.self.now.images in
     let listed = c.add_symbols.new.self in
     let keeps = rw c.begin.ensures at c.add_symbols.ensures.rest in
     let e = c.args.expr.now in
-    tables-noted v c.args.symbols.now _ old c.note.new.self c.args.result_range c.behind_first.result (get_or e 0 0) (rest_of e)
-    (tables-listed v c.args.symbols.now c.args.self.now c.add_symbols.new.variables c.requires.tables c.add_symbols.ensures.placed c.add_symbols.ensures.grows listed keeps) (omega arith) (begun-low old listed keeps (omega arith))
+    tables-noted v c.args.symbols.now _ c.note.new.self c.args.result_range c.behind_first.result (get_or e 0 0) (rest_of e)
+    (tables-listed v c.args.symbols.now c.args.self.now c.add_symbols.new.variables c.requires.tables c.add_symbols.ensures.placed c.add_symbols.ensures.grows listed keeps)
     (rw c.begin.ensures at c.in_ok-add_symbols.ensures.added) c.note.ensures c.requires.range.0 c.requires.range.1 c.behind_first.ensures.0 c.behind_first.ensures.1 (c.requires.whole ∙ whole-rest e (sym c.is_empty.ensures ∙ c.if-is_empty.false))

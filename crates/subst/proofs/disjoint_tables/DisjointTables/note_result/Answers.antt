@@ -1,12 +1,13 @@
-use Rattle.subst.proofs.Words.{◌≡◌, ◌≤◌, ◌-◌, ◌∷◌, ◌++◌, [], false, Option, Some, None, List, ℕ, length, drop, take, take_all, get_or, arith, ap, refl, sym, ◌∙◌, subst, below-at, code_apply, code_image, images_at, seen_at, AddsImage, SymbolRange}
+use Rattle.subst.proofs.Words.{◌≡◌, ◌-◌, ◌∷◌, ◌++◌, [], false, Option, Some, None, List, ℕ, length, drop, take, take_all, get_or, ap, refl, sym, ◌∙◌, subst, below-at, code_apply, code_image, images_at, seen_at, AddsImage, HasPlace, SymbolRange}
 use Rattle.std.specs.Prelude.{is_some}
 use Rattle.frame.proofs.SymbolNumberLemmas.{below-take}
 use Rattle.subst.proofs.WrittenImages.{apply-take}
 use Rattle.subst.proofs.ImageRangesLemmas.{image-none}
 use Rattle.subst.proofs.DisjointRowLemmas.{facts-grown}
-use Rattle.subst.proofs.ImageVariableLemmas.{noted-begin, noted-most, rest-most, rest-own, rest-twice, symbols-joined, symbols-none}
+use Rattle.subst.proofs.ImageVariableLemmas.{noted-begin, noted-most, rest-most, rest-own, rest-twice}
+use Rattle.subst.proofs.PlaceSetLemmas.{symbols-joined, symbols-none}
 use Rattle.subst.proofs.GroupLemmas.{below-drop}
-use Rattle.subst.proofs.DisjointTableLemmas.{begun-low, rest_of, some-range, tables-noted, whole-rest}
+use Rattle.subst.proofs.DisjointTableLemmas.{rest_of, some-range, tables-noted, whole-rest}
 use Rattle.subst.proofs.disjoint_tables.DisjointTables.note_result.Goals as goal
 
 not-some : {A : Type 0} (o : Option A) → is_some o ≡ false → o ≡ None
@@ -23,7 +24,7 @@ loop-symbol-init c =
     let t = c.requires.tables in (
       record { placed = t.placed; noted = rw c.begin.ensures (noted-begin c.args.pairs.now c.args.self.now.variables c.args.symbols.now c.args.self.now.images t.noted); facts = t.facts },
       rest-own c.begin.new.self,
-      symbols-none c.args.pairs.now c.args.self.now.variables c.begin.new.self [],
+      symbols-none c.args.pairs.now c.args.self.now.variables (HasPlace c.begin.new.self.list) [],
     )
 
 pub add_image-requires-clause-number : goal.add_image-requires-clause-number
@@ -59,7 +60,7 @@ loop-symbol-preserved c =
       },
       rest-twice c.begin.new.self l.self.images new l.invariant.1 c.add_image.ensures.rest,
       subst (AddsImage v g c.begin.new.self new) (sym (apply-take σ rest n c.loop-symbol-test.true))
-          (symbols-joined v l.self.variables g c.begin.new.self l.self.images new (code_apply σ (take n rest)) (code_image σ (get_or rest n 0)) c.add_image.ensures.grows c.add_image.ensures.rest l.invariant.2 c.in_ok-add_image.ensures.added),
+          (symbols-joined v l.self.variables g (HasPlace c.begin.new.self.list) (HasPlace l.self.images.list) (HasPlace new.list) (code_apply σ (take n rest)) (code_image σ (get_or rest n 0)) c.add_image.ensures.grows l.invariant.2 c.in_ok-add_image.ensures.added),
     )
 
 pub behind_first-requires : goal.behind_first-requires
@@ -80,9 +81,7 @@ returns c =
     let rest = rest_of e in
     let old = c.begin.new.self in
     let own = image-none c.args.symbols.now c.args.images.now x (sym c.get.ensures ∙ not-some c.get.result (sym c.is_some.ensures ∙ c.if-is_some.false)) in
-    let last : length old.places ≤ old.begun = rw c.begin.ensures (omega arith) in
-    let first : old.begun ≤ length old.places = rw c.begin.ensures (omega arith) in
     let all = take_all l.symbol-index rest c.loop-symbol-test.false in
-    tables-noted v c.args.symbols.now l.self old c.note.new.self c.args.result_range c.behind_first.result x (code_apply σ rest) l.invariant.0 last (begun-low old l.self.images l.invariant.1 first)
-    (subst (λ r. AddsImage v l.self.variables old l.self.images (code_apply σ r)) all l.invariant.2) c.note.ensures c.requires.range.0 c.requires.range.1 c.behind_first.ensures.0 c.behind_first.ensures.1
+    let adds = subst (λ r. AddsImage v l.self.variables old l.self.images (code_apply σ r)) all l.invariant.2 in
+    tables-noted v c.args.symbols.now l.self c.note.new.self c.args.result_range c.behind_first.result x (code_apply σ rest) l.invariant.0 (rw c.begin.ensures at adds) c.note.ensures c.requires.range.0 c.requires.range.1 c.behind_first.ensures.0 c.behind_first.ensures.1
     (seen-first c.args.symbols.now c.args.images.now e c.args.result_range x rest c.requires.whole (whole-rest e (sym c.is_empty.ensures ∙ c.if-is_empty.false)) own)

@@ -22,5 +22,5 @@ returns-in-Some-find_long-clause-range c =
 
 pub returns-in-None-clause-range : goal.returns-in-None-clause-range
 returns-in-None-clause-range c =
-    subst (λ xs. IfOk c.read-in-None.result (λ range. IsRangeOf c.args.pairs.now c.read-in-None.new.variables c.read-in-None.new.self.places range xs))
+    subst (λ xs. IfOk c.read-in-None.result (λ range. IsRangeOf c.args.pairs.now c.read-in-None.new.variables c.read-in-None.new.self.words range xs))
     (c.symbols_at.ensures ∙ sym (image-some c.args.symbols.now c.args.images.now c.args.symbol c.in-Some.place (sym c.get.ensures ∙ c.in-Some.is))) c.read-in-None.ensures.range

@@ -1,4 +1,4 @@
-use Rattle.subst.proofs.Words.{length, sym, ◌∙◌, below-at, AreBitsOf, subst}
+use Rattle.subst.proofs.Words.{length, sym, ◌∙◌, below-at}
 use Rattle.subst.proofs.VariablePlaceLemmas.{grows-own, grows-twice}
 use Rattle.subst.proofs.ActivePairLemmas.{bits-none, bits-grown, bits-again, bits-more}
 use Rattle.subst.proofs.variable_places.VariablePlaces.bits_of.Goals as goal

@@ -1,0 +1,11 @@
+use Rattle.subst.proofs.Words.{refl, Noted}
+use Rattle.subst.proofs.ImageVariableLemmas.{most-own}
+use Rattle.subst.proofs.image_variables.ImageVariables.append_list.Goals as goal
+
+pub returns-in_err-extend_from_slice-clause-rest : goal.returns-in_err-extend_from_slice-clause-rest
+returns-in_err-extend_from_slice-clause-rest c =
+    let n : Noted = record { words = c.self.inside.words.items; list = c.self.inside.list; kept = c.self.inside.kept; read = c.self.inside.read.items; long = c.self.inside.long.items } in
+    rw (← c.self.view_is) (rw c.in_err-extend_from_slice.ensures.items (most-own n))
+
+pub returns-clause-rest : goal.returns-clause-rest
+returns-clause-rest c = rw (← c.self.view_is) (rw c.in_ok-extend_from_slice.ensures.items (c.as_slice.result.now, c.self.inside.list, refl))
