@@ -1,5 +1,4 @@
 pub mod VectorLemmas
-pub mod StateLemmas
 pub mod ImagesLemmas
 pub mod NamedLemmas
 pub mod CitationFaultLemmas
