@@ -15,7 +15,7 @@ use Rattle.reasons.specs.declared.reason.Fault.TheVariants.{Unknown, Inactive, L
 use Rattle.reasons.specs.FirstFault.{FailsAt, FailsCited, Fails}
 use Rattle.reasons.specs.Explained.{Gives, of_hypothesis, of_assertion}
 use Rattle.verify.specs.Machine.{State, Cites, of_hypothesis as cites_hypothesis, of_assertion as cites_assertion, Steps, with_result, with_mark}
-use Rattle.verify.proofs.Words.{take_more, take_all, length-append, length-map, slice_get-get_or, slice_get_within}
+use Rattle.verify.proofs.Words.{take_more, take_all, length-append, length-map, option_map, slice_get-get_or, slice_get-map, slice_get_within}
 use Rattle.subst.specs.declared.buffer.TheConstants.{SYMBOLS_LIMIT}
 use Rattle.std.proofs.lemmas.Bool.{lt-ltb, le-ltb}
 use Rattle.scope.specs.Active.{stmt_at}
@@ -82,3 +82,10 @@ module _ (S : Database) (at : ℕ) (h : State) (light : h.weight ≤ SYMBOLS_LIM
   cite_stuck label i r carries stuck s below e stands gives =
       let same : r ≡ s = same_Some r s (sym carries.stands ∙ stands) in
       stuck (with_result h below e) (below, e, cites S at i s label h.stack below e (subst (λ t. Carries S i t label) same carries) gives, refl)
+
+-- the item at an index, by its number
+pub what_is : (labels : List Name) (numbers : List ℕ) (items : List Item) (k : ℕ) (what : Item) → items_of labels numbers ≡ items → slice_get items k ≡ Some what → k < length numbers
+    → item_of labels (get_or numbers k 0) ≡ what
+what_is labels numbers items k what is there less =
+    same_Some (item_of labels (get_or numbers k 0)) what
+    (sym (slice_get-map (item_of labels) numbers k ∙ ap (option_map (item_of labels)) (slice_get-get_or numbers k 0 less)) ∙ subst (λ l. slice_get l k ≡ Some what) (sym is) there)
