@@ -50,7 +50,6 @@ cited_fails S names at h i s label (Together b x y u v) carries fails = (i, s, c
 cited_fails S names at h i s label Heavy carries fails = (i, s, carries, fails)
 cited_fails S names at h i s label Unmarked carries fails = absurd fails
 
-
 -- a statement that gives an expression is cited by its label in the verifier's machine
 pub cites : (S : Database) (at i : ℕ) (s : Stmt) (label : Name) (stack below : List Expr) (e : Expr) → Carries S i s label → Gives S at i s stack below e → Cites S at label stack below e
 cites S at i s label stack below e carries (of_hypothesis active same whole) = cites_hypothesis i s carries active same whole

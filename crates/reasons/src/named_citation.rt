@@ -122,11 +122,7 @@ fn cite_parts(
 /// Returns a copy of each result from an index on.
 ///
 /// Errors: an allocation fails. Cost: the symbols of these results.
-fn last_results(
-    alloc: Global,
-    results: &Results,
-    base: usize,
-) -> Result<Vec<Vec<u32>>, AllocError>
+fn last_results(alloc: Global, results: &Results, base: usize) -> Result<Vec<Vec<u32>>, AllocError>
     requires { base ≤ length results.now.results.stack }
     ensures { IfOk result (λ taken. codes taken.items ≡ drop base results.now.results.stack) }
 {
