@@ -1,4 +1,3 @@
-pub mod ProvingRunLemmas
 pub mod MandatoryLabelLemmas
 pub mod ReadItemsLemmas
 pub mod LetterNumberLemmas

@@ -1,4 +1,4 @@
--- From what the code keeps to the run over expressions.
+-- What a citation gives, and what wrong results are.
 use Rattle.std.proofs.Common.{◌≡◌, ℕ, zero, suc, ◌+◌, ◌-◌, ◌<◌, ◌≤◌, Bool, true, List, [], ◌∷◌, ◌++◌, length, take, drop, arith, refl, sym, ◌∙◌, ap, subst, Some, None, Option, slice_get, IfOk, MatchOption, Result, Ok, Err, length-take, length-drop, take_all, ◌&&◌}
 use Rattle.std.specs.declared.alloc.AllocError.{AllocError}
 use Rattle.std.specs.Prelude.{IsTrue}
@@ -15,39 +15,15 @@ use Rattle.names.specs.Codes.{name_at, decode}
 use Rattle.frame.specs.FrameOf.{hypotheses, HasAssertion}
 use Rattle.frame.specs.Substitution.{apply as applied}
 use Rattle.frame.specs.Citations.{IsHypothesis}
-use Rattle.reasons.specs.declared.state.State.{State}
 use Rattle.reasons.specs.declared.reason.Fault.{Fault}
 use Rattle.reasons.specs.declared.reason.Fault.TheVariants.{Unknown, Inactive, Later, Few, Constant, Expression, Together, Heavy, Unmarked}
 use Rattle.reasons.specs.Stored.Vectors.{named}
 use Rattle.reasons.specs.ReadImages.{image_at, images_read}
-use Rattle.reasons.specs.Steps.{IsPushed}
 use Rattle.reasons.specs.Concluded.{AreTaken, images_of, IsWrong}
-use Rattle.reasons.specs.Run.{Held, held, Gives, of_assertion, with_result, CitesTo}
+use Rattle.reasons.specs.Explained.{Gives, of_assertion}
+use Rattle.verify.specs.Machine.{State}
 use Rattle.reasons.specs.FirstFault.{FailsAt}
 use Rattle.subst.specs.declared.buffer.TheConstants.{SYMBOLS_LIMIT}
-
-pub named-append : (names : List Name) (xs ys : List (Vec ℕ)) → named names (xs ++ ys) ≡ named names xs ++ named names ys
-named-append names [] ys = refl
-named-append names (x ∷ xs) ys = ap (λ l. decode names x.items ∷ l) (named-append names xs ys)
-
-module _ {A : Type 0} where
-  -- nothing is taken of an empty list
-  none_taken : (k : ℕ) (xs : List A) → xs ≡ [] → take k xs ≡ []
-  none_taken zero xs e = refl
-  none_taken (suc k) [] e = refl
-  none_taken (suc k) (x ∷ xs) e = cc
-
-  -- the front that is taken and the rest are the list
-  take_drop : (n : ℕ) (xs : List A) → take n xs ++ take (length xs - n) (drop n xs) ≡ xs
-  take_drop zero xs = take_all (length xs - 0) xs (omega arith)
-  take_drop (suc n) [] = none_taken (0 - suc n) [] refl
-  take_drop (suc n) (x ∷ xs) =
-      let less : suc (length xs) - suc n ≡ length xs - n = omega arith in
-      ap (λ l. x ∷ l) (ap (λ k. take n xs ++ take k (drop n xs)) less ∙ take_drop n xs)
-
--- the stack is what stays and what is taken
-pub stack_split : (names : List Name) (n : ℕ) (xs : List (Vec ℕ)) → named names xs ≡ named names (take n xs) ++ named names (take (length xs - n) (drop n xs))
-stack_split names n xs = ap (named names) (sym (take_drop n xs)) ∙ named-append names (take n xs) (take (length xs - n) (drop n xs))
 
 -- the images are images of variables
 variables_are : (S : Database) (V : Name → Bool) (ps : List ℕ) (rs : List Expr)
@@ -84,45 +60,8 @@ gives_is S at a s rs stack below e earlier stands variable taken whole is =
     })
     (whole ∙ ap (λ r. below ++ r) (sym taken.fit)) is
 
--- the state, as a function of its parts
-make : List Expr → List Expr → ℕ → Held
-make stack marked weight = record { stack = stack; marked = marked; weight = weight }
-
--- a state with these results, marked results and weight, by name, holds them
-pub held_is : (names : List Name) (st : State) (stack marked : List Expr) (weight : ℕ) → named names st.stack.items ≡ stack → named names st.marked.items ≡ marked → st.weight ≡ weight
-    → held names st ≡ record { stack = stack; marked = marked; weight = weight }
-unfolding make
-held_is names st stack marked weight a b c =
-    ap (λ x. make x (named names st.marked.items) st.weight) a ∙ (ap (λ x. make stack x st.weight) b ∙ ap (λ x. make stack marked x) c)
-
--- a state in which a result was pushed holds what was held, with this result on what stays
-pub pushed_to : (names : List Name) (old mid new : State) (v : Vec ℕ) (below : List Expr) → named names mid.stack.items ≡ below → mid.marked.items ≡ old.marked.items → mid.weight ≡ old.weight
-    → IsPushed mid new v → held names new ≡ with_result (held names old) below (decode names v.items)
-pushed_to names old mid new v below stays marked weight is =
-    held_is names new (below ++ decode names v.items ∷ []) (named names old.marked.items) (old.weight + length (decode names v.items))
-    (ap (named names) is.stack ∙ (named-append names mid.stack.items (v ∷ []) ∙ ap (λ l. l ++ decode names v.items ∷ []) stays))
-    (ap (named names) (is.marked ∙ marked))
-    (is.weight ∙ (ap (λ n. n + length v.items) weight ∙ ap (λ n. old.weight + n) (sym (length-map v.items (name_at names)))))
-
--- the outcome of a push
-pub pushed_told : (S : Database) (names : List Name) (at i : ℕ) (s : Stmt) (old mid new : State) (v : Vec ℕ) (below : List Expr) (res : Result (Option Fault) AllocError)
-    → IfOk res (λ r. MatchOption r (IsPushed mid new v) (λ f. (f ≡ Heavy) × (SYMBOLS_LIMIT < mid.weight + length v.items)))
-    → named names mid.stack.items ≡ below → mid.marked.items ≡ old.marked.items → mid.weight ≡ old.weight → Gives S at i s (held names old).stack below (decode names v.items)
-    → IfOk res (λ r. MatchOption r (CitesTo S at i s (held names old) (held names new)) (FailsAt S names at (held names old) i s))
-pushed_told S names at i s old mid new v below (Err e) told stays marked weight gives = tt
-pushed_told S names at i s old mid new v below (Ok None) told stays marked weight gives =
-    (below, decode names v.items, gives, pushed_to names old mid new v below stays marked weight told)
-pushed_told S names at i s old mid new v below (Ok (Some f)) told stays marked weight gives =
-    subst (λ fault. FailsAt S names at (held names old) i s fault) (sym told.0)
-    (record {
-      below = below;
-      result = decode names v.items;
-      gives = gives;
-      heavy = let same = length-map v.items (name_at names) in let over = told.1 in omega (arith, same, over, weight);
-    })
-
 -- wrong results are a fault
-pub wrong_fails : (S : Database) (names : List Name) (at a : ℕ) (s : Stmt) (h : Held) (below rs : List Expr) (fault : Fault) → h.weight ≤ SYMBOLS_LIMIT → h.stack ≡ below ++ rs
+pub wrong_fails : (S : Database) (names : List Name) (at a : ℕ) (s : Stmt) (h : State) (below rs : List Expr) (fault : Fault) → h.weight ≤ SYMBOLS_LIMIT → h.stack ≡ below ++ rs
     → length rs ≡ length (hypotheses (before S a) s) → a < at → HasAssertion S a s
     → ((k p : ℕ) (l c x : Name) → slice_get (hypotheses (before S a) s) k ≡ Some p → stmt_at S p ≡ Some (stmt.Float l c x) → is_variable (before S a) x ≡ true)
     → IsWrong S names at a s rs (SYMBOLS_LIMIT - h.weight) fault → FailsAt S names at h a s fault
@@ -130,9 +69,9 @@ wrong_fails S names at a s h below rs Unknown light whole count earlier stands v
 wrong_fails S names at a s h below rs (Inactive i) light whole count earlier stands variable wrong = absurd wrong
 wrong_fails S names at a s h below rs (Later i) light whole count earlier stands variable wrong = absurd wrong
 wrong_fails S names at a s h below rs (Few b t n) light whole count earlier stands variable wrong = absurd wrong
-wrong_fails S names at a s h below rs (Constant b p r) light whole count earlier stands variable wrong = record { below = below; results = rs; whole = whole; count = count; wrong = wrong }
-wrong_fails S names at a s h below rs (Expression b p q r) light whole count earlier stands variable wrong = record { below = below; results = rs; whole = whole; count = count; wrong = wrong }
-wrong_fails S names at a s h below rs (Together b x y u v) light whole count earlier stands variable wrong = record { below = below; results = rs; whole = whole; count = count; wrong = wrong }
+wrong_fails S names at a s h below rs (Constant b p r) light whole count earlier stands variable wrong = record { earlier = earlier; assertion = stands.1; below = below; results = rs; whole = whole; count = count; wrong = wrong }
+wrong_fails S names at a s h below rs (Expression b p q r) light whole count earlier stands variable wrong = record { earlier = earlier; assertion = stands.1; below = below; results = rs; whole = whole; count = count; wrong = wrong }
+wrong_fails S names at a s h below rs (Together b x y u v) light whole count earlier stands variable wrong = record { earlier = earlier; assertion = stands.1; below = below; results = rs; whole = whole; count = count; wrong = wrong }
 wrong_fails S names at a s h below rs Heavy light whole count earlier stands variable wrong =
     record {
       below = below;
@@ -145,12 +84,6 @@ wrong_fails S names at a s h below rs Unmarked light whole count earlier stands 
 -- a statement that stands where an assertion stands is an assertion
 pub assertion_is : (S : Database) (a : ℕ) (r s : Stmt) → HasAssertion S a r → stmt_at S a ≡ Some s → HasAssertion S a s
 assertion_is S a r s has e = (e, subst (λ t. IsTrue (is_assertion t)) (same_Some r s (sym has.0 ∙ e)) has.1)
-
--- the results that are taken are as many by name
-pub count_is : (names : List Name) (base : ℕ) (xs : List (Vec ℕ)) (n : ℕ) → (length xs - base ≡ n) × (base ≤ length xs) → length (named names (take (length xs - base) (drop base xs))) ≡ n
-count_is names base xs n h =
-    length-map (take (length xs - base) (drop base xs)) (λ v. decode names v.items)
-    ∙ (length-take (length xs - base) (drop base xs) ∙ (let long = length-drop base xs in let all = h.0 in let low = h.1 in omega (arith, long, all, low)))
 
 -- a statement that stands where a hypothesis stands is that hypothesis, and has its expression
 pub hypothesis_is : (S : Database) (names : List Name) (at i : ℕ) (r s : Stmt) (e : List ℕ) → IsHypothesis S at i r → decode names e ≡ expr_of r → stmt_at S i ≡ Some s

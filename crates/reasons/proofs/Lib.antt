@@ -1,5 +1,4 @@
 pub mod VectorLemmas
-pub mod StateLemmas
 pub mod ImagesLemmas
 pub mod NamedLemmas
 pub mod CitationFaultLemmas
@@ -8,3 +7,4 @@ pub mod BesideLemmas
 pub mod ConcludedLemmas
 pub mod KeptRunLemmas
 pub mod RunItemLemmas
+pub mod StoppedLemmas

@@ -1,5 +1,5 @@
 -- Numbers below a bound, in lists and in lists of lists.
-use Rattle.std.proofs.Common.{◌≡◌, ℕ, zero, suc, ◌<◌, List, [], ◌∷◌, ◌++◌, length, take, drop, get_or, arith, refl, sym, ◌∙◌, ap, subst, Bool, true, false, cond}
+use Rattle.std.proofs.Common.{◌≡◌, ℕ, zero, suc, ◌+◌, ◌<◌, ◌≤◌, List, Some, slice_get, append_assoc, append-nil, [], ◌∷◌, ◌++◌, length, take, drop, get_or, arith, refl, sym, ◌∙◌, ap, subst, Bool, true, false, cond}
 use Rattle.std.specs.Prelude.{◌==◌}
 use Rattle.std.specs.Global.{Vec}
 use Rattle.frame.specs.Below.{AreBelow}
@@ -7,7 +7,8 @@ use Rattle.mm_lex.specs.Alphabet.{Name}
 use Rattle.mm_read.specs.Statements.{Database}
 use Rattle.entries.specs.declared.cited_parts.Hypothesis.{Hypothesis}
 use Rattle.frame.specs.Cited.{AreAsked, IsAsked}
-use Rattle.reasons.specs.Stored.Vectors.{AreSymbols}
+use Rattle.reasons.specs.Stored.Vectors.{AreSymbols, codes}
+use Rattle.verify.proofs.Words.{drop_all, drop_more, get_or_from_slice_get, map_push, slice_get_within}
 
 -- lists of vectors
 pub symbols-append : (n : ℕ) (vs ws : List (Vec ℕ)) → AreSymbols n vs → AreSymbols n ws → AreSymbols n (vs ++ ws)
@@ -68,6 +69,16 @@ pub symbols-if : (n : ℕ) (old new : List (Vec ℕ)) (v : Vec ℕ) (b : Bool) �
 symbols-if n old new v true e h k = symbols-push n old new v e h k
 symbols-if n old new v false e h k = symbols-same n old new e h
 
--- a count that fails the test for 0 is above it
-pub not_empty : (b : Bool) (n : ℕ) → b ≡ (n == 0) → b ≡ false → 0 < n
-not_empty b n e f = let none : (n == 0) ≡ false = sym e ∙ f in grind (arith, none)
+-- one result more is copied
+pub taken-more : (vs new : List (Vec ℕ)) (v : Vec ℕ) (stack whole : List (List ℕ)) (k : ℕ) (r : List ℕ) → slice_get stack k ≡ Some r → v.items ≡ r → new ≡ vs ++ v ∷ []
+    → codes vs ++ drop k stack ≡ whole → codes new ++ drop (k + 1) stack ≡ whole
+taken-more vs new v stack whole k r there is added e =
+    let rest : drop k stack ≡ v.items ∷ drop (k + 1) stack =
+    drop_more stack k [] (slice_get_within stack k r there) ∙ ap (λ y. y ∷ drop (k + 1) stack) (get_or_from_slice_get stack k r [] there ∙ sym is) in
+    ap (λ l. codes l ++ drop (k + 1) stack) added
+    ∙ (ap (λ c. c ++ drop (k + 1) stack) (map_push (λ u. u.items) vs v)
+    ∙ (append_assoc (codes vs) (v.items ∷ []) (drop (k + 1) stack) ∙ (ap (λ d. codes vs ++ d) (sym rest) ∙ e)))
+
+-- all are copied
+pub taken-all : (vs : List (Vec ℕ)) (stack whole : List (List ℕ)) (k : ℕ) → length stack ≤ k → codes vs ++ drop k stack ≡ whole → codes vs ≡ whole
+taken-all vs stack whole k over e = sym (append-nil (codes vs)) ∙ (ap (λ d. codes vs ++ d) (sym (drop_all k stack over)) ∙ e)

@@ -1,8 +1,8 @@
 //! Why a proof is wrong: the first fault of the run over its items.
 //!
-//! `first_fault` runs over the items of a proof of a `$p` and returns the first fault that it meets, or `None` if the run ends
-//! with the theorem's expression. It runs only after a refusal, so it is plain and keeps whole expressions. Read `reason`,
-//! `state`, `named_images`, `clash`, `named_citation`, `run`.
+//! `first_fault` has the verifier run over the items of a proof of a `$p`, and explains the one item that cannot be done by the
+//! results before it, or `None` if the items are a right proof. Read `reason`, `named_images`, `clash`, `named_citation`,
+//! `run`.
 #![tactic(auto)]
 
 mod clash;
@@ -10,7 +10,6 @@ mod named_citation;
 mod named_images;
 mod reason;
 mod run;
-mod state;
 
 pub use reason::{Fault, Reason};
 pub use run::first_fault;

@@ -1,14 +1,14 @@
 //! One citation.
-ghost use Rattle.std.specs.Prelude.{◌≡◌, ◌<◌, ◌≤◌, length, IfOk, MatchOption, Some};
+ghost use Rattle.std.specs.Prelude.{◌≡◌, ℕ, ◌<◌, ◌≤◌, drop, length, IfOk, MatchOption, Some};
 ghost use Rattle.mm_read.specs.declared.stmt.Stmt.{Stmt as Statement};
 ghost use Rattle.frame.specs.Below.{AreBelow};
 ghost use Rattle.frame.specs.FrameOf.{HasAssertion, hypotheses};
 ghost use Rattle.frame.specs.Cited.{IsCited};
 ghost use Rattle.frame.specs.AtPosition.{AreLegal};
-ghost use Rattle.reasons.specs.Stored.Vectors.{AreSymbols, AreImages, CountIs, named};
+ghost use Rattle.reasons.specs.Stored.Vectors.{AreSymbols, AreImages, CountIs, codes, named};
 ghost use Rattle.reasons.specs.CitationFaults.{IsSaid, IsMismatch, FitsAll, AreReadOff};
 ghost use Rattle.scope.specs.Active.{before, stmt_at};
-ghost use Rattle.reasons.specs.Run.{CitesTo, held};
+ghost use Rattle.reasons.specs.Explained.{MayExplain, CannotCite, named_behind};
 ghost use Rattle.reasons.specs.FirstFault.{FailsAt};
 ghost use Rattle.reasons.specs.Concluded.{IsBelow, IsConcluded};
 ghost use Rattle.subst.specs.declared.buffer.TheConstants.{SYMBOLS_LIMIT};
@@ -16,74 +16,63 @@ ghost use Rattle.subst.specs.declared.buffer.TheConstants.{SYMBOLS_LIMIT};
 use crate::clash::find_clash;
 use crate::named_images::{Image, apply, read_images};
 use crate::reason::Fault;
-use crate::state::State;
 use entries::{Cited, Hypothesis};
 use frame::{Frames, Gathered, Meaning};
 use std::alloc::{AllocError, Global};
 use subst::SYMBOLS_LIMIT;
+use verify::Results;
 
-/// Cites the statement at a position: its result replaces the results that it takes.
+/// Explains why the statement at a position cannot be cited, by the results before.
+///
+/// Errors: an allocation fails.
 pub fn cite(
     alloc: Global,
     frames: &Frames,
     at: usize,
     statement: usize,
-    state: &mut State,
-) -> Result<Option<Fault>, AllocError>
+    results: &Results,
+) -> Result<Fault, AllocError>
     requires place { (1 ≤ at) × (at ≤ length frames.now.statements) }
-    requires symbols { AreSymbols (length frames.now.names) state.old.stack.items }
-    requires weight { state.old.weight ≤ SYMBOLS_LIMIT }
-    ensures told { (s : Statement) → stmt_at frames.now.statements statement ≡ Some s
-        → IfOk result (λ r. MatchOption r
-        (CitesTo frames.now.statements at statement s (held frames.now.names state.old) (held frames.now.names state.new))
-        (FailsAt frames.now.statements frames.now.names at (held frames.now.names state.old) statement s)) }
-    ensures symbols { AreSymbols (length frames.now.names) state.new.stack.items }
-    ensures weight { state.new.weight ≤ SYMBOLS_LIMIT }
-    ensures marked { state.new.marked.items ≡ state.old.marked.items }
+    requires results { MayExplain frames.now results.now }
+    requires stuck { CannotCite frames.now at statement results.now }
+    ensures { (labels : ℕ) (s : Statement) → stmt_at frames.now.statements statement ≡ Some s
+        → IfOk result (FailsAt frames.now.statements frames.now.names at (named_behind frames.now labels results.now) statement s) }
 {
     match frames.meaning(at, statement) {
-        Meaning::Hypothesis(expr) => {
-            let result = Vec::from_slice(alloc, expr)?;
-            state.push(result)
-        }
-        Meaning::Assertion => cite_assertion(alloc, frames, at, statement, state),
-        Meaning::Nothing if statement < at => Ok(Some(Fault::Inactive {
+        Meaning::Hypothesis(_) => Ok(Fault::Heavy),
+        Meaning::Assertion => cite_assertion(alloc, frames, at, statement, results),
+        Meaning::Nothing if statement < at => Ok(Fault::Inactive {
             hypothesis: statement,
-        })),
-        Meaning::Nothing => Ok(Some(Fault::Later { statement })),
+        }),
+        Meaning::Nothing => Ok(Fault::Later { statement }),
     }
 }
 
-/// Cites an earlier assertion.
+/// Explains why an earlier assertion cannot be cited.
 fn cite_assertion(
     alloc: Global,
     frames: &Frames,
     at: usize,
     a: usize,
-    state: &mut State,
-) -> Result<Option<Fault>, AllocError>
+    results: &Results,
+) -> Result<Fault, AllocError>
     requires place { (1 ≤ at) × (at ≤ length frames.now.statements) }
     requires earlier { a < at }
     requires assertion { (s : Statement) × HasAssertion frames.now.statements a s }
-    requires symbols { AreSymbols (length frames.now.names) state.old.stack.items }
-    requires weight { state.old.weight ≤ SYMBOLS_LIMIT }
-    ensures symbols { AreSymbols (length frames.now.names) state.new.stack.items }
-    ensures weight { state.new.weight ≤ SYMBOLS_LIMIT }
-    ensures told { (s : Statement) → stmt_at frames.now.statements a ≡ Some s
-        → IfOk result (λ r. MatchOption r
-        (CitesTo frames.now.statements at a s (held frames.now.names state.old) (held frames.now.names state.new))
-        (FailsAt frames.now.statements frames.now.names at (held frames.now.names state.old) a s)) }
-    ensures marked { state.new.marked.items ≡ state.old.marked.items }
+    requires results { MayExplain frames.now results.now }
+    requires stuck { CannotCite frames.now at a results.now }
+    ensures { (labels : ℕ) (s : Statement) → stmt_at frames.now.statements a ≡ Some s
+        → IfOk result (FailsAt frames.now.statements frames.now.names at (named_behind frames.now labels results.now) a s) }
 {
     let mut mandatory = Vec::new(alloc);
     frames.mandatory(a, &mut mandatory)?;
     let mut gathered = Gathered::new(alloc);
     frames.gather(a, &mut gathered)?;
     let cited = frames.gathered(a, &gathered);
-    cite_parts(alloc, frames, at, a, mandatory.as_slice(), &cited, state)
+    cite_parts(alloc, frames, at, a, mandatory.as_slice(), &cited, results)
 }
 
-/// Cites an earlier assertion, by its mandatory hypotheses and its parts.
+/// Explains why an earlier assertion cannot be cited, by its mandatory hypotheses and its parts.
 fn cite_parts(
     alloc: Global,
     frames: &Frames,
@@ -91,34 +80,30 @@ fn cite_parts(
     a: usize,
     mandatory: &[u32],
     cited: &Cited<'_>,
-    state: &mut State,
-) -> Result<Option<Fault>, AllocError>
+    results: &Results,
+) -> Result<Fault, AllocError>
     requires legal { AreLegal frames.now.statements frames.now.names }
     requires place { (1 ≤ at) × (at ≤ length frames.now.statements) }
     requires earlier { a < at }
     requires assertion { (s : Statement) × HasAssertion frames.now.statements a s }
     requires mandatory { (s : Statement) → stmt_at frames.now.statements a ≡ Some s → mandatory.now ≡ hypotheses (before frames.now.statements a) s }
     requires cited { (s : Statement) → stmt_at frames.now.statements a ≡ Some s → IsCited frames.now.statements frames.now.names a s cited.now }
-    requires symbols { AreSymbols (length frames.now.names) state.old.stack.items }
-    requires weight { state.old.weight ≤ SYMBOLS_LIMIT }
-    ensures symbols { AreSymbols (length frames.now.names) state.new.stack.items }
-    ensures weight { state.new.weight ≤ SYMBOLS_LIMIT }
-    ensures told { (s : Statement) → stmt_at frames.now.statements a ≡ Some s
-        → IfOk result (λ r. MatchOption r
-        (CitesTo frames.now.statements at a s (held frames.now.names state.old) (held frames.now.names state.new))
-        (FailsAt frames.now.statements frames.now.names at (held frames.now.names state.old) a s)) }
-    ensures marked { state.new.marked.items ≡ state.old.marked.items }
+    requires results { MayExplain frames.now results.now }
+    requires stuck { CannotCite frames.now at a results.now }
+    ensures { (labels : ℕ) (s : Statement) → stmt_at frames.now.statements a ≡ Some s
+        → IfOk result (FailsAt frames.now.statements frames.now.names at (named_behind frames.now labels results.now) a s) }
 {
-    let there = state.stack.len();
+    let there = results.len();
     let takes = mandatory.len();
     if there < takes {
-        return Ok(Some(Fault::Few {
+        return Ok(Fault::Few {
             assertion: a,
             takes,
             there,
-        }));
+        });
     }
-    let base = there - takes;
+    let taken = last_results(alloc, results, there - takes)?;
+    let room = SYMBOLS_LIMIT - results.weight();
     match conclude(
         alloc,
         frames,
@@ -126,15 +111,26 @@ fn cite_parts(
         a,
         mandatory,
         cited,
-        &state.stack[base..],
-        SYMBOLS_LIMIT - state.weight,
+        taken.as_slice(),
+        room,
     )? {
-        Concluded::Wrong(fault) => Ok(Some(fault)),
-        Concluded::Right(result) => {
-            state.stack.truncate(base);
-            state.push(result)
-        }
+        Concluded::Wrong(fault) => Ok(fault),
+        Concluded::Right(_) => unreachable!(),
     }
+}
+
+/// Returns a copy of each result from an index on.
+///
+/// Errors: an allocation fails. Cost: the symbols of these results.
+fn last_results(alloc: Global, results: &Results, base: usize) -> Result<Vec<Vec<u32>>, AllocError>
+    requires { base ≤ length results.now.results.stack }
+    ensures { IfOk result (λ taken. codes taken.items ≡ drop base results.now.results.stack) }
+{
+    let mut taken = Vec::new(alloc);
+    for k in base..results.len() {
+        taken.push(Vec::from_slice(alloc, results.get(k))?)?;
+    }
+    Ok(taken)
 }
 
 /// The outcome of a citation.

@@ -1,100 +1,102 @@
-//! The run over the items of a proof.
-ghost use Rattle.std.specs.Prelude.{◌≡◌, ◌≤◌, List, length, IfOk, MatchOption, Some};
-ghost use Rattle.mm_lex.specs.Alphabet.{Name};
+//! The first fault of a proof.
+ghost use Rattle.std.specs.Prelude.{◌≡◌, ◌-◌, ◌<◌, ◌≤◌, length, slice_get, IfOk, IfSome, MatchOption, Some};
 ghost use Rattle.mm_read.specs.declared.stmt.Stmt.{Stmt as Statement};
-ghost use Rattle.scope.specs.Active.{stmt_at, expr_of};
-ghost use Rattle.frame.specs.AtPosition.{ArePositions};
-ghost use Rattle.proof_code.specs.ItemNumbers.{item_of};
-ghost use Rattle.reasons.specs.Stored.Vectors.{AreSymbols};
-ghost use Rattle.reasons.specs.Run.{Steps, held};
-ghost use Rattle.reasons.specs.FirstFault.{Fails, RunsTo, IsFirstFault, IsAlone, IsEndFault};
-ghost use Rattle.subst.specs.declared.buffer.TheConstants.{SYMBOLS_LIMIT};
+ghost use Rattle.scope.specs.Active.{stmt_at};
+ghost use Rattle.proof_code.specs.declared.item.Item.{Item};
+ghost use Rattle.reasons.specs.Explained.{named_behind};
+ghost use Rattle.reasons.specs.FirstFault.{Fails, IsEnd, IsFirstFault};
+ghost use Rattle.reasons.specs.declared.reason.Fault.TheVariants.{Heavy, Unmarked};
+ghost use Rattle.verify.specs.Right.{IsProvable, IsRight};
+ghost use Rattle.verify.specs.Stops.{IsOther, IsStopped};
 
 use crate::named_citation::cite;
 use crate::reason::{Fault, Reason};
-use crate::state::State;
 use frame::Frames;
 use proof_code::Items;
 use std::alloc::{AllocError, Global};
+use verify::{Failure, Results, first_failure};
 
-/// Returns the first fault of the run over the items of the proof of the `$p` at a position, or `None` if it ends with
-/// the theorem's expression.
+/// Returns the first fault of the run over the items of a proof of the `$p` at a position, or `None` if they are a right
+/// proof of it.
 ///
-/// Cost: the sum of the lengths of all results.
+/// Errors: an allocation fails.
+/// Cost: that of `verify::check`, and for the one item that cannot be done the lengths of the results that it takes.
 pub fn first_fault(
     alloc: Global,
     frames: &Frames,
     at: usize,
     items: &Items,
 ) -> Result<Option<Reason>, AllocError>
-    requires { (1 ≤ at) × (at ≤ length frames.now.statements) }
-    ensures { (s : Statement) → stmt_at frames.now.statements at ≡ Some s
-        → IfOk result (λ r. MatchOption r (RunsTo frames.now.statements at items.now (expr_of s)) (IsFirstFault frames.now.statements frames.now.names at s items.now)) }
+    requires { (s : Statement) × IsProvable frames.now.statements at s }
+    ensures right { IfOk result (λ r. MatchOption r (IsRight frames.now.statements at items.now) (λ _. ¬ IsRight frames.now.statements at items.now)) }
+    ensures first { (s : Statement) → stmt_at frames.now.statements at ≡ Some s → IfOk result (λ r. IfSome r (IsFirstFault frames.now.statements frames.now.names at s items.now)) }
 {
-    let parts = items.parts();
-    let positions = frames.positions(parts.labels)?;
-    let numbers = parts.numbers;
-    let mut state = State::new(alloc);
-    for (item, number) in numbers.iter().enumerate() {
-        let fault = step(
-            alloc,
-            frames,
-            at,
-            positions.as_slice(),
-            *number as usize,
-            &mut state,
-        )?;
-        if let Some(fault) = fault {
-            return Ok(Some(Reason::Item { item, fault }));
+    let Some(failure) = first_failure(alloc, frames, at, items)? else {
+        return Ok(None);
+    };
+    match failure {
+        Failure::Item {
+            item,
+            labels,
+            results,
+        } => {
+            let fault = fault_at(alloc, frames, at, items, item, labels, &results)?;
+            Ok(Some(Reason::Item { item, fault }))
         }
+        Failure::End { results } => Ok(Some(end(alloc, &results)?)),
     }
-    end(alloc, frames.expr(at), state.stack.as_slice())
 }
 
-/// Runs one item: 0 marks, a number up to the count of the labels cites, a greater one recalls.
-fn step(
+/// Explains why an item cannot be done: 0 marks, a number up to the count of the labels cites, a greater one recalls.
+fn fault_at(
     alloc: Global,
     frames: &Frames,
     at: usize,
-    positions: &[Option<usize>],
-    number: usize,
-    state: &mut State,
-) -> Result<Option<Fault>, AllocError>
+    items: &Items,
+    item: usize,
+    labels: usize,
+    results: &Results,
+) -> Result<Fault, AllocError>
     requires place { (1 ≤ at) × (at ≤ length frames.now.statements) }
-    requires symbols { AreSymbols (length frames.now.names) state.old.stack.items }
-    requires marked { AreSymbols (length frames.now.names) state.old.marked.items }
-    requires weight { state.old.weight ≤ SYMBOLS_LIMIT }
-    ensures told { (labels : List Name) → ArePositions frames.now.statements labels positions.now
-        → IfOk result (λ r. MatchOption r
-        (Steps frames.now.statements at (held frames.now.names state.old) (item_of labels number) (held frames.now.names state.new))
-        (Fails frames.now.statements frames.now.names at (held frames.now.names state.old) (item_of labels number))) }
-    ensures symbols { AreSymbols (length frames.now.names) state.new.stack.items }
-    ensures marked { AreSymbols (length frames.now.names) state.new.marked.items }
-    ensures weight { state.new.weight ≤ SYMBOLS_LIMIT }
+    requires item { item < length items.now }
+    requires stopped { IsStopped frames.now.statements at frames.now.names items.now item labels results.now.results }
+    ensures { (what : Item) → slice_get items.now item ≡ Some what → IfOk result (Fails frames.now.statements frames.now.names at (named_behind frames.now labels results.now) what) }
 {
+    let parts = items.parts();
+    let number = parts.numbers[item] as usize;
     if number == 0 {
-        return state.mark(alloc);
+        return Ok(Fault::Unmarked);
     }
+    let positions = frames.positions(parts.labels)?;
     if number > positions.len() {
-        return state.recall(alloc, number - positions.len() - 1);
+        return Ok(recall_fault(results, labels, number - positions.len() - 1));
     }
     match positions[number - 1] {
-        Some(statement) => cite(alloc, frames, at, statement, state),
-        None => Ok(Some(Fault::Unknown)),
+        Some(statement) => cite(alloc, frames, at, statement, results),
+        None => Ok(Fault::Unknown),
     }
 }
 
-/// Returns the fault of the results at the end, where one must be left.
-fn end(alloc: Global, says: &[u32], stack: &[Vec<u32>]) -> Result<Option<Reason>, AllocError>
-    ensures { IfOk result (λ r. MatchOption r (IsAlone says.now stack.now) (IsEndFault says.now stack.now)) }
+/// Returns the fault of a recall that cannot be made, by the index of the result behind those that are kept for labels.
+fn recall_fault(results: &Results, labels: usize, index: usize) -> Fault
+    ensures marked { index < length results.now.results.saved - labels → result ≡ Heavy }
+    ensures unmarked { length results.now.results.saved - labels ≤ index → result ≡ Unmarked }
 {
-    if stack.len() != 1 {
-        return Ok(Some(Reason::Results { count: stack.len() }));
+    if index < results.saved_len().saturating_sub(labels) {
+        Fault::Heavy
+    } else {
+        Fault::Unmarked
     }
-    let proved = stack[0].as_slice();
-    if proved == says {
-        return Ok(None);
+}
+
+/// Returns the fault of the results at the end, which are not the theorem's expression alone.
+fn end(alloc: Global, results: &Results) -> Result<Reason, AllocError>
+    ensures { IfOk result (IsEnd results.now.results.stack) }
+{
+    let count = results.len();
+    if count != 1 {
+        return Ok(Reason::Results { count });
     }
-    let proved = Vec::from_slice(alloc, proved)?;
-    Ok(Some(Reason::Theorem { proved }))
+    let proved = Vec::from_slice(alloc, results.get(0))?;
+    Ok(Reason::Theorem { proved })
 }
