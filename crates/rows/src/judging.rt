@@ -170,14 +170,11 @@ impl<'a, 'w, R: AllocGlobal + Threads + Wait + Copy + Send + Sync + Drop + 'stat
     ) -> Told {
         let alloc = self.rt.alloc();
         let printed = self.print(reader);
-        let refused = Wanted {
-            output: b"refused Input\n",
-            lines: None,
-            faults: &Faults::Exactly(Vec::new(alloc)),
-            status: 1,
+        let told = if reader.failed {
+            unread_difference(alloc, &printed)?
+        } else {
+            difference(alloc, wanted, &printed)?
         };
-        let wanted = if reader.failed { &refused } else { wanted };
-        let told = difference(alloc, wanted, &printed)?;
         told_at(alloc, format_args!("{calls} reads"), &told)
     }
 
@@ -214,6 +211,17 @@ impl<'a, 'w, R: AllocGlobal + Threads + Wait + Copy + Send + Sync + Drop + 'stat
         let told = write_difference(alloc, called_again, front, &printed)?;
         told_at(alloc, format_args!("{calls} writes"), &told)
     }
+}
+
+/// Tells how an output differs from the refusal of an input that cannot be read.
+fn unread_difference(alloc: Global, printed: &Printed) -> Told {
+    let refused = Wanted {
+        output: b"refused Input\n",
+        lines: None,
+        faults: &Faults::Exactly(Vec::new(alloc)),
+        status: 1,
+    };
+    difference(alloc, &refused, printed)
 }
 
 /// Returns two texts joined.
