@@ -23,7 +23,7 @@ use std::marker::Model;
 pub const LONG_RESULT: usize = 1024;
 
 /// A result keeps the words of its variables if these are at most one in so many of its symbols: with more of them, to read
-/// it again costs about as much as its words, and these would need half as much memory as it does, or more.
+/// it again costs about as much as its words, and these would need about as much memory as it does.
 const SYMBOLS_PER_WORD: usize = 8;
 
 /// Where words lie in a list of words.
