@@ -172,7 +172,7 @@ module _ (p : List Part) (e : List Name) (from at : ℕ) (goes : GoesOn p (drop 
         record {
           on = λ there. subst (λ r. IsSomewhere r (drop (at + (place + n)) e)) after (subst (IsSomewhere next) rest (goes_on left (drop at e) place here next others (goes.on there)));
           back = λ there. goes.back (comes_from left (drop at e) place here next others
-            (subst (IsSomewhere next) (sym rest) (subst (λ r. IsSomewhere r (drop (at + (place + n)) e)) (sym after) there)));
+              (subst (IsSomewhere next) (sym rest) (subst (λ r. IsSomewhere r (drop (at + (place + n)) e)) (sym after) there)));
         }
 
 -- no place before the end of the symbols, ..

@@ -19,5 +19,5 @@ pub returns : goal.returns
 returns c = (
   λ t. absurd (both_ways false refl t),
   λ has. absurd (no_part c.args.text.now c.args.word.now
-    (λ k far alike. let some : length c.args.word.now ≡ 0 → ⊥ = eqb-false _ _ (sym c.if-is_empty.ensures) in c.loop-place.invariant k (omega (arith, some, far)) alike) has),
+      (λ k far alike. let some : length c.args.word.now ≡ 0 → ⊥ = eqb-false _ _ (sym c.if-is_empty.ensures) in c.loop-place.invariant k (omega (arith, some, far)) alike) has),
 )
