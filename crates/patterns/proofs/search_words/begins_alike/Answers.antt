@@ -1,4 +1,4 @@
-use Rattle.std.proofs.Common.{◌∙◌, ap, sym, refl, map}
+use Rattle.std.proofs.Common.{◌∙◌, false, ap, sym, refl, map}
 use Rattle.std.specs.Str.{str_to_ascii_lowercase}
 use Rattle.std.proofs.lemmas.Bool.{both_ways}
 use Rattle.patterns.proofs.PartLemmas.{too_short}
