@@ -1,6 +1,6 @@
 -- The lines of what is found, a statement at a time.
 use Rattle.std.proofs.Common.{◌≡◌, ℕ, zero, suc, ◌+◌, ◌-◌, ◌<◌, ◌≤◌, Bool, true, false, List, [], ◌∷◌, ◌++◌, length, take, drop, Option, Some, None, slice_get, get_or, refl, ap, sym, ◌∙◌, subst, arith, append_assoc, inl, inr}
-use Rattle.std.specs.Prelude.{◌↔◌, ◌⊎◌, IsTrue}
+use Rattle.std.specs.Prelude.{◌↔◌, IsTrue}
 use Rattle.std.proofs.lemmas.Bool.{both_ways}
 use Rattle.std.proofs.lemmas.Option.{slice_get-get_or}
 use Rattle.std.proofs.lemmas.List.{append-nil, take_all, length-drop}
@@ -31,8 +31,8 @@ lines_more counts from at (r ∷ S) zero s is old new before e place h added =
 lines_more counts from at (r ∷ S) (suc i) s is old new before e place h added =
     let line : List ℕ = before.0 in
     let rest : List ℕ = before.1 in
-    let more = lines_more counts (from + 1) at S i s is rest (rest ++ line_if is s) before.2.2.1 e (omega (arith, place)) h refl in
-    (line, rest ++ line_if is s, added ∙ (ap (λ l. l ++ line_if is s) before.2.0 ∙ append_assoc line rest (line_if is s)), before.2.2.0, more)
+    let more = lines_more counts (from + 1) at S i s is rest (rest ++ line_if is s) before.4 e (omega (arith, place)) h refl in
+    (line, rest ++ line_if is s, added ∙ (ap (λ l. l ++ line_if is s) before.2 ∙ append_assoc line rest (line_if is s)), before.3, more)
 
 -- the same for the one at an index within the list
 pub lines_on : (counts : ℕ → Stmt → Type 0) (S : Database) (i : ℕ) (d : Stmt) (is : Bool) (old new : List ℕ) → AreFoundLines counts 0 (take i S) old
@@ -58,15 +58,15 @@ no_bytes text s past =
     let none : s.end - s.start ≡ 0 = omega (arith, past) in
     sym (ap (λ n. take n (drop s.start text)) none)
 
+take_none : (n : ℕ) → ◌≡◌ {A = List ℕ} [] (take n [])
+take_none zero = refl
+take_none (suc n) = refl
+
 pub past_text : (text : List ℕ) (s : Span) → length text ≤ s.start → [] ≡ word text s
 past_text text s past = by (drop s.start text) (omega (arith, past, length-drop s.start text))
   where
     by : (rest : List ℕ) → length rest ≡ 0 → [] ≡ take (s.end - s.start) rest
-    by [] e = empty (s.end - s.start)
-      where
-        empty : (n : ℕ) → [] ≡ take n []
-        empty zero = refl
-        empty (suc n) = refl
+    by [] e = take_none (s.end - s.start)
     by (b ∷ rest) e = absurd (omega (arith, e))
 
 -- a span that ends after the text

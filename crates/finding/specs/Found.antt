@@ -1,7 +1,7 @@
 -- The assertions that a search finds.
 -- Source: this project's command `find`, after `search` of the program metamath.
 -- The code goes over the statements, and over the frame of each.
-use Rattle.std.specs.Prelude.{ℕ, ◌+◌, ⊥, ◌⊎◌, List, [], ◌∷◌, Option, Some, None, IsTrue, option_and_then, slice_get}
+use Rattle.std.specs.Prelude.{ℕ, ◌+◌, ◌⊎◌, List, [], ◌∷◌, Option, Some, None, IsTrue, option_and_then, slice_get}
 use Rattle.mm_lex.specs.declared.span.Span.{Span}
 use Rattle.mm_lex.specs.Alphabet.{word}
 use Rattle.mm_read.specs.declared.stmt.Stmt.{Stmt}

@@ -1,7 +1,7 @@
 -- The lines of the assertions that a search finds.
 -- Source: this project's command `find`.
 -- The code appends one line after another.
-use Rattle.std.specs.Prelude.{◌≡◌, ℕ, ◌+◌, ⊥, ◌⊎◌, Bool, List, [], ◌∷◌, ◌++◌, codes, if◌then◌else◌}
+use Rattle.std.specs.Prelude.{◌≡◌, ℕ, ◌+◌, ◌⊎◌, Bool, List, [], ◌∷◌, ◌++◌, codes, if◌then◌else◌}
 use Rattle.mm_lex.specs.Words.{spaced}
 use Rattle.mm_read.specs.declared.stmt.Stmt.{Stmt}
 use Rattle.mm_read.specs.declared.stmt.Stmt.TheVariants.{Axiom, Prove}
@@ -24,4 +24,4 @@ IsLineIf counts s line = (counts × (line ≡ found_line s)) ⊎ ((counts → �
 abbrev pub AreFoundLines : (ℕ → Stmt → Type 0) → ℕ → Database → List ℕ → Type 0
 AreFoundLines counts index [] lines = lines ≡ []
 AreFoundLines counts index (s ∷ S) lines =
-    (line rest : List ℕ) × (lines ≡ line ++ rest) × IsLineIf (counts index s) s line × AreFoundLines counts (index + 1) S rest
+    (line : List ℕ) × (rest : List ℕ) × (lines ≡ line ++ rest) × IsLineIf (counts index s) s line × AreFoundLines counts (index + 1) S rest

@@ -16,7 +16,7 @@ pub(crate) fn has_in(
     expr: Option<&Words>,
 ) -> Result<bool, AllocError>
     ensures { IfOk result (λ is. IsTrue is
-        ↔ HasIn pattern.now (option_map (λ e. e.now) expr)) }
+        ↔ HasIn pattern.now (option_map (λ e. e.now) expr.entry)) }
 {
     let Some(expr) = expr else {
         return Ok(false);

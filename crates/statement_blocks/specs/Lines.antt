@@ -15,16 +15,16 @@ use Rattle.frame.specs.FrameOf.{hypotheses, mandatory_groups}
 abbrev pub labelled : Name → List ℕ → List ℕ → List ℕ
 labelled label keyword symbols = label ++ keyword ++ symbols
 
--- how long a proof is
+-- how long a proof is, and the end of the line
 abbrev pub proof_note : List Name → List ℕ
-proof_note proof = codes " (proof of " ++ decimal (length proof) ++ codes " tokens)"
+proof_note proof = codes " (proof of " ++ decimal (length proof) ++ codes " tokens)\n"
 
 -- a statement that has a label, without its proof
 abbrev pub statement_line : Stmt → List ℕ
 statement_line (Float label constant variable) = labelled label (codes " $f ") constant ++ labelled (codes " ") variable (codes "\n")
 statement_line (Ess label expr) = labelled label (codes " $e ") (spaced expr) ++ codes "\n"
 statement_line (Axiom label expr) = labelled label (codes " $a ") (spaced expr) ++ codes "\n"
-statement_line (Prove label expr proof) = labelled label (codes " $p ") (spaced expr) ++ proof_note proof ++ codes "\n"
+statement_line (Prove label expr proof) = labelled label (codes " $p ") (spaced expr) ++ proof_note proof
 statement_line s = []
 
 -- the statement at a position, if one stands there

@@ -52,7 +52,7 @@ fn push_position(text: &mut Vec<u8>, place: Position) -> Result<(), AllocError>
 /// Appends the words of a description, if there is one.
 fn push_description(text: &mut Vec<u8>, description: Option<&[u8]>) -> Result<(), AllocError>
     ensures { OnOk result (text.new.items
-        ≡ text.old.items ++ description_lines (option_map (λ d. d.now) description)) }
+        ≡ text.old.items ++ description_lines (option_map (λ d. d.now) description.entry)) }
 {
     match description {
         Some(description) => push_filled(text, description),

@@ -32,8 +32,7 @@ pub(crate) fn push_statement(text: &mut Vec<u8>, statement: &Stmt) -> Result<(),
         }
         Stmt::Prove { label, expr, proof } => {
             push_labelled(text, label.as_bytes(), b" $p ", expr.as_text())?;
-            push_proof_note(text, proof)?;
-            text.extend_from_slice(b"\n")
+            push_proof_note(text, proof)
         }
         _ => Ok(()),
     }
@@ -54,11 +53,11 @@ fn push_labelled(
     text.extend_from_slice(symbols)
 }
 
-/// Appends how many tokens a proof has.
+/// Appends how many tokens a proof has, and ends the line.
 fn push_proof_note(text: &mut Vec<u8>, proof: &Words) -> Result<(), AllocError>
     ensures { OnOk result (text.new.items ≡ text.old.items ++ proof_note proof.now) }
 {
     text.extend_from_slice(b" (proof of ")?;
     push_number(text, proof.len() as u64)?;
-    text.extend_from_slice(b" tokens)")
+    text.extend_from_slice(b" tokens)\n")
 }

@@ -1,4 +1,4 @@
-use Rattle.std.proofs.Common.{⊥, take}
+use Rattle.std.proofs.Common.{take}
 use Rattle.finding.specs.Found.{SomeEssentialHas}
 use Rattle.finding.proofs.hypotheses.some_has.Given as goal
 
