@@ -1,11 +1,10 @@
 -- The lines of what is found, a statement at a time.
 use Rattle.std.proofs.Common.{◌≡◌, ℕ, zero, suc, ◌+◌, ◌-◌, ◌<◌, ◌≤◌, Bool, true, false, List, [], ◌∷◌, ◌++◌, length, take, drop, Option, Some, None, slice_get, get_or, refl, ap, sym, ◌∙◌, subst, arith, append_assoc, inl, inr}
-use Rattle.std.specs.Prelude.{◌↔◌, IsTrue}
+use Rattle.std.specs.Prelude.{◌↔◌, ◌⊎◌, IsTrue, IfOk, Result}
 use Rattle.std.proofs.lemmas.Bool.{both_ways}
 use Rattle.std.proofs.lemmas.Option.{slice_get-get_or}
-use Rattle.std.proofs.lemmas.List.{append-nil, take_all, length-drop}
-use Rattle.mm_lex.specs.declared.span.Span.{Span}
-use Rattle.mm_lex.specs.Alphabet.{word}
+use Rattle.std.proofs.lemmas.Result.{IfOk-weaker}
+use Rattle.std.proofs.lemmas.List.{append-nil, take_all}
 use Rattle.mm_read.specs.declared.stmt.Stmt.{Stmt}
 use Rattle.mm_read.specs.Statements.{Database}
 use Rattle.scope.specs.Active.{stmt_at}
@@ -35,44 +34,27 @@ lines_more counts from at (r ∷ S) (suc i) s is old new before e place h added 
     (line, rest ++ line_if is s, added ∙ (ap (λ l. l ++ line_if is s) before.2 ∙ append_assoc line rest (line_if is s)), before.3, more)
 
 -- the same for the one at an index within the list
-pub lines_on : (counts : ℕ → Stmt → Type 0) (S : Database) (i : ℕ) (d : Stmt) (is : Bool) (old new : List ℕ) → AreFoundLines counts 0 (take i S) old
-    → i < length S → IsTrue is ↔ counts i (get_or S i d) → new ≡ old ++ line_if is (get_or S i d) → AreFoundLines counts 0 (take (i + 1) S) new
-lines_on counts S i d is old new before within h added =
+pub lines_on : (counts : ℕ → Stmt → Type 0) (S : Database) (i : ℕ) (s : Stmt) (is : Bool) (old new : List ℕ) → AreFoundLines counts 0 (take i S) old
+    → i < length S → s ≡ get_or S i s → IsTrue is ↔ counts i s → new ≡ old ++ line_if is s → AreFoundLines counts 0 (take (i + 1) S) new
+lines_on counts S i s is old new before within same h added =
     let next : suc i ≡ i + 1 = omega arith in
-    subst (λ n. AreFoundLines counts 0 (take n S) new) next
-    (lines_more counts 0 i S i (get_or S i d) is old new before (slice_get-get_or S i d within) (omega arith) h added)
+    let here : slice_get S i ≡ Some s = slice_get-get_or S i s within ∙ ap Some (sym same) in
+    subst (λ n. AreFoundLines counts 0 (take n S) new) next (lines_more counts 0 i S i s is old new before here (omega arith) h added)
 
 -- all of them
 pub lines_all : (counts : ℕ → Stmt → Type 0) (S : Database) (i : ℕ) (lines : List ℕ) → length S ≤ i → AreFoundLines counts 0 (take i S) lines → AreFoundLines counts 0 S lines
 lines_all counts S i lines past is = subst (λ T. AreFoundLines counts 0 T lines) (take_all i S past) is
 
 -- the statement at an index has the position after it
-pub stands_at : (S : Database) (i : ℕ) (d : Stmt) → i < length S → stmt_at S (i + 1) ≡ Some (get_or S i d)
-stands_at S i d within =
+pub stands_at : (S : Database) (i : ℕ) (s : Stmt) → i < length S → s ≡ get_or S i s → stmt_at S (i + 1) ≡ Some s
+stands_at S i s within same =
     let next : i + 1 ≡ suc i = omega arith in
-    ap (stmt_at S) next ∙ slice_get-get_or S i d within
+    ap (stmt_at S) next ∙ (slice_get-get_or S i s within ∙ ap Some (sym same))
 
--- the bytes of a span that begins at its end, or after the text
-pub no_bytes : (text : List ℕ) (s : Span) → s.end ≤ s.start → [] ≡ word text s
-no_bytes text s past =
-    let none : s.end - s.start ≡ 0 = omega (arith, past) in
-    sym (ap (λ n. take n (drop s.start text)) none)
+-- an assertion that has what is sought
+pub with_assertion : {E B : Type 0} (a : Bool) → a ≡ true → (r : Result Bool E) → IfOk r (λ is. IsTrue is ↔ B) → IfOk r (λ is. IsTrue is ↔ (IsTrue a × B))
+with_assertion a e r h = IfOk-weaker r _ _ (λ is b. (λ yes. (e, b.0 yes), λ both. b.1 both.1)) h
 
-take_none : (n : ℕ) → ◌≡◌ {A = List ℕ} [] (take n [])
-take_none zero = refl
-take_none (suc n) = refl
-
-pub past_text : (text : List ℕ) (s : Span) → length text ≤ s.start → [] ≡ word text s
-past_text text s past = by (drop s.start text) (omega (arith, past, length-drop s.start text))
-  where
-    by : (rest : List ℕ) → length rest ≡ 0 → [] ≡ take (s.end - s.start) rest
-    by [] e = take_none (s.end - s.start)
-    by (b ∷ rest) e = absurd (omega (arith, e))
-
--- a span that ends after the text
-pub rest_bytes : (text : List ℕ) (s : Span) (rest : List ℕ) (len : ℕ) → rest ≡ drop s.start text → len ≡ s.end - s.start → length rest ≤ len → rest ≡ word text s
-rest_bytes text s rest len same count past =
-    sym (take_all len rest past) ∙ (ap (λ n. take n rest) count ∙ ap (take (s.end - s.start)) same)
-
-pub own_bytes : (text : List ℕ) (s : Span) (rest bytes : List ℕ) (len : ℕ) → rest ≡ drop s.start text → len ≡ s.end - s.start → bytes ≡ take len rest → bytes ≡ word text s
-own_bytes text s rest bytes len same count are = are ∙ (ap (λ n. take n rest) count ∙ ap (take (s.end - s.start)) same)
+-- one of two, and not the first
+pub either_later : {E A B : Type 0} (own : Bool) → own ≡ false → IsTrue own ↔ A → (r : Result Bool E) → IfOk r (λ is. IsTrue is ↔ B) → IfOk r (λ is. IsTrue is ↔ (A ⊎ B))
+either_later own no first r h = IfOk-weaker r _ _ (λ is b. (λ yes. inr (b.0 yes), λ one. elim one [ inl a ↦ absurd (both_ways own no (first.1 a)) | inr some ↦ b.1 some ])) h

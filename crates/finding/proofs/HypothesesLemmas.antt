@@ -1,6 +1,6 @@
 -- An `$e` with a pattern among the hypotheses of an assertion.
-use Rattle.std.proofs.Common.{◌≡◌, ℕ, zero, suc, ◌+◌, ◌<◌, ◌≤◌, List, [], ◌∷◌, length, take, Option, Some, None, slice_get, get_or, refl, ap, sym, ◌∙◌, subst, arith, true, inl, inr}
-use Rattle.std.specs.Prelude.{◌⊎◌, option_map}
+use Rattle.std.proofs.Common.{◌≡◌, ℕ, zero, suc, ◌+◌, ◌-◌, ◌<◌, ◌≤◌, List, [], ◌∷◌, length, take, Option, Some, None, slice_get, get_or, refl, ap, sym, ◌∙◌, subst, arith, true, inl, inr}
+use Rattle.std.specs.Prelude.{◌⊎◌, option_map, option_and_then}
 use Rattle.std.proofs.lemmas.List.{take_all}
 use Rattle.std.proofs.lemmas.Option.{slice_get-get_or}
 use Rattle.mm_read.specs.declared.stmt.Stmt.{Stmt}
@@ -10,7 +10,7 @@ use Rattle.scope.specs.Active.{bare, bares, before, stmt_at, is_assertion}
 use Rattle.scope.proofs.StatementPlaces.{stmt_at-bares}
 use Rattle.frame.specs.FrameOf.{hypotheses, HasAssertion}
 use Rattle.patterns.specs.Matches.{Part}
-use Rattle.finding.specs.Found.{HasIn, essential_at, SomeEssentialHas}
+use Rattle.finding.specs.Found.{HasIn, essential_expr, essential_at, SomeEssentialHas}
 
 -- a frame looks at no proof
 hypotheses-bare : (S : Database) (s : Stmt) → hypotheses S (bare s) ≡ hypotheses S s
@@ -32,6 +32,13 @@ module _ (S F : Database) (at : ℕ) (s : Stmt) (same : F ≡ bares S) (stands :
   -- its hypotheses
   pub listed : (positions : List ℕ) → positions ≡ hypotheses (before F at) (bare s) → positions ≡ hypotheses (before (bares S) at) s
   listed positions are = are ∙ (hypotheses-bare (before F at) s ∙ ap (λ T. hypotheses (before T at) s) same)
+
+-- the expression of the `$e` at a position
+pub essential_is : (S : Database) (position : ℕ) (s : Stmt) → 1 ≤ position → position ≤ length S → s ≡ get_or S (position - 1) s → essential_at S position ≡ essential_expr s
+essential_is S zero s some within is = absurd (omega (arith, some))
+essential_is S (suc n) s some within is =
+    let same : n ≡ suc n - 1 = omega arith in
+    ap (option_and_then essential_expr) (slice_get-get_or S n s (omega (arith, within))) ∙ (ap (λ k. essential_expr (get_or S k s)) same ∙ ap essential_expr (sym is))
 
 module _ (p : List Part) (S : Database) where
   -- one of the positions has it ..

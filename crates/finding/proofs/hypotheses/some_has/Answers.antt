@@ -6,11 +6,11 @@ use Rattle.finding.proofs.hypotheses.some_has.Goals as goal
 pub loop-position-preserved : goal.loop-position-preserved
 loop-position-preserved c =
     none_on c.args.pattern.now c.args.statements.now c.args.positions.now c.loop-position.position-index _ c.loop-position-test.true
-    (λ has. both_ways false refl (c.in_ok-has.ensures.1 has)) c.loop-position.invariant
+    (λ has. both_ways c.in_ok-has.has c.if-has.false (c.in_ok-has.ensures.1 has)) c.loop-position.invariant
 
 pub returns-then-has : goal.returns-then-has
 returns-then-has c = (
-  λ _. here_at c.args.pattern.now c.args.statements.now c.args.positions.now c.loop-position.position-index _ c.loop-position-test.true (c.in_ok-has.ensures.0 refl),
+  λ _. here_at c.args.pattern.now c.args.statements.now c.args.positions.now c.loop-position.position-index _ c.loop-position-test.true (c.in_ok-has.ensures.0 c.if-has.true),
   λ _. refl,
 )
 
