@@ -52,9 +52,9 @@ stands_at S i s within same =
     ap (stmt_at S) next ∙ (slice_get-get_or S i s within ∙ ap Some (sym same))
 
 -- an assertion that has what is sought
-pub with_assertion : {E B : Type 0} (a : Bool) → a ≡ true → (r : Result Bool E) → IfOk r (λ is. IsTrue is ↔ B) → IfOk r (λ is. IsTrue is ↔ (IsTrue a × B))
-with_assertion a e r h = IfOk-weaker r _ _ (λ is b. (λ yes. (e, b.0 yes), λ both. b.1 both.1)) h
+pub with_assertion : {E : Type 0} (B : Type 0) (a : Bool) → a ≡ true → (r : Result Bool E) → IfOk r (λ is. IsTrue is ↔ B) → IfOk r (λ is. IsTrue is ↔ (IsTrue a × B))
+with_assertion B a e r h = IfOk-weaker r _ _ (λ is b. (λ yes. (e, b.0 yes), λ both. b.1 both.1)) h
 
 -- one of two, and not the first
-pub either_later : {E A B : Type 0} (own : Bool) → own ≡ false → IsTrue own ↔ A → (r : Result Bool E) → IfOk r (λ is. IsTrue is ↔ B) → IfOk r (λ is. IsTrue is ↔ (A ⊎ B))
-either_later own no first r h = IfOk-weaker r _ _ (λ is b. (λ yes. inr (b.0 yes), λ one. elim one [ inl a ↦ absurd (both_ways own no (first.1 a)) | inr some ↦ b.1 some ])) h
+pub either_later : {E : Type 0} (A B : Type 0) (own : Bool) → own ≡ false → IsTrue own ↔ A → (r : Result Bool E) → IfOk r (λ is. IsTrue is ↔ B) → IfOk r (λ is. IsTrue is ↔ (A ⊎ B))
+either_later A B own fails first r h = IfOk-weaker r _ _ (λ is b. (λ yes. inr (b.0 yes), λ one. elim one [ inl a ↦ absurd (both_ways own fails (first.1 a)) | inr some ↦ b.1 some ])) h

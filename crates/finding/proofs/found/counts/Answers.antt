@@ -7,4 +7,4 @@ pub returns : goal.returns
 returns c =
     let e = c.if-not-is_assertion.ensures in
     let assertion : is_assertion c.args.statement.now ≡ true = cc in
-    with_assertion (is_assertion c.args.statement.now) assertion c.has.result c.has.ensures
+    with_assertion _ (is_assertion c.args.statement.now) assertion c.has.result c.has.ensures

@@ -14,4 +14,4 @@ returns-else-own c =
     let s = c.args.searched.now in
     let own = subst (λ expr. IsTrue c.in_ok-own-in-WithHypotheses.own ↔ HasIn c.in-WithHypotheses.pattern expr) c.assertion_expr-in-WithHypotheses.ensures c.in_ok-own-in-WithHypotheses.ensures in
     subst (λ sought. IfOk c.some_essential_has.result (λ is. IsTrue is ↔ Has s.text.now s.statements.now s.descriptions.now sought c.args.index c.args.statement.now)) (sym c.in-WithHypotheses.is)
-    (either_later c.in_ok-own-in-WithHypotheses.own c.if-own.false own c.some_essential_has.result c.some_essential_has.ensures)
+    (either_later _ _ c.in_ok-own-in-WithHypotheses.own c.if-own.false own c.some_essential_has.result c.some_essential_has.ensures)
