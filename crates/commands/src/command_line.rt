@@ -6,7 +6,9 @@ use crate::request::{ProofForm, ProofQuestion, Question, Request, WordsFault};
 use crate::weights::{WorkerCount, parse_weights};
 use clap::error::ErrorKind;
 use clap::{ArgMatches, Error};
+use finding::Sought;
 use numbers::parse_number;
+use patterns::{BadPattern, Pattern, SearchWords};
 use std::alloc::{AllocError, Global};
 use synod::{MOST_NODES, Weights};
 
@@ -114,12 +116,37 @@ fn question<'a>(
             is_essential: options.get_flag("essential"),
             form: proof_form(options),
         }),
-        "extract" => Question::Extract(Vec::from_slice(
-            alloc,
-            options.get_strs("labels").unwrap_or(&[]),
-        )?),
+        "extract" => Question::Extract(labels(alloc, options)?),
+        "show" => Question::Show(labels(alloc, options)?),
+        "find" => Question::Find(sought(alloc, options)?),
         _ => return Err(no_command(alloc)),
     })
+}
+
+/// Returns the labels that are given.
+fn labels<'a>(alloc: Global, options: &ArgMatches<'a>) -> Result<Vec<&'a str>, AllocError> {
+    Vec::from_slice(alloc, options.get_strs("labels").unwrap_or(&[]))
+}
+
+/// Returns what the options of `find` seek.
+fn sought<'a>(alloc: Global, options: &ArgMatches<'a>) -> Result<Sought<'a>, WordsFault> {
+    let text = options.get_str("pattern").unwrap_or("");
+    if options.get_flag("words") {
+        return match SearchWords::new(text) {
+            Some(words) => Ok(Sought::Words(words)),
+            None => Err(invalid(alloc, "a word is wanted")),
+        };
+    }
+    match Pattern::parse(alloc, text) {
+        Ok(pattern) if options.get_flag("hypotheses") => Ok(Sought::WithHypotheses(pattern)),
+        Ok(pattern) => Ok(Sought::Pattern(pattern)),
+        Err(BadPattern::Word(_)) => Err(invalid(
+            alloc,
+            "a word of a pattern is $?, $* or a symbol, which has no $",
+        )),
+        Err(BadPattern::NoSymbol) => Err(invalid(alloc, "a pattern has a symbol")),
+        Err(BadPattern::Memory) => Err(WordsFault::Memory),
+    }
 }
 
 /// Returns the form that the options of `proof` give.

@@ -12,6 +12,8 @@ pub const VERSION_LINE: &str = "mmlib 1.0.0\n";
 enum Form {
     /// A label.
     Label,
+    /// A pattern, or words that are sought.
+    Pattern,
     /// One or more labels.
     Labels,
     /// An option without a value.
@@ -41,6 +43,31 @@ const LABELS: Argument = Argument {
     name: "labels",
     form: Form::Labels,
     help: "The labels of assertions; those that begin with - stand after --",
+};
+
+const ANY_LABELS: Argument = Argument {
+    name: "labels",
+    form: Form::Labels,
+    help: "The labels of statements; those that begin with - stand after --",
+};
+
+const PATTERN: Argument = Argument {
+    name: "pattern",
+    form: Form::Pattern,
+    help: "Symbols in one argument, $? for any one symbol, $* for any number of symbols; \
+           one that begins with - stands after --",
+};
+
+const HYPOTHESES: Argument = Argument {
+    name: "hypotheses",
+    form: Form::FlagWithout("words"),
+    help: "Also assertions that have the pattern in one of their $e",
+};
+
+const WORDS: Argument = Argument {
+    name: "words",
+    form: Form::Flag,
+    help: "PATTERN is words that the description has, in any case of letters",
 };
 
 const NODES: Argument = Argument {
@@ -88,7 +115,7 @@ const HTML: Argument = Argument {
 /// A command: its name, its help, and its arguments.
 struct Shape(&'static str, &'static str, &'static [Argument]);
 
-const COMMANDS: [Shape; 11] = [
+const COMMANDS: [Shape; 13] = [
     Shape(
         "outline",
         "Print the statements of the database on standard input, one a line: mmlib outline < set.mm",
@@ -135,6 +162,16 @@ const COMMANDS: [Shape; 11] = [
         &[LABELS],
     ),
     Shape(
+        "show",
+        "Print statements of the database on standard input, each with its description and its hypotheses: mmlib show id < set.mm",
+        &[ANY_LABELS],
+    ),
+    Shape(
+        "find",
+        "Print the assertions of the database on standard input that have a pattern: mmlib find '( $? -> $? )' < set.mm",
+        &[PATTERN, HYPOTHESES, WORDS],
+    ),
+    Shape(
         "play",
         "Drive a world of nodes by the script on standard input",
         &[NODES, WEIGHTS],
@@ -177,6 +214,7 @@ fn made<'a>(alloc: Global, argument: &Argument) -> Result<Arg<'a>, AllocError> {
     let arg = Arg::new(alloc, argument.name).help(argument.help);
     match argument.form {
         Form::Label => Ok(arg.required(true).value_name("LABEL")),
+        Form::Pattern => Ok(arg.required(true).value_name("PATTERN")),
         Form::Labels => Ok(
             arg.required(true)
                 .value_name("LABEL")

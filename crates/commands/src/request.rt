@@ -1,5 +1,6 @@
 //! Requests of a command line.
 use crate::weights::WorkerCount;
+use finding::Sought;
 use std::alloc::AllocError;
 use synod::Weights;
 
@@ -47,6 +48,10 @@ pub enum Question<'a> {
     Proof(ProofQuestion<'a>),
     /// `extract`: a database of the assertions with the labels and of all that they need.
     Extract(Vec<&'a str>),
+    /// `show`: the statements with the labels, each as a block of lines.
+    Show(Vec<&'a str>),
+    /// `find`: the assertions that have what is sought.
+    Find(Sought<'a>),
 }
 
 /// A question about the proof of a `$p`.

@@ -1,2 +1,4 @@
 pub mod BeginLemmas
 pub mod TokenPlaceLemmas
+pub mod DescriptionLemmas
+mod Rows

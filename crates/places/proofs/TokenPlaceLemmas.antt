@@ -27,11 +27,11 @@ plain_goes_on w plain =
     grind (arith, a, b, c)
 
 -- a symbol ends no statement
-symbol_goes_on : (w : Name) → is_symbol w ≡ true → ends w ≡ false
+pub symbol_goes_on : (w : Name) → is_symbol w ≡ true → ends w ≡ false
 symbol_goes_on w h = plain_goes_on w (symbol_plain w h)
 
 -- a label ends no statement
-label_goes_on : (w : Name) → is_label w ≡ true → ends w ≡ false
+pub label_goes_on : (w : Name) → is_label w ≡ true → ends w ≡ false
 label_goes_on w h = plain_goes_on w (label_plain w h)
 
 -- one token that ends none is passed ..

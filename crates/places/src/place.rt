@@ -61,7 +61,7 @@ pub fn first_token(text: &[u8], spans: &[Span], statement: usize) -> usize
 }
 
 /// Returns whether no statement goes on after this token.
-fn ends(word: &[u8]) -> bool
+pub(crate) fn ends(word: &[u8]) -> bool
     ensures { result ≡ ends word.now }
 {
     word == b"$.".as_slice() || word == b"${".as_slice() || word == b"$}".as_slice()

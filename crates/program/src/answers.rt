@@ -1,6 +1,8 @@
 //! The answers to questions about a library.
 use crate::fault::Fault;
 use crate::proofs::write_proof;
+use crate::searches::found;
+use crate::shown::blocks;
 use crate::streams::print;
 use commands::Question;
 use extract::extract;
@@ -12,13 +14,14 @@ use printed::{push_assertions, push_labels, push_tree};
 use std::alloc::{AllocError, Global};
 use std::io::Write;
 
-/// Writes the answer to a question about a library.
+/// Writes the answer to a question about a library whose statements this text writes.
 ///
 /// Errors: those of the question, before anything is written; `Output` if a write fails. If an
 /// allocation fails while a proof is written, `Memory` after some of its steps.
 pub fn write_answer<O: Write>(
     alloc: Global,
     library: &Library,
+    text: &[u8],
     question: &Question<'_>,
     output: &mut O,
 ) -> Result<(), Fault> {
@@ -36,6 +39,18 @@ pub fn write_answer<O: Write>(
             print(
                 output,
                 extract(alloc, library, labels.as_slice())?.as_slice(),
+            )
+        }
+        Question::Show(labels) => {
+            print(
+                output,
+                blocks(alloc, library, text, labels.as_slice())?.as_slice(),
+            )
+        }
+        Question::Find(sought) => {
+            print(
+                output,
+                found(alloc, library, text, sought)?.as_slice(),
             )
         }
     }

@@ -64,7 +64,7 @@ fn ask_library<R: AllocGlobal + Threads + Sync, O: Write, F: Write>(
     let alloc = rt.alloc();
     match judge(rt, library, text)? {
         Verdict::Refused(cause) => print_refusal(alloc, text.as_slice(), cause, output, faults),
-        _ => write_answer(alloc, library, question, output).map(|()| 0),
+        _ => write_answer(alloc, library, text.as_slice(), question, output).map(|()| 0),
     }
 }
 

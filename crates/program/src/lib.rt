@@ -3,8 +3,8 @@
 //! Reading order: `command_line` (`run`, which does what a command line asks for), `fault` (why a
 //! command ends without its answer, and the line that says so), `streams` (reading and printing);
 //! `databases` (a database that is read and judged), `answers` (the one place that answers a
-//! question about a library), `proofs` (the steps of a proof) and `refused_texts` (why a database
-//! is refused); `scripts` (the lines of a script, answered one by one), `play`, `serve` and
+//! question about a library), `proofs` (the steps of a proof), `searches` (assertions that are
+//! sought), `shown` (statements as blocks) and `refused_texts` (why a database is refused); `scripts` (the lines of a script, answered one by one), `play`, `serve` and
 //! `served_nodes`.
 #![tactic(auto)]
 
@@ -16,8 +16,10 @@ mod play;
 mod proofs;
 mod refused_texts;
 mod scripts;
+mod searches;
 mod serve;
 mod served_nodes;
+mod shown;
 mod streams;
 
 pub use command_line::run;

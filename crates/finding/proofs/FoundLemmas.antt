@@ -1,0 +1,60 @@
+-- The lines of what is found, a statement at a time.
+use Rattle.std.proofs.Common.{◌≡◌, ℕ, zero, suc, ◌+◌, ◌-◌, ◌<◌, ◌≤◌, Bool, true, false, List, [], ◌∷◌, ◌++◌, length, take, drop, Option, Some, None, slice_get, get_or, refl, ap, sym, ◌∙◌, subst, arith, append_assoc, inl, inr}
+use Rattle.std.specs.Prelude.{◌↔◌, ◌⊎◌, IsTrue, IfOk, Result}
+use Rattle.std.proofs.lemmas.Bool.{both_ways}
+use Rattle.std.proofs.lemmas.Option.{slice_get-get_or}
+use Rattle.std.proofs.lemmas.Result.{IfOk-weaker}
+use Rattle.std.proofs.lemmas.List.{append-nil, take_all}
+use Rattle.mm_read.specs.declared.stmt.Stmt.{Stmt}
+use Rattle.mm_read.specs.Statements.{Database}
+use Rattle.scope.specs.Active.{stmt_at}
+use Rattle.finding.specs.Lines.{found_line, line_if, IsLineIf, AreFoundLines}
+
+-- the line of a statement that was judged
+judged : (counts : Type 0) (is : Bool) (s : Stmt) → IsTrue is ↔ counts → IsLineIf counts s (line_if is s)
+judged counts true s h = inl (h.0 refl, refl)
+judged counts false s h = inr (λ c. both_ways false refl (h.1 c), refl)
+
+-- one statement more
+pub lines_more : (counts : ℕ → Stmt → Type 0) (from at : ℕ) (S : Database) (i : ℕ) (s : Stmt) (is : Bool) (old new : List ℕ) → AreFoundLines counts from (take i S) old
+    → slice_get S i ≡ Some s → from + i ≡ at → IsTrue is ↔ counts at s → new ≡ old ++ line_if is s → AreFoundLines counts from (take (suc i) S) new
+lines_more counts from at [] i s is old new before e place h added = absurd (none_is e)
+  where
+    none_is : ◌≡◌ {A = Option Stmt} None (Some s) → ⊥
+    none_is bad = cc
+lines_more counts from at (r ∷ S) zero s is old new before e place h added =
+    let same : s ≡ r = cc in
+    let here : at ≡ from = omega (arith, place) in
+    let first : IsLineIf (counts from r) r (line_if is r) = judged (counts from r) is r (subst (λ n. IsTrue is ↔ counts n r) here (subst (λ t. IsTrue is ↔ counts at t) same h)) in
+    (line_if is r, [], added ∙ (ap (λ l. l ++ line_if is s) before ∙ (ap (line_if is) same ∙ sym (append-nil (line_if is r)))), first, refl)
+lines_more counts from at (r ∷ S) (suc i) s is old new before e place h added =
+    let line : List ℕ = before.0 in
+    let rest : List ℕ = before.1 in
+    let more = lines_more counts (from + 1) at S i s is rest (rest ++ line_if is s) before.4 e (omega (arith, place)) h refl in
+    (line, rest ++ line_if is s, added ∙ (ap (λ l. l ++ line_if is s) before.2 ∙ append_assoc line rest (line_if is s)), before.3, more)
+
+-- the same for the one at an index within the list
+pub lines_on : (counts : ℕ → Stmt → Type 0) (S : Database) (i : ℕ) (s : Stmt) (is : Bool) (old new : List ℕ) → AreFoundLines counts 0 (take i S) old
+    → i < length S → s ≡ get_or S i s → IsTrue is ↔ counts i s → new ≡ old ++ line_if is s → AreFoundLines counts 0 (take (i + 1) S) new
+lines_on counts S i s is old new before within same h added =
+    let next : suc i ≡ i + 1 = omega arith in
+    let here : slice_get S i ≡ Some s = slice_get-get_or S i s within ∙ ap Some (sym same) in
+    subst (λ n. AreFoundLines counts 0 (take n S) new) next (lines_more counts 0 i S i s is old new before here (omega arith) h added)
+
+-- all of them
+pub lines_all : (counts : ℕ → Stmt → Type 0) (S : Database) (i : ℕ) (lines : List ℕ) → length S ≤ i → AreFoundLines counts 0 (take i S) lines → AreFoundLines counts 0 S lines
+lines_all counts S i lines past is = subst (λ T. AreFoundLines counts 0 T lines) (take_all i S past) is
+
+-- the statement at an index has the position after it
+pub stands_at : (S : Database) (i : ℕ) (s : Stmt) → i < length S → s ≡ get_or S i s → stmt_at S (i + 1) ≡ Some s
+stands_at S i s within same =
+    let next : i + 1 ≡ suc i = omega arith in
+    ap (stmt_at S) next ∙ (slice_get-get_or S i s within ∙ ap Some (sym same))
+
+-- an assertion that has what is sought
+pub with_assertion : {E : Type 0} (B : Type 0) (a : Bool) → a ≡ true → (r : Result Bool E) → IfOk r (λ is. IsTrue is ↔ B) → IfOk r (λ is. IsTrue is ↔ (IsTrue a × B))
+with_assertion B a e r h = IfOk-weaker r _ _ (λ is b. (λ yes. (e, b.0 yes), λ both. b.1 both.1)) h
+
+-- one of two, and not the first
+pub either_later : {E : Type 0} (A B : Type 0) (own : Bool) → own ≡ false → IsTrue own ↔ A → (r : Result Bool E) → IfOk r (λ is. IsTrue is ↔ B) → IfOk r (λ is. IsTrue is ↔ (A ⊎ B))
+either_later A B own fails first r h = IfOk-weaker r _ _ (λ is b. (λ yes. inr (b.0 yes), λ one. elim one [ inl a ↦ absurd (both_ways own fails (first.1 a)) | inr some ↦ b.1 some ])) h

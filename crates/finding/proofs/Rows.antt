@@ -1,0 +1,14 @@
+-- Lines of what is found in a small database.
+use Rattle.std.proofs.Common.{◌≡◌, List, [], ◌∷◌, codes, refl}
+use Rattle.mm_read.specs.declared.stmt.Stmt.TheVariants.{Axiom, Prove, Open}
+use Rattle.finding.specs.Lines.{found_line}
+
+-- an axiom and a theorem by their expressions, and no other statement
+axiom_line : found_line (Axiom (codes "tze") (codes "term" ∷ codes "0" ∷ [])) ≡ codes "tze term 0\n"
+axiom_line = refl
+
+theorem_line : found_line (Prove (codes "th1") (codes "|-" ∷ codes "t" ∷ []) (codes "tt" ∷ [])) ≡ codes "th1 |- t\n"
+theorem_line = refl
+
+no_line : found_line Open ≡ []
+no_line = refl

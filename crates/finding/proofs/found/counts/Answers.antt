@@ -1,0 +1,10 @@
+use Rattle.std.proofs.Common.{◌≡◌, true}
+use Rattle.scope.specs.Active.{is_assertion}
+use Rattle.finding.proofs.FoundLemmas.{with_assertion}
+use Rattle.finding.proofs.found.counts.Goals as goal
+
+pub returns : goal.returns
+returns c =
+    let e = c.if-not-is_assertion.ensures in
+    let assertion : is_assertion c.args.statement.now ≡ true = cc in
+    with_assertion _ (is_assertion c.args.statement.now) assertion c.has.result c.has.ensures

@@ -1,0 +1,58 @@
+-- The assertions that a search finds.
+-- Source: this project's command `find`, after `search` of the program metamath.
+-- The code goes over the statements, and over the frame of each.
+use Rattle.std.specs.Prelude.{ℕ, ◌+◌, ◌⊎◌, List, [], ◌∷◌, Option, Some, None, IsTrue, option_and_then, slice_get}
+use Rattle.mm_lex.specs.declared.span.Span.{Span}
+use Rattle.mm_lex.specs.Alphabet.{word}
+use Rattle.mm_read.specs.declared.stmt.Stmt.{Stmt}
+use Rattle.mm_read.specs.declared.stmt.Stmt.TheVariants.{Ess, Axiom, Prove}
+use Rattle.mm_read.specs.Statements.{Expr, Database}
+use Rattle.scope.specs.Active.{bares, before, stmt_at, is_assertion}
+use Rattle.frame.specs.FrameOf.{hypotheses}
+use Rattle.patterns.specs.Matches.{Part, Matches}
+use Rattle.patterns.specs.Described.{HasWords}
+use Rattle.finding.specs.declared.sought.Sought.{Sought}
+use Rattle.finding.specs.declared.sought.Sought.TheVariants.{Pattern, WithHypotheses, Words}
+
+-- the expression of an assertion
+abbrev pub assertion_expr : Stmt → Option Expr
+assertion_expr (Axiom label expr) = Some expr
+assertion_expr (Prove label expr proof) = Some expr
+assertion_expr s = None
+
+-- the expression of an `$e`
+abbrev pub essential_expr : Stmt → Option Expr
+essential_expr (Ess label expr) = Some expr
+essential_expr s = None
+
+abbrev pub essential_at : Database → ℕ → Option Expr
+essential_at S position = option_and_then essential_expr (stmt_at S position)
+
+-- there is an expression, and it has the pattern
+abbrev pub HasIn : List Part → Option Expr → Type 0
+HasIn p None = ⊥
+HasIn p (Some e) = Matches p e
+
+-- one of the statements at these positions is an `$e` with the pattern
+abbrev pub SomeEssentialHas : List Part → Database → List ℕ → Type 0
+SomeEssentialHas p S [] = ⊥
+SomeEssentialHas p S (position ∷ positions) = HasIn p (essential_at S position) ⊎ SomeEssentialHas p S positions
+
+-- the description of the statement at an index
+abbrev pub described : List ℕ → Option (Option Span) → List ℕ
+described text None = []
+described text (Some None) = []
+described text (Some (Some s)) = word text s
+
+abbrev pub description_at : List ℕ → List (Option Span) → ℕ → List ℕ
+description_at text descriptions index = described text (slice_get descriptions index)
+
+-- an assertion at an index has what is sought
+abbrev pub Has : List ℕ → Database → List (Option Span) → Sought → ℕ → Stmt → Type 0
+Has text S descriptions (Pattern p) index s = HasIn p (assertion_expr s)
+Has text S descriptions (WithHypotheses p) index s = HasIn p (assertion_expr s) ⊎ SomeEssentialHas p S (hypotheses (before (bares S) (index + 1)) s)
+Has text S descriptions (Words ws) index s = HasWords (description_at text descriptions index) ws
+
+-- it is an assertion, and has it
+abbrev pub Counts : List ℕ → Database → List (Option Span) → Sought → ℕ → Stmt → Type 0
+Counts text S descriptions sought index s = IsTrue (is_assertion s) × Has text S descriptions sought index s

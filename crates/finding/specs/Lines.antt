@@ -1,0 +1,27 @@
+-- The lines of the assertions that a search finds.
+-- Source: this project's command `find`.
+-- The code appends one line after another.
+use Rattle.std.specs.Prelude.{◌≡◌, ℕ, ◌+◌, ◌⊎◌, Bool, List, [], ◌∷◌, ◌++◌, codes, if◌then◌else◌}
+use Rattle.mm_lex.specs.Words.{spaced}
+use Rattle.mm_read.specs.declared.stmt.Stmt.{Stmt}
+use Rattle.mm_read.specs.declared.stmt.Stmt.TheVariants.{Axiom, Prove}
+use Rattle.mm_read.specs.Statements.{Database}
+
+-- the label of an assertion and its expression
+abbrev pub found_line : Stmt → List ℕ
+found_line (Axiom label expr) = label ++ codes " " ++ spaced expr ++ codes "\n"
+found_line (Prove label expr proof) = label ++ codes " " ++ spaced expr ++ codes "\n"
+found_line s = []
+
+abbrev pub line_if : Bool → Stmt → List ℕ
+line_if is s = if is then found_line s else []
+
+-- the line of a statement if it counts, else nothing
+abbrev pub IsLineIf : Type 0 → Stmt → List ℕ → Type 0
+IsLineIf counts s line = (counts × (line ≡ found_line s)) ⊎ ((counts → ⊥) × (line ≡ []))
+
+-- the lines of exactly those of the statements that count, in order; the first of them stands at an index
+abbrev pub AreFoundLines : (ℕ → Stmt → Type 0) → ℕ → Database → List ℕ → Type 0
+AreFoundLines counts index [] lines = lines ≡ []
+AreFoundLines counts index (s ∷ S) lines =
+    (line : List ℕ) × (rest : List ℕ) × (lines ≡ line ++ rest) × IsLineIf (counts index s) s line × AreFoundLines counts (index + 1) S rest

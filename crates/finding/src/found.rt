@@ -1,0 +1,143 @@
+//! The lines of the assertions that a search finds.
+ghost use Rattle.std.specs.Prelude.{◌≡◌, ◌+◌, ◌++◌, ◌↔◌, IfOk, IsTrue, OnOk, Some};
+ghost use Rattle.scope.specs.Active.{bares, is_assertion, stmt_at};
+ghost use Rattle.mm_lex.specs.Alphabet.{word};
+ghost use Rattle.finding.specs.Found.{Counts, Has, description_at};
+ghost use Rattle.finding.specs.Lines.{AreFoundLines, found_line, line_if};
+
+use crate::expressions::{assertion_expr, has_in};
+use crate::hypotheses::some_essential_has;
+use crate::sought::{Searched, Sought};
+use frame::is_assertion;
+use mm_lex::Span;
+use mm_read::Stmt;
+use std::alloc::{AllocError, Global};
+
+/// Returns a line for each assertion that has what is sought, in order: its label and its
+/// expression.
+///
+/// Errors: an allocation fails. Cost: for each assertion at most the size of its expression, of its
+/// `$e` or of its description, times the size of what is sought.
+pub fn found_lines(
+    alloc: Global,
+    searched: &Searched<'_>,
+    sought: &Sought<'_>,
+) -> Result<Vec<u8>, AllocError>
+    requires { searched.now.frames.now.statements ≡ bares searched.now.statements.now }
+    ensures { IfOk result (λ lines. AreFoundLines
+        (Counts searched.now.text.now searched.now.statements.now searched.now.descriptions.now
+        sought.now) 0 searched.now.statements.now lines.items) }
+{
+    let mut lines = Vec::new(alloc);
+    for (index, statement) in searched.statements.iter().enumerate() {
+        let is_found = counts(alloc, searched, sought, index, statement)?;
+        push_if(&mut lines, is_found, statement)?;
+    }
+    Ok(lines)
+}
+
+/// Tells whether the statement at an index is an assertion that has what is sought.
+fn counts(
+    alloc: Global,
+    searched: &Searched<'_>,
+    sought: &Sought<'_>,
+    index: usize,
+    statement: &Stmt,
+) -> Result<bool, AllocError>
+    requires same { searched.now.frames.now.statements ≡ bares searched.now.statements.now }
+    requires stands { stmt_at searched.now.statements.now (index + 1) ≡ Some statement.now }
+    ensures { IfOk result (λ is. IsTrue is ↔ Counts searched.now.text.now
+        searched.now.statements.now searched.now.descriptions.now sought.now index
+        statement.now) }
+{
+    if !is_assertion(statement) {
+        return Ok(false);
+    }
+    has(alloc, searched, sought, index, statement)
+}
+
+/// Tells whether the assertion at an index has what is sought.
+fn has(
+    alloc: Global,
+    searched: &Searched<'_>,
+    sought: &Sought<'_>,
+    index: usize,
+    statement: &Stmt,
+) -> Result<bool, AllocError>
+    requires same { searched.now.frames.now.statements ≡ bares searched.now.statements.now }
+    requires stands { stmt_at searched.now.statements.now (index + 1) ≡ Some statement.now }
+    requires assertion { IsTrue (is_assertion statement.now) }
+    ensures { IfOk result (λ is. IsTrue is ↔ Has searched.now.text.now
+        searched.now.statements.now searched.now.descriptions.now sought.now index
+        statement.now) }
+{
+    match sought {
+        Sought::Pattern(pattern) => has_in(alloc, pattern, assertion_expr(statement)),
+        Sought::WithHypotheses(pattern) => {
+            let own = has_in(alloc, pattern, assertion_expr(statement))?;
+            if own {
+                return Ok(true);
+            }
+            some_essential_has(alloc, searched, pattern, index + 1, statement)
+        }
+        Sought::Words(words) => Ok(words.are_in(description_at(
+            searched.text,
+            searched.descriptions,
+            index,
+        ))),
+    }
+}
+
+/// Returns the description of the statement at an index; nothing if there is none.
+fn description_at<'a>(text: &'a [u8], descriptions: &[Option<Span>], index: usize) -> &'a [u8]
+    ensures { result.now ≡ description_at text.now descriptions.now index }
+{
+    if index >= descriptions.len() {
+        return &[];
+    }
+    match descriptions[index] {
+        Some(span) => contents(text, span),
+        None => &[],
+    }
+}
+
+/// Returns the bytes of a span, those that are in the text.
+fn contents(text: &[u8], span: Span) -> &[u8]
+    ensures { result.now ≡ word text.now span }
+{
+    if span.start >= span.end || span.start >= text.len() {
+        return &[];
+    }
+    let (_, rest) = text.split_at(span.start);
+    let len = span.end - span.start;
+    if len >= rest.len() {
+        return rest;
+    }
+    rest.split_at(len).0
+}
+
+/// Appends the line of an assertion, if it is found.
+fn push_if(lines: &mut Vec<u8>, is_found: bool, statement: &Stmt) -> Result<(), AllocError>
+    ensures { OnOk result (lines.new.items ≡ lines.old.items ++ line_if is_found statement.now) }
+{
+    if is_found {
+        push_found(lines, statement)
+    } else {
+        Ok(())
+    }
+}
+
+/// Appends the line of an assertion; nothing for another statement.
+fn push_found(lines: &mut Vec<u8>, statement: &Stmt) -> Result<(), AllocError>
+    ensures { OnOk result (lines.new.items ≡ lines.old.items ++ found_line statement.now) }
+{
+    match statement {
+        Stmt::Axiom { label, expr } | Stmt::Prove { label, expr, .. } => {
+            lines.extend_from_slice(label.as_bytes())?;
+            lines.extend_from_slice(b" ")?;
+            lines.extend_from_slice(expr.as_text())?;
+            lines.extend_from_slice(b"\n")
+        }
+        _ => Ok(()),
+    }
+}

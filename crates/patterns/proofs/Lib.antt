@@ -1,0 +1,5 @@
+pub mod WordsLemmas
+pub mod SegmentLemmas
+pub mod PatternLemmas
+pub mod PartLemmas
+mod Rows

@@ -1,0 +1,54 @@
+-- The definitions on small patterns and expressions.
+use Rattle.std.proofs.Common.{◌≡◌, List, [], ◌∷◌, ◌++◌, map, codes, refl, Some}
+use Rattle.std.specs.List.{find, list_any}
+use Rattle.std.specs.Prelude.{true, false}
+use Rattle.mm_lex.specs.Alphabet.{Name}
+use Rattle.patterns.specs.Words.{words_in}
+use Rattle.patterns.specs.Matches.{Part, symbol, one, many, part_of, StandsFor, Matches}
+use Rattle.patterns.specs.Parsing.{is_symbol_word, is_unknown}
+use Rattle.patterns.specs.Described.{HasPart, HasWords}
+
+-- the words of a pattern, between any white bytes
+pattern_words : words_in (codes "  E. $? A.  $* -> ") ≡ codes "E." ∷ codes "$?" ∷ codes "A." ∷ codes "$*" ∷ codes "->" ∷ []
+pattern_words = refl
+
+pattern_parts : map part_of (words_in (codes "E. $? $* ->")) ≡ symbol (codes "E.") ∷ one ∷ many ∷ symbol (codes "->") ∷ []
+pattern_parts = refl
+
+-- `|- E. x A. y` has `E. $? A.` as a part, ..
+any_symbol : Matches (symbol (codes "E.") ∷ one ∷ symbol (codes "A.") ∷ []) (codes "|-" ∷ codes "E." ∷ codes "x" ∷ codes "A." ∷ codes "y" ∷ [])
+any_symbol = record {
+  before = codes "|-" ∷ [];
+  part = codes "E." ∷ codes "x" ∷ codes "A." ∷ [];
+  after = codes "y" ∷ [];
+  whole = refl;
+  stands = (codes "x" ∷ codes "A." ∷ [], refl, (codes "x", codes "A." ∷ [], refl, ([], refl, refl)));
+}
+
+-- .. and `$*` stands for no symbol, and for two
+no_symbols : StandsFor (symbol (codes "E.") ∷ many ∷ symbol (codes "A.") ∷ []) (codes "E." ∷ codes "A." ∷ [])
+no_symbols = (codes "A." ∷ [], refl, ([], codes "A." ∷ [], refl, ([], refl, refl)))
+
+two_symbols : StandsFor (symbol (codes "E.") ∷ many ∷ symbol (codes "A.") ∷ []) (codes "E." ∷ codes "x" ∷ codes "y" ∷ codes "A." ∷ [])
+two_symbols = (codes "x" ∷ codes "y" ∷ codes "A." ∷ [], refl, (codes "x" ∷ codes "y" ∷ [], codes "A." ∷ [], refl, ([], refl, refl)))
+
+-- `$?` stands for no list of two symbols
+not_two : StandsFor (one ∷ []) (codes "x" ∷ codes "y" ∷ []) → ⊥
+not_two s = absurd (none_is s.1 s.3 s.2)
+  where
+    none_is : (rest : List Name) → rest ≡ [] → codes "x" ∷ codes "y" ∷ [] ≡ s.0 ∷ rest → ⊥
+    none_is rest e whole = cc
+
+-- `x$y` is no part, and `$?` no symbol
+first_unknown : find is_unknown (words_in (codes "a $? x$y $")) ≡ Some (codes "x$y")
+first_unknown = refl
+
+no_symbol : list_any is_symbol_word (words_in (codes "$? $*")) ≡ false
+no_symbol = refl
+
+-- a word in other case
+in_other_case : HasWords (codes "Axiom _Simp_.") (words_in (codes "SIMP axi"))
+in_other_case = (
+  record { before = codes "Axiom _"; part = codes "Simp"; after = codes "_."; whole = refl; same = refl },
+  (record { before = []; part = codes "Axi"; after = codes "om _Simp_."; whole = refl; same = refl }, tt),
+)

@@ -1,0 +1,277 @@
+-- Greedy matching: the first place of a segment leaves the most for the parts after the next `$*`.
+use Rattle.std.proofs.Common.{◌≡◌, ℕ, suc, ◌+◌, ◌-◌, ◌<◌, ◌≤◌, Bool, true, false, ◌&&◌, List, [], ◌∷◌, length, map, take, drop, get_or, ltb, refl, ap, sym, ◌∙◌, subst, arith, Some, None, Option}
+use Rattle.std.proofs.Math.ListN.{drop_of_length-le}
+use Rattle.std.proofs.Math.Seq.{drop-cons}
+use Rattle.std.proofs.lemmas.Bool.{and_parts, and_from, both_ways, ltb-true, ltb-false}
+use Rattle.std.proofs.lemmas.List.{drop-drop, drop-map, length-drop, length-map, length-take-le, get_or-map}
+use Rattle.mm_lex.specs.Alphabet.{Name}
+use Rattle.patterns.specs.declared.part.Part.{Part}
+use Rattle.patterns.specs.declared.part.Part.TheVariants.{Symbol, One, Many}
+use Rattle.patterns.specs.Segments.{is_many, segment_len, may_be, begins_with, IsFirstPlace}
+
+-- the symbols begin with what the parts stand for, `$*` for so many symbols
+abbrev pub Begins : List Part → List Name → Type 0
+Begins [] e = Unit {0}
+Begins (Symbol s ∷ p) e = (begins_with (Symbol s ∷ []) e ≡ true) × Begins p (drop 1 e)
+Begins (One ∷ p) e = (begins_with (One ∷ []) e ≡ true) × Begins p (drop 1 e)
+Begins (Many ∷ p) e = (k : ℕ) × (k ≤ length e) × Begins p (drop k e)
+
+-- they do so from some place on
+abbrev pub IsSomewhere : List Part → List Name → Type 0
+IsSomewhere p e = (k : ℕ) × (k ≤ length e) × Begins p (drop k e)
+
+-- ---- a segment
+
+-- no segment is longer than the pattern
+pub segment_within : (p : List Part) → segment_len p ≤ length p
+segment_within [] = omega arith
+segment_within (Symbol s ∷ p) = omega (arith, segment_within p)
+segment_within (One ∷ p) = omega (arith, segment_within p)
+segment_within (Many ∷ p) = omega arith
+
+-- as many symbols as parts
+pub begins_len : (p : List Part) (e : List Name) → begins_with p e ≡ true → length p ≤ length e
+begins_len [] e h = omega arith
+begins_len (q ∷ p) [] h = absurd (both_ways false refl h)
+begins_len (q ∷ p) (x ∷ e) h = let rest = begins_len p e (and_parts (may_be q x) (begins_with p e) h).1 in omega (arith, rest)
+
+-- after a segment stands a `$*`, if anything
+pub others_many : (p : List Part) (q : Part) (next : List Part) → drop (segment_len p) p ≡ q ∷ next → drop (segment_len p) p ≡ Many ∷ next
+others_many [] q next e = absurd (none_is e)
+  where
+    none_is : [] ≡ q ∷ next → ⊥
+    none_is bad = cc
+others_many (Symbol s ∷ p) q next e = others_many p q next e
+others_many (One ∷ p) q next e = others_many p q next e
+others_many (Many ∷ p) q next e = let same : p ≡ next = cc in ap (λ r. Many ∷ r) same
+
+-- a segment and what follows it
+abbrev Cut : List Part → ℕ → List Name → Type 0
+Cut p n e = (begins_with (take n p) e ≡ true) × Begins (drop n p) (drop n e)
+
+module _ (q : Part) (p : List Part) (n : ℕ) where
+  -- one part more before a segment
+  cut_more : (e : List Name) → begins_with (q ∷ []) e ≡ true → Cut p n (drop 1 e) → (begins_with (q ∷ take n p) e ≡ true) × Begins (drop n p) (drop (suc n) e)
+  cut_more [] h r = absurd (both_ways false refl h)
+  cut_more (x ∷ e) h r = (and_from (may_be q x) (begins_with (take n p) e) (and_parts (may_be q x) true h).0 r.0, r.1)
+
+  -- one part less
+  cut_less : (e : List Name) → begins_with (q ∷ take n p) e ≡ true → Begins (drop n p) (drop (suc n) e) → (begins_with (q ∷ []) e ≡ true) × Cut p n (drop 1 e)
+  cut_less [] h r = absurd (both_ways false refl h)
+  cut_less (x ∷ e) h r =
+      let parts : (may_be q x ≡ true) × (begins_with (take n p) e ≡ true) = and_parts (may_be q x) (begins_with (take n p) e) h in
+      (and_from (may_be q x) true parts.0 refl, (parts.1, r))
+
+-- the symbols begin with the parts: with the first segment, and then with the rest ..
+pub cut_of : (p : List Part) (e : List Name) → Begins p e → Cut p (segment_len p) e
+cut_of [] e b = (refl, tt)
+cut_of (Symbol s ∷ p) e b = cut_more (Symbol s) p (segment_len p) e b.0 (cut_of p (drop 1 e) b.1)
+cut_of (One ∷ p) e b = cut_more One p (segment_len p) e b.0 (cut_of p (drop 1 e) b.1)
+cut_of (Many ∷ p) e b = (refl, b)
+
+-- .. and back
+pub of_cut : (p : List Part) (e : List Name) → begins_with (take (segment_len p) p) e ≡ true → Begins (drop (segment_len p) p) (drop (segment_len p) e) → Begins p e
+of_cut [] e h r = tt
+of_cut (Symbol s ∷ p) e h r = let c = cut_less (Symbol s) p (segment_len p) e h r in (c.0, of_cut p (drop 1 e) c.1.0 c.1.1)
+of_cut (One ∷ p) e h r = let c = cut_less One p (segment_len p) e h r in (c.0, of_cut p (drop 1 e) c.1.0 c.1.1)
+of_cut (Many ∷ p) e h r = r
+
+-- ---- the first place of a segment
+
+module _ (p : List Part) (e : List Name) where
+  -- where a segment stands nowhere, the pattern does not either
+  pub nowhere : IsFirstPlace (take (segment_len p) p) e None → IsSomewhere p e → ⊥
+  nowhere none there = both_ways _ (none there.0 there.1) (cut_of p (drop there.0 e) there.2).0
+
+  module _ (i : ℕ) (first : IsFirstPlace (take (segment_len p) p) e (Some i)) where
+    -- a last segment is all of the pattern
+    pub last_here : drop (segment_len p) p ≡ [] → IsSomewhere p e
+    last_here none = (i, first.0, of_cut p (drop i e) first.1 (subst (λ r. Begins r (drop (segment_len p) (drop i e))) (sym none) tt))
+
+    -- the symbols go on after the segment
+    pub room_behind : i + segment_len p ≤ length e
+    room_behind =
+        let few = begins_len (take (segment_len p) p) (drop i e) first.1 in
+        let count = length-take-le (segment_len p) p (segment_within p) in
+        let rest = length-drop i e in
+        let within : i ≤ length e = first.0 in
+        omega arith
+
+    module _ (next : List Part) (others : drop (segment_len p) p ≡ Many ∷ next) where
+      -- what begins with the rest of the pattern, or does not
+      pub rest_begins : (r : List Name) → Begins (drop (segment_len p) p) r → IsSomewhere next r
+      rest_begins r b = subst (λ o. Begins o r) others b
+
+      -- the pattern goes on at a place after the first place of its first segment ..
+      pub goes_on : IsSomewhere p e → IsSomewhere next (drop (i + segment_len p) e)
+      goes_on (k, within, begins) =
+          let cut : Cut p (segment_len p) (drop k e) = cut_of p (drop k e) begins in
+          let on : IsSomewhere next (drop (segment_len p) (drop k e)) = rest_begins _ cut.1 in
+          let later : i ≤ k = not_before k cut.0 (ltb k i) refl in
+          let few = begins_len (take (segment_len p) p) (drop k e) cut.0 in
+          let count = length-take-le (segment_len p) p (segment_within p) in
+          let left = length-drop k e in
+          let left_on = length-drop (segment_len p) (drop k e) in
+          let left_here = length-drop (i + segment_len p) e in
+          let inside : on.0 ≤ length (drop (segment_len p) (drop k e)) = on.1 in
+          let far : (k - i) + on.0 ≤ length (drop (i + segment_len p) e) = omega arith in
+          let there : drop on.0 (drop (segment_len p) (drop k e)) ≡ drop (k + (segment_len p + on.0)) e
+          = drop-drop on.0 (segment_len p) (drop k e) ∙ drop-drop (segment_len p + on.0) k e in
+          let here : drop ((k - i) + on.0) (drop (i + segment_len p) e) ≡ drop ((i + segment_len p) + ((k - i) + on.0)) e
+          = drop-drop ((k - i) + on.0) (i + segment_len p) e in
+          let same : k + (segment_len p + on.0) ≡ (i + segment_len p) + ((k - i) + on.0) = omega arith in
+          ((k - i) + on.0, far, subst (Begins next) (there ∙ (ap (λ m. drop m e) same ∙ sym here)) on.2)
+        where
+          not_before : (k : ℕ) → begins_with (take (segment_len p) p) (drop k e) ≡ true → (b : Bool) → ltb k i ≡ b → i ≤ k
+          not_before k h true t = absurd (both_ways _ (first.2 k (ltb-true k i t)) h)
+          not_before k h false t = ltb-false k i t
+
+      -- .. and back
+      pub comes_from : IsSomewhere next (drop (i + segment_len p) e) → IsSomewhere p e
+      comes_from there =
+          let rest : IsSomewhere next (drop (segment_len p) (drop i e)) = subst (IsSomewhere next) (sym (drop-drop (segment_len p) i e)) there in
+          (i, first.0, of_cut p (drop i e) first.1 (subst (λ o. Begins o (drop (segment_len p) (drop i e))) (sym others) rest))
+
+-- ---- the loops
+
+-- the pattern stands somewhere exactly if the rest of it stands somewhere in the rest of the symbols
+pub record GoesOn (p left : List Part) (e rest : List Name) : Type 0 where
+  pub on : IsSomewhere p e → IsSomewhere left rest
+  pub back : IsSomewhere left rest → IsSomewhere p e
+
+pub goes_on_none : (p : List Part) (e : List Name) → GoesOn p p e e
+goes_on_none p e = record { on = λ s. s; back = λ s. s }
+
+module _ (p : List Part) (e : List Name) (from at : ℕ) (goes : GoesOn p (drop from p) e (drop at e)) where
+  -- a segment that stands nowhere
+  pub none_found : (segment : List Part) → segment ≡ take (segment_len (drop from p)) (drop from p) → IsFirstPlace segment (drop at e) None → IsSomewhere p e → ⊥
+  none_found segment same none there = nowhere (drop from p) (drop at e) (subst (λ s. IsFirstPlace s (drop at e) None) same none) (goes.on there)
+
+  module _ (place : ℕ) (segment : List Part) (same : segment ≡ take (segment_len (drop from p)) (drop from p)) (first : IsFirstPlace segment (drop at e) (Some place)) where
+    here : IsFirstPlace (take (segment_len (drop from p)) (drop from p)) (drop at e) (Some place)
+    here = subst (λ s. IsFirstPlace s (drop at e) (Some place)) same first
+
+    -- the last segment
+    pub all_found : length (drop from p) ≤ segment_len (drop from p) → IsSomewhere p e
+    all_found whole = goes.back (last_here (drop from p) (drop at e) place here (drop_of_length-le (drop from p) whole))
+
+    -- the symbols that it leaves
+    pub room_left : at + (place + segment_len (drop from p)) ≤ at + length (drop at e)
+    room_left = let room = room_behind (drop from p) (drop at e) place here in omega (arith, room)
+
+    -- a segment before a `$*`
+    pub goes_past : segment_len (drop from p) < length (drop from p)
+        → GoesOn p (drop (from + (segment_len (drop from p) + 1)) p) e (drop (at + (place + segment_len (drop from p))) e)
+    goes_past more =
+        let left : List Part = drop from p in
+        let n : ℕ = segment_len left in
+        let next : List Part = drop (suc n) left in
+        let others : drop n left ≡ Many ∷ next = others_many left (get_or left n Many) next (drop-cons left n Many more) in
+        let after : next ≡ drop (from + (n + 1)) p = drop-drop (suc n) from p ∙ (let m : from + suc n ≡ from + (n + 1) = omega arith in ap (λ k. drop k p) m) in
+        let rest : drop (place + n) (drop at e) ≡ drop (at + (place + n)) e = drop-drop (place + n) at e in
+        record {
+          on = λ there. subst (λ r. IsSomewhere r (drop (at + (place + n)) e)) after (subst (IsSomewhere next) rest (goes_on left (drop at e) place here next others (goes.on there)));
+          back = λ there. goes.back (comes_from left (drop at e) place here next others
+              (subst (IsSomewhere next) (sym rest) (subst (λ r. IsSomewhere r (drop (at + (place + n)) e)) (sym after) there)));
+        }
+
+-- no place before the end of the symbols, ..
+pub no_place : (p : List Part) (e : List Name) → ((k : ℕ) → k < length e → begins_with p (drop k e) ≡ false) → 0 < length p → IsFirstPlace p e None
+no_place [] e none some k within = absurd (omega (arith, some))
+no_place (q ∷ p) e none some k within = by (ltb k (length e)) refl
+  where
+    by : (b : Bool) → ltb k (length e) ≡ b → begins_with (q ∷ p) (drop k e) ≡ false
+    by true t = none k (ltb-true k (length e) t)
+    by false t = ap (begins_with (q ∷ p)) (drop_of_length-le e (ltb-false k (length e) t))
+
+-- .. where no parts stand for no symbols
+pub end_place : (p : List Part) (e : List Name) → ((k : ℕ) → k < length e → begins_with p (drop k e) ≡ false) → length p ≡ 0 → IsFirstPlace p e (Some (length e))
+end_place [] e none empty = (omega arith, refl, none)
+end_place (q ∷ p) e none empty = absurd (omega (arith, empty))
+
+-- one part and one symbol more
+pub begins_step : (p : List Part) (e : List Name) (i : ℕ) (q : Part) (x : Name) → i < length p → i < length e
+    → begins_with (drop i p) (drop i e) ≡ (may_be (get_or p i q) (get_or e i x) && begins_with (drop (i + 1) p) (drop (i + 1) e))
+begins_step p e i q x parts symbols =
+    let more : suc i ≡ i + 1 = omega arith in
+    ap (λ r. begins_with r (drop i e)) (drop-cons p i q parts)
+    ∙ (ap (begins_with (get_or p i q ∷ drop (suc i) p)) (drop-cons e i x symbols)
+    ∙ ap (λ n. may_be (get_or p i q) (get_or e i x) && begins_with (drop n p) (drop n e)) more)
+
+-- fewer symbols than parts
+pub too_few : (p : List Part) (e : List Name) → length e < length p → begins_with p e ≡ false
+too_few p e few = by (begins_with p e) refl
+  where
+    by : (b : Bool) → begins_with p e ≡ b → b ≡ false
+    by true h = absurd (let enough = begins_len p e h in omega (arith, enough, few))
+    by false h = refl
+
+-- a part of a segment is passed over ..
+pub segment_on : (p : List Part) (i : ℕ) (q : Part) → i < length p → is_many (get_or p i q) ≡ false → segment_len (drop i p) ≡ 1 + segment_len (drop (i + 1) p)
+segment_on p i q within other =
+    let more : suc i ≡ i + 1 = omega arith in
+    ap segment_len (drop-cons p i q within) ∙ (one_on (get_or p i q) (drop (suc i) p) other ∙ ap (λ n. 1 + segment_len (drop n p)) more)
+  where
+    one_on : (q : Part) (rest : List Part) → is_many q ≡ false → segment_len (q ∷ rest) ≡ 1 + segment_len rest
+    one_on (Symbol s) rest e = omega arith
+    one_on One rest e = omega arith
+    one_on Many rest e = absurd (both_ways true e refl)
+
+-- .. and a `$*` ends it
+pub segment_end : (p : List Part) (i : ℕ) (q : Part) → i < length p → is_many (get_or p i q) ≡ true → segment_len (drop i p) ≡ 0
+segment_end p i q within many = ap segment_len (drop-cons p i q within) ∙ ends_here (get_or p i q) (drop (suc i) p) many
+  where
+    ends_here : (q : Part) (rest : List Part) → is_many q ≡ true → segment_len (q ∷ rest) ≡ 0
+    ends_here (Symbol s) rest e = absurd (both_ways false refl e)
+    ends_here One rest e = absurd (both_ways false refl e)
+    ends_here Many rest e = refl
+
+-- at the end of the parts
+pub segment_all : (p : List Part) (i : ℕ) → length p ≤ i → segment_len p ≡ i + segment_len (drop i p) → length p ≡ segment_len p
+segment_all p i past is =
+    let none : segment_len (drop i p) ≡ 0 = ap segment_len (drop_of_length-le p past) in
+    let within = segment_within p in
+    omega (arith, none, is, within, past)
+
+-- ---- symbols that references lead to
+
+module _ {R : Type 0} (f : R → Name) (p : List Part) (symbols : List R) (i : ℕ) where
+  module _ (q : Part) (r : R) (parts : i < length p) (within : i < length symbols) where
+    -- the part and the symbol at an index
+    step : begins_with (drop i p) (drop i (map f symbols)) ≡ (may_be (get_or p i q) (f (get_or symbols i r)) && begins_with (drop (i + 1) p) (drop (i + 1) (map f symbols)))
+    step =
+        let count = length-map symbols f in
+        begins_step p (map f symbols) i q (f r) parts (omega (arith, count, within))
+        ∙ ap (λ x. may_be (get_or p i q) x && begins_with (drop (i + 1) p) (drop (i + 1) (map f symbols))) (get_or-map f symbols i r (f r) within)
+
+    -- where the part may be the symbol, the rest decides
+    pub begins_on : may_be (get_or p i q) (f (get_or symbols i r)) ≡ true
+        → begins_with (drop i p) (drop i (map f symbols)) ≡ begins_with (drop (i + 1) p) (drop (i + 1) (map f symbols))
+    begins_on fits = step ∙ ap (λ b. b && begins_with (drop (i + 1) p) (drop (i + 1) (map f symbols))) fits
+
+    pub begins_not : may_be (get_or p i q) (f (get_or symbols i r)) ≡ false → begins_with (drop i p) (drop i (map f symbols)) ≡ false
+    begins_not other = step ∙ ap (λ b. b && begins_with (drop (i + 1) p) (drop (i + 1) (map f symbols))) other
+
+  -- the symbols from a place on
+  pub begins_at : (rest : List R) (b : Bool) → rest ≡ drop i symbols → begins_with p (map f rest) ≡ b → begins_with p (drop i (map f symbols)) ≡ b
+  begins_at rest b same e = ap (begins_with p) (drop-map f i symbols ∙ ap (map f) (sym same)) ∙ e
+
+  -- the first place
+  pub first_here : i < length symbols → begins_with p (drop i (map f symbols)) ≡ true → ((k : ℕ) → k < i → begins_with p (drop k (map f symbols)) ≡ false)
+      → IsFirstPlace p (map f symbols) (Some i)
+  first_here within here before = let count = length-map symbols f in (omega (arith, count, within), here, before)
+
+  -- no place before the end
+  module _ (past : length symbols ≤ i) (none : (k : ℕ) → k < i → begins_with p (drop k (map f symbols)) ≡ false) where
+    before_end : (k : ℕ) → k < length (map f symbols) → begins_with p (drop k (map f symbols)) ≡ false
+    before_end k within = let count = length-map symbols f in none k (omega (arith, count, past, within))
+
+    pub none_here : 0 < length p → IsFirstPlace p (map f symbols) None
+    none_here some = no_place p (map f symbols) before_end some
+
+    pub end_here : length p ≡ 0 → IsFirstPlace p (map f symbols) (Some (length symbols))
+    end_here empty = subst (λ n. IsFirstPlace p (map f symbols) (Some n)) (length-map symbols f) (end_place p (map f symbols) before_end empty)
+
+-- no parts are left
+pub begins_all : (p : List Part) (i : ℕ) → length p ≤ i → (e : List Name) → begins_with (drop i p) e ≡ true
+begins_all p i past e = ap (λ r. begins_with r e) (drop_of_length-le p past)

@@ -1,0 +1,47 @@
+-- The words of an argument, one after another.
+use Rattle.std.proofs.Common.{◌≡◌, ℕ, Bool, true, false, List, [], ◌∷◌, ◌++◌, Some, refl, map, ap, sym, ◌∙◌, append_assoc}
+use Rattle.std.proofs.lemmas.List.{append-nil, map-append}
+use Rattle.std.specs.List.{find, list_any}
+use Rattle.mm_lex.specs.Alphabet.{Name}
+use Rattle.patterns.specs.declared.part.Part.{Part}
+use Rattle.patterns.specs.Matches as m
+use Rattle.patterns.specs.Matches.{part_of}
+use Rattle.patterns.specs.Segments.{part_view}
+use Rattle.patterns.specs.Words.{words_in, words_behind}
+
+module _ (p : Name → Bool) (ws : List Name) (w : Name) (rest : List Name) (e : ws ≡ w ∷ rest) where
+  -- a word that passes is found, ..
+  pub find_here : p w ≡ true → find p ws ≡ Some w
+  find_here passes = ap (find p) e ∙ rw passes refl
+
+  -- .. and one that does not is passed over
+  pub find_on : p w ≡ false → find p ws ≡ find p rest
+  find_on fails = ap (find p) e ∙ rw fails refl
+
+  pub any_here : p w ≡ true → list_any p ws ≡ true
+  any_here passes = ap (list_any p) e ∙ rw passes refl
+
+  pub any_on : p w ≡ false → list_any p ws ≡ list_any p rest
+  any_on fails = ap (list_any p) e ∙ rw fails refl
+
+-- the words before a place are these parts
+abbrev pub AreBefore : List ℕ → ℕ → List Part → Type 0
+AreBefore text at parts = map part_view parts ++ map part_of (words_behind text at) ≡ map part_of (words_in text)
+
+-- at the beginning there are none
+pub before_none : (text : List ℕ) (parts : List Part) → parts ≡ [] → AreBefore text 0 parts
+before_none text parts none = ap (λ p. map part_view p ++ map part_of (words_behind text 0)) none
+
+module _ (text : List ℕ) (at end : ℕ) (w : Name) (e : words_behind text at ≡ w ∷ words_behind text end) where
+  -- one word more
+  pub before_on : (parts new : List Part) (q : Part) → AreBefore text at parts → part_view q ≡ part_of w → new ≡ parts ++ (q ∷ []) → AreBefore text end new
+  before_on parts new q is same whole =
+      let rest : List m.Part = map part_of (words_behind text end) in
+      let longer : map part_view new ≡ map part_view parts ++ (part_view q ∷ []) = ap (map part_view) whole ∙ map-append part_view parts (q ∷ []) in
+      let first : part_view q ∷ rest ≡ map part_of (words_behind text at) = ap (λ v. v ∷ rest) same ∙ sym (ap (map part_of) e) in
+      ap (λ v. v ++ rest) longer ∙ (append_assoc (map part_view parts) (part_view q ∷ []) rest ∙ (ap (λ v. map part_view parts ++ v) first ∙ is))
+
+-- at the end all are
+pub before_all : (text : List ℕ) (at : ℕ) (parts : List Part) → AreBefore text at parts → words_behind text at ≡ [] → map part_view parts ≡ map part_of (words_in text)
+before_all text at parts is none =
+    sym (append-nil (map part_view parts)) ∙ (ap (λ ws. map part_view parts ++ map part_of ws) (sym none) ∙ is)

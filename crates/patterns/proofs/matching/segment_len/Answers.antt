@@ -1,0 +1,17 @@
+use Rattle.std.proofs.Common.{◌∙◌, ap, sym, arith, drop}
+use Rattle.patterns.specs.Segments.{segment_len}
+use Rattle.patterns.proofs.SegmentLemmas.{segment_on, segment_end, segment_all, segment_within}
+use Rattle.patterns.proofs.matching.segment_len.Goals as goal
+
+pub loop-i-preserved : goal.loop-i-preserved
+loop-i-preserved c =
+    let one = segment_on c.args.parts.now c.loop-i.i _ c.loop-i-test.true (sym c.if-is_many.ensures) in
+    omega (arith, one, c.loop-i.invariant)
+
+pub returns-then-is_many-clause-count : goal.returns-then-is_many-clause-count
+returns-then-is_many-clause-count c =
+    let none = segment_end c.args.parts.now c.loop-i.i _ c.loop-i-test.true (sym c.if-is_many.ensures) in
+    omega (arith, none, c.loop-i.invariant)
+
+pub returns-clause-count : goal.returns-clause-count
+returns-clause-count c = segment_all c.args.parts.now c.loop-i.i (omega arith) c.loop-i.invariant

@@ -1,0 +1,6 @@
+use Rattle.std.proofs.Common.{◌≡◌, ◌+◌, drop}
+use Rattle.patterns.specs.Segments.{segment_len}
+use Rattle.patterns.proofs.matching.segment_len.Given as goal
+
+abbrev pub invariant-loop-i : goal.invariant-loop-i
+invariant-loop-i l = segment_len l.parts ≡ l.i + segment_len (drop l.i l.parts)

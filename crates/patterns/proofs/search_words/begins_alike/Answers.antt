@@ -1,0 +1,17 @@
+use Rattle.std.proofs.Common.{◌∙◌, false, ap, sym, refl, map}
+use Rattle.std.specs.Str.{str_to_ascii_lowercase}
+use Rattle.std.proofs.lemmas.Bool.{both_ways}
+use Rattle.patterns.proofs.PartLemmas.{too_short}
+use Rattle.patterns.proofs.search_words.begins_alike.Goals as goal
+
+pub returns-then-word-text : goal.returns-then-word-text
+returns-then-word-text c = (
+  λ t. absurd (both_ways false refl t),
+  λ alike. absurd (too_short c.args.text.now c.args.word.now c.if-word-text.true alike),
+)
+
+pub returns : goal.returns
+returns c = (
+  λ t. ap str_to_ascii_lowercase (sym c.split_at.ensures.front) ∙ c.eq_ignore_ascii_case.ensures.test.0 t,
+  λ alike. c.eq_ignore_ascii_case.ensures.test.1 (ap str_to_ascii_lowercase c.split_at.ensures.front ∙ alike),
+)

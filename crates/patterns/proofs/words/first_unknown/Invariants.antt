@@ -1,0 +1,11 @@
+use Rattle.std.proofs.Common.{◌≡◌, ◌-◌, ◌≤◌, length}
+use Rattle.std.specs.List.{find}
+use Rattle.patterns.specs.Words.{words_in, words_behind}
+use Rattle.patterns.specs.Parsing.{is_unknown}
+use Rattle.patterns.proofs.words.first_unknown.Given as goal
+
+abbrev pub invariant-loop-found : goal.invariant-loop-found
+invariant-loop-found l = record { within : l.at ≤ length l.text; same : find is_unknown (words_in l.text) ≡ find is_unknown (words_behind l.text l.at) }
+
+abbrev pub decreases-loop-found : goal.decreases-loop-found
+decreases-loop-found l = length l.text - l.at

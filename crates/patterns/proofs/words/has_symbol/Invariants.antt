@@ -1,0 +1,11 @@
+use Rattle.std.proofs.Common.{◌≡◌, ◌-◌, ◌≤◌, length}
+use Rattle.std.specs.List.{list_any}
+use Rattle.patterns.specs.Words.{words_in, words_behind}
+use Rattle.patterns.specs.Parsing.{is_symbol_word}
+use Rattle.patterns.proofs.words.has_symbol.Given as goal
+
+abbrev pub invariant-loop-found : goal.invariant-loop-found
+invariant-loop-found l = record { within : l.at ≤ length l.text; same : list_any is_symbol_word (words_in l.text) ≡ list_any is_symbol_word (words_behind l.text l.at) }
+
+abbrev pub decreases-loop-found : goal.decreases-loop-found
+decreases-loop-found l = length l.text - l.at

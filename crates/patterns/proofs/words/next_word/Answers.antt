@@ -1,0 +1,15 @@
+use Rattle.std.proofs.Common.{map, ap, arith}
+use Rattle.mm_lex.specs.Alphabet.{word}
+use Rattle.patterns.proofs.words.next_word.Goals as goal
+
+pub returns-in-Some-clause-first : goal.returns-in-Some-clause-first
+returns-in-Some-clause-first c = ap (map (word c.args.text.now)) c.in-Some.ensures.run
+
+pub returns-in-None-clause-first : goal.returns-in-None-clause-first
+returns-in-None-clause-first c = ap (map (word c.args.text.now)) c.in-None.ensures.run
+
+pub returns-in-Some-clause-later : goal.returns-in-Some-clause-later
+returns-in-Some-clause-later c = let some = c.in-Some.ensures.place.some in omega (arith, c.in-Some.ensures.later, some)
+
+pub returns-in-Some-clause-within : goal.returns-in-Some-clause-within
+returns-in-Some-clause-within c = c.in-Some.ensures.place.within

@@ -1,0 +1,5 @@
+pub mod Words
+pub mod Matches
+pub mod Parsing
+pub mod Segments
+pub mod Described

@@ -1,0 +1,26 @@
+-- Why the words of an argument are no pattern.
+-- Source: this project's command `find`; no symbol has a `$`.
+-- The code looks for a word that is no part before it makes any.
+use Rattle.std.specs.Prelude.{◌≡◌, Bool, not, ◌&&◌, ◌||◌, IsTrue, IsFalse, List, Some, None, codes}
+use Rattle.std.specs.List.{find, list_any}
+use Rattle.mm_lex.specs.Alphabet.{Name, name_eq, has_byte}
+use Rattle.patterns.specs.declared.pattern.BadPattern.{BadPattern}
+use Rattle.patterns.specs.declared.pattern.BadPattern.TheVariants.{Word, NoSymbol, Memory}
+
+-- a word without `$`
+abbrev pub is_symbol_word : Name → Bool
+is_symbol_word w = not (has_byte 36 w)
+
+-- a word with `$`, and neither `$?` nor `$*`
+abbrev pub is_unknown : Name → Bool
+is_unknown w = has_byte 36 w && not (name_eq w (codes "$?") || name_eq w (codes "$*"))
+
+-- each word is a part, and one at least a symbol
+abbrev pub ArePattern : List Name → Type 0
+ArePattern ws = (find is_unknown ws ≡ None) × IsTrue (list_any is_symbol_word ws)
+
+-- why they are no pattern: the first word that is no part, or no symbol; an allocation fails only where they are one
+abbrev pub IsRefusal : List Name → BadPattern → Type 0
+IsRefusal ws (Word w) = find is_unknown ws ≡ Some w.now
+IsRefusal ws NoSymbol = (find is_unknown ws ≡ None) × IsFalse (list_any is_symbol_word ws)
+IsRefusal ws Memory = ArePattern ws

@@ -1,0 +1,13 @@
+-- The words of an argument: its runs of bytes that are not white.
+-- Source: this project's command lines.
+-- The code goes from one run to the next.
+use Rattle.std.specs.Prelude.{ℕ, List, map}
+use Rattle.mm_lex.specs.Alphabet.{Name, runs, word}
+use Rattle.mm_lex.specs.Comments.{runs_behind}
+
+abbrev pub words_in : List ℕ → List Name
+words_in text = map (word text) (runs text)
+
+-- the words that begin at a place or after it
+abbrev pub words_behind : List ℕ → ℕ → List Name
+words_behind text at = map (word text) (runs_behind text at)

@@ -1,0 +1,96 @@
+//! Whether a pattern matches a contiguous part of an expression.
+//!
+//! Between two `$*` each part stands for one symbol. The first place at which symbols begin with such
+//! parts leaves the most for the parts after them, so no other place is tried.
+ghost use Rattle.std.specs.Prelude.{◌≡◌, ◌↔◌, ◌+◌, ◌≤◌, IfSome, IsTrue, map, length};
+ghost use Rattle.patterns.specs.Matches.{Matches};
+ghost use Rattle.patterns.specs.Segments.{part_view, is_many, segment_len, may_be, begins_with, IsFirstPlace};
+
+use crate::part::Part;
+
+/// Tells whether the parts match a contiguous part of the symbols. Does not allocate.
+///
+/// Cost: at most the number of symbols times the number of parts.
+pub(crate) fn is_in(parts: &[Part], symbols: &[&[u8]]) -> bool
+    ensures { IsTrue result ↔ Matches (map part_view parts.now) (map (λ s. s.now) symbols.now) }
+{
+    let mut from = 0;
+    let mut at = 0;
+    'segments: loop {
+        let (_, left) = parts.split_at(from);
+        let (_, rest) = symbols.split_at(at);
+        let len = segment_len(left);
+        let (segment, _) = left.split_at(len);
+        let Some(place) = first_place(segment, rest) else {
+            return false;
+        };
+        if len == left.len() {
+            return true;
+        }
+        from += len + 1;
+        at += place + len;
+    }
+}
+
+/// Returns how many parts come before the first `$*`.
+fn segment_len(parts: &[Part]) -> usize
+    ensures count { result ≡ segment_len parts.now }
+    ensures within { result ≤ length parts.now }
+{
+    for (i, part) in parts.iter().enumerate() {
+        if is_many(part) {
+            return i;
+        }
+    }
+    parts.len()
+}
+
+/// Tells whether the part is `$*`.
+fn is_many(part: &Part) -> bool
+    ensures { result ≡ is_many part.now }
+{
+    matches!(part, Part::Many)
+}
+
+/// Returns the first place at which the symbols begin with one for each part of the segment.
+fn first_place(segment: &[Part], symbols: &[&[u8]]) -> Option<usize>
+    ensures first { IsFirstPlace segment.now (map (λ s. s.now) symbols.now) result }
+    ensures room { IfSome result (λ place. place + length segment.now ≤ length symbols.now) }
+{
+    for place in 0..symbols.len() {
+        if begins_with(segment, symbols.split_at(place).1) {
+            return Some(place);
+        }
+    }
+    if segment.is_empty() {
+        Some(symbols.len())
+    } else {
+        None
+    }
+}
+
+/// Tells whether the symbols begin with one for each part.
+fn begins_with(segment: &[Part], symbols: &[&[u8]]) -> bool
+    ensures { result ≡ begins_with segment.now (map (λ s. s.now) symbols.now) }
+{
+    if segment.len() > symbols.len() {
+        return false;
+    }
+    for (i, part) in segment.iter().enumerate() {
+        if !may_be(part, symbols[i]) {
+            return false;
+        }
+    }
+    true
+}
+
+/// Tells whether the part may stand for this one symbol.
+fn may_be(part: &Part, symbol: &[u8]) -> bool
+    ensures { result ≡ may_be part.now symbol.now }
+{
+    match part {
+        Part::Symbol(own) => *own == symbol,
+        Part::One => true,
+        Part::Many => false,
+    }
+}

@@ -1,0 +1,12 @@
+//! The parts of a pattern.
+
+/// A part of a pattern of symbols.
+#[derive(Clone, Copy, Debug, Drop)]
+pub(crate) enum Part<'a> {
+    /// This symbol.
+    Symbol(&'a [u8]),
+    /// `$?`: any one symbol.
+    One,
+    /// `$*`: any number of symbols, also none.
+    Many,
+}

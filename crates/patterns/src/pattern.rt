@@ -1,0 +1,82 @@
+//! Patterns of symbols.
+ghost use Rattle.std.specs.Prelude.{◌≡◌, ◌↔◌, map, IfErr, IfOk, IsTrue};
+ghost use Rattle.patterns.specs.Words.{words_in};
+ghost use Rattle.patterns.specs.Parsing.{ArePattern, IsRefusal};
+ghost use Rattle.patterns.specs.Matches.{Matches, part_of};
+
+use crate::matching::is_in;
+use crate::part::Part;
+use crate::words::{first_unknown, has_symbol, parts_of};
+use std::alloc::{AllocError, Global};
+use std::marker::Model;
+
+/// Why a text is no pattern.
+#[derive(Clone, Copy, Debug, Drop)]
+pub enum BadPattern<'a> {
+    /// This word, the first such, has a `$` and is neither `$?` nor `$*`.
+    Word(&'a [u8]),
+    /// No word is a symbol.
+    NoSymbol,
+    /// An allocation failed.
+    Memory,
+}
+
+impl<'a> From<AllocError> for BadPattern<'a> {
+    ghost use Rattle.patterns.specs.declared.pattern.BadPattern.TheVariants.{Memory};
+
+    ghost from_gives = { λ _ fault. fault ≡ Memory };
+
+    fn from(_error: AllocError) -> BadPattern<'a> {
+        BadPattern::Memory
+    }
+}
+
+/// A pattern of symbols. Contracts see the list of its parts.
+#[derive(Drop)]
+pub struct Pattern<'a> {
+    parts: Vec<Part<'a>>,
+}
+
+impl<'a> Model for Pattern<'a> {
+    ghost use Rattle.std.specs.Prelude.{List, map};
+    ghost use Rattle.patterns.specs.Matches.{Part};
+    ghost use Rattle.patterns.specs.Segments.{part_view};
+
+    ghost Value = { List Part };
+
+    ghost view = { λ a. map part_view a.parts.items };
+}
+
+impl<'a> Pattern<'a> {
+    /// Parses a pattern: words between white bytes, `$?` for any one symbol, `$*` for any number of
+    /// symbols, and every other word for itself, a symbol.
+    ///
+    /// Errors: `Word`, the first word with another `$`; else `NoSymbol`; both even if every allocation
+    /// fails; else `Memory`. Cost: the size of the text. Source: `search` of the program metamath.
+    pub fn parse(alloc: Global, text: &'a str) -> Result<Pattern<'a>, BadPattern<'a>>
+        ensures parts { IfOk result (λ parts. parts ≡ map part_of (words_in text.now)) }
+        ensures pattern { IfOk result (λ _. ArePattern (words_in text.now)) }
+        ensures refusal { IfErr result (λ fault. IsRefusal (words_in text.now) fault) }
+    {
+        let bytes = text.as_bytes();
+        if let Some(word) = first_unknown(bytes) {
+            return Err(BadPattern::Word(word));
+        }
+        if !has_symbol(bytes) {
+            return Err(BadPattern::NoSymbol);
+        }
+        match parts_of(alloc, bytes) {
+            Ok(parts) => Ok(Pattern { parts }),
+            Err(AllocError) => Err(BadPattern::Memory),
+        }
+    }
+
+    /// Tells whether the pattern matches a contiguous part of the symbols. Does not allocate.
+    ///
+    /// Cost: at most the number of symbols times the number of parts, also with `$*`.
+    pub fn is_in(&self, symbols: &[&[u8]]) -> bool
+        ensures { IsTrue result ↔ Matches self.now (map (λ s. s.now) symbols.now) }
+    {
+        is_in(self.parts.as_slice(), symbols)
+    }
+}

@@ -1,0 +1,87 @@
+//! Words in a description.
+ghost use Rattle.std.specs.Prelude.{◌≡◌, ◌↔◌, ◌≤◌, [], length, take, IsTrue, MatchOption};
+ghost use Rattle.std.specs.Str.{str_to_ascii_lowercase};
+ghost use Rattle.patterns.specs.Words.{words_in};
+ghost use Rattle.patterns.specs.Described.{HasPart, HasWords};
+
+use crate::words::next_word;
+use std::marker::Model;
+
+/// Words that are sought in descriptions, at least one. Contracts see their list.
+#[derive(Drop)]
+pub struct SearchWords<'a> {
+    text: &'a [u8],
+}
+
+impl<'a> Model for SearchWords<'a> {
+    ghost use Rattle.std.specs.Prelude.{ℕ, List};
+    ghost use Rattle.patterns.specs.Words.{words_in};
+
+    ghost Value = { List (List ℕ) };
+
+    ghost view = { λ a. words_in a.text.now };
+}
+
+impl<'a> SearchWords<'a> {
+    /// Returns the words of a text, or `None` if it has none. Does not allocate.
+    pub fn new(text: &'a str) -> Option<SearchWords<'a>>
+        ensures { MatchOption result (words_in text.now ≡ [])
+            (λ words. (words ≡ words_in text.now) × (words_in text.now ≡ [] → ⊥)) }
+    {
+        let text = text.as_bytes();
+        match next_word(text, 0) {
+            Some(_) => Some(SearchWords { text }),
+            None => None,
+        }
+    }
+
+    /// Tells whether a description has each of the words as a part, whatever the case of the letters
+    /// A to Z. Does not allocate.
+    ///
+    /// Cost: at most the size of the description times that of the words.
+    pub fn are_in(&self, description: &[u8]) -> bool
+        ensures { IsTrue result ↔ HasWords description.now self.now }
+    {
+        has_words(description, self.text)
+    }
+}
+
+/// Tells whether the description has each of the words of a text as a part.
+fn has_words(description: &[u8], text: &[u8]) -> bool
+    ensures { IsTrue result ↔ HasWords description.now (words_in text.now) }
+{
+    let mut at = 0;
+    while let Some(found) = next_word(text, at) {
+        if !has_part(description, found.word) {
+            return false;
+        }
+        at = found.end;
+    }
+    true
+}
+
+/// Tells whether the text has the word as a part, whatever the case of the letters A to Z.
+fn has_part(text: &[u8], word: &[u8]) -> bool
+    ensures { IsTrue result ↔ HasPart text.now word.now }
+{
+    if word.is_empty() {
+        return true;
+    }
+    for place in 0..text.len() {
+        if begins_alike(text.split_at(place).1, word) {
+            return true;
+        }
+    }
+    false
+}
+
+/// Tells whether the text begins with the word, whatever the case of the letters A to Z.
+fn begins_alike(text: &[u8], word: &[u8]) -> bool
+    ensures { IsTrue result ↔ (str_to_ascii_lowercase (take (length word.now) text.now)
+        ≡ str_to_ascii_lowercase word.now) }
+{
+    if word.len() > text.len() {
+        return false;
+    }
+    text.split_at(word.len()).0.eq_ignore_ascii_case(word)
+}

@@ -1,0 +1,39 @@
+-- The descriptions of the statements of a text: each the last comment between the statement before and its first token.
+-- Source: Metamath, 4.4 (a description is the comment right before the label).
+-- The code goes once over the runs; here the text is cut at its comments, and each token has the comment right before it.
+use Rattle.std.specs.Prelude.{◌≡◌, ℕ, List, [], ◌∷◌, ◌++◌, length, drop, flat_map, Option, Some, None}
+use Rattle.mm_lex.specs.declared.span.Span.{Span}
+use Rattle.mm_lex.specs.Alphabet.{runs}
+use Rattle.mm_lex.specs.Tokens.{Part, Cuts}
+use Rattle.mm_read.specs.Statements.{Database, stmt_tokens}
+
+-- the place of what stands between the delimiters of a comment
+abbrev pub contents : Part → Span
+contents p = record { start = p.begin.end; end = p.end.start }
+
+-- the comment right before each of these tokens: before the first of them this one, before the others none
+abbrev pub comments_before : Option Span → List Span → List (Option Span)
+comments_before comment [] = []
+comments_before comment (t ∷ tokens) = comment ∷ comments_before None tokens
+
+-- the same for the tokens after a comment
+abbrev pub comments_in : Part → List (Option Span)
+comments_in p = comments_before (Some (contents p)) p.after
+
+-- the same for all tokens of a text
+abbrev pub comments_of : List Span → List Part → List (Option Span)
+comments_of first parts = comments_before None first ++ flat_map comments_in parts
+
+-- the first of a list, if it has one
+abbrev pub first_of : List (Option Span) → Option Span
+first_of [] = None
+first_of (comment ∷ comments) = comment
+
+-- the comment before the first token of each statement
+abbrev pub at_statements : Database → List (Option Span) → List (Option Span)
+at_statements [] comments = []
+at_statements (s ∷ S) comments = first_of comments ∷ at_statements S (drop (length (stmt_tokens s)) comments)
+
+-- the descriptions of the statements that the text writes
+abbrev pub AreDescriptions : List ℕ → Database → List (Option Span) → Type 0
+AreDescriptions text S list = (tokens : List Span) × (cut : Cuts text (runs text) tokens) × (list ≡ at_statements S (comments_of cut.first cut.parts))

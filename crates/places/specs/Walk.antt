@@ -1,0 +1,28 @@
+-- The descriptions of a text, as a walk over its runs finds them.
+-- Source: none; for the private functions of `description`.
+use Rattle.std.specs.Prelude.{ℕ, Bool, true, if◌then◌else◌, List, [], ◌∷◌, ◌++◌, Option, Some, None}
+use Rattle.mm_lex.specs.declared.span.Span.{Span}
+use Rattle.mm_lex.specs.Alphabet.{Name, name_eq, word}
+use Rattle.mm_lex.specs.Tokens.{opener, closer}
+use Rattle.places.specs.declared.description.Walk.{Walk}
+use Rattle.places.specs.declared.description.Walk.TheVariants.{Inside, Outside}
+use Rattle.places.specs.Places.{ends}
+
+-- at the beginning of a text
+abbrev pub at_start : Walk
+at_start = Outside None true
+
+-- after one more run
+abbrev pub after_run : Walk → Name → Span → Walk
+after_run (Inside start begins) w run = if name_eq w closer then Outside (Some (record { start = start; end = run.start })) begins else Inside start begins
+after_run (Outside last begins) w run = if name_eq w opener then Inside run.end begins else Outside None (ends w)
+
+-- the description of the statement that begins with the run, if one does
+abbrev pub begun : Walk → Name → List (Option Span)
+begun (Inside start begins) w = []
+begun (Outside last begins) w = if name_eq w opener then [] else if begins then last ∷ [] else []
+
+-- those of all statements that begin with one of the runs
+abbrev pub walk_over : List ℕ → Walk → List Span → List (Option Span)
+walk_over text walk [] = []
+walk_over text walk (r ∷ spans) = begun walk (word text r) ++ walk_over text (after_run walk (word text r) r) spans

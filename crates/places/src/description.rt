@@ -1,0 +1,118 @@
+//! The descriptions of statements.
+ghost use Rattle.std.specs.Prelude.{◌≡◌, ◌++◌, IfOk, OnOk};
+ghost use Rattle.std.specs.Option.{option_to_list};
+ghost use Rattle.mm_read.specs.Statements.{Database};
+ghost use Rattle.mm_read.specs.Reads.{Reads};
+ghost use Rattle.places.specs.Descriptions.{AreDescriptions};
+ghost use Rattle.places.specs.Walk.{after_run, begun};
+
+use crate::place::ends;
+use mm_lex::Span;
+use runs::next_run;
+use std::alloc::{AllocError, Global};
+
+/// Where a walk over the runs of a text stands.
+#[derive(Clone, Copy, Drop)]
+enum Walk {
+    /// Inside the comment whose contents begin at `start`.
+    Inside {
+        start: usize,
+        /// Whether the next token begins a statement.
+        begins: bool,
+    },
+    /// Outside comments.
+    Outside {
+        /// The contents of the last comment after the last token.
+        last: Option<Span>,
+        /// Whether the next token begins a statement.
+        begins: bool,
+    },
+}
+
+/// Returns for each statement of a text that reads as statements, in order, the place of its
+/// description: what stands between the delimiters of the last comment between the statement before
+/// and its own first token, or `None` if there is no comment.
+///
+/// Errors: an allocation fails. Cost: the size of the text, however many statements it has.
+/// Source: Metamath, 4.4.
+pub fn descriptions(alloc: Global, text: &[u8]) -> Result<Vec<Option<Span>>, AllocError>
+    ensures { (S : Database) → Reads text.now S
+        → IfOk result (λ list. AreDescriptions text.now S list.items) }
+{
+    let mut list = Vec::new(alloc);
+    let mut walk = Walk::Outside {
+        last: None,
+        begins: true,
+    };
+    let mut at = 0;
+    while let Some(span) = next_run(text, at) {
+        let word = &text[span.start..span.end];
+        add_begun(&mut list, walk, word)?;
+        walk = after_run(walk, word, span);
+        at = span.end;
+    }
+    Ok(list)
+}
+
+/// Appends the description of the statement that begins with the run of this word, if one does.
+fn add_begun(list: &mut Vec<Option<Span>>, walk: Walk, word: &[u8]) -> Result<(), AllocError>
+    ensures { OnOk result (list.new.items ≡ list.old.items ++ begun walk word.now) }
+{
+    match begun(walk, word) {
+        Some(description) => {
+            list.push(description)?;
+            Ok(())
+        }
+        None => Ok(()),
+    }
+}
+
+/// Returns the description of the statement that begins with the run of this word, if one does.
+fn begun(walk: Walk, word: &[u8]) -> Option<Option<Span>>
+    ensures { option_to_list result ≡ begun walk word.now }
+{
+    match walk {
+        Walk::Inside { .. } => None,
+        Walk::Outside { last, begins } => {
+            if word == b"$(".as_slice() {
+                None
+            } else if begins {
+                Some(last)
+            } else {
+                None
+            }
+        }
+    }
+}
+
+/// Returns where the walk stands after the run of this word.
+fn after_run(walk: Walk, word: &[u8], run: Span) -> Walk
+    ensures { result ≡ after_run walk word.now run }
+{
+    match walk {
+        Walk::Inside { start, begins } => {
+            if word == b"$)".as_slice() {
+                let last = Some(Span {
+                    start,
+                    end: run.start,
+                });
+                Walk::Outside { last, begins }
+            } else {
+                walk
+            }
+        }
+        Walk::Outside { begins, .. } => {
+            if word == b"$(".as_slice() {
+                Walk::Inside {
+                    start: run.end,
+                    begins,
+                }
+            } else {
+                Walk::Outside {
+                    last: None,
+                    begins: ends(word),
+                }
+            }
+        }
+    }
+}

@@ -1,0 +1,35 @@
+//! The command `find`: the assertions that have what is sought.
+use finding::{Searched, Sought, found_lines};
+use library::Library;
+use mm_lex::Span;
+use places::descriptions;
+use std::alloc::{AllocError, Global};
+
+/// Returns a line for each assertion of a library that has what is sought.
+pub fn found(
+    alloc: Global,
+    library: &Library,
+    text: &[u8],
+    sought: &Sought<'_>,
+) -> Result<Vec<u8>, AllocError> {
+    let descriptions = descriptions_for(alloc, text, sought)?;
+    let searched = Searched {
+        text,
+        statements: library.statements(),
+        frames: library.frames(),
+        descriptions: descriptions.as_slice(),
+    };
+    found_lines(alloc, &searched, sought)
+}
+
+/// Returns the places of the descriptions of a text, if they are looked at.
+fn descriptions_for(
+    alloc: Global,
+    text: &[u8],
+    sought: &Sought<'_>,
+) -> Result<Vec<Option<Span>>, AllocError> {
+    match sought {
+        Sought::Words(_) => descriptions(alloc, text),
+        _ => Ok(Vec::new(alloc)),
+    }
+}

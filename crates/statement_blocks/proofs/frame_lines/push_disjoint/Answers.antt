@@ -1,0 +1,35 @@
+use Rattle.std.proofs.Common.{◌∙◌, ap}
+use Rattle.scope.specs.Active.{bare}
+use Rattle.statement_blocks.proofs.FrameLemmas.{on_ok, stands_bare, has_assertion, groups_are}
+use Rattle.statement_blocks.proofs.frame_lines.push_disjoint.Goals as goal
+
+pub cited-requires : goal.cited-requires
+cited-requires c =
+    let s = c.args.shown.now in
+    (bare s.statement.now, has_assertion s.statements.now s.frames.now.statements s.at s.statement.now c.requires.shown.same c.requires.shown.stands c.requires.assertion)
+
+pub gather-requires : goal.gather-requires
+gather-requires c =
+    let s = c.args.shown.now in
+    (bare s.statement.now, has_assertion s.statements.now s.frames.now.statements s.at s.statement.now c.requires.shown.same c.requires.shown.stands c.requires.assertion)
+
+pub gathered-whole-requires-clause-assertion : goal.gathered-whole-requires-clause-assertion
+gathered-whole-requires-clause-assertion c =
+    let s = c.args.shown.now in
+    (bare s.statement.now, has_assertion s.statements.now s.frames.now.statements s.at s.statement.now c.requires.shown.same c.requires.shown.stands c.requires.assertion)
+
+pub returns-in-Some : goal.returns-in-Some
+returns-in-Some c =
+    let s = c.args.shown.now in
+    let there = stands_bare s.statements.now s.frames.now.statements s.at s.statement.now c.requires.shown.same c.requires.shown.stands in
+    on_ok c.push_groups.result
+    (groups_are s.statements.now s.frames.now.statements s.at s.statement.now c.requires.shown.same c.requires.shown.stands s.frames.now.names _ _ _ (c.in-Some.ensures (bare s.statement.now) there).groups)
+    c.push_groups.ensures
+
+pub returns : goal.returns
+returns c =
+    let s = c.args.shown.now in
+    let there = stands_bare s.statements.now s.frames.now.statements s.at s.statement.now c.requires.shown.same c.requires.shown.stands in
+    on_ok c.push_groups-2.result
+    (groups_are s.statements.now s.frames.now.statements s.at s.statement.now c.requires.shown.same c.requires.shown.stands s.frames.now.names _ _ _ (c.gathered-whole.ensures (bare s.statement.now) there).groups)
+    c.push_groups-2.ensures

@@ -1,0 +1,20 @@
+use Rattle.std.proofs.Common.{◌∙◌, ap}
+use Rattle.std.specs.Prelude.{flat_map}
+use Rattle.scope.specs.Active.{bare}
+use Rattle.statement_blocks.specs.Lines.{line_at}
+use Rattle.statement_blocks.proofs.FrameLemmas.{on_ok, stands_bare, has_assertion, frame_is}
+use Rattle.statement_blocks.proofs.frame_lines.push_frame.Goals as goal
+
+pub mandatory-requires-clause-assertion : goal.mandatory-requires-clause-assertion
+mandatory-requires-clause-assertion c =
+    let s = c.args.shown.now in
+    (bare s.statement.now, has_assertion s.statements.now s.frames.now.statements s.at s.statement.now c.requires.shown.same c.requires.shown.stands c.requires.assertion)
+
+pub returns : goal.returns
+returns c =
+    let s = c.args.shown.now in
+    let there = stands_bare s.statements.now s.frames.now.statements s.at s.statement.now c.requires.shown.same c.requires.shown.stands in
+    on_ok c.push_disjoint.result
+    (frame_is s.statements.now s.frames.now.statements s.at s.statement.now c.requires.shown.same c.requires.shown.stands _ _ _ _
+      (c.as_slice.ensures.value ∙ c.in_ok-mandatory.ensures.listed (bare s.statement.now) there) c.in_ok-push_hypotheses.ensures)
+    c.push_disjoint.ensures

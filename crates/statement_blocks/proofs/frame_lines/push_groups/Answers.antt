@@ -1,0 +1,11 @@
+use Rattle.std.proofs.Common.{◌≤◌, ◌∙◌, ap, arith, length}
+use Rattle.statement_blocks.specs.Lines.{numbers_line}
+use Rattle.statement_blocks.proofs.FrameLemmas.{more_items, all_items}
+use Rattle.statement_blocks.proofs.frame_lines.push_groups.Goals as goal
+
+pub loop-index-preserved : goal.loop-index-preserved
+loop-index-preserved c =
+    more_items (numbers_line c.args.frames.now.names) c.args.groups.now c.loop-index.index _ _ _ _ c.loop-index.invariant c.get.ensures c.in_ok-push_group.ensures
+
+pub returns : goal.returns
+returns c = all_items (numbers_line c.args.frames.now.names) c.args.groups.now c.loop-index.index _ _ (omega arith) c.loop-index.invariant

@@ -1,0 +1,7 @@
+use Rattle.std.proofs.Common.{◌≡◌, ◌++◌, take}
+use Rattle.std.specs.Prelude.{flat_map}
+use Rattle.statement_blocks.specs.Lines.{line_at}
+use Rattle.statement_blocks.proofs.frame_lines.push_hypotheses.Given as goal
+
+abbrev pub invariant-loop-position : goal.invariant-loop-position
+invariant-loop-position l = l.text.items ≡ l.initial.text.items ++ flat_map (line_at l.statements) (take l.position-index l.positions)

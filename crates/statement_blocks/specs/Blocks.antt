@@ -1,0 +1,25 @@
+-- The block of a statement: its place and number, its description, its frame if it is an assertion, and itself.
+-- Source: this project's command `show`.
+-- The code appends each part to a buffer.
+use Rattle.std.specs.Prelude.{ℕ, List, [], ◌++◌, map, codes, decimal, Option, Some, None}
+use Rattle.mm_lex.specs.Alphabet.{runs, word}
+use Rattle.mm_read.specs.declared.stmt.Stmt.{Stmt}
+use Rattle.mm_read.specs.Statements.{Database}
+use Rattle.places.specs.declared.lines_and_columns.Position.{Position}
+use Rattle.statement_blocks.specs.Filled.{filled}
+use Rattle.statement_blocks.specs.Lines.{statement_line, frame_if}
+
+-- LINE:COLUMN: and the number of the statement
+abbrev pub place_text : Position → List ℕ
+place_text place = decimal place.line ++ codes ":" ++ decimal place.column
+
+abbrev pub place_line : Position → ℕ → List ℕ
+place_line place at = place_text place ++ codes ": " ++ decimal at ++ codes "\n"
+
+-- the words of the description, if there is one
+abbrev pub description_lines : Option (List ℕ) → List ℕ
+description_lines None = []
+description_lines (Some text) = filled (map (word text) (runs text))
+
+abbrev pub block_text : Database → ℕ → Stmt → Position → Option (List ℕ) → List ℕ
+block_text S at s place description = place_line place at ++ description_lines description ++ frame_if S at s ++ statement_line s

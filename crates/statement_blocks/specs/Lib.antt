@@ -1,0 +1,4 @@
+pub mod Lines
+pub mod Filled
+pub mod Blocks
+pub mod Shows

@@ -1,0 +1,71 @@
+//! Words filled into lines.
+ghost use Rattle.std.specs.Prelude.{◌≡◌, ◌++◌, [], map, OnOk};
+ghost use Rattle.mm_lex.specs.Alphabet.{runs, word};
+ghost use Rattle.statement_blocks.specs.Filled.{fits, gap, column_after, filled, filled_from};
+
+use runs::next_run;
+use std::alloc::AllocError;
+
+/// How many bytes a line may have.
+pub(crate) const WIDTH: usize = 78;
+
+/// Appends the words of a text in lines of at most 78 bytes; a longer word has a line of its own.
+///
+/// Cost: the size of the text.
+pub(crate) fn push_filled(lines: &mut Vec<u8>, text: &[u8]) -> Result<(), AllocError>
+    ensures { OnOk result (lines.new.items
+        ≡ lines.old.items ++ filled (map (word text.now) (runs text.now))) }
+{
+    let mut column = 0;
+    let mut at = 0;
+    while let Some(span) = next_run(text, at) {
+        let word = &text[span.start..span.end];
+        push_gap(lines, column, word)?;
+        lines.extend_from_slice(word)?;
+        column = column_after(column, word);
+        at = span.end;
+    }
+    push_end(lines, column)
+}
+
+/// Appends the end of a line that has so many bytes, if it has any.
+fn push_end(lines: &mut Vec<u8>, column: usize) -> Result<(), AllocError>
+    ensures { OnOk result (lines.new.items ≡ lines.old.items ++ filled_from column []) }
+{
+    if column == 0 {
+        Ok(())
+    } else {
+        lines.extend_from_slice(b"\n")
+    }
+}
+
+/// Appends what stands before a word in a line of so many bytes.
+fn push_gap(lines: &mut Vec<u8>, column: usize, word: &[u8]) -> Result<(), AllocError>
+    ensures { OnOk result (lines.new.items ≡ lines.old.items ++ gap column word.now) }
+{
+    if column == 0 {
+        Ok(())
+    } else if fits(column, word) {
+        lines.extend_from_slice(b" ")
+    } else {
+        lines.extend_from_slice(b"\n")
+    }
+}
+
+/// Returns how many bytes the line has after the word.
+fn column_after(column: usize, word: &[u8]) -> usize
+    ensures { result ≡ column_after column word.now }
+{
+    if column != 0 && fits(column, word) {
+        column + 1 + word.len()
+    } else {
+        word.len()
+    }
+}
+
+/// Tells whether a word fits into a line of so many bytes, after a space.
+fn fits(column: usize, word: &[u8]) -> bool
+    ensures { result ≡ fits column word.now }
+{
+    column < WIDTH && word.len() < WIDTH - column
+}

@@ -1,0 +1,113 @@
+//! The frame of an assertion as lines.
+ghost use Rattle.std.specs.Prelude.{◌≡◌, ◌++◌, flat_map, IsTrue, OnOk};
+ghost use Rattle.scope.specs.Active.{bares, before, is_assertion};
+ghost use Rattle.frame.specs.FrameOf.{mandatory_groups};
+ghost use Rattle.statement_blocks.specs.Lines.{line_at, group_line, number_text, numbers_line, frame_lines};
+ghost use Rattle.statement_blocks.specs.Shows.{IsShown};
+
+use crate::shown::Shown;
+use crate::statement_line::push_statement;
+use entries::Groups;
+use frame::{Frames, Gathered};
+use mm_read::Stmt;
+use std::alloc::{AllocError, Global};
+
+/// Appends the mandatory hypotheses and the disjoint variables of an assertion.
+///
+/// Cost: the size of its frame, and of the active `$d` where these are many.
+pub(crate) fn push_frame(
+    alloc: Global,
+    text: &mut Vec<u8>,
+    shown: &Shown<'_>,
+) -> Result<(), AllocError>
+    requires shown { IsShown shown.now }
+    requires assertion { IsTrue (is_assertion shown.now.statement.now) }
+    ensures { OnOk result (text.new.items ≡ text.old.items
+        ++ frame_lines shown.now.statements.now shown.now.at shown.now.statement.now) }
+{
+    let mut positions = Vec::new(alloc);
+    shown.frames.mandatory(shown.at, &mut positions)?;
+    push_hypotheses(text, shown.statements, positions.as_slice())?;
+    push_disjoint(alloc, text, shown)
+}
+
+/// Appends the statements at these positions.
+fn push_hypotheses(
+    text: &mut Vec<u8>,
+    statements: &[Stmt],
+    positions: &[u32],
+) -> Result<(), AllocError>
+    ensures { OnOk result (text.new.items
+        ≡ text.old.items ++ flat_map (line_at statements.now) positions.now) }
+{
+    for position in positions {
+        push_at(text, statements, *position as usize)?;
+    }
+    Ok(())
+}
+
+/// Appends the statement at a position, if one stands there.
+fn push_at(text: &mut Vec<u8>, statements: &[Stmt], position: usize) -> Result<(), AllocError>
+    ensures { OnOk result (text.new.items ≡ text.old.items ++ line_at statements.now position) }
+{
+    if position == 0 || position > statements.len() {
+        return Ok(());
+    }
+    push_statement(text, &statements[position - 1])
+}
+
+/// Appends the mandatory variables of each active `$d` at an assertion.
+fn push_disjoint(alloc: Global, text: &mut Vec<u8>, shown: &Shown<'_>) -> Result<(), AllocError>
+    requires shown { IsShown shown.now }
+    requires assertion { IsTrue (is_assertion shown.now.statement.now) }
+    ensures { OnOk result (text.new.items ≡ text.old.items ++ flat_map group_line
+        (mandatory_groups (before (bares shown.now.statements.now) shown.now.at)
+        shown.now.statement.now)) }
+{
+    if let Some(cited) = shown.frames.cited(shown.at) {
+        return push_groups(text, shown.frames, &cited.groups);
+    }
+    let mut gathered = Gathered::new(alloc);
+    shown.frames.gather(shown.at, &mut gathered)?;
+    let whole = shown.frames.gathered(shown.at, &gathered);
+    push_groups(text, shown.frames, &whole.groups)
+}
+
+/// Appends a line for each group of variables.
+fn push_groups(text: &mut Vec<u8>, frames: &Frames, groups: &Groups<'_>) -> Result<(), AllocError>
+    ensures { OnOk result (text.new.items
+        ≡ text.old.items ++ flat_map (numbers_line frames.now.names) groups.now) }
+{
+    for index in 0..groups.len() {
+        push_group(text, frames, groups.get(index))?;
+    }
+    Ok(())
+}
+
+/// Appends the line of a group of variables.
+fn push_group(text: &mut Vec<u8>, frames: &Frames, group: &[u32]) -> Result<(), AllocError>
+    ensures { OnOk result (text.new.items
+        ≡ text.old.items ++ numbers_line frames.now.names group.now) }
+{
+    text.extend_from_slice(b"$d")?;
+    push_variables(text, frames, group)?;
+    text.extend_from_slice(b"\n")
+}
+
+/// Appends variables, each after a space.
+fn push_variables(text: &mut Vec<u8>, frames: &Frames, group: &[u32]) -> Result<(), AllocError>
+    ensures { OnOk result (text.new.items
+        ≡ text.old.items ++ flat_map (number_text frames.now.names) group.now) }
+{
+    for number in group {
+        push_variable(text, frames, *number)?;
+    }
+    Ok(())
+}
+
+fn push_variable(text: &mut Vec<u8>, frames: &Frames, number: u32) -> Result<(), AllocError>
+    ensures { OnOk result (text.new.items ≡ text.old.items ++ number_text frames.now.names number) }
+{
+    text.extend_from_slice(b" ")?;
+    text.extend_from_slice(frames.symbol(number))
+}

@@ -1,0 +1,14 @@
+//! A statement as a block of lines for people: its place, its description, its frame, and itself.
+//!
+//! Reading order: `shown`, `statement_line`, `frame_lines`, `filling` (a description in lines of at most
+//! 78 columns), `block`.
+#![tactic(auto)]
+
+mod block;
+mod filling;
+mod frame_lines;
+mod shown;
+mod statement_line;
+
+pub use block::push_block;
+pub use shown::Shown;

@@ -1,0 +1,63 @@
+//! The line of a statement.
+ghost use Rattle.std.specs.Prelude.{◌≡◌, ◌++◌, OnOk};
+ghost use Rattle.statement_blocks.specs.Lines.{labelled, proof_note, statement_line};
+
+use mm_lex::Words;
+use mm_read::Stmt;
+use numbers::push_number;
+use std::alloc::AllocError;
+
+/// Appends a statement without its proof as a line: its label, its keyword and its symbols, with one
+/// space between two, and after a `$p` how many tokens its proof has. Appends nothing for a statement
+/// without a label.
+pub(crate) fn push_statement(text: &mut Vec<u8>, statement: &Stmt) -> Result<(), AllocError>
+    ensures { OnOk result (text.new.items ≡ text.old.items ++ statement_line statement.now) }
+{
+    match statement {
+        Stmt::Float {
+            label,
+            constant,
+            variable,
+        } => {
+            push_labelled(text, label.as_bytes(), b" $f ", constant.as_bytes())?;
+            push_labelled(text, b" ", variable.as_bytes(), b"\n")
+        }
+        Stmt::Ess { label, expr } => {
+            push_labelled(text, label.as_bytes(), b" $e ", expr.as_text())?;
+            text.extend_from_slice(b"\n")
+        }
+        Stmt::Axiom { label, expr } => {
+            push_labelled(text, label.as_bytes(), b" $a ", expr.as_text())?;
+            text.extend_from_slice(b"\n")
+        }
+        Stmt::Prove { label, expr, proof } => {
+            push_labelled(text, label.as_bytes(), b" $p ", expr.as_text())?;
+            push_proof_note(text, proof)
+        }
+        _ => Ok(()),
+    }
+}
+
+/// Appends a label, a keyword and symbols.
+fn push_labelled(
+    text: &mut Vec<u8>,
+    label: &[u8],
+    keyword: &[u8],
+    symbols: &[u8],
+) -> Result<(), AllocError>
+    ensures { OnOk result (text.new.items
+        ≡ text.old.items ++ labelled label.now keyword.now symbols.now) }
+{
+    text.extend_from_slice(label)?;
+    text.extend_from_slice(keyword)?;
+    text.extend_from_slice(symbols)
+}
+
+/// Appends how many tokens a proof has, and ends the line.
+fn push_proof_note(text: &mut Vec<u8>, proof: &Words) -> Result<(), AllocError>
+    ensures { OnOk result (text.new.items ≡ text.old.items ++ proof_note proof.now) }
+{
+    text.extend_from_slice(b" (proof of ")?;
+    push_number(text, proof.len() as u64)?;
+    text.extend_from_slice(b" tokens)\n")
+}
