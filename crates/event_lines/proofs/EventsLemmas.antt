@@ -44,11 +44,12 @@ module _ (line : List ℕ) (free : Without 10 line) (some : 0 < length line) whe
 
   -- a line that alone says something
   read_alone : (x : PlayLine) → ((lines : List (List ℕ)) → play_line_of line lines ≡ Some (x, 0)) → IsRead (line ++ codes "\n") x
-  read_alone x says = λ number rest.
-      (number + 1,
-      ap (lines_say number) (append_assoc line (codes "\n") rest)
-      ∙ (one_line number rest
-      ∙ ap (λ o. with_line number o (λ count. script_from play_line_of (number + 1) count (split_at 10 rest))) (says (split_at 10 rest))))
+  read_alone x says = λ number rest. (
+    number + 1,
+    ap (lines_say number) (append_assoc line (codes "\n") rest)
+        ∙ (one_line number rest
+        ∙ ap (λ o. with_line number o (λ count. script_from play_line_of (number + 1) count (split_at 10 rest))) (says (split_at 10 rest))),
+  )
 
   -- a line whose text are the bytes that follow
   module _ (text : List ℕ) (x : PlayLine)
@@ -58,22 +59,23 @@ module _ (line : List ℕ) (free : Without 10 line) (some : 0 < length line) whe
         let all : List ℕ = text ++ 10 ∷ rest in
         let count : ℕ = count_by (λ b. b == 10) text + 1 in
         let form : (line ++ codes "\n" ++ text ++ codes "\n") ++ rest ≡ line ++ 10 ∷ all
-            = append_assoc (line ++ codes "\n" ++ text) (codes "\n") rest
-            ∙ (append_assoc (line ++ codes "\n") text (10 ∷ rest)
-            ∙ append_assoc line (codes "\n") all) in
+        = append_assoc (line ++ codes "\n" ++ text) (codes "\n") rest
+        ∙ (append_assoc (line ++ codes "\n") text (10 ∷ rest)
+        ∙ append_assoc line (codes "\n") all) in
         let front : take (length text) all ≡ text = take_at text (10 ∷ rest) (length text) refl in
         let feed : get_or all (length text) 0 ≡ 10 = get_or_at text 10 rest 0 (length text) refl in
         let inside : length text < length all = omega (arith, length-append text (10 ∷ rest)) in
         let after : split_at 10 rest ≡ drop count (split_at 10 all)
-            = ap (split_at 10) (sym (drop_at (text ++ 10 ∷ []) rest (length text + 1) (length-append text (10 ∷ []))) ∙ ap (drop (length text + 1)) (append_assoc text (10 ∷ []) rest))
-            ∙ (bytes_rest (length text) all inside feed
-            ∙ ap (λ t. drop (count_by (λ b. b == 10) t + 1) (split_at 10 all)) front) in
-        (number + 1 + count,
-        ap (lines_say number) form
-        ∙ (one_line number all
-        ∙ (ap (λ o. with_line number o (λ count. script_from play_line_of (number + 1) count (split_at 10 all))) (says rest)
-        ∙ ap (followed x) (text_passed play_line_of (number + 1) count (split_at 10 all)
-            ∙ ap (script_from play_line_of (number + 1 + count) 0) (sym after)))))
+        = ap (split_at 10) (sym (drop_at (text ++ 10 ∷ []) rest (length text + 1) (length-append text (10 ∷ []))) ∙ ap (drop (length text + 1)) (append_assoc text (10 ∷ []) rest))
+        ∙ (bytes_rest (length text) all inside feed
+        ∙ ap (λ t. drop (count_by (λ b. b == 10) t + 1) (split_at 10 all)) front) in (
+          number + 1 + count,
+          ap (lines_say number) form
+              ∙ (one_line number all
+              ∙ (ap (λ o. with_line number o (λ count. script_from play_line_of (number + 1) count (split_at 10 all))) (says rest)
+              ∙ ap (followed x) (text_passed play_line_of (number + 1) count (split_at 10 all)
+              ∙ ap (script_from play_line_of (number + 1 + count) 0) (sym after)))),
+        )
 
 -- the bytes of a text at the front of others
 bytes_at : (text rest : List ℕ) → bytes_before (length text) (split_at 10 (text ++ 10 ∷ rest)) ≡ Some (text, count_by (λ b. b == 10) text + 1)
@@ -109,53 +111,53 @@ module _ (k a s : ℕ) (node : k < 256) (author : a < 2 ^ 64) (serial : s < 2 ^ 
   -- an offer of a text without line feeds
   read_offer : (text : List ℕ) → Without 10 text
       → IsRead (codes "offer" ++ led (place_words k a s) ++ codes " " ++ text ++ codes "\n")
-          (Node (OfferLine (record { node = k; entry = Text (record { author = a; serial = s; text = text }) })))
+      (Node (OfferLine (record { node = k; entry = Text (record { author = a; serial = s; text = text }) })))
   read_offer text none =
       let place : List ℕ = led (place_words k a s) in
       let line : List ℕ = codes "offer" ++ (place ++ codes " " ++ text) in
       let form : line ≡ codes "offer" ++ place ++ codes " " ++ text
-          = sym (append_assoc (codes "offer" ++ place) (codes " ") text ∙ (append_assoc (codes "offer") place (codes " " ++ text) ∙ ap (λ l. codes "offer" ++ l) (sym (append_assoc place (codes " ") text)))) in
+      = sym (append_assoc (codes "offer" ++ place) (codes " ") text ∙ (append_assoc (codes "offer") place (codes " " ++ text) ∙ ap (λ l. codes "offer" ++ l) (sym (append_assoc place (codes " ") text)))) in
       let free : Without 10 line = without-append 10 (codes "offer") (place ++ codes " " ++ text) refl
-          (without-append 10 (place ++ codes " ") text (without-append 10 place (codes " ") (without-led 10 (place_words k a s) refl (place_free 10 (omega arith) [] tt)) refl) none) in
+      (without-append 10 (place ++ codes " ") text (without-append 10 place (codes " ") (without-led 10 (place_words k a s) refl (place_free 10 (omega arith) [] tt)) refl) none) in
       let P : List ℕ → Type 0 = λ l. IsRead (l ++ codes "\n") (Node (OfferLine (record { node = k; entry = Text (record { author = a; serial = s; text = text }) }))) in
       subst P form (read_alone line free (longer (codes "offer") (place ++ codes " " ++ text) (omega arith)) _ (λ lines. offer_says k a s lines node author serial text (place_free 32 (omega arith) [] tt)))
 
   -- an offer of the bytes of a text
   read_bytes_offer : (text : List ℕ) → length text < 2 ^ 64
       → IsRead (codes "offer-bytes" ++ led (place_words k a s) ++ led (decimal (length text) ∷ []) ++ codes "\n" ++ text ++ codes "\n")
-          (Node (OfferLine (record { node = k; entry = Text (record { author = a; serial = s; text = text }) })))
+      (Node (OfferLine (record { node = k; entry = Text (record { author = a; serial = s; text = text }) })))
   read_bytes_offer text small =
       let n : List (List ℕ) = decimal (length text) ∷ [] in
       let line : List ℕ = codes "offer-bytes" ++ led (place_words k a s ++ n) in
       let form : line ≡ codes "offer-bytes" ++ led (place_words k a s) ++ led n
-          = ap (λ l. codes "offer-bytes" ++ l) (led-append (place_words k a s) n) ∙ sym (append_assoc (codes "offer-bytes") (led (place_words k a s)) (led n)) in
+      = ap (λ l. codes "offer-bytes" ++ l) (led-append (place_words k a s) n) ∙ sym (append_assoc (codes "offer-bytes") (led (place_words k a s)) (led n)) in
       let free : Without 10 line = without-append 10 (codes "offer-bytes") (led (place_words k a s ++ n)) refl
-          (without-led 10 (place_words k a s ++ n) refl (place_free 10 (omega arith) n (free_of 10 (length text) (omega arith) small, tt))) in
+      (without-led 10 (place_words k a s ++ n) refl (place_free 10 (omega arith) n (free_of 10 (length text) (omega arith) small, tt))) in
       let P : List ℕ → Type 0 = λ l. IsRead (l ++ codes "\n" ++ text ++ codes "\n") (Node (OfferLine (record { node = k; entry = Text (record { author = a; serial = s; text = text }) }))) in
       subst P form (read_bytes line free (longer (codes "offer-bytes") (led (place_words k a s ++ n)) (omega arith)) text _
-          (λ rest. bytes_say k a s (split_at 10 (text ++ 10 ∷ rest)) node author serial (length text) (count_by (λ b. b == 10) text + 1) text small (bytes_at text rest)
-              (place_free 32 (omega arith) n (free_of 32 (length text) (omega arith) small, tt))))
+      (λ rest. bytes_say k a s (split_at 10 (text ++ 10 ∷ rest)) node author serial (length text) (count_by (λ b. b == 10) text + 1) text small (bytes_at text rest)
+      (place_free 32 (omega arith) n (free_of 32 (length text) (omega arith) small, tt))))
 
   -- a charter
   read_charter : (names : List ℕ) → AreNames names → AllByRecursion (λ n. n < 2 ^ 64) names
       → IsRead (codes "charter" ++ led (place_words k a s) ++ led (map decimal names) ++ codes "\n")
-          (Node (OfferLine (record { node = k; entry = Charter a s names })))
+      (Node (OfferLine (record { node = k; entry = Charter a s names })))
   read_charter names are small =
       let line : List ℕ = codes "charter" ++ led (place_words k a s ++ map decimal names) in
       let form : line ≡ codes "charter" ++ led (place_words k a s) ++ led (map decimal names)
-          = ap (λ l. codes "charter" ++ l) (led-append (place_words k a s) (map decimal names)) ∙ sym (append_assoc (codes "charter") (led (place_words k a s)) (led (map decimal names))) in
+      = ap (λ l. codes "charter" ++ l) (led-append (place_words k a s) (map decimal names)) ∙ sym (append_assoc (codes "charter") (led (place_words k a s)) (led (map decimal names))) in
       let free : Without 10 line = without-append 10 (codes "charter") (led (place_words k a s ++ map decimal names)) refl
-          (without-led 10 (place_words k a s ++ map decimal names) refl (place_free 10 (omega arith) (map decimal names) (names_free 10 names (omega arith) small))) in
+      (without-led 10 (place_words k a s ++ map decimal names) refl (place_free 10 (omega arith) (map decimal names) (names_free 10 names (omega arith) small))) in
       let P : List ℕ → Type 0 = λ l. IsRead (l ++ codes "\n") (Node (OfferLine (record { node = k; entry = Charter a s names }))) in
       subst P form (read_alone line free (longer (codes "charter") (led (place_words k a s ++ map decimal names)) (omega arith)) _
-          (λ lines. charter_says k a s lines node author serial names are small (place_free 32 (omega arith) (map decimal names) (names_free 32 names (omega arith) small))))
+      (λ lines. charter_says k a s lines node author serial names are small (place_free 32 (omega arith) (map decimal names) (names_free 32 names (omega arith) small))))
 
 read_number : (verb : List ℕ) (n : ℕ) (x : PlayLine) → Without 10 verb → 0 < length verb → n < 2 ^ 64
     → ((lines : List (List ℕ)) → play_line_of (verb ++ led (decimal n ∷ [])) lines ≡ Some (x, 0)) → IsRead (verb ++ led (decimal n ∷ []) ++ codes "\n") x
 read_number verb n x free some small says =
     read_alone (verb ++ led (decimal n ∷ []))
-        (without-append 10 verb (led (decimal n ∷ [])) free (without-led 10 (decimal n ∷ []) refl (free_of 10 n (omega arith) small, tt)))
-        (longer verb (led (decimal n ∷ [])) some) x says
+    (without-append 10 verb (led (decimal n ∷ [])) free (without-led 10 (decimal n ∷ []) refl (free_of 10 n (omega arith) small, tt)))
+    (longer verb (led (decimal n ∷ [])) some) x says
 
 read_text : (k : ℕ) (s : Submission) (b : Bool) → list_any (λ b. b == 10) s.text ≡ b → k < 256 → FitsText s → IsRead (offer_text k s) (line_of (Offer k (record { 0 = Text s })))
 read_text k s true feed node fits = rw feed (read_bytes_offer k s.author s.serial node fits.0 fits.1 s.text fits.2)

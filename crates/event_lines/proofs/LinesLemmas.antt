@@ -121,7 +121,7 @@ are_names-AreNames ns h =
     let some = h.some in
     let few = h.few in
     all_three (nat_lt 0 (length ns)) (nat_lt (length ns) (MOST_NAMES + 1)) (is_rising ns)
-        (lt-ltb 0 (length ns) (omega arith)) (lt-ltb (length ns) (MOST_NAMES + 1) (omega arith)) h.rising
+    (lt-ltb 0 (length ns) (omega arith)) (lt-ltb (length ns) (MOST_NAMES + 1) (omega arith)) h.rising
 
 pub names_of-decimals : (ns : List ℕ) → AreNames ns → AllByRecursion (λ n. n < 2 ^ 64) ns → names_of (map decimal ns) ≡ Some ns
 names_of-decimals ns h small =
@@ -148,8 +148,8 @@ module _ (k a s : ℕ) (lines : List (List ℕ)) (node : k < 256) (author : a < 
       ≡ Some (Node (Offer (record { node = k; entry = Text (record { author = a; serial = s; text = text }) })), 0)
   offer_says text free =
       said_by _ lines _ _ (split_text (codes "offer") (place_words k a s) text refl free)
-          (offer_by lines k a s node author serial (split_at 32 text)
-          ∙ ap (λ t. Some (Node (Offer (record { node = k; entry = Text (record { author = a; serial = s; text = t }) })), 0)) (join_with_byte-slice_split 32 text))
+      (offer_by lines k a s node author serial (split_at 32 text)
+      ∙ ap (λ t. Some (Node (Offer (record { node = k; entry = Text (record { author = a; serial = s; text = t }) })), 0)) (join_with_byte-slice_split 32 text))
 
   pub bytes_say : (n taken : ℕ) (text : List ℕ) → n < 2 ^ 64 → bytes_before n lines ≡ Some (text, taken)
       → AllByRecursion (Without 32) (place_words k a s ++ decimal n ∷ [])
@@ -164,4 +164,4 @@ module _ (k a s : ℕ) (lines : List (List ℕ)) (node : k < 256) (author : a < 
       ≡ Some (Node (Offer (record { node = k; entry = Charter a s names })), 0)
   charter_says names are small free =
       said_by _ lines _ _ (split_words (codes "charter") (place_words k a s ++ map decimal names) refl free)
-          (charter_by lines k a s node author serial names (names_of-decimals names are small))
+      (charter_by lines k a s node author serial names (names_of-decimals names are small))

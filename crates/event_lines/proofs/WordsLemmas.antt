@@ -47,9 +47,9 @@ pub split_text : (word : List ℕ) (words : List (List ℕ)) (text : List ℕ) �
 split_text word [] text one none = split_before 32 word text one
 split_text word (w ∷ words) text one (next, others) =
     let more : led (w ∷ words) ++ codes " " ++ text ≡ 32 ∷ (w ++ (led words ++ codes " " ++ text))
-        = append_assoc (led (w ∷ words)) (codes " ") text
-        ∙ (append_assoc (led_word w) (led words) (codes " " ++ text)
-        ∙ ap (λ l. 32 ∷ (w ++ l)) (sym (append_assoc (led words) (codes " ") text))) in
+    = append_assoc (led (w ∷ words)) (codes " ") text
+    ∙ (append_assoc (led_word w) (led words) (codes " " ++ text)
+    ∙ ap (λ l. 32 ∷ (w ++ l)) (sym (append_assoc (led words) (codes " ") text))) in
     ap (λ l. split_at 32 (word ++ l)) more
     ∙ (split_before 32 word (w ++ (led words ++ codes " " ++ text)) one
     ∙ ap (λ l. word ∷ l) (split_text w words text next others))

@@ -57,12 +57,7 @@ fn has_line_feed(bytes: &[u8]) -> bool
 }
 
 /// Appends a node, an author and a serial number, each after a space.
-fn push_place(
-    text: &mut Vec<u8>,
-    node: u8,
-    author: u64,
-    serial: u64,
-) -> Result<(), AllocError>
+fn push_place(text: &mut Vec<u8>, node: u8, author: u64, serial: u64) -> Result<(), AllocError>
     ensures text { OnOk result (text.new.items ≡ text.old.items
         ++ led (decimal node ∷ decimal author ∷ decimal serial ∷ [])) }
     ensures node { node < 256 }

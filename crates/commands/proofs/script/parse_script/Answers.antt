@@ -10,10 +10,10 @@ pub loop-line-preserved-in-Ok : goal.loop-line-preserved-in-Ok
 loop-line-preserved-in-Ok g c =
     let some : 0 < length c.in-Some.line.now = grind (arith, nat_tests) in
     is_read_parsed c.loop-line.invariant c.in-Some.line.now c.take.new.self c.in-Some.ensures.0 c.in-Some.ensures.1
-        c.parse.new.lines some c.in-Ok.line c.is_pushed.new.lines.items c.is_pushed.result c.in-Ok.ensures c.is_pushed.ensures
+    c.parse.new.lines some c.in-Ok.line c.is_pushed.new.lines.items c.is_pushed.result c.in-Ok.ensures c.is_pushed.ensures
 
 pub loop-line-preserved : goal.loop-line-preserved
 loop-line-preserved g c =
     let some : 0 < length c.in-Some.line.now = grind (arith, nat_tests) in
     is_read_unparsed c.loop-line.invariant c.in-Some.line.now c.take.new.self c.in-Some.ensures.0 c.in-Some.ensures.1
-        c.parse.new.lines some c.in-Err-Memory.field-0 c.in-Err-Memory.ensures c.in-Err-Memory.field-0-is
+    c.parse.new.lines some c.in-Err-Memory.field-0 c.in-Err-Memory.ensures c.in-Err-Memory.field-0-is
