@@ -1,0 +1,117 @@
+//! The forms in which a line gives a text.
+ghost use Rattle.std.specs.Prelude.{◌≡◌, ◌==◌, ◌≤◌, Some, None, MatchOption, length, drop};
+ghost use Rattle.std.specs.Prelude.{count_by, option_map};
+ghost use Rattle.commands.specs.LineWords.{one_word};
+ghost use Rattle.commands.specs.Remaining.{IsPast};
+ghost use Rattle.commands.specs.Texts.{bytes_before, lines_before, text_at};
+
+use crate::line_words::Words;
+use crate::lines::Lines;
+use crate::pieces::Pieces;
+use crate::script::LINE_FEED;
+
+/// How a line gives the text that it offers.
+#[derive(Clone, Copy, Debug, PartialEq, Eq)]
+pub enum TextForm {
+    /// All that is left of the line.
+    Rest,
+    /// The lines that follow, each with its line feed, up to the first that is a given word alone.
+    Lines,
+    /// A given number of bytes that follow the line, and then a line feed.
+    Bytes,
+}
+
+/// Returns the text that the words give, and takes the lines that it stands on. Returns `None` if
+/// the words give no text in this form, or its end is missing.
+pub(crate) fn take_text<'a>(
+    form: TextForm,
+    words: Words<'a>,
+    lines: &mut Lines<'a>,
+) -> Option<&'a [u8]>
+    ensures { MatchOption result
+        (text_at form words.entry lines.old.lines ≡ None)
+        (λ text. (count : ℕ)
+        × (text_at form words.entry lines.old.lines ≡ Some (text.now, count))
+        × IsPast count lines.old lines.new) }
+{
+    match form {
+        TextForm::Rest => Some(words.text()),
+        TextForm::Lines => lines.take_lines(only_word(words)?),
+        TextForm::Bytes => lines.take_bytes(words.only_number()?),
+    }
+}
+
+/// Returns the one word that is left, if it is not empty.
+fn only_word<'a>(mut words: Words<'a>) -> Option<&'a [u8]>
+    ensures { option_map (λ word. word.now) result ≡ one_word words.entry }
+{
+    let word = words.take()?;
+    if word.is_empty() || words.take().is_some() {
+        return None;
+    }
+    Some(word)
+}
+
+/// A text that is taken, and how many lines it takes.
+#[derive(Clone, Copy, Debug)]
+pub(crate) struct Taken<'a> {
+    pub text: &'a [u8],
+    pub count: usize,
+}
+
+impl<'a> Pieces<'a, LINE_FEED> {
+    /// Takes the lines up to the first that is the word, and returns those before it, each with its
+    /// line feed. Returns `None` if there is no such line.
+    pub fn take_until(&mut self, word: &[u8]) -> Option<Taken<'a>>
+        ensures text { MatchOption result
+            (lines_before word.now self.old ≡ None)
+            (λ t. lines_before word.now self.old ≡ Some (t.text.now, t.count)) }
+        ensures rest { MatchOption result
+            (length self.new ≤ length self.old)
+            (λ t. (t.count ≤ length self.old) × (self.new ≡ drop t.count self.old)) }
+    {
+        let all = self.rest?;
+        let mut len = 0usize;
+        let mut count = 0usize;
+        while let Some(line) = self.take() {
+            count += 1;
+            if line == word {
+                return Some(Taken {
+                    text: &all[..len],
+                    count,
+                });
+            }
+            len += line.len() + 1;
+        }
+        None
+    }
+
+    /// Takes so many bytes, and the line feed that follows them. Returns `None` if none follows.
+    pub fn take_bytes(&mut self, count: u64) -> Option<Taken<'a>>
+        ensures text { MatchOption result
+            (bytes_before count self.old ≡ None)
+            (λ t. bytes_before count self.old ≡ Some (t.text.now, t.count)) }
+        ensures rest { MatchOption result
+            (self.new ≡ self.old)
+            (λ t. (t.count ≤ length self.old) × (self.new ≡ drop t.count self.old)) }
+    {
+        let all = self.rest?;
+        let len = count as usize;
+        if *all.get(len)? != LINE_FEED {
+            return None;
+        }
+        self.rest = Some(&all[len + 1..]);
+        let text = &all[..len];
+        Some(Taken {
+            text,
+            count: line_feeds(text) + 1,
+        })
+    }
+}
+
+/// Counts the line feeds of a text.
+pub(crate) fn line_feeds(text: &[u8]) -> usize
+    ensures { result ≡ count_by (λ b. b == LINE_FEED) text.now }
+{
+    text.iter().filter(|byte| **byte == LINE_FEED).count()
+}
