@@ -207,3 +207,7 @@ module _ (n : ℕ) (bytes : List ℕ) where
 
     pub bytes_few : count_by (λ b. b == LINE_FEED) (take n bytes) + 1 ≤ length (split_at LINE_FEED bytes)
     bytes_few = let total = ap length lines_at ∙ length-append (split_at LINE_FEED (take n bytes)) (split_at LINE_FEED (drop (n + 1) bytes)) in let counts = count_at in omega arith
+
+-- a text has at most one line more than it has bytes
+pub lines_fit : (bytes : List ℕ) → length (split_at LINE_FEED bytes) ≤ length bytes + 1
+lines_fit bytes = omega (arith, length-slice_split (λ b. b == LINE_FEED) bytes, count_by-le-length (λ b. b == LINE_FEED) bytes)

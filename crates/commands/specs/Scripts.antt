@@ -19,9 +19,9 @@ Parses said (Err NoMemory) = IsSome said
 
 -- what a parse of a line answers, if the line and those after it say this; it takes the lines of its text
 abbrev pub ParsesLine : {A : Type 0} → Option (A × ℕ) → Remaining → Remaining → Result A LineFault → Type 0
-ParsesLine said old new (Ok x) = (count : ℕ) × (said ≡ Some (x, count)) × IsPast count old new
-ParsesLine said old new (Err Bad) = said ≡ None
-ParsesLine said old new (Err NoMemory) = (found : A × ℕ) × (said ≡ Some found) × IsPast found.1 old new
+ParsesLine {A = A} said old new (Ok x) = (count : ℕ) × (said ≡ Some (x, count)) × IsPast count old new
+ParsesLine {A = A} said old new (Err Bad) = said ≡ None
+ParsesLine {A = A} said old new (Err NoMemory) = (found : A × ℕ) × (said ≡ Some found) × IsPast found.1 old new
 
 -- a line, and what the lines after it say
 abbrev pub followed : {L : Type 0} → L → Result (List L) ℕ → Result (List L) ℕ

@@ -1,5 +1,5 @@
 //! The lines of a script.
-ghost use Rattle.std.specs.Prelude.{◌≡◌, ◌+◌, [], ◌∷◌, Some, None, MatchOption};
+ghost use Rattle.std.specs.Prelude.{◌≡◌, ℕ, ◌+◌, [], ◌∷◌, Some, None, MatchOption};
 ghost use Rattle.commands.specs.Pieces.{split_at};
 ghost use Rattle.commands.specs.Remaining.{IsPast};
 ghost use Rattle.commands.specs.Texts.{bytes_before, lines_before};
@@ -17,18 +17,19 @@ pub struct Lines<'a> {
 }
 
 impl<'a> Model for Lines<'a> {
-    ghost use Rattle.std.specs.Prelude.{◌+◌, ◌≤◌, length};
+    ghost use Rattle.std.specs.Prelude.{◌+◌, ◌^◌, ◌<◌, length};
     ghost use Rattle.commands.specs.Remaining.{Remaining};
 
     ghost Value = { Remaining };
 
     ghost view = { λ l. record { number = l.number; lines = l.rest } };
 
-    ghost invariant = { λ l. l.number + length l.rest ≤ usize.MAX };
+    ghost invariant = { λ l. l.number + length l.rest < 2 ^ 64 };
 }
 
 impl<'a> Lines<'a> {
     /// Returns the lines of a script.
+    #[tactic(auto, using(crate::proofs::TextsLemmas::lines_fit))]
     pub(crate) fn new(script: &'a [u8]) -> Lines<'a>
         ensures { result ≡ record { number = 0; lines = split_at LINE_FEED script.now } }
     {

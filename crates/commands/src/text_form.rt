@@ -1,9 +1,8 @@
 //! The forms in which a line gives a text.
-ghost use Rattle.std.specs.Prelude.{◌≡◌, ◌==◌, ◌≤◌, Some, None, MatchOption, length, drop};
+ghost use Rattle.std.specs.Prelude.{◌≡◌, ℕ, ◌==◌, ◌≤◌, Some, None, MatchOption, length, drop};
 ghost use Rattle.std.specs.Prelude.{count_by, option_map};
-ghost use Rattle.commands.specs.LineWords.{one_word};
 ghost use Rattle.commands.specs.Remaining.{IsPast};
-ghost use Rattle.commands.specs.Texts.{bytes_before, lines_before, text_at};
+ghost use Rattle.commands.specs.Texts.{bytes_before, lines_before, one_word, text_at};
 
 use crate::line_words::Words;
 use crate::lines::Lines;
