@@ -1,6 +1,6 @@
 -- A line that alone says something, and one that offers a text.
-use Rattle.std.specs.Prelude.{◌≡◌, ℕ, ◌+◌, List, drop, Option, Some, None, option_map, option_and_then, Result, Ok, Err, IsSome, refl}
-use Rattle.std.proofs.Common.{◌∙◌, ap, sym, arith}
+use Rattle.std.specs.Prelude.{◌≡◌, ℕ, ◌+◌, List, drop, Option, Some, None, option_map, option_and_then, Result, Ok, Err, IsSome, IsErrAnd, ◌∷◌, refl}
+use Rattle.std.proofs.Common.{◌∙◌, ap, sym, subst, arith}
 use Rattle.std.proofs.lemmas.Bool.{false≢true}
 use Rattle.library.specs.declared.entry.Entry.TheVariants.{Text}
 use Rattle.commands.specs.declared.line_words.EntryAt.{EntryAt}
@@ -10,12 +10,14 @@ use Rattle.commands.specs.declared.offered.Offered.{Offered}
 use Rattle.commands.specs.declared.script.LineFault.{LineFault}
 use Rattle.commands.specs.declared.script.LineFault.TheVariants.{Bad, Memory as NoMemory}
 use Rattle.commands.specs.declared.text_form.TextForm.{TextForm}
-use Rattle.commands.specs.LineWords.{Words, entry_at}
+use Rattle.commands.specs.Pieces.{split_at}
+use Rattle.commands.specs.declared.line_words.TheConstants.{SPACE}
+use Rattle.commands.specs.LineWords.{Words, by_first, entry_at}
 use Rattle.commands.specs.Texts.{text_at}
 use Rattle.commands.specs.Offered.{text_offered}
 use Rattle.commands.specs.Remaining.{Remaining, IsPast}
 use Rattle.commands.specs.Scripts.{Parses, ParsesLine}
-use Rattle.commands.specs.NodeLines.{stands_alone}
+use Rattle.commands.specs.NodeLines.{stands_alone, offer_or}
 
 -- no line is taken
 pub past_none : (lines : Remaining) → IsPast 0 lines lines
@@ -60,3 +62,33 @@ pub offered_missing : (form : TextForm) (ws rest : Words) (lines : List (List �
 offered_missing form ws rest lines at is none =
     ap (λ o. option_and_then (λ e. option_and_then (λ t. Some (text_at_place e.0 t.0, t.1)) (text_at form e.1 lines)) o) (sym is)
     ∙ ap (λ o. option_and_then (λ t. Some (text_at_place at t.0, t.1)) o) none
+
+-- an error that is handed on
+handed_on : {L : Type 0} (r : Result L LineFault) (fault : LineFault) → IsErrAnd r (λ f. f ≡ fault) → Err fault ≡ r
+handed_on (Err f) fault h = ap Err (sym h)
+handed_on (Ok x) fault h = elim h [ ]
+
+module _ {L : Type 0} (line : NodeLine → L) (form : List ℕ → Option TextForm) (said : List ℕ → Words → Option L) where
+  -- what a line says, given those that follow
+  abbrev pub line_said : List ℕ → List (List ℕ) → Option (L × ℕ)
+  line_said bytes lines = by_first (λ verb ws. offer_or line (form verb) (said verb ws) ws lines) (split_at SPACE bytes)
+
+  -- a line whose verb offers no text
+  pub said_alone : (lines : Remaining) (bytes verb : List ℕ) (ws : Words) (r : Result L LineFault)
+      → split_at SPACE bytes ≡ verb ∷ ws → None ≡ form verb → Parses (said verb ws) r → ParsesLine (line_said bytes lines.lines) lines lines r
+  said_alone lines bytes verb ws r words none parses =
+      let is : stands_alone (said verb ws) ≡ line_said bytes lines.lines
+      = ap (λ f. offer_or line f (said verb ws) ws lines.lines) none
+      ∙ ap (by_first (λ verb ws. offer_or line (form verb) (said verb ws) ws lines.lines)) (sym words) in
+      subst (λ s. ParsesLine s lines lines r) is (alone_parsed (said verb ws) lines r parses)
+
+  -- a line whose text is not parsed
+  pub said_fault : (old new : Remaining) (bytes verb : List ℕ) (ws : Words) (f : TextForm) (fault : LineFault) (r : Result L LineFault)
+      → split_at SPACE bytes ≡ verb ∷ ws → Some f ≡ form verb → ParsesLine (text_offered f ws old.lines) old new (Err fault)
+      → IsErrAnd r (λ f. f ≡ fault) → ParsesLine (line_said bytes old.lines) old new r
+  said_fault old new bytes verb ws f fault r words some parses handed =
+      let is : offer_line line (text_offered f ws old.lines) ≡ line_said bytes old.lines
+      = ap (λ f. offer_or line f (said verb ws) ws old.lines) some
+      ∙ ap (by_first (λ verb ws. offer_or line (form verb) (said verb ws) ws old.lines)) (sym words) in
+      subst (ParsesLine (line_said bytes old.lines) old new) (handed_on r fault handed)
+      (subst (λ s. ParsesLine s old new (Err fault)) is (offer_unparsed line (text_offered f ws old.lines) old new fault parses))

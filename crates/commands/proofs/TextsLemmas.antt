@@ -2,12 +2,14 @@
 use Rattle.std.specs.Prelude.{◌≡◌, ℕ, ◌+◌, ◌-◌, ◌<◌, ◌≤◌, ◌==◌, Bool, true, false, cond, List, [], ◌∷◌, ◌++◌, Option, Some, None, option_map, slice_index, count_by, if◌then◌else◌, refl}
 use Rattle.std.specs.List.{slice_split, onto_first, join_with_byte}
 use Rattle.std.specs.Str.{bytes_eq}
-use Rattle.std.proofs.Common.{sym, ◌∙◌, ap, arith, length, take, drop, get_or, append_assoc, append-nil, length-append, suc}
+use Rattle.std.proofs.Common.{sym, ◌∙◌, ap, arith, length, take, drop, get_or, append_assoc, append-nil, length-append, length-drop, suc}
 use Rattle.std.proofs.lemmas.List.{take_at, drop_at, take-append-drop, drop_more, take_all, length-take-le}
 use Rattle.std.proofs.lemmas.List.Sums.{count_by-le-length}
 use Rattle.std.proofs.lemmas.List.Splits.{join_with_byte-slice_split, slice_split-cons_yes, slice_split-cons_no, length-slice_split}
+use Rattle.std.proofs.lemmas.Bool.{eqb-true}
 use Rattle.commands.specs.declared.script.TheConstants.{LINE_FEED}
 use Rattle.commands.specs.Pieces.{split_at}
+use Rattle.commands.specs.Remaining.{Remaining, IsPast}
 use Rattle.commands.specs.Texts.{lines_before, first_bytes, bytes_before}
 
 -- lines, each with its line feed
@@ -207,6 +209,31 @@ module _ (n : ℕ) (bytes : List ℕ) where
 
     pub bytes_few : count_by (λ b. b == LINE_FEED) (take n bytes) + 1 ≤ length (split_at LINE_FEED bytes)
     bytes_few = let total = ap length lines_at ∙ length-append (split_at LINE_FEED (take n bytes)) (split_at LINE_FEED (drop (n + 1) bytes)) in let counts = count_at in omega arith
+
+-- the bytes taken, and what follows them
+pub text_and_rest : (n : ℕ) (bytes : List ℕ) (lines : List (List ℕ)) (feeds : ℕ) → lines ≡ split_at LINE_FEED bytes
+    → n < length bytes → (get_or bytes n 0 == LINE_FEED) ≡ true → feeds ≡ count_by (λ b. b == LINE_FEED) (take n bytes)
+    → (feeds + 1 ≤ length lines) × (split_at LINE_FEED (take (length bytes - (n + 1)) (drop (n + 1) bytes)) ≡ drop (feeds + 1) lines)
+text_and_rest n bytes lines feeds all inside is counted =
+    let feed : get_or bytes n 0 ≡ LINE_FEED = eqb-true (get_or bytes n 0) LINE_FEED is in
+    let few = bytes_few n bytes inside feed in
+    let total = ap length all in
+    let whole : take (length bytes - (n + 1)) (drop (n + 1) bytes) ≡ drop (n + 1) bytes = take_all _ _ (omega (arith, length-drop (n + 1) bytes)) in (
+      omega arith,
+      ap (split_at LINE_FEED) whole
+          ∙ (bytes_rest n bytes inside feed
+          ∙ (ap (λ k. drop (k + 1) (split_at LINE_FEED bytes)) (sym counted)
+          ∙ ap (drop (feeds + 1)) (sym all))),
+    )
+
+-- a text that is taken, by the number of its lines
+pub past_taken : (find : List (List ℕ) → Option (List ℕ × ℕ)) (old : Remaining) (number : ℕ) (lines rest : List (List ℕ)) (text : List ℕ) (count : ℕ)
+    → old ≡ record { number = number; lines = lines } → find lines ≡ Some (text, count) → rest ≡ drop count lines
+    → (x : ℕ) × (find old.lines ≡ Some (text, x)) × IsPast x old (record { number = number + count; lines = rest })
+past_taken find old number lines rest text count is found taken =
+    let same : old.lines ≡ lines = ap (λ (r : Remaining). r.lines) is in
+    let counted : old.number ≡ number = ap (λ (r : Remaining). r.number) is in
+    (count, ap find same ∙ found, record { number = ap (λ k. k + count) (sym counted); lines = taken ∙ ap (drop count) (sym same) })
 
 -- a text has at most one line more than it has bytes
 pub lines_fit : (bytes : List ℕ) → length (split_at LINE_FEED bytes) ≤ length bytes + 1

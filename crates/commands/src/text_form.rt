@@ -1,6 +1,7 @@
 //! The forms in which a line gives a text.
 ghost use Rattle.std.specs.Prelude.{◌≡◌, ℕ, ◌==◌, ◌≤◌, Some, None, MatchOption, length, drop};
-ghost use Rattle.std.specs.Prelude.{count_by, option_map};
+ghost use Rattle.std.specs.Prelude.{count_by, option_map, slice_index, IsTrue, ◌<◌};
+ghost use Rattle.commands.specs.Pieces.{split_at};
 ghost use Rattle.commands.specs.Remaining.{IsPast};
 ghost use Rattle.commands.specs.Texts.{bytes_before, lines_before, one_word, text_at};
 
@@ -69,20 +70,9 @@ impl<'a> Pieces<'a, LINE_FEED> {
             (length self.new ≤ length self.old)
             (λ t. (t.count ≤ length self.old) × (self.new ≡ drop t.count self.old)) }
     {
-        let all = self.rest?;
-        let mut len = 0usize;
-        let mut count = 0usize;
-        while let Some(line) = self.take() {
-            count += 1;
-            if line == word {
-                return Some(Taken {
-                    text: &all[..len],
-                    count,
-                });
-            }
-            len += line.len() + 1;
-        }
-        None
+        let (taken, rest) = lines_until(self.rest?, word)?;
+        *self = rest;
+        Some(taken)
     }
 
     /// Takes so many bytes, and the line feed that follows them. Returns `None` if none follows.
@@ -96,16 +86,49 @@ impl<'a> Pieces<'a, LINE_FEED> {
     {
         let all = self.rest?;
         let len = count as usize;
-        if *all.get(len)? != LINE_FEED {
-            return None;
+        if is_line_feed_at(all, len) {
+            self.rest = Some(&all[len + 1..]);
+            let text = &all[..len];
+            return Some(Taken {
+                text,
+                count: line_feeds(text) + 1,
+            });
         }
-        self.rest = Some(&all[len + 1..]);
-        let text = &all[..len];
-        Some(Taken {
-            text,
-            count: line_feeds(text) + 1,
-        })
+        None
     }
+}
+
+/// Returns the lines before the first that is the word, and those after it. Returns `None` if there
+/// is no such line.
+fn lines_until<'a>(all: &'a [u8], word: &[u8]) -> Option<(Taken<'a>, Pieces<'a, LINE_FEED>)>
+    ensures { MatchOption result
+        (lines_before word.now (split_at LINE_FEED all.now) ≡ None)
+        (λ found. (lines_before word.now (split_at LINE_FEED all.now)
+            ≡ Some (found.0.text.now, found.0.count))
+        × (found.0.count ≤ length (split_at LINE_FEED all.now))
+        × (found.1 ≡ drop found.0.count (split_at LINE_FEED all.now))) }
+{
+    let mut lines: Pieces<'a, LINE_FEED> = Pieces::new(all);
+    let mut len = 0usize;
+    let mut count = 0usize;
+    while let Some(line) = lines.take() {
+        count += 1;
+        if line == word {
+            let text = &all[..len];
+            return Some((Taken { text, count }, lines));
+        }
+        len += line.len() + 1;
+    }
+    None
+}
+
+/// Tells whether a line feed stands at this place.
+#[tactic(auto, using(std::proofs::lemmas::List::get_or_past))]
+fn is_line_feed_at(bytes: &[u8], place: usize) -> bool
+    ensures feed { result ≡ (slice_index bytes.now place == LINE_FEED) }
+    ensures inside { IsTrue result → place < length bytes.now }
+{
+    place < bytes.len() && bytes[place] == LINE_FEED
 }
 
 /// Counts the line feeds of a text.
