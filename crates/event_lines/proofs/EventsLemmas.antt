@@ -16,6 +16,7 @@ use Rattle.commands.specs.declared.play_line.PlayLine.TheVariants.{Node}
 use Rattle.commands.specs.Pieces.{split_at}
 use Rattle.commands.specs.Scripts.{followed, script_from, script_of, with_line}
 use Rattle.commands.specs.PlayLines.{play_line_of}
+use Rattle.commands.specs.Texts.{bytes_before}
 use Rattle.commands.proofs.ScriptsLemmas.{text_passed}
 use Rattle.commands.proofs.TextsLemmas.{bytes_found, bytes_rest}
 use Rattle.event_lines.specs.EventLines.{Fits, FitsEntry, FitsText, event_text, events_text, entry_text, offer_text, line_of, led, place_words}

@@ -8,6 +8,7 @@ use Rattle.library.specs.declared.charter.TheConstants.{MOST_NAMES}
 use Rattle.library.specs.declared.entry.Entry.TheVariants.{Text, Charter}
 use Rattle.library.specs.Charters.{AreNames, is_rising}
 use Rattle.commands.specs.declared.line_words.EntryAt.{EntryAt}
+use Rattle.commands.specs.declared.offered.Offered.{Offered}
 use Rattle.commands.specs.declared.node_line.NodeLine.TheVariants.{Offer, Begin, Restart}
 use Rattle.commands.specs.declared.text_form.TextForm.{TextForm}
 use Rattle.commands.specs.declared.text_form.TextForm.TheVariants.{Rest, Bytes}
@@ -37,13 +38,13 @@ one_node-decimal k small = ap (option_map node_of) (one_number-decimal k (wide k
 
 -- the node, the author and the serial number that are read from words
 abbrev after_node : Option ℕ → Words → Option (EntryAt × Words)
-after_node k ws = option_and_then (λ k. option_and_then (λ a. option_and_then (λ s. Some (record { node = node_of k.0; author = a.0; serial = s.0 }, s.1)) (number_at a.1)) (number_at k.1)) (option_map (λ n. (n, ws)) k)
+after_node k ws = option_and_then (λ (k : ℕ × Words). option_and_then (λ (a : ℕ × Words). option_and_then (λ (s : ℕ × Words). Some (record { node = node_of k.0; author = a.0; serial = s.0 }, s.1)) (number_at a.1)) (number_at k.1)) (option_map (λ n. (n, ws)) k)
 
 abbrev after_author : ℕ → Option ℕ → Words → Option (EntryAt × Words)
-after_author k a ws = option_and_then (λ a. option_and_then (λ s. Some (record { node = node_of k; author = a.0; serial = s.0 }, s.1)) (number_at a.1)) (option_map (λ n. (n, ws)) a)
+after_author k a ws = option_and_then (λ (a : ℕ × Words). option_and_then (λ (s : ℕ × Words). Some (record { node = node_of k; author = a.0; serial = s.0 }, s.1)) (number_at a.1)) (option_map (λ n. (n, ws)) a)
 
 abbrev after_serial : ℕ → ℕ → Option ℕ → Words → Option (EntryAt × Words)
-after_serial k a s ws = option_and_then (λ s. Some (record { node = node_of k; author = a; serial = s.0 }, s.1)) (option_map (λ n. (n, ws)) s)
+after_serial k a s ws = option_and_then (λ (s : ℕ × Words). Some (record { node = node_of k; author = a; serial = s.0 }, s.1)) (option_map (λ n. (n, ws)) s)
 
 entry_at-place : (k a s : ℕ) (ws : Words) → k < 256 → a < 2 ^ 64 → s < 2 ^ 64
     → entry_at (decimal k ∷ decimal a ∷ decimal s ∷ ws) ≡ Some (record { node = k; author = a; serial = s }, ws)
@@ -60,12 +61,12 @@ said_by line lines words x is says = ap (by_first (play_line_by lines)) is ∙ s
 
 -- an offer of a text, and of a charter, by their parts
 abbrev text_line : EntryAt → Option (List ℕ × ℕ) → Option (PlayLine × ℕ)
-text_line at text = option_map (λ o. (Node (Offer o.0), o.1))
-    (option_and_then (λ t. Some (record { node = at.node; entry = Text (record { author = at.author; serial = at.serial; text = t.0 }) }, t.1)) text)
+text_line at text = option_map (λ (o : Offered × ℕ). (Node (Offer o.0), o.1))
+    (option_and_then (λ (t : List ℕ × ℕ). Some (record { node = at.node; entry = Text (record { author = at.author; serial = at.serial; text = t.0 }) }, t.1)) text)
 
 abbrev text_line_at : TextForm → List (List ℕ) → Option (EntryAt × Words) → Option (PlayLine × ℕ)
-text_line_at form lines at = option_map (λ o. (Node (Offer o.0), o.1))
-    (option_and_then (λ e. option_and_then (λ t. Some (record { node = (e.0).node; entry = Text (record { author = (e.0).author; serial = (e.0).serial; text = t.0 }) }, t.1)) (text_at form e.1 lines)) at)
+text_line_at form lines at = option_map (λ (o : Offered × ℕ). (Node (Offer o.0), o.1))
+    (option_and_then (λ (e : EntryAt × Words). option_and_then (λ (t : List ℕ × ℕ). Some (record { node = (e.0).node; entry = Text (record { author = (e.0).author; serial = (e.0).serial; text = t.0 }) }, t.1)) (text_at form e.1 lines)) at)
 
 abbrev charter_line : EntryAt → Option (List ℕ) → Option (PlayLine × ℕ)
 charter_line at names = stands_alone (option_map (λ l. Node l) (option_map (λ o. Offer o)
@@ -73,7 +74,7 @@ charter_line at names = stands_alone (option_map (λ l. Node l) (option_map (λ 
 
 abbrev charter_line_at : Option (EntryAt × Words) → Option (PlayLine × ℕ)
 charter_line_at at = stands_alone (option_map (λ l. Node l) (option_map (λ o. Offer o)
-    (option_and_then (λ e. option_and_then (λ names. Some (record { node = (e.0).node; entry = Charter (e.0).author (e.0).serial names })) (names_of e.1)) at)))
+    (option_and_then (λ (e : EntryAt × Words). option_and_then (λ names. Some (record { node = (e.0).node; entry = Charter (e.0).author (e.0).serial names })) (names_of e.1)) at)))
 
 module _ (lines : List (List ℕ)) where
   begin_by : (k : ℕ) → k < 256 → play_line_by lines (codes "begin") (decimal k ∷ []) ≡ Some (Node (Begin k), 0)
@@ -132,22 +133,22 @@ names_of-decimals ns h small =
 
 pub begin_says : (k : ℕ) (lines : List (List ℕ)) → k < 256 → AllByRecursion (Without 32) (decimal k ∷ [])
     → play_line_of (codes "begin" ++ led (decimal k ∷ [])) lines ≡ Some (Node (Begin k), 0)
-begin_says k lines small free = said_by _ lines _ _ (split_words (codes "begin") (decimal k ∷ []) refl free) (begin_by lines k small)
+begin_says k lines small free = said_by (codes "begin" ++ led (decimal k ∷ [])) lines _ _ (split_words (codes "begin") (decimal k ∷ []) refl free) (begin_by lines k small)
 
 pub restart_says : (k : ℕ) (lines : List (List ℕ)) → k < 256 → AllByRecursion (Without 32) (decimal k ∷ [])
     → play_line_of (codes "restart" ++ led (decimal k ∷ [])) lines ≡ Some (Node (Restart k), 0)
-restart_says k lines small free = said_by _ lines _ _ (split_words (codes "restart") (decimal k ∷ []) refl free) (restart_by lines k small)
+restart_says k lines small free = said_by (codes "restart" ++ led (decimal k ∷ [])) lines _ _ (split_words (codes "restart") (decimal k ∷ []) refl free) (restart_by lines k small)
 
 pub deliver_says : (n : ℕ) (lines : List (List ℕ)) → n < 2 ^ 64 → AllByRecursion (Without 32) (decimal n ∷ [])
     → play_line_of (codes "deliver" ++ led (decimal n ∷ [])) lines ≡ Some (Deliver n, 0)
-deliver_says n lines small free = said_by _ lines _ _ (split_words (codes "deliver") (decimal n ∷ []) refl free) (deliver_by lines n small)
+deliver_says n lines small free = said_by (codes "deliver" ++ led (decimal n ∷ [])) lines _ _ (split_words (codes "deliver") (decimal n ∷ []) refl free) (deliver_by lines n small)
 
 module _ (k a s : ℕ) (lines : List (List ℕ)) (node : k < 256) (author : a < 2 ^ 64) (serial : s < 2 ^ 64) where
   pub offer_says : (text : List ℕ) → AllByRecursion (Without 32) (place_words k a s)
       → play_line_of (codes "offer" ++ (led (place_words k a s) ++ codes " " ++ text)) lines
       ≡ Some (Node (Offer (record { node = k; entry = Text (record { author = a; serial = s; text = text }) })), 0)
   offer_says text free =
-      said_by _ lines _ _ (split_text (codes "offer") (place_words k a s) text refl free)
+      said_by (codes "offer" ++ (led (place_words k a s) ++ codes " " ++ text)) lines _ _ (split_text (codes "offer") (place_words k a s) text refl free)
       (offer_by lines k a s node author serial (split_at 32 text)
       ∙ ap (λ t. Some (Node (Offer (record { node = k; entry = Text (record { author = a; serial = s; text = t }) })), 0)) (join_with_byte-slice_split 32 text))
 
@@ -156,12 +157,12 @@ module _ (k a s : ℕ) (lines : List (List ℕ)) (node : k < 256) (author : a < 
       → play_line_of (codes "offer-bytes" ++ led (place_words k a s ++ decimal n ∷ [])) lines
       ≡ Some (Node (Offer (record { node = k; entry = Text (record { author = a; serial = s; text = text }) })), taken)
   bytes_say n taken text small is free =
-      said_by _ lines _ _ (split_words (codes "offer-bytes") (place_words k a s ++ decimal n ∷ []) refl free) (bytes_by lines k a s node author serial n taken text small is)
+      said_by (codes "offer-bytes" ++ led (place_words k a s ++ decimal n ∷ [])) lines _ _ (split_words (codes "offer-bytes") (place_words k a s ++ decimal n ∷ []) refl free) (bytes_by lines k a s node author serial n taken text small is)
 
   pub charter_says : (names : List ℕ) → AreNames names → AllByRecursion (λ n. n < 2 ^ 64) names
       → AllByRecursion (Without 32) (place_words k a s ++ map decimal names)
       → play_line_of (codes "charter" ++ led (place_words k a s ++ map decimal names)) lines
       ≡ Some (Node (Offer (record { node = k; entry = Charter a s names })), 0)
   charter_says names are small free =
-      said_by _ lines _ _ (split_words (codes "charter") (place_words k a s ++ map decimal names) refl free)
+      said_by (codes "charter" ++ led (place_words k a s ++ map decimal names)) lines _ _ (split_words (codes "charter") (place_words k a s ++ map decimal names) refl free)
       (charter_by lines k a s node author serial names (names_of-decimals names are small))

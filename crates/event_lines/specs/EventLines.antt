@@ -30,12 +30,21 @@ number_line verb n = verb ++ led (decimal n ∷ []) ++ codes "\n"
 abbrev pub place_words : ℕ → ℕ → ℕ → List (List ℕ)
 place_words node author serial = decimal node ∷ decimal author ∷ decimal serial ∷ []
 
+-- a text on its line
+abbrev pub line_offer : ℕ → Submission → List ℕ
+line_offer node s = codes "offer" ++ led (place_words node s.author s.serial) ++ codes " " ++ s.text ++ codes "\n"
+
+-- a line that offers so many bytes
+abbrev pub bytes_line : ℕ → Submission → List ℕ
+bytes_line node s = codes "offer-bytes" ++ led (place_words node s.author s.serial) ++ led (decimal (length s.text) ∷ []) ++ codes "\n"
+
+-- a text as so many bytes
+abbrev pub bytes_offer : ℕ → Submission → List ℕ
+bytes_offer node s = bytes_line node s ++ s.text ++ codes "\n"
+
 -- a text is offered on its line, or if it has a line feed, as so many bytes
 abbrev pub offer_text : ℕ → Submission → List ℕ
-offer_text node s =
-    if list_any (λ b. b == LINE_FEED) s.text
-    then codes "offer-bytes" ++ led (place_words node s.author s.serial) ++ led (decimal (length s.text) ∷ []) ++ codes "\n" ++ s.text ++ codes "\n"
-    else codes "offer" ++ led (place_words node s.author s.serial) ++ codes " " ++ s.text ++ codes "\n"
+offer_text node s = if list_any (λ b. b == LINE_FEED) s.text then bytes_offer node s else line_offer node s
 
 abbrev pub entry_text : ℕ → Entry → List ℕ
 entry_text node (Text submission) = offer_text node submission

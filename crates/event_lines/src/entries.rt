@@ -3,6 +3,7 @@ ghost use Rattle.std.specs.Prelude.{◌≡◌, ◌++◌, ◌^◌, ◌<◌, ◌==
 ghost use Rattle.std.specs.List.{AllByRecursion, list_any};
 ghost use Rattle.commands.specs.declared.script.TheConstants.{LINE_FEED};
 ghost use Rattle.event_lines.specs.EventLines.{FitsEntry, FitsText, led, offer_text, entry_text};
+ghost use Rattle.event_lines.specs.EventLines.{bytes_line, bytes_offer, line_offer};
 
 use commands::LINE_FEED;
 use library::{Entry, Submission};
@@ -34,18 +35,46 @@ fn push_text(text: &mut Vec<u8>, node: u8, submission: &Submission) -> Result<()
     ensures text { OnOk result (text.new.items ≡ text.old.items ++ offer_text node submission.now) }
     ensures fits { OnOk result ((node < 256) × FitsText submission.now) }
 {
-    let bytes = submission.text.as_slice();
-    if has_line_feed(bytes) {
-        text.extend_from_slice(b"offer-bytes")?;
-        push_place(text, node, submission.author, submission.serial)?;
-        push_word(text, bytes.len() as u64)?;
-        text.extend_from_slice(b"\n")?;
+    if has_line_feed(submission.text.as_slice()) {
+        push_bytes(text, node, submission)
     } else {
-        text.extend_from_slice(b"offer")?;
-        push_place(text, node, submission.author, submission.serial)?;
-        text.extend_from_slice(b" ")?;
+        push_line(text, node, submission)
     }
-    text.extend_from_slice(bytes)?;
+}
+
+/// Appends a line that offers so many bytes, and these bytes.
+fn push_bytes(text: &mut Vec<u8>, node: u8, submission: &Submission) -> Result<(), AllocError>
+    ensures text { OnOk result
+        (text.new.items ≡ text.old.items ++ bytes_offer node submission.now) }
+    ensures fits { OnOk result ((node < 256) × FitsText submission.now) }
+{
+    push_bytes_line(text, node, submission)?;
+    text.extend_from_slice(submission.text.as_slice())?;
+    text.extend_from_slice(b"\n")
+}
+
+/// Appends a line that offers so many bytes.
+fn push_bytes_line(text: &mut Vec<u8>, node: u8, submission: &Submission) -> Result<(), AllocError>
+    ensures text { OnOk result
+        (text.new.items ≡ text.old.items ++ bytes_line node submission.now) }
+    ensures fits { OnOk result ((node < 256) × FitsText submission.now) }
+{
+    text.extend_from_slice(b"offer-bytes")?;
+    push_place(text, node, submission.author, submission.serial)?;
+    push_word(text, submission.text.len() as u64)?;
+    text.extend_from_slice(b"\n")
+}
+
+/// Appends a line that offers a text.
+fn push_line(text: &mut Vec<u8>, node: u8, submission: &Submission) -> Result<(), AllocError>
+    ensures text { OnOk result
+        (text.new.items ≡ text.old.items ++ line_offer node submission.now) }
+    ensures fits { OnOk result ((node < 256) × FitsText submission.now) }
+{
+    text.extend_from_slice(b"offer")?;
+    push_place(text, node, submission.author, submission.serial)?;
+    text.extend_from_slice(b" ")?;
+    text.extend_from_slice(submission.text.as_slice())?;
     text.extend_from_slice(b"\n")
 }
 
