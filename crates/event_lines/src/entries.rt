@@ -1,9 +1,9 @@
 //! Offers of entries as lines.
-ghost use Rattle.std.specs.Prelude.{◌≡◌, ◌++◌, ◌^◌, ◌<◌, ◌==◌, [], ◌∷◌, decimal, length, map, OnOk};
+ghost use Rattle.std.specs.Prelude.{◌≡◌, ◌++◌, ◌^◌, ◌<◌, ◌==◌, [], ◌∷◌, codes, decimal, length, map, OnOk};
 ghost use Rattle.std.specs.List.{AllByRecursion, list_any};
 ghost use Rattle.commands.specs.declared.script.TheConstants.{LINE_FEED};
 ghost use Rattle.event_lines.specs.EventLines.{FitsEntry, FitsText, led, offer_text, entry_text};
-ghost use Rattle.event_lines.specs.EventLines.{bytes_line, bytes_offer, line_offer};
+ghost use Rattle.event_lines.specs.EventLines.{bytes_line, bytes_offer, line_offer, place_words};
 
 use commands::LINE_FEED;
 use library::{Entry, Submission};
@@ -59,10 +59,20 @@ fn push_bytes_line(text: &mut Vec<u8>, node: u8, submission: &Submission) -> Res
         (text.new.items ≡ text.old.items ++ bytes_line node submission.now) }
     ensures fits { OnOk result ((node < 256) × FitsText submission.now) }
 {
-    text.extend_from_slice(b"offer-bytes")?;
-    push_place(text, node, submission.author, submission.serial)?;
+    push_bytes_place(text, node, submission)?;
     push_word(text, submission.text.len() as u64)?;
     text.extend_from_slice(b"\n")
+}
+
+/// Appends the verb that offers bytes, and the place.
+fn push_bytes_place(text: &mut Vec<u8>, node: u8, submission: &Submission) -> Result<(), AllocError>
+    ensures text { OnOk result (text.new.items ≡ text.old.items
+        ++ (codes "offer-bytes" ++ led (place_words node submission.now.author submission.now.serial))) }
+    ensures fits { OnOk result ((node < 256)
+        × (submission.now.author < 2 ^ 64) × (submission.now.serial < 2 ^ 64)) }
+{
+    text.extend_from_slice(b"offer-bytes")?;
+    push_place(text, node, submission.author, submission.serial)
 }
 
 /// Appends a line that offers a text.
