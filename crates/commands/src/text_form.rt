@@ -104,7 +104,7 @@ fn lines_until<'a>(all: &'a [u8], word: &[u8]) -> Option<(Taken<'a>, Pieces<'a, 
     ensures { MatchOption result
         (lines_before word.now (split_at LINE_FEED all.now) ≡ None)
         (λ found. (lines_before word.now (split_at LINE_FEED all.now)
-            ≡ Some (found.0.text.now, found.0.count))
+        ≡ Some (found.0.text.now, found.0.count))
         × (found.0.count ≤ length (split_at LINE_FEED all.now))
         × (found.1 ≡ drop found.0.count (split_at LINE_FEED all.now))) }
 {
