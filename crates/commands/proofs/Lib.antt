@@ -1,3 +1,6 @@
-mod PiecesLemmas
-mod ScriptsLemmas
+pub mod PiecesLemmas
+pub mod TextsLemmas
+mod LineLemmas
+pub mod ScriptsLemmas
 mod CharterNameLemmas
+mod Rows

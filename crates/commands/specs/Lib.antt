@@ -1,5 +1,7 @@
 pub mod Pieces
 pub mod LineWords
+pub mod Remaining
+pub mod Texts
 pub mod Offered
 pub mod NodeLines
 pub mod PlayLines

@@ -1,12 +1,13 @@
 -- The lines that scripts of `play` and of `serve` have in common, by their verb and the words after it.
 -- Source: this project's own form.
 -- The code takes the words one after another.
-use Rattle.std.specs.Prelude.{ℕ, List, codes, Option, None, option_map, if◌then◌else◌}
+use Rattle.std.specs.Prelude.{ℕ, List, codes, Option, Some, None, option_map, if◌then◌else◌}
 use Rattle.std.specs.Str.{bytes_eq}
 use Rattle.commands.specs.declared.node_line.NodeLine.{NodeLine}
 use Rattle.commands.specs.declared.node_line.NodeLine.TheVariants.{Offer, Begin, Restart, List as ListLine, Status}
 use Rattle.commands.specs.LineWords.{Words, one_node, one_entry}
-use Rattle.commands.specs.Offered.{charter_offered}
+use Rattle.commands.specs.declared.text_form.TextForm.{TextForm}
+use Rattle.commands.specs.Offered.{text_offered, charter_offered}
 
 -- the lines that offer no entry
 abbrev pub short_node_line : List ℕ → Words → Option NodeLine
@@ -15,6 +16,15 @@ short_node_line verb ws =
     if bytes_eq verb (codes "restart") then option_map (λ k. Restart k) (one_node ws) else (
     if bytes_eq verb (codes "list") then option_map (λ k. ListLine k) (one_node ws) else (
     if bytes_eq verb (codes "status") then option_map (λ e. Status e) (one_entry ws) else None)))
+
+-- a line that alone says this, with none of the lines that follow
+abbrev pub stands_alone : {L : Type 0} → Option L → Option (L × ℕ)
+stands_alone said = option_map (λ l. (l, 0)) said
+
+-- an offer of a text, if the verb gives one in this form; else what the line alone says
+abbrev pub offer_or : {L : Type 0} → (NodeLine → L) → Option TextForm → Option L → Words → List (List ℕ) → Option (L × ℕ)
+offer_or line (Some form) said ws lines = option_map (λ o. (line (Offer o.0), o.1)) (text_offered form ws lines)
+offer_or line None said ws lines = stands_alone said
 
 abbrev pub node_line : List ℕ → Words → Option NodeLine
 node_line verb ws =

@@ -2,23 +2,21 @@
 -- Source: this project's own form.
 -- The code copies the text and the names into an entry of their own.
 use Rattle.std.specs.Prelude.{ℕ, ◌+◌, Bool, true, ◌&&◌, nat_lt, List, [], ◌∷◌, length, Option, Some, None, if◌then◌else◌}
-use Rattle.std.specs.List.{join_with_byte}
 use Rattle.library.specs.declared.charter.TheConstants.{MOST_NAMES}
 use Rattle.library.specs.declared.entry.Entry.TheVariants.{Text, Charter}
 use Rattle.library.specs.Charters.{is_rising}
 use Rattle.commands.specs.declared.offered.Offered.{Offered}
-use Rattle.commands.specs.declared.line_words.TheConstants.{SPACE}
+use Rattle.commands.specs.declared.text_form.TextForm.{TextForm}
 use Rattle.numbers.specs.Numbers.{number_of}
 use Rattle.commands.specs.LineWords.{◌>>=◌, Words, entry_at}
+use Rattle.commands.specs.Texts.{text_at}
 
--- K AUTHOR SERIAL TEXT: the text is all words after the serial, with the spaces between them
-abbrev pub text_offered : Words → Option Offered
-text_offered ws = do
+-- K AUTHOR SERIAL and a text, and how many of the lines that follow the text takes
+abbrev pub text_offered : TextForm → Words → List (List ℕ) → Option (Offered × ℕ)
+text_offered form ws lines = do
   e ← entry_at ws
-  Some (record {
-    node = (e.0).node;
-    entry = Text (record { author = (e.0).author; serial = (e.0).serial; text = join_with_byte SPACE e.1 });
-  })
+  t ← text_at form e.1 lines
+  Some (record { node = (e.0).node; entry = Text (record { author = (e.0).author; serial = (e.0).serial; text = t.0 }) }, t.1)
 
 -- the numbers that all these words are
 abbrev pub numbers_of : Words → Option (List ℕ)

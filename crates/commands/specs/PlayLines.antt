@@ -3,12 +3,12 @@
 -- The code takes the words one after another.
 use Rattle.std.specs.Prelude.{ℕ, List, codes, Option, Some, None, option_map, if◌then◌else◌}
 use Rattle.std.specs.Str.{bytes_eq}
-use Rattle.commands.specs.declared.node_line.NodeLine.TheVariants.{Offer}
 use Rattle.commands.specs.declared.play_line.PlayLine.{PlayLine}
 use Rattle.commands.specs.declared.play_line.PlayLine.TheVariants.{Node, Deliver, Apply, Show, Log, Export}
 use Rattle.commands.specs.LineWords.{Words, line_by, one_number, one_node}
-use Rattle.commands.specs.Offered.{text_offered}
-use Rattle.commands.specs.NodeLines.{node_line}
+use Rattle.commands.specs.declared.text_form.TextForm.{TextForm}
+use Rattle.commands.specs.declared.text_form.TextForm.TheVariants.{Rest, Lines, Bytes}
+use Rattle.commands.specs.NodeLines.{node_line, offer_or}
 
 -- the lines that `serve` does not have
 abbrev pub world_line : List ℕ → Words → Option PlayLine
@@ -24,10 +24,17 @@ abbrev pub or_node_line : Option PlayLine → List ℕ → Words → Option Play
 or_node_line (Some line) verb ws = Some line
 or_node_line None verb ws = option_map (λ l. Node l) (node_line verb ws)
 
-abbrev pub play_line_by : List ℕ → Words → Option PlayLine
-play_line_by verb ws =
-    if bytes_eq verb (codes "offer") then option_map (λ o. Node (Offer o)) (text_offered ws) else or_node_line (world_line verb ws) verb ws
+-- how a verb gives the text that it offers
+abbrev pub play_text_form : List ℕ → Option TextForm
+play_text_form verb =
+    if bytes_eq verb (codes "offer") then Some Rest else (
+    if bytes_eq verb (codes "offer-lines") then Some Lines else (
+    if bytes_eq verb (codes "offer-bytes") then Some Bytes else None))
 
--- what a line says to `play`
-abbrev pub play_line_of : List ℕ → Option PlayLine
-play_line_of line = line_by play_line_by line
+abbrev pub play_line_by : List (List ℕ) → List ℕ → Words → Option (PlayLine × ℕ)
+play_line_by lines verb ws =
+    offer_or (λ l. Node l) (play_text_form verb) (or_node_line (world_line verb ws) verb ws) ws lines
+
+-- what a line says to `play`, given the lines that follow, and how many of these it takes
+abbrev pub play_line_of : List ℕ → List (List ℕ) → Option (PlayLine × ℕ)
+play_line_of line lines = line_by (play_line_by lines) line

@@ -1,7 +1,7 @@
 -- The lines of a script, or the number of the first that is none of its command's.
 -- Source: this project's own form.
 -- The code stops at the first bad line, as here; out of memory may be answered in place of lines, never in place of a bad one.
-use Rattle.std.specs.Prelude.{◌≡◌, ℕ, ◌+◌, List, [], ◌∷◌, Option, Some, None, Result, Ok, Err, IsOk, IsSome, Vec}
+use Rattle.std.specs.Prelude.{◌≡◌, ℕ, zero, suc, ◌+◌, List, [], ◌∷◌, Option, Some, None, Result, Ok, Err, IsOk, IsSome, Vec}
 use Rattle.std.specs.declared.alloc.Global.{Global}
 use Rattle.commands.specs.declared.script.LineFault.{LineFault}
 use Rattle.commands.specs.declared.script.LineFault.TheVariants.{Bad, Memory as NoMemory}
@@ -9,6 +9,7 @@ use Rattle.commands.specs.declared.script.ScriptFault.{ScriptFault}
 use Rattle.commands.specs.declared.script.ScriptFault.TheVariants.{BadLine, Memory}
 use Rattle.commands.specs.declared.script.TheConstants.{LINE_FEED}
 use Rattle.commands.specs.Pieces.{split_at}
+use Rattle.commands.specs.Remaining.{Remaining, IsPast}
 
 -- what a parse of a line answers, if the line says this
 abbrev pub Parses : {A : Type 0} → Option A → Result A LineFault → Type 0
@@ -16,20 +17,32 @@ Parses said (Ok x) = said ≡ Some x
 Parses said (Err Bad) = said ≡ None
 Parses said (Err NoMemory) = IsSome said
 
--- a line, and the lines after it
-abbrev pub with_line : {L : Type 0} → ℕ → Option L → Result (List L) ℕ → Result (List L) ℕ
+-- what a parse of a line answers, if the line and those after it say this; it takes the lines of its text
+abbrev pub ParsesLine : {A : Type 0} → Option (A × ℕ) → Remaining → Remaining → Result A LineFault → Type 0
+ParsesLine {A = A} said old new (Ok x) = (count : ℕ) × (said ≡ Some (x, count)) × IsPast count old new
+ParsesLine {A = A} said old new (Err Bad) = said ≡ None
+ParsesLine {A = A} said old new (Err NoMemory) = (found : A × ℕ) × (said ≡ Some found) × IsPast found.1 old new
+
+-- a line, and what the lines after it say
+abbrev pub followed : {L : Type 0} → L → Result (List L) ℕ → Result (List L) ℕ
+followed line (Ok lines) = Ok (line ∷ lines)
+followed line (Err bad) = Err bad
+
+-- a line, and what those after it say once so many of them are taken as its text
+abbrev pub with_line : {L : Type 0} → ℕ → Option (L × ℕ) → (ℕ → Result (List L) ℕ) → Result (List L) ℕ
 with_line number None rest = Err number
-with_line number (Some line) (Ok lines) = Ok (line ∷ lines)
-with_line number (Some line) (Err bad) = Err bad
+with_line number (Some found) rest = followed found.0 (rest found.1)
 
--- what lines say that are numbered from this number; empty ones are skipped
-abbrev pub script_from : {L : Type 0} → (List ℕ → Option L) → ℕ → List (List ℕ) → Result (List L) ℕ
-script_from said number [] = Ok []
-script_from said number ([] ∷ lines) = script_from said (number + 1) lines
-script_from said number ((c ∷ cs) ∷ lines) = with_line number (said (c ∷ cs)) (script_from said (number + 1) lines)
+-- what lines say that are numbered from this number, the first so many of which are a text; empty lines are skipped
+abbrev pub script_from : {L : Type 0} → (List ℕ → List (List ℕ) → Option (L × ℕ)) → ℕ → ℕ → List (List ℕ) → Result (List L) ℕ
+script_from said number count [] = Ok []
+script_from said number (suc count) (line ∷ lines) = script_from said (number + 1) count lines
+script_from said number zero ([] ∷ lines) = script_from said (number + 1) zero lines
+script_from said number zero ((c ∷ cs) ∷ lines) =
+    with_line number (said (c ∷ cs) lines) (λ count. script_from said (number + 1) count lines)
 
-abbrev pub script_of : {L : Type 0} → (List ℕ → Option L) → List ℕ → Result (List L) ℕ
-script_of said script = script_from said 1 (split_at LINE_FEED script)
+abbrev pub script_of : {L : Type 0} → (List ℕ → List (List ℕ) → Option (L × ℕ)) → List ℕ → Result (List L) ℕ
+script_of said script = script_from said 1 0 (split_at LINE_FEED script)
 
 -- what a parse of a script answers, if the script says this
 abbrev pub ParsesScript : {L : Type 0} → Result (List L) ℕ → Result (Vec L Global) ScriptFault → Type 0

@@ -7,13 +7,15 @@
 //!
 //! Reading order: `request` (what a command line asks for), `weights` (numbers of a command line),
 //! `grammar` (its commands and options), `command_line`; `pieces` (a text between separators),
-//! `line_words` (the words of a line), `offered` (entries), `node_line`, `play_line` and
-//! `serve_line` (what a line asks for), `script` (all lines).
+//! `line_words` (the words of a line), `lines` (the lines of a script), `text_form` (a text on the
+//! line or on those that follow), `offered` (entries), `node_line`, `play_line` and `serve_line`
+//! (what a line asks for), `script` (all lines).
 #![tactic(auto)]
 
 mod command_line;
 mod grammar;
 mod line_words;
+mod lines;
 mod node_line;
 mod offered;
 mod pieces;
@@ -21,15 +23,17 @@ mod play_line;
 mod request;
 mod script;
 mod serve_line;
+mod text_form;
 mod weights;
 
 pub use command_line::parse_words;
 pub use grammar::VERSION_LINE;
 pub use line_words::EntryAt;
+pub use lines::Lines;
 pub use node_line::NodeLine;
 pub use offered::Offered;
 pub use play_line::PlayLine;
 pub use request::{ProofForm, ProofQuestion, Question, Request, WordsFault};
-pub use script::{Line, LineFault, ScriptFault, parse_script};
+pub use script::{LINE_FEED, Line, LineFault, ScriptFault, parse_script};
 pub use serve_line::ServeLine;
 pub use weights::{MOST_WORKERS, WorkerCount};

@@ -1,12 +1,14 @@
 //! Entries that a line offers at a node.
 ghost use Rattle.std.specs.Prelude.{◌≡◌, Some, None, MatchResult, is_some};
 ghost use Rattle.commands.specs.declared.script.LineFault.TheVariants.{Bad};
-ghost use Rattle.commands.specs.Scripts.{Parses};
+ghost use Rattle.commands.specs.Scripts.{Parses, ParsesLine};
 ghost use Rattle.commands.specs.Offered.{text_offered, charter_offered, names_of};
 ghost use Rattle.commands.specs.Offered.{numbers_of, rises};
 
 use crate::line_words::Words;
+use crate::lines::Lines;
 use crate::script::LineFault;
+use crate::text_form::{TextForm, take_text};
 use bytes::Bytes;
 use library::{Entry, MOST_NAMES, Names, Submission};
 use numbers::parse_number;
@@ -19,13 +21,19 @@ pub struct Offered {
     pub entry: Entry,
 }
 
-/// Parses `K AUTHOR SERIAL TEXT`. The text is all that follows the space after the serial, and may
-/// be empty.
-pub(crate) fn parse_text(alloc: Global, mut words: Words<'_>) -> Result<Offered, LineFault>
-    ensures { Parses (text_offered words.entry) result }
+/// Parses `K AUTHOR SERIAL` and a text in this form, and takes the lines that the text stands on.
+pub(crate) fn parse_text<'a>(
+    alloc: Global,
+    form: TextForm,
+    mut words: Words<'a>,
+    lines: &mut Lines<'a>,
+) -> Result<Offered, LineFault>
+    ensures { ParsesLine (text_offered form words.entry lines.old.lines)
+        lines.old lines.new result }
 {
     let at = words.entry().ok_or(LineFault::Bad)?;
-    let Ok(text) = Bytes::copy_from_slice(alloc, words.text()) else {
+    let text = take_text(form, words, lines).ok_or(LineFault::Bad)?;
+    let Ok(text) = Bytes::copy_from_slice(alloc, text) else {
         return Err(LineFault::Memory);
     };
     Ok(Offered {

@@ -34,9 +34,11 @@ impl<'a, const SEPARATOR: u8> Pieces<'a, SEPARATOR> {
         Pieces { rest: self.rest }
     }
 
-    /// Takes the next piece, which may be empty.
+    /// Takes the next piece, which may be empty. Returns `None` if none is left.
     pub fn take(&mut self) -> Option<&'a [u8]>
-        ensures { MatchOption result (self.old ≡ []) (λ piece. self.old ≡ piece.now ∷ self.new) }
+        ensures { MatchOption result
+            ((self.old ≡ []) × (self.new ≡ []))
+            (λ piece. self.old ≡ piece.now ∷ self.new) }
     {
         let (piece, rest) = cut(self.rest?, SEPARATOR);
         self.rest = rest;

@@ -1,18 +1,20 @@
 //! The lines of `play`.
 ghost use Rattle.std.specs.Prelude.{◌≡◌};
 ghost use Rattle.commands.specs.Scripts.{Parses};
-ghost use Rattle.commands.specs.PlayLines.{play_line_of, world_line};
+ghost use Rattle.commands.specs.PlayLines.{or_node_line, play_line_of, play_text_form, world_line};
 
 use crate::line_words::Words;
+use crate::lines::Lines;
 use crate::node_line::{NodeLine, parse_node_line};
 use crate::offered::parse_text;
 use crate::script::{Line, LineFault};
+use crate::text_form::TextForm;
 use std::alloc::Global;
 
 /// A line of a script of `play`.
 #[derive(Drop)]
 pub enum PlayLine {
-    /// A line for one node; `offer K AUTHOR SERIAL TEXT` offers a text.
+    /// A line for one node; `offer`, `offer-lines` and `offer-bytes` offer a text.
     Node(NodeLine),
     /// `deliver N`: a packet is delivered.
     Deliver { packet: u64 },
@@ -29,18 +31,46 @@ pub enum PlayLine {
 impl Line for PlayLine {
     ghost said = { play_line_of };
 
-    fn parse(alloc: Global, line: &[u8]) -> Result<PlayLine, LineFault> {
+    fn parse<'a>(
+        alloc: Global,
+        line: &'a [u8],
+        lines: &mut Lines<'a>,
+    ) -> Result<PlayLine, LineFault> {
         let mut words = Words::new(line);
         let verb = words.take().ok_or(LineFault::Bad)?;
-        if verb == b"offer".as_slice() {
-            let offered = parse_text(alloc, words)?;
-            return Ok(PlayLine::Node(NodeLine::Offer(offered)));
+        match text_form(verb) {
+            Some(form) => {
+                let offered = parse_text(alloc, form, words, lines)?;
+                Ok(PlayLine::Node(NodeLine::Offer(offered)))
+            }
+            None => parse_alone(alloc, verb, words),
         }
-        if let Some(line) = parse_world_line(verb, words.copy()) {
-            return Ok(line);
-        }
-        Ok(PlayLine::Node(parse_node_line(alloc, verb, words)?))
     }
+}
+
+/// Returns how a verb gives the text that it offers, if it does.
+fn text_form(verb: &[u8]) -> Option<TextForm>
+    ensures { result ≡ play_text_form verb.now }
+{
+    if verb == b"offer".as_slice() {
+        Some(TextForm::Rest)
+    } else if verb == b"offer-lines".as_slice() {
+        Some(TextForm::Lines)
+    } else if verb == b"offer-bytes".as_slice() {
+        Some(TextForm::Bytes)
+    } else {
+        None
+    }
+}
+
+/// Parses the words after a verb that offers no text.
+fn parse_alone(alloc: Global, verb: &[u8], words: Words<'_>) -> Result<PlayLine, LineFault>
+    ensures { Parses (or_node_line (world_line verb.now words.entry) verb.now words.entry) result }
+{
+    if let Some(line) = parse_world_line(verb, words.copy()) {
+        return Ok(line);
+    }
+    Ok(PlayLine::Node(parse_node_line(alloc, verb, words)?))
 }
 
 /// Parses the words after a verb that `serve` does not have.

@@ -1,8 +1,8 @@
 //! A script: the lines of one command.
 ghost use Rattle.std.specs.Prelude.{◌≡◌, ◌++◌, [], ◌∷◌, Option, IsTrue};
-ghost use Rattle.commands.specs.Scripts.{script_of, Parses, ParsesScript};
+ghost use Rattle.commands.specs.Scripts.{script_of, ParsesLine, ParsesScript};
 
-use crate::pieces::Pieces;
+use crate::lines::Lines;
 use std::alloc::Global;
 
 /// The byte that ends a line.
@@ -30,14 +30,16 @@ pub enum ScriptFault {
 pub trait Line: Sized + Drop {
     ghost use Rattle.std.specs.Prelude.{ℕ, List, Option};
 
-    /// The line that these bytes write, if they are a line of the command.
-    ghost said: { List ℕ → Option Self };
+    /// The line that these bytes write, if they are a line of the command, given the lines that
+    /// follow, and how many of those it takes as its text.
+    ghost said: { List ℕ → List (List ℕ) → Option (Self × ℕ) };
 
-    /// Parses the bytes between two line feeds.
+    /// Parses the bytes between two line feeds, and takes the lines of its text.
     ///
-    /// Errors: `Bad` if they are no line of the command; else `Memory` if an allocation fails.
-    fn parse(alloc: Global, line: &[u8]) -> Result<Self, LineFault>
-        ensures { Parses (said line.now) result };
+    /// Errors: `Bad` if they are no line of the command, or the end of its text is missing; else
+    /// `Memory` if an allocation fails.
+    fn parse<'a>(alloc: Global, line: &'a [u8], lines: &mut Lines<'a>) -> Result<Self, LineFault>
+        ensures { ParsesLine (said line.now lines.old.lines) lines.old lines.new result };
 }
 
 /// Parses the lines of a script. Each ends with a line feed, which the last may lack; empty ones
@@ -48,16 +50,15 @@ pub trait Line: Sized + Drop {
 pub fn parse_script<L: Line>(alloc: Global, script: &[u8]) -> Result<Vec<L>, ScriptFault>
     ensures { ParsesScript (script_of L.said script.now) result }
 {
-    let mut rest = Pieces::<LINE_FEED>::new(script);
+    let mut rest = Lines::new(script);
     let mut lines = Vec::new(alloc);
-    let mut number = 0usize;
     let mut is_out_of_memory = false;
     while let Some(line) = rest.take() {
-        number += 1;
         if line.is_empty() {
             continue;
         }
-        match L::parse(alloc, line) {
+        let number = rest.number();
+        match L::parse(alloc, line, &mut rest) {
             Ok(line) => is_out_of_memory |= !is_pushed(&mut lines, line),
             Err(LineFault::Bad) => return Err(ScriptFault::BadLine { number }),
             Err(LineFault::Memory) => is_out_of_memory = true,

@@ -1,6 +1,6 @@
 use Rattle.std.proofs.Common.{arith, length, ◌<◌}
 use Rattle.std.proofs.lemmas.Bool.Decides.{nat_tests}
-use Rattle.commands.proofs.ScriptsLemmas.{is_read_none, is_read_added, is_read_without_memory}
+use Rattle.commands.proofs.ScriptsLemmas.{is_read_none, is_read_parsed, is_read_unparsed}
 use Rattle.commands.proofs.script.parse_script.Goals as goal
 
 pub loop-line-init : goal.loop-line-init
@@ -9,9 +9,11 @@ loop-line-init g c = is_read_none g.L.Line.said c.args.script.now c.new-lines.re
 pub loop-line-preserved-in-Ok : goal.loop-line-preserved-in-Ok
 loop-line-preserved-in-Ok g c =
     let some : 0 < length c.in-Some.line.now = grind (arith, nat_tests) in
-    is_read_added c.loop-line.invariant c.in-Some.line.now c.take.new.self c.in-Some.ensures c.in-Ok.line c.is_pushed.new.lines.items c.is_pushed.result some c.in-Ok.ensures c.is_pushed.ensures
+    is_read_parsed c.loop-line.invariant c.in-Some.line.now c.take.new.self c.in-Some.ensures.0 c.in-Some.ensures.1
+    c.parse.new.lines some c.in-Ok.line c.is_pushed.new.lines.items c.is_pushed.result c.in-Ok.ensures c.is_pushed.ensures
 
 pub loop-line-preserved : goal.loop-line-preserved
 loop-line-preserved g c =
     let some : 0 < length c.in-Some.line.now = grind (arith, nat_tests) in
-    is_read_without_memory c.loop-line.invariant c.in-Some.line.now c.take.new.self c.in-Some.ensures c.in-Err-Memory.field-0 some c.in-Err-Memory.ensures c.in-Err-Memory.field-0-is
+    is_read_unparsed c.loop-line.invariant c.in-Some.line.now c.take.new.self c.in-Some.ensures.0 c.in-Some.ensures.1
+    c.parse.new.lines some c.in-Err-Memory.field-0 c.in-Err-Memory.ensures c.in-Err-Memory.field-0-is

@@ -3,7 +3,7 @@ use Rattle.commands.proofs.ScriptsLemmas.{IsRead}
 use Rattle.commands.proofs.script.parse_script.Given as goal
 
 abbrev pub decreases-loop-line : goal.decreases-loop-line
-decreases-loop-line g l = length l.rest
+decreases-loop-line g l = length l.rest.lines
 
 abbrev pub invariant-loop-line : goal.invariant-loop-line
-invariant-loop-line g l = IsRead g.L.Line.said l.script l.lines.items l.is_out_of_memory l.number l.rest
+invariant-loop-line g l = IsRead g.L.Line.said l.script l.lines.items l.is_out_of_memory l.rest

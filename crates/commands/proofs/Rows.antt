@@ -1,0 +1,59 @@
+-- Scripts with texts of several lines.
+use Rattle.std.specs.Prelude.{◌≡◌, ℕ, List, [], ◌∷◌, codes, Ok, Err, refl}
+use Rattle.library.specs.declared.entry.Entry.TheVariants.{Text}
+use Rattle.commands.specs.declared.node_line.NodeLine.{NodeLine}
+use Rattle.commands.specs.declared.node_line.NodeLine.TheVariants.{Offer, Begin}
+use Rattle.commands.specs.declared.play_line.PlayLine.TheVariants.{Node}
+use Rattle.commands.specs.declared.serve_line.ServeLine.TheVariants.{Node as ServeNode}
+use Rattle.commands.specs.Scripts.{script_of}
+use Rattle.commands.specs.PlayLines.{play_line_of}
+use Rattle.commands.specs.ServeLines.{serve_line_of}
+
+-- the offer of a text at node 1, by author 7 as number 3
+abbrev offers : List ℕ → NodeLine
+offers text = Offer (record { node = 1; entry = Text (record { author = 7; serial = 3; text = text }) })
+
+-- the lines up to the word, with empty ones, and the line after it
+lines : script_of play_line_of (codes "offer-lines 1 7 3 END\n$( a\n\nEND\nbegin 0\n") ≡ Ok (Node (offers (codes "$( a\n\n")) ∷ Node (Begin 0) ∷ [])
+lines = refl
+
+-- the word at once, at the end of the script
+no_lines : script_of serve_line_of (codes "submit-lines 1 7 3 END\nEND") ≡ Ok (ServeNode (offers []) ∷ [])
+no_lines = refl
+
+-- so many bytes, among them a line feed
+bytes : script_of play_line_of (codes "offer-bytes 1 7 3 3\na\nb\nbegin 0") ≡ Ok (Node (offers (codes "a\nb")) ∷ Node (Begin 0) ∷ [])
+bytes = refl
+
+no_bytes : script_of serve_line_of (codes "submit-bytes 1 7 3 0\n\n") ≡ Ok (ServeNode (offers []) ∷ [])
+no_bytes = refl
+
+-- a missing end is a bad line where the text is offered
+no_end : script_of play_line_of (codes "begin 0\noffer-lines 1 7 3 END\na\n") ≡ Err 2
+no_end = refl
+
+no_word : script_of play_line_of (codes "offer-lines 1 7 3\n\n") ≡ Err 1
+no_word = refl
+
+-- so are a number of bytes that are not there, or that no line feed follows
+too_many : script_of serve_line_of (codes "\nsubmit-bytes 1 7 3 9\na\n") ≡ Err 2
+too_many = refl
+
+no_line_feed : script_of play_line_of (codes "offer-bytes 1 7 3 1\nab\n") ≡ Err 1
+no_line_feed = refl
+
+at_the_end : script_of play_line_of (codes "offer-bytes 1 7 3 2\nab") ≡ Err 1
+at_the_end = refl
+
+no_number : script_of play_line_of (codes "offer-bytes 1 7 3 x\nab\n") ≡ Err 1
+no_number = refl
+
+too_great : script_of play_line_of (codes "offer-bytes 1 7 3 18446744073709551616\nab\n") ≡ Err 1
+too_great = refl
+
+-- the lines of a text are counted
+after_a_text : script_of play_line_of (codes "offer-lines 1 7 3 E\na\nE\nbad\n") ≡ Err 4
+after_a_text = refl
+
+after_bytes : script_of serve_line_of (codes "submit-bytes 1 7 3 3\na\nb\nbad\n") ≡ Err 4
+after_bytes = refl

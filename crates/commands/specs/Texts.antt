@@ -1,0 +1,42 @@
+-- The texts that lines offer, and how many of the lines that follow each text takes.
+-- Source: this project's own form.
+-- The code takes one line after another, or goes so many bytes ahead; here a text is told from all lines that follow.
+use Rattle.std.specs.Prelude.{ℕ, ◌+◌, ◌==◌, List, [], ◌∷◌, ◌++◌, take, slice_index, count_by, Option, Some, None, option_map, if◌then◌else◌}
+use Rattle.std.specs.List.{join_with_byte}
+use Rattle.std.specs.Str.{bytes_eq}
+use Rattle.commands.specs.declared.line_words.TheConstants.{SPACE}
+use Rattle.commands.specs.declared.script.TheConstants.{LINE_FEED}
+use Rattle.commands.specs.declared.text_form.TextForm.{TextForm}
+use Rattle.commands.specs.declared.text_form.TextForm.TheVariants.{Rest, Lines, Bytes}
+use Rattle.commands.specs.LineWords.{◌>>=◌, Words, alone, one_number}
+
+-- the lines before the first that is the word alone, each with its line feed; the text takes that line too
+abbrev pub lines_before : List ℕ → List (List ℕ) → Option (List ℕ × ℕ)
+lines_before word [] = None
+lines_before word (line ∷ lines) =
+    if bytes_eq line word then Some ([], 1) else option_map (λ t. (line ++ LINE_FEED ∷ t.0, t.1 + 1)) (lines_before word lines)
+
+-- the first bytes, if a line feed follows them; they take the lines that end in them, and the one that they end in
+abbrev pub first_bytes : ℕ → List ℕ → Option (List ℕ × ℕ)
+first_bytes n bytes =
+    if slice_index bytes n == LINE_FEED then Some (take n bytes, count_by (λ b. b == LINE_FEED) (take n bytes) + 1) else None
+
+-- so many bytes of the lines, if a line feed follows them
+abbrev pub bytes_before : ℕ → List (List ℕ) → Option (List ℕ × ℕ)
+bytes_before n lines = first_bytes n (join_with_byte LINE_FEED lines)
+
+-- a word that alone is left
+abbrev pub one_word : Words → Option (List ℕ)
+one_word [] = None
+one_word ([] ∷ ws) = None
+one_word ((c ∷ cs) ∷ ws) = alone (c ∷ cs, ws)
+
+-- the text that the words give in this form, given the lines that follow
+abbrev pub text_at : TextForm → Words → List (List ℕ) → Option (List ℕ × ℕ)
+text_at Rest ws lines = Some (join_with_byte SPACE ws, 0)
+text_at Lines ws lines = do
+  word ← one_word ws
+  lines_before word lines
+text_at Bytes ws lines = do
+  n ← one_number ws
+  bytes_before n lines

@@ -1,0 +1,139 @@
+//! The forms in which a line gives a text.
+ghost use Rattle.std.specs.Prelude.{◌≡◌, ℕ, ◌==◌, ◌≤◌, Some, None, MatchOption, length, drop};
+ghost use Rattle.std.specs.Prelude.{count_by, option_map, slice_index, IsTrue, ◌<◌};
+ghost use Rattle.commands.specs.Pieces.{split_at};
+ghost use Rattle.commands.specs.Remaining.{IsPast};
+ghost use Rattle.commands.specs.Texts.{bytes_before, lines_before, one_word, text_at};
+
+use crate::line_words::Words;
+use crate::lines::Lines;
+use crate::pieces::Pieces;
+use crate::script::LINE_FEED;
+
+/// How a line gives the text that it offers.
+#[derive(Clone, Copy, Debug, PartialEq, Eq)]
+pub enum TextForm {
+    /// All that is left of the line.
+    Rest,
+    /// The lines that follow, each with its line feed, up to the first that is a given word alone.
+    Lines,
+    /// A given number of bytes that follow the line, and then a line feed.
+    Bytes,
+}
+
+/// Returns the text that the words give, and takes the lines that it stands on. Returns `None` if
+/// the words give no text in this form, or its end is missing.
+pub(crate) fn take_text<'a>(
+    form: TextForm,
+    words: Words<'a>,
+    lines: &mut Lines<'a>,
+) -> Option<&'a [u8]>
+    ensures { MatchOption result
+        (text_at form words.entry lines.old.lines ≡ None)
+        (λ text. (count : ℕ)
+        × (text_at form words.entry lines.old.lines ≡ Some (text.now, count))
+        × IsPast count lines.old lines.new) }
+{
+    match form {
+        TextForm::Rest => Some(words.text()),
+        TextForm::Lines => lines.take_lines(only_word(words)?),
+        TextForm::Bytes => lines.take_bytes(words.only_number()?),
+    }
+}
+
+/// Returns the one word that is left, if it is not empty.
+fn only_word<'a>(mut words: Words<'a>) -> Option<&'a [u8]>
+    ensures { option_map (λ word. word.now) result ≡ one_word words.entry }
+{
+    let word = words.take()?;
+    if word.is_empty() || words.take().is_some() {
+        return None;
+    }
+    Some(word)
+}
+
+/// A text that is taken, and how many lines it takes.
+#[derive(Clone, Copy, Debug)]
+pub(crate) struct Taken<'a> {
+    pub text: &'a [u8],
+    pub count: usize,
+}
+
+impl<'a> Pieces<'a, LINE_FEED> {
+    /// Takes the lines up to the first that is the word, and returns those before it, each with its
+    /// line feed. Returns `None` if there is no such line.
+    pub fn take_until(&mut self, word: &[u8]) -> Option<Taken<'a>>
+        ensures text { MatchOption result
+            (lines_before word.now self.old ≡ None)
+            (λ t. lines_before word.now self.old ≡ Some (t.text.now, t.count)) }
+        ensures rest { MatchOption result
+            (length self.new ≤ length self.old)
+            (λ t. (t.count ≤ length self.old) × (self.new ≡ drop t.count self.old)) }
+    {
+        let (taken, rest) = lines_until(self.rest?, word)?;
+        *self = rest;
+        Some(taken)
+    }
+
+    /// Takes so many bytes, and the line feed that follows them. Returns `None` if none follows.
+    pub fn take_bytes(&mut self, count: u64) -> Option<Taken<'a>>
+        ensures text { MatchOption result
+            (bytes_before count self.old ≡ None)
+            (λ t. bytes_before count self.old ≡ Some (t.text.now, t.count)) }
+        ensures rest { MatchOption result
+            (self.new ≡ self.old)
+            (λ t. (t.count ≤ length self.old) × (self.new ≡ drop t.count self.old)) }
+    {
+        let all = self.rest?;
+        let len = count as usize;
+        if is_line_feed_at(all, len) {
+            self.rest = Some(&all[len + 1..]);
+            let text = &all[..len];
+            return Some(Taken {
+                text,
+                count: line_feeds(text) + 1,
+            });
+        }
+        None
+    }
+}
+
+/// Returns the lines before the first that is the word, and those after it. Returns `None` if there
+/// is no such line.
+fn lines_until<'a>(all: &'a [u8], word: &[u8]) -> Option<(Taken<'a>, Pieces<'a, LINE_FEED>)>
+    ensures { MatchOption result
+        (lines_before word.now (split_at LINE_FEED all.now) ≡ None)
+        (λ found. (lines_before word.now (split_at LINE_FEED all.now)
+        ≡ Some (found.0.text.now, found.0.count))
+        × (found.0.count ≤ length (split_at LINE_FEED all.now))
+        × (found.1 ≡ drop found.0.count (split_at LINE_FEED all.now))) }
+{
+    let mut lines: Pieces<'a, LINE_FEED> = Pieces::new(all);
+    let mut len = 0usize;
+    let mut count = 0usize;
+    while let Some(line) = lines.take() {
+        count += 1;
+        if line == word {
+            let text = &all[..len];
+            return Some((Taken { text, count }, lines));
+        }
+        len += line.len() + 1;
+    }
+    None
+}
+
+/// Tells whether a line feed stands at this place.
+#[tactic(auto, using(std::proofs::lemmas::List::get_or_past))]
+fn is_line_feed_at(bytes: &[u8], place: usize) -> bool
+    ensures feed { result ≡ (slice_index bytes.now place == LINE_FEED) }
+    ensures inside { IsTrue result → place < length bytes.now }
+{
+    place < bytes.len() && bytes[place] == LINE_FEED
+}
+
+/// Counts the line feeds of a text.
+pub(crate) fn line_feeds(text: &[u8]) -> usize
+    ensures { result ≡ count_by (λ b. b == LINE_FEED) text.now }
+{
+    text.iter().filter(|byte| **byte == LINE_FEED).count()
+}

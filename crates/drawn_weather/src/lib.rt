@@ -1,0 +1,64 @@
+//! A weather that a generator of random numbers draws, so that a run in bad weather can be made
+//! again from its seed.
+//!
+//! Agreement holds in any weather, so no clause says which fates are drawn.
+#![tactic(auto)]
+
+use nodes::{Fate, Weather};
+use rand_core::utils::NextWord;
+use rand_pcg::Pcg32;
+
+/// Of so many words, one draws each fate that is not `Pass`: together one hint in four.
+const FATES: u32 = 12;
+
+/// A weather that loses, repeats or delays one hint in four, as a generator draws.
+#[derive(Drop)]
+pub struct DrawnWeather {
+    generator: Pcg32,
+}
+
+impl DrawnWeather {
+    /// Makes the weather of a node. Weathers of one seed and one node draw the same fates; each
+    /// node has a stream of its own.
+    pub fn new(seed: u64, node: u8) -> DrawnWeather {
+        DrawnWeather {
+            generator: Pcg32::new(seed, u64::from(node)),
+        }
+    }
+}
+
+impl Weather for DrawnWeather {
+    fn turn(&mut self, _number: u64) -> Fate {
+        match self.generator.next_word() % FATES {
+            0 => Fate::Drop,
+            1 => Fate::Twice,
+            2 => Fate::Later,
+            _ => Fate::Pass,
+        }
+    }
+}
+
+#[cfg(test)]
+mod tests {
+    use super::DrawnWeather;
+    use nodes::{Fate, Weather};
+
+    #[test]
+    fn draws_each_fate(rt: HostRuntime) {
+        let mut weather = DrawnWeather::new(7, 0);
+        let mut lost = false;
+        let mut repeated = false;
+        let mut delayed = false;
+        let mut passed = 0u32;
+        for number in 0..1200u64 {
+            match weather.turn(number) {
+                Fate::Pass => passed = passed.saturating_add(1),
+                Fate::Drop => lost = true,
+                Fate::Twice => repeated = true,
+                Fate::Later => delayed = true,
+            }
+        }
+        assert!(rt; lost && repeated && delayed);
+        assert!(rt; passed > 800 && passed < 1000);
+    }
+}

@@ -1,0 +1,5 @@
+mod DecimalLemmas
+mod WordsLemmas
+mod LinesLemmas
+mod EventsLemmas
+mod Rows

@@ -1,0 +1,37 @@
+-- The lines of small events.
+use Rattle.std.specs.Prelude.{◌≡◌, [], ◌∷◌, codes, decimal, refl}
+use Rattle.std.proofs.Common.{arith}
+use Rattle.std.proofs.lemmas.Fmt.{decimal_digit}
+use Rattle.library.specs.declared.entry.Entry.TheVariants.{Text, Charter}
+use Rattle.net.specs.declared.event.Event.TheVariants.{Offer, Begin, Deliver, Restart}
+use Rattle.event_lines.specs.EventLines.{event_text}
+
+one : decimal 1 ≡ codes "1"
+one = decimal_digit 1 (omega arith)
+
+three : decimal 3 ≡ codes "3"
+three = decimal_digit 3 (omega arith)
+
+seven : decimal 7 ≡ codes "7"
+seven = decimal_digit 7 (omega arith)
+
+-- a text on its line
+offer : event_text (Offer 1 (record { 0 = Text (record { author = 7; serial = 3; text = codes "$c a $." }) })) ≡ codes "offer 1 7 3 $c a $.\n"
+offer = rw (one, seven, three) refl
+
+-- a text with a line feed, of three bytes
+offer_bytes : event_text (Offer 1 (record { 0 = Text (record { author = 7; serial = 3; text = codes "a\nb" }) })) ≡ codes "offer-bytes 1 7 3 3\na\nb\n"
+offer_bytes = rw (one, seven, three) refl
+
+-- a charter
+charter : event_text (Offer 1 (record { 0 = Charter 7 3 (1 ∷ 7 ∷ []) })) ≡ codes "charter 1 7 3 1 7\n"
+charter = rw (one, seven, three) refl
+
+begin : event_text (Begin 3) ≡ codes "begin 3\n"
+begin = rw three refl
+
+deliver : event_text (Deliver 7) ≡ codes "deliver 7\n"
+deliver = rw seven refl
+
+restart : event_text (Restart 1) ≡ codes "restart 1\n"
+restart = rw one refl

@@ -1,0 +1,10 @@
+use Rattle.std.proofs.Common.{◌≡◌, ◌∙◌, ap, arith, map, Ok, take, length}
+use Rattle.std.proofs.lemmas.List.{take_all}
+use Rattle.event_lines.specs.EventLines.{line_of}
+use Rattle.event_lines.proofs.EventsLemmas.{written_parses}
+use Rattle.event_lines.proofs.events.event_lines.Goals as goal
+
+pub returns-clause-parses : goal.returns-clause-parses
+returns-clause-parses c =
+    written_parses (take c.loop-event.event-index c.args.events.now) c.loop-event.text.items c.loop-event.invariant
+    ∙ ap (λ es. Ok (map line_of es)) (take_all c.loop-event.event-index c.args.events.now (omega arith))

@@ -1,0 +1,86 @@
+//! Events as lines.
+ghost use Rattle.std.specs.Prelude.{◌≡◌, ◌++◌, ◌^◌, ◌<◌, ◌==◌, Ok, count_by, map, IfOk, OnOk};
+ghost use Rattle.commands.specs.PlayLines.{play_line_of};
+ghost use Rattle.commands.specs.Scripts.{script_of};
+ghost use Rattle.commands.specs.declared.script.TheConstants.{LINE_FEED};
+ghost use Rattle.event_lines.specs.EventLines.{Fits, events_text, event_text, history_text};
+ghost use Rattle.event_lines.specs.EventLines.{line_of, number_line};
+
+use crate::entries::push_offer;
+use commands::LINE_FEED;
+use net::Event;
+use numbers::push_number;
+use std::alloc::{AllocError, Global};
+use world::Carried;
+
+/// Returns the lines of `play` that make the events again: an event is one line, and the offer of a
+/// text with a line feed is `offer-bytes` with the bytes of the text.
+///
+/// Errors: an allocation fails. Cost: the size of the lines.
+pub fn event_lines(alloc: Global, events: &[Event<Carried>]) -> Result<Vec<u8>, AllocError>
+    ensures text { IfOk result (λ text. text.items ≡ events_text events.now) }
+    ensures parses { IfOk result
+        (λ text. script_of play_line_of text.items ≡ Ok (map line_of events.now)) }
+{
+    let mut text = Vec::new(alloc);
+    for event in events {
+        push_event(&mut text, event)?;
+    }
+    Ok(text)
+}
+
+/// Appends the count of the lines of the events, and these lines.
+///
+/// Errors: an allocation fails. Cost: the size of the lines.
+pub fn push_events(
+    alloc: Global,
+    text: &mut Vec<u8>,
+    events: &[Event<Carried>],
+) -> Result<(), AllocError>
+    ensures { OnOk result (text.new.items ≡ text.old.items ++ history_text events.now) }
+{
+    let lines = event_lines(alloc, events)?;
+    text.extend_from_slice(b"events ")?;
+    push_number(text, line_feeds(lines.as_slice()) as u64)?;
+    text.extend_from_slice(b"\n")?;
+    text.extend_from_slice(lines.as_slice())
+}
+
+/// Counts the line feeds of a text.
+fn line_feeds(text: &[u8]) -> usize
+    ensures { result ≡ count_by (λ b. b == LINE_FEED) text.now }
+{
+    text.iter().filter(|byte| **byte == LINE_FEED).count()
+}
+
+/// Appends the lines of an event.
+fn push_event(text: &mut Vec<u8>, event: &Event<Carried>) -> Result<(), AllocError>
+    ensures text { OnOk result (text.new.items ≡ text.old.items ++ event_text event.now) }
+    ensures fits { OnOk result (Fits event.now) }
+{
+    match event {
+        Event::Offer(node, Carried(entry)) => push_offer(text, *node, entry),
+        Event::Begin(node) => push_node_line(text, b"begin", *node),
+        Event::Deliver(number) => push_number_line(text, b"deliver", *number),
+        Event::Restart(node) => push_node_line(text, b"restart", *node),
+    }
+}
+
+/// Appends a verb and the number of a node.
+fn push_node_line(text: &mut Vec<u8>, verb: &[u8], node: u8) -> Result<(), AllocError>
+    ensures text { OnOk result (text.new.items ≡ text.old.items ++ number_line verb.now node) }
+    ensures fits { node < 256 }
+{
+    push_number_line(text, verb, u64::from(node))
+}
+
+/// Appends a verb and a number.
+fn push_number_line(text: &mut Vec<u8>, verb: &[u8], number: u64) -> Result<(), AllocError>
+    ensures text { OnOk result (text.new.items ≡ text.old.items ++ number_line verb.now number) }
+    ensures fits { number < 2 ^ 64 }
+{
+    text.extend_from_slice(verb)?;
+    text.extend_from_slice(b" ")?;
+    push_number(text, number)?;
+    text.extend_from_slice(b"\n")
+}
