@@ -8,6 +8,7 @@ use crate::groups::Groups;
 use crate::head::{Background, EntryRef, Head};
 use crate::layout::{Layout, assertion_layout, counts, lay};
 use crate::parts::AssertionParts;
+use crate::room::give_back;
 use crate::statement_record::StatementRecord;
 use std::alloc::{AllocError, Global};
 use std::marker::Model;
@@ -187,6 +188,16 @@ impl Entries {
             self.records.truncate(len);
             self.backgrounds.truncate(len);
         }
+    }
+
+    /// Gives back the room of statements that were removed, where it is more than that of those that are there.
+    pub fn shrink(&mut self)
+        ensures { self.new ≡ self.old }
+    {
+        give_back(&mut self.records);
+        give_back(&mut self.backgrounds);
+        give_back(&mut self.numbers);
+        give_back(&mut self.groups);
     }
 }
 

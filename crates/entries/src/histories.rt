@@ -4,6 +4,7 @@ ghost use Rattle.{entries.specs.Histories.AreKeptUntil, entries.specs.Histories.
 
 use crate::history::History;
 use crate::position_stack::PositionStack;
+use crate::room::give_back;
 use std::alloc::{AllocError, Global};
 use std::marker::Model;
 
@@ -96,6 +97,17 @@ impl Histories {
         }
     }
 
+    /// Gives back the room of versions that were removed, and of the numbers from `count` on that have none.
+    ///
+    /// Cost: how many numbers from `count` on have no version.
+    pub fn shrink(&mut self, count: usize)
+        ensures { AreSame self.old self.new }
+    {
+        narrow(&mut self.histories, count);
+        give_back(&mut self.histories);
+        give_back(&mut self.log);
+    }
+
     /// Returns the stack of a number as it was at `at`.
     ///
     /// Cost: a binary search.
@@ -106,6 +118,19 @@ impl Histories {
             Some(history) => history.stack(at),
             None => PositionStack::empty(),
         }
+    }
+}
+
+/// Removes the last histories as long as they are empty and there are more than `count`.
+fn narrow(histories: &mut Vec<History>, count: usize)
+    ensures same { AreSame histories.old.items histories.new.items }
+{
+    while histories.len() > count {
+        let last = histories.len() - 1;
+        if !histories[last].is_empty() {
+            return;
+        }
+        histories.truncate(last);
     }
 }
 

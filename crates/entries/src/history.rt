@@ -1,10 +1,11 @@
 //! The versions of one stack of positions.
-ghost use Rattle.std.specs.Prelude.{◌≡◌, ◌∷◌, ◌++◌, [], length, false, nat_lt, if◌then◌else◌, OnOk, OnErr, IfOk, List};
+ghost use Rattle.std.specs.Prelude.{◌≡◌, ◌∷◌, ◌++◌, [], length, false, nat_lt, if◌then◌else◌, OnOk, OnErr, IfOk, IsTrue, List};
 ghost use Rattle.std.specs.List.Sorted.{IsNonDecreasingBy};
 ghost use Rattle.{entries.specs.Histories.StackVersion, entries.specs.Histories.IsUntil, entries.specs.Histories.is_changed, entries.specs.Histories.pushed, entries.specs.Histories.gone_back, entries.specs.Histories.stack_at, entries.specs.Stored.Versions.IsFound, entries.specs.Stored.Versions.AreVersions, entries.specs.Stored.Versions.stack_of, entries.specs.Stored.Versions.versions_of};
 
 use crate::buffer_part::{item, place};
 use crate::position_stack::PositionStack;
+use crate::room::give_back;
 use std::alloc::{AllocError, Global};
 use std::marker::Model;
 
@@ -100,7 +101,8 @@ impl History {
         Ok(())
     }
 
-    /// Takes the last version away, if it is so since a position after `last`. Returns whether it was.
+    /// Takes the last version away, if it is so since a position after `last`, and gives back its room if little is left.
+    /// Returns whether it was.
     pub fn pop_after(&mut self, last: u32) -> bool
         ensures { (front : List StackVersion) → (v : StackVersion) → self.old ≡ front ++ v ∷ [] → (result ≡ nat_lt last v.since) × (self.new ≡ (if nat_lt last v.since then front else self.old)) }
     {
@@ -111,7 +113,15 @@ impl History {
             return false;
         }
         self.versions.truncate(self.versions.len() - 1);
+        give_back(&mut self.versions);
         true
+    }
+
+    /// Returns whether there are no versions.
+    pub fn is_empty(&self) -> bool
+        ensures { IsTrue result → self.now ≡ [] }
+    {
+        self.versions.is_empty()
     }
 
     /// Returns the stack that was valid at `at`.

@@ -3,7 +3,7 @@
 //! `Entries` is seen as a list of statements, each with plain lists for its parts; inside, the parts of all stand in a few
 //! buffers. The crate above says which names the numbers stand for. Reading order: `kind`, `links`, `head`, `buffer_part`,
 //! `groups`, `cited_parts`, `parts`; `layout`, `statement_record`, `entries`; `symbol_places`, `long_expressions`;
-//! `history`, `position_stack`, `histories`, `position_sets`.
+//! `history`, `position_stack`, `histories`, `position_sets`; `room`.
 #![tactic(auto)]
 
 pub mod buffer_part;
@@ -20,6 +20,7 @@ mod long_expressions;
 mod parts;
 mod position_sets;
 mod position_stack;
+mod room;
 mod statement_record;
 mod symbol_places;
 
@@ -35,4 +36,5 @@ pub use long_expressions::LongExpressions;
 pub use parts::AssertionParts;
 pub use position_sets::PositionSets;
 pub use position_stack::PositionStack;
+pub use room::give_back;
 pub use symbol_places::SymbolPlaces;

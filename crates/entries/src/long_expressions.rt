@@ -3,6 +3,7 @@ ghost use Rattle.std.specs.Prelude.{◌≡◌, ◌<◌, ◌++◌, ◌∷◌, [],
 ghost use Rattle.std.specs.{List.All, List.filter, Map.lookup};
 ghost use Rattle.entries.specs.SymbolPlaces.{ArePlacesOf};
 
+use crate::room::give_back;
 use crate::symbol_places::SymbolPlaces;
 use std::alloc::{AllocError, Global};
 use std::marker::Model;
@@ -82,5 +83,13 @@ impl LongExpressions {
         };
         self.indexes.truncate(kept);
         self.places.truncate(kept);
+    }
+
+    /// Gives back the room of expressions that were removed, where it is more than that of those that are there.
+    pub fn shrink(&mut self)
+        ensures { self.new ≡ self.old }
+    {
+        give_back(&mut self.indexes);
+        give_back(&mut self.places);
     }
 }

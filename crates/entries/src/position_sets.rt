@@ -5,6 +5,7 @@ ghost use Rattle.entries.specs.Stored.PositionSets.{IsTop, joined, set_of};
 ghost use Rattle.entries.specs.Stored.Spans.{Extends};
 
 use crate::buffer_part::{item, place};
+use crate::room::give_back;
 use std::alloc::{AllocError, Global};
 use std::cmp::Ordering;
 use std::marker::Model;
@@ -191,6 +192,13 @@ impl PositionSets {
         ensures { self.new ≡ take (max 1 size) self.old }
     {
         self.nodes.truncate(size.saturating_sub(1));
+    }
+
+    /// Gives back the room of sets that were removed, where it is more than that of those that are there.
+    pub fn shrink(&mut self)
+        ensures { self.new ≡ self.old }
+    {
+        give_back(&mut self.nodes);
     }
 
     /// Returns the node of a set that is not empty.

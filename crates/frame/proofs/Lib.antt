@@ -44,4 +44,5 @@ pub mod LabelLemmas
 pub mod PositionLemmas
 pub mod LongExpressionLemmas
 pub mod PairSearchLemmas
+pub mod ShrunkStorage
 mod Rows

@@ -1,7 +1,7 @@
 //! Appends a statement to the storage, or nothing, or truncates it to the first statements.
 ghost use Rattle.std.specs.Prelude.{true, ◌≡◌, ◌++◌, ◌∷◌, [], Some, OnOk, OnErr, take, length, slice_get, ◌+◌, IfSome, IfErr};
 ghost use Rattle.frame.specs.Stored.GivenSets.{AreFrames};
-ghost use Rattle.{names.specs.Codes.with_names, scope.specs.Active.bare, scope.specs.Legal.IsLegal, scope.specs.Legal.broken_rule, scope.specs.Stored.Noted.AreNoted, scope.specs.Symbols.AreVariableNumbers, scope.specs.Symbols.symbols_after, scope.specs.Symbols.symbols_by, scope.specs.Symbols.symbols_in, scope.specs.Symbols.symbols_of, entries.specs.Entries.Entry, entries.specs.Histories.AreKeptUntil, entries.specs.Stored.Spans.Extends, frame.specs.Stored.Whole.AreStored, frame.specs.Stored.Counts.IsBehind, frame.specs.Stored.EntryMeanings.labels_in, frame.specs.Stored.EntryMeanings.names_in, frame.specs.Stored.EntryMeanings.statements_of};
+ghost use Rattle.{names.specs.Codes.with_names, scope.specs.Active.bare, scope.specs.Legal.IsLegal, scope.specs.Legal.broken_rule, scope.specs.Stored.Noted.AreNoted, scope.specs.Symbols.AreVariableNumbers, scope.specs.Symbols.symbols_after, scope.specs.Symbols.symbols_by, scope.specs.Symbols.symbols_in, scope.specs.Symbols.symbols_of, entries.specs.Entries.Entry, entries.specs.Histories.AreKeptUntil, entries.specs.Histories.AreSame, entries.specs.Stored.Spans.Extends, frame.specs.Stored.Whole.AreStored, frame.specs.Stored.Counts.IsBehind, frame.specs.Stored.EntryMeanings.labels_in, frame.specs.Stored.EntryMeanings.names_in, frame.specs.Stored.EntryMeanings.statements_of};
 
 use crate::declare::{
     declare, declare_next, declared, links_after, note_end, note_replaced, take_away,
@@ -15,7 +15,7 @@ use crate::stacks::{NextStatement, note_active};
 use crate::storage::Stock;
 use crate::symbol_numbers::find_numbers;
 use entries::buffer_part::place;
-use entries::{Background, Head};
+use entries::{Background, Head, give_back};
 use mm_read::Stmt;
 use scope::{Noted, Rule, Rules, Scope, Steps};
 use std::alloc::{AllocError, Global};
@@ -177,6 +177,31 @@ fn roll_back(stock: &mut Stock, names: usize, replaced: usize)
     stock.variables.truncate(last);
 }
 
+/// Gives back the room of what was removed from the storage, where it is more than that of what is there.
+///
+/// Cost: that of `Numbering::shrink`, and the symbols that were removed.
+fn shrink_lists(alloc: Global, stock: &mut Stock)
+    ensures numbering { stock.new.numbering ≡ stock.old.numbering }
+    ensures positions { stock.new.positions.items ≡ stock.old.positions.items }
+    ensures symbols { stock.new.symbols.items ≡ stock.old.symbols.items }
+    ensures replaced { stock.new.replaced.items ≡ stock.old.replaced.items }
+    ensures ends { stock.new.ends.items ≡ stock.old.ends.items }
+    ensures entries { stock.new.entries ≡ stock.old.entries }
+    ensures disjoints { AreSame stock.old.disjoints stock.new.disjoints }
+    ensures variables { AreSame stock.old.variables stock.new.variables }
+    ensures links { stock.new.links ≡ stock.old.links }
+{
+    stock.numbering.shrink(alloc);
+    give_back(&mut stock.positions);
+    give_back(&mut stock.symbols);
+    give_back(&mut stock.replaced);
+    give_back(&mut stock.ends);
+    stock.entries.shrink();
+    let symbols = stock.numbering.symbol_count();
+    stock.disjoints.shrink(symbols);
+    stock.variables.shrink(symbols);
+}
+
 impl Frames {
     /// Appends the statement that the scope accepts next.
     ///
@@ -257,5 +282,17 @@ impl Frames {
     {
         cut(&mut self.stock, len);
         self.given.truncate(len);
+    }
+
+    /// Gives back the room of statements that were removed, where it is more than that of those that are there.
+    ///
+    /// Cost: a constant; where room is given back, what is there, which is less than what was removed.
+    pub fn shrink(&mut self)
+        ensures { self.new ≡ self.old }
+    {
+        shrink_lists(self.alloc, &mut self.stock);
+        self.given.shrink();
+        self.draft = Gathered::new(self.alloc);
+        self.noted = Noted::new(self.alloc);
     }
 }

@@ -12,7 +12,7 @@ use crate::at_position::links_at;
 use crate::mandatory::{MANY, add_essentials, given_count, order};
 use crate::storage::Stock;
 use entries::buffer_part::item;
-use entries::{Kind, PositionSets};
+use entries::{Kind, PositionSets, give_back};
 use std::alloc::{AllocError, Global};
 
 /// The set that one statement keeps.
@@ -169,6 +169,15 @@ impl GivenSets {
             self.sets.truncate(first.before as usize);
             self.kept.truncate(len);
         }
+    }
+
+    /// Gives back the room of sets that were removed, where it is more than that of those that are there.
+    pub fn shrink(&mut self)
+        ensures sets { self.new.sets ≡ self.old.sets }
+        ensures kept { self.new.kept.items ≡ self.old.kept.items }
+    {
+        self.sets.shrink();
+        give_back(&mut self.kept);
     }
 }
 

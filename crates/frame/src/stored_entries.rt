@@ -134,6 +134,14 @@ impl StoredEntries {
         self.list.truncate(len);
         self.long.truncate(len);
     }
+
+    /// Gives back the room of statements that were removed, where it is more than that of those that are there.
+    pub fn shrink(&mut self)
+        ensures { self.new ≡ self.old }
+    {
+        self.list.shrink();
+        self.long.shrink();
+    }
 }
 
 /// Returns whether a statement has an expression in which images may be put, and a long one.

@@ -12,6 +12,7 @@ ghost use Rattle.scope.specs.Legal.{first_broken};
 use crate::adding::{Added, StepCounts, Tables};
 use crate::unproved::{Proofs, least_unproved};
 use crate::verdict::Cause;
+use entries::give_back;
 use frame::Frames;
 use mm_read::Stmt;
 use proof_code::is_unfinished;
@@ -91,7 +92,8 @@ impl CheckedDatabase {
     /// Adds the statements whole, where they are good after those that are there; else returns why they are not.
     ///
     /// Errors: an allocation fails; nothing is added then. Cost: that of the statements added, two steps each at most. To
-    /// mark the statements that are there, and to go back to them, does not allocate.
+    /// mark the statements that are there, and to go back to them, does not allocate. The room that only statements needed
+    /// which are not added is given back, if smaller blocks can be allocated.
     pub(crate) fn extend<
         E: Fn(&[Stmt], &mut Tables, &mut StepCounts, &mut Checkers) -> Added,
         F: Fn(&Proofs<'_>, &mut Checkers) -> Result<Option<usize>, AllocError>,
@@ -125,6 +127,9 @@ impl CheckedDatabase {
         tables.rules.back();
         tables.frames.shorten(front);
         self.statements.truncate(front);
+        tables.rules.shrink();
+        tables.frames.shrink();
+        give_back(&mut self.statements);
         found
     }
 }

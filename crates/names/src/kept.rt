@@ -10,6 +10,7 @@ ghost use Rattle.names.specs.declared.keys.TheConstants.{APART};
 use crate::keys::{APART, key};
 use crate::overflow::Overflow;
 use crate::texts::Texts;
+use entries::give_back;
 use std::alloc::{AllocError, Global};
 
 /// The key of each name that stands in the table, and `APART` for one that stands in the overflow. Entries after
@@ -88,6 +89,17 @@ impl Kept {
         self.overflow.insert(alloc, name, number as u32)?;
         self.keys[number] = APART;
         Ok(())
+    }
+
+    /// Keeps the first `count` keys, and gives back the room of the others, where it is more than that of these.
+    pub(crate) fn shrink(&mut self, count: usize)
+        requires { count ≤ length self.old.keys.items }
+        ensures overflow { self.new.overflow ≡ self.old.overflow }
+        ensures same { (k : ℕ) → k < count → get_or self.new.keys.items k 0 ≡ get_or self.old.keys.items k 0 }
+        ensures count { count ≤ length self.new.keys.items }
+    {
+        self.keys.truncate(count);
+        give_back(&mut self.keys);
     }
 
     /// Forgets the names from a number on.

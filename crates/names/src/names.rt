@@ -5,7 +5,7 @@ ghost use Rattle.names.specs.Codes.{name_at, code_of, AreDistinct};
 
 use crate::kept::Kept;
 use crate::keys::{APART, key};
-use crate::table::{NO_NAME, Slot, free_place, make_slot, search, table};
+use crate::table::{FIRST_SLOTS, NO_NAME, Slot, free_place, make_slot, search, table};
 use crate::texts::Texts;
 use std::alloc::{AllocError, Global};
 use std::marker::Model;
@@ -152,9 +152,17 @@ impl NameTable {
         ensures { self.new ≡ self.old }
     {
         if self.taken.saturating_add(more) > self.slots.len() / 8 * 7 {
-            self.slots = table(alloc, &self.texts, &mut self.kept, more)?;
-            self.taken = self.texts.len();
+            self.renew(alloc, more)?;
         }
+        Ok(())
+    }
+
+    /// Makes a new table, with room for as many names again, and for `more`.
+    fn renew(&mut self, alloc: Global, more: usize) -> Result<(), AllocError>
+        ensures { self.new ≡ self.old }
+    {
+        self.slots = table(alloc, &self.texts, &mut self.kept, more)?;
+        self.taken = self.texts.len();
         Ok(())
     }
 
@@ -167,5 +175,19 @@ impl NameTable {
         }
         self.kept.truncate(&self.texts, len);
         self.texts.truncate(len);
+    }
+
+    /// Gives back the room of names that were removed, where it is more than that of those that are there. Makes a new table
+    /// if there are more than eight slots for each name; if that allocation fails, the table stays.
+    ///
+    /// Cost: a constant; where room is given back, the names that are there, which are fewer than those that were removed.
+    pub fn shrink(&mut self, alloc: Global)
+        ensures { self.new ≡ self.old }
+    {
+        self.texts.shrink();
+        self.kept.shrink(self.texts.len());
+        if self.slots.len() / 8 > self.texts.len().max(FIRST_SLOTS) {
+            let _ = self.renew(alloc, 0);
+        }
     }
 }

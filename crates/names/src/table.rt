@@ -21,7 +21,7 @@ pub(crate) const NO_NAME: u32 = 4294967295;
 pub(crate) const REACH: usize = 32;
 
 /// How many slots the first table has.
-const FIRST_SLOTS: usize = 16;
+pub(crate) const FIRST_SLOTS: usize = 16;
 
 /// So many numbers fit into half a key.
 const HALVES: u64 = 0x1_0000_0000;

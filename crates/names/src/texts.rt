@@ -3,6 +3,7 @@ ghost use Rattle.std.specs.Prelude.{◌≡◌, ◌+◌, ◌<◌, ◌≤◌, [], 
 ghost use Rattle.names.specs.Codes.{name_at};
 ghost use Rattle.names.specs.Stored.Texts.{cut, start_of, AreLaid};
 
+use entries::give_back;
 use std::alloc::{AllocError, Global};
 use std::marker::Model;
 
@@ -91,6 +92,14 @@ impl Texts {
             self.bytes.truncate(from);
             self.ends.truncate(len);
         }
+    }
+
+    /// Gives back the room of texts that were removed, where it is more than that of those that are there.
+    pub(crate) fn shrink(&mut self)
+        ensures { self.new ≡ self.old }
+    {
+        give_back(&mut self.bytes);
+        give_back(&mut self.ends);
     }
 }
 

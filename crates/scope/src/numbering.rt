@@ -3,6 +3,7 @@ ghost use Rattle.std.specs.Prelude.{◌≡◌, ℕ, ◌+◌, ◌-◌, ◌<◌, �
 ghost use Rattle.names.specs.Codes.{name_at};
 ghost use Rattle.scope.specs.Kinds.{declared_symbols, declared_labels, names_as, kind_in, is_symbol_kind, is_labelling, IsNumberOf};
 
+use entries::give_back;
 use names::NameTable;
 use std::alloc::{AllocError, Global};
 use std::marker::Model;
@@ -177,6 +178,18 @@ impl Numbering {
         self.entries.truncate(len);
         self.symbols.truncate(before);
         self.labels.truncate(len - before);
+    }
+
+    /// Gives back the room of names that were removed, where it is more than that of those that are there.
+    ///
+    /// Cost: that of `NameTable::shrink`.
+    pub fn shrink(&mut self, alloc: Global)
+        ensures { self.new ≡ self.old }
+    {
+        self.names.shrink(alloc);
+        give_back(&mut self.entries);
+        give_back(&mut self.symbols);
+        give_back(&mut self.labels);
     }
 }
 

@@ -18,6 +18,7 @@ use crate::numbering::Numbering;
 use crate::rule::Rule;
 use crate::stack::Stack;
 use crate::stack_heights::StackHeights;
+use entries::give_back;
 use mm_read::Stmt;
 use std::alloc::{AllocError, Global};
 use std::marker::Model;
@@ -89,6 +90,15 @@ impl Rules {
         self.standing = self.mark.standing;
         self.blocks.clear();
         self.accepted = History::same(&self.marked);
+    }
+
+    /// Gives back the room of stacks and blocks that were removed, where it is more than that of those that are there.
+    pub fn shrink(&mut self)
+        ensures { self.new ≡ self.old }
+    {
+        self.variables.shrink();
+        self.typed.shrink();
+        give_back(&mut self.blocks);
     }
 
     /// Returns the same statements, marked there.

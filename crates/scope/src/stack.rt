@@ -2,6 +2,7 @@
 ghost use Rattle.std.specs.Prelude.{◌≡◌, ◌≢◌, ℕ, [], ◌∷◌, ◌++◌, ◌==◌, false, take, length, slice_get, is_some, Some, IfOk, IfSome, OnOk, OnErr};
 ghost use Rattle.std.specs.List.{list_any};
 
+use entries::give_back;
 use std::alloc::{AllocError, Global};
 use std::marker::Model;
 
@@ -92,6 +93,14 @@ impl Stack {
         ensures { self.new ≡ take len self.old }
     {
         self.numbers.truncate(len);
+    }
+
+    /// Gives back the room of numbers that were removed, where it is more than that of those that are there. The places
+    /// stay.
+    pub fn shrink(&mut self)
+        ensures { self.new ≡ self.old }
+    {
+        give_back(&mut self.numbers);
     }
 }
 

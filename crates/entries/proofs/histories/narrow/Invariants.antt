@@ -1,0 +1,9 @@
+use Rattle.std.proofs.Common.{length}
+use Rattle.entries.specs.Histories.{AreSame}
+use Rattle.entries.proofs.histories.narrow.Given as goal
+
+abbrev pub invariant-loop-histories : goal.invariant-loop-histories
+invariant-loop-histories l = AreSame l.fn.histories.items l.histories.items
+
+abbrev pub decreases-loop-histories : goal.decreases-loop-histories
+decreases-loop-histories l = length l.histories.items

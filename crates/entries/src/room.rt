@@ -1,0 +1,15 @@
+//! Gives back the room of items that were removed from a list.
+ghost use Rattle.std.specs.Prelude.{◌≡◌};
+
+/// Shrinks a list to room for twice its items if it has room for more than four times as many. Keeps its room if no smaller
+/// block can be allocated.
+///
+/// Cost: the list's length, which is less than the number of items that were removed, or of those that it grew by; so
+/// removing a few items of many copies nothing.
+pub fn give_back<T>(list: &mut Vec<T>)
+    ensures { list.new.items ≡ list.old.items }
+{
+    if list.capacity() / 4 > list.len() {
+        list.shrink_to(list.len().saturating_mul(2));
+    }
+}
