@@ -1,9 +1,0 @@
-use Rattle.std.proofs.Common.{◌≡◌}
-use Rattle.verify_pool.specs.Jobs.{AreJobs}
-use Rattle.proof_tests.proofs.worker_counts.push_each.Given as goal
-
-abbrev pub invariant-loop-stmt : goal.invariant-loop-stmt
-invariant-loop-stmt l = record {
-  same : l.scope.statements ≡ l.frames.statements;
-  jobs : AreJobs l.frames.statements l.jobs.items;
-}

@@ -1,0 +1,91 @@
+//! If an allocation fails nothing is decided, and the same text submitted again has its verdict: run with each allocation refused
+//! in turn.
+use crate::text_entries::{entry, of_new, verdict_on};
+use crate::library_workers::by_workers;
+use bytes::Bytes;
+use library::{Cause, Library, Verdict};
+use scope::Rule;
+use std::alloc::Global;
+use verify_pool::OpenGate;
+
+/// A text that is refused at its last statement.
+const REFUSED: &[u8] = b"$c |- $. p $a |- $. p $a |- $.";
+
+const GOOD: &[u8] = b"$c |- $. p $a |- $.";
+
+/// Texts one after another, each with its serial, its verdict and how many statements stand then.
+const ROWS: [(u64, &[u8], Verdict, usize); 2] = [
+    (
+        1,
+        REFUSED,
+        Verdict::Refused(Cause::Rule {
+            statement: 3,
+            rule: Rule::G4,
+        }),
+        0,
+    ),
+    (2, GOOD, Verdict::Added, 2),
+];
+
+#[test]
+fn whole_or_nothing_after_a_failed_allocation(rt: HostRuntime) {
+    assert!(rt; decides_each(rt.alloc()));
+}
+
+fn decides_each(alloc: Global) -> bool {
+    of_new(alloc, |library| decides_rows(alloc, library))
+}
+
+/// Returns whether each text has its verdict, and so many statements stand then.
+fn decides_rows(alloc: Global, library: &mut Library) -> bool {
+    for (serial, text, verdict, count) in ROWS {
+        if !is_decided(alloc, library, serial, text, verdict)
+            || library.statements().len() != count
+        {
+            return false;
+        }
+    }
+    true
+}
+
+/// Returns whether this is the verdict on the text. If an allocation fails, nothing may be decided, and the call is repeated.
+fn is_decided(
+    alloc: Global,
+    library: &mut Library,
+    serial: u64,
+    text: &[u8],
+    want: Verdict,
+) -> bool {
+    let before = library.statements().len();
+    match verdict_of(alloc, library, serial, text) {
+        Some(verdict) => verdict == want,
+        None => {
+            library.status(1, serial).is_none()
+                && library.statements().len() == before
+                && verdict_of(alloc, library, serial, text) == Some(want)
+        }
+    }
+}
+
+/// Returns the verdict on the text; nothing if memory runs out.
+fn verdict_of(alloc: Global, library: &mut Library, serial: u64, text: &[u8]) -> Option<Verdict> {
+    let entry = entry(serial, Bytes::copy_from_slice(alloc, text).ok()?);
+    verdict_on(library, &entry)
+}
+
+/// The book's first example.
+const BOOK: &[u8] =
+    b"$c 0 + = -> ( ) term wff |- $. $v t r s P Q $. tt $f term t $. tr $f term r $. \
+    ts $f term s $. wp $f wff P $. wq $f wff Q $. tze $a term 0 $. tpl $a term ( t + r ) $. \
+    weq $a wff t = r $. wim $a wff ( P -> Q ) $. a1 $a |- ( t = r -> ( t = s -> r = s ) ) $. \
+    a2 $a |- ( t + 0 ) = t $. ${ min $e |- P $. maj $e |- ( P -> Q ) $. mp $a |- Q $. $} \
+    th1 $p |- t = t $= ( tze tpl weq a2 wim a1 mp ) ABCZADZAADZAEZJJKFLIAAGHH $.";
+
+#[test]
+fn two_workers_after_a_failed_allocation(rt: HostRuntime) {
+    let mut verdict = by_workers(&rt, rt.alloc(), 2, BOOK, &OpenGate);
+    if verdict.is_none() {
+        verdict = by_workers(&rt, rt.alloc(), 2, BOOK, &OpenGate);
+    }
+    assert!(rt; verdict == Some(Verdict::Added));
+}

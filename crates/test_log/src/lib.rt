@@ -1,0 +1,16 @@
+//! Tests from a submission to all replicas of what no row can say: slots and one node over plain numbers at their limits, keeps
+//! that fail at each of their calls, a gap in the log that each cell fills, and an application after a failed allocation.
+#![tactic(auto)]
+
+#[cfg(test)]
+mod failing_keeps;
+#[cfg(test)]
+mod fuse;
+#[cfg(test)]
+mod gap;
+#[cfg(test)]
+mod node_limits;
+#[cfg(test)]
+mod slot_entries;
+#[cfg(test)]
+mod worlds;
