@@ -1,0 +1,80 @@
+//! A library that takes two submissions, and three nodes that agree on one (see docs/EMBEDDING.md).
+#![tactic(auto)]
+
+use anyhow::Result;
+use bytes::Bytes;
+use cluster::{MemoryKeep, apply_on, begin_on, cells, compare_on, deliver_on, offer_on, take_on};
+use explanation::{DatabaseFault, explain_refusal};
+use library::{Cause, Entry, Library, Submission, Verdict};
+use std::alloc::Global;
+use synod::Weights;
+
+/// A text that is added: modus ponens, and a theorem by it.
+const GOOD: &[u8] = b"$c wff |- ( ) -> $. $v p q $. wp $f wff p $. wq $f wff q $.
+wi $a wff ( p -> q ) $. ${ min $e |- p $. maj $e |- ( p -> q ) $. mp $a |- q $. $}
+${ a $e |- p $. b $e |- ( p -> q ) $. th $p |- q $= wp wq a b mp $. $}";
+
+/// A text that is refused: its proof has the hypotheses in the wrong order.
+const WRONG: &[u8] = b"${ c $e |- p $. d $e |- ( p -> q ) $. two $p |- q $= wp wq d c mp $. $}";
+
+fn main(rt: HostRuntime) -> Result<()> {
+    apply_two(&rt)?;
+    agree_on_one(&rt)
+}
+
+/// Makes an entry of a text by author 7.
+fn entry(alloc: Global, serial: u64, text: &[u8]) -> Result<Entry> {
+    Ok(Entry::Text(Submission {
+        author: 7,
+        serial,
+        text: Bytes::copy_from_slice(alloc, text)?,
+    }))
+}
+
+/// Applies two submissions; prints their verdicts, why one is refused, and a theorem's axioms.
+fn apply_two(rt: &HostRuntime) -> Result<()> {
+    let mut library = Library::new(rt.alloc());
+    for (serial, text) in [(1, GOOD), (2, WRONG)] {
+        let verdict = library.apply(Some(&entry(rt.alloc(), serial, text)?))?;
+        println!(rt; "submission {serial}: {verdict:?}")?;
+        if let Verdict::Refused(Cause::Proof { statement }) = verdict {
+            let mut whole = library.export()?;
+            whole.extend_from_slice(text)?;
+            let statement = library.statements().len().saturating_add(statement);
+            let fault = DatabaseFault::Proof { statement };
+            let lines = explain_refusal(rt.alloc(), whole.as_slice(), fault)?;
+            print!(rt; "{}", str::from_utf8(lines.as_slice())?)?;
+        }
+    }
+    if let Ok(labels) = library.trace(b"th") {
+        for label in labels.iter() {
+            println!(rt; "th rests on {}", str::from_utf8(label.as_bytes())?)?;
+        }
+    }
+    Ok(())
+}
+
+/// Has three nodes agree on one entry and apply it; compares the libraries of the first and last.
+fn agree_on_one(rt: &HostRuntime) -> Result<()> {
+    let alloc = rt.alloc();
+    let (one, two) = (MemoryKeep::new(alloc), MemoryKeep::new(alloc));
+    let keeps = vec![in alloc; one, two, MemoryKeep::new(alloc)]?;
+    let (mut switch, mut cells) = cells(alloc, Weights::equal(3), keeps)?;
+    offer_on(&mut switch, 0, entry(alloc, 1, GOOD)?)?;
+    let mut posted = begin_on(&mut switch, 0)?;
+    for packet in 0..100 {
+        if packet < posted {
+            posted = deliver_on(&mut switch, packet)?;
+        }
+    }
+    for cell in cells.iter_mut() {
+        take_on(cell, &switch)?;
+        println!(rt; "node {}: {:?}", cell.at(), apply_on(cell)?)?;
+    }
+    if let [first, _, last] = cells.as_slice() {
+        if cluster::belongs(first, &switch) && cluster::belongs(last, &switch) {
+            println!(rt; "nodes 0 and 2: {:?}", compare_on(first, last, &switch))?;
+        }
+    }
+    Ok(())
+}
