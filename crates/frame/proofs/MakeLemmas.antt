@@ -1,6 +1,6 @@
 -- Making the parts of an assertion: the loops' steps.
 use Rattle.frame.proofs.Words.{sym, ◌∙◌, ap, subst, arith, append_assoc, append-nil, ◌≡◌, ℕ, zero, suc, ◌+◌, ◌-◌, ◌<◌, ◌≤◌, Bool, true, false, cond, List, [], ◌∷◌, ◌++◌, length, map, filter, reverse, get_or, slice_range, refl, is_typed, noted_in, list_any, ◌==◌, filter-append, length-append, map-append, reverse-append, slice_get_within, Stmt, cut, AreSpansIn, range-behind, extends-refl, cut-more, cut-push, spans-push, Entry, typed, symbols_at, has_two, groups_by, AreHypotheses}
-use Rattle.indexmap.proofs.ReorderLemmas.{map-reverse}
+use Rattle.std.proofs.lemmas.List.{map_push}
 use Rattle.entries.specs.declared.buffer_part.BufferPart.{BufferPart}
 use Rattle.entries.specs.declared.cited_parts.Hypothesis.{Hypothesis}
 
@@ -12,6 +12,12 @@ hypothesis-at es (p ∷ ps) zero h l = let above = h.0.1 in let b = slice_get_wi
 hypothesis-at es (p ∷ ps) (suc k) h l = hypothesis-at es ps k h.1 (omega (arith, l))
 
 -- ---- the groups, from the last `$d` back
+
+map-reverse : {X Y : Type 0} (f : X → Y) (xs : List X) → map f (reverse xs) ≡ reverse (map f xs)
+map-reverse f [] = refl
+map-reverse f (x ∷ xs) =
+    ap (map f) (reverse-append (x ∷ []) xs) ∙ map_push f (reverse xs) x ∙ ap (λ l. l ++ f x ∷ []) (map-reverse f xs)
+    ∙ sym (reverse-append (f x ∷ []) (map f xs))
 
 -- those recorded are those of the `$f`
 pub noted-typed : (ns : List ℕ) (hs : List Hypothesis) → ((c : ℕ) → list_any (λ n. n == c) ns ≡ is_typed hs c) → (codes : List ℕ) → noted_in ns codes ≡ typed hs codes
