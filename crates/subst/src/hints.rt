@@ -1,4 +1,6 @@
 //! Guesses of where something stands in a list.
+ghost use Rattle.std.specs.Prelude.{◌<◌, ◌^◌};
+
 use std::alloc::{AllocError, Global};
 
 /// Guesses by number of where something stands in a list. A guess may be wrong: the list itself tells. So guesses are never
@@ -28,12 +30,26 @@ impl Hints {
     /// Keeps a guess for a number.
     ///
     /// Cost: constant; linear in the number if the table is too short.
+    #[inline(always)]
     pub(crate) fn set(&mut self, number: u32, guess: usize) -> Result<(), AllocError> {
-        let number = number as usize;
-        if number >= self.guesses.len() {
-            self.guesses.resize(2 * number + 64, 0)?;
+        let guess = u32::try_from(guess).unwrap_or(0);
+        match self.guesses.get_mut(number as usize) {
+            Some(place) => {
+                *place = guess;
+                Ok(())
+            }
+            None => self.add(number as usize, guess),
         }
-        self.guesses[number] = u32::try_from(guess).unwrap_or(0);
+    }
+
+    /// Keeps a guess for a number beyond the table, which grows.
+    #[cold]
+    #[inline(never)]
+    fn add(&mut self, number: usize, guess: u32) -> Result<(), AllocError>
+        requires { number < 2 ^ 32 }
+    {
+        self.guesses.resize(2 * number + 64, 0)?;
+        self.guesses[number] = guess;
         Ok(())
     }
 }

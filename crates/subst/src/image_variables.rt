@@ -1,5 +1,5 @@
 //! The variables of images, each image read once.
-ghost use Rattle.std.specs.Prelude.{◌≡◌, ◌<◌, ◌≤◌, [], length, slice_range, take, IfOk, IfSome, OnOk};
+ghost use Rattle.std.specs.Prelude.{◌≡◌, ◌<◌, ◌≤◌, ◌++◌, [], length, slice_range, take, IfOk, IfSome, OnErr, OnOk};
 ghost use Rattle.std.specs.List.{Contains};
 ghost use Rattle.frame.specs.Below.{AreBelow};
 ghost use Rattle.frame.specs.Substitution.{code_image};
@@ -239,7 +239,7 @@ impl ImageVariables {
         ensures appended { IfOk result (Appends self.old self.new) }
     {
         let start = self.words.len();
-        self.words.extend_from_slice(self.list.as_slice())?;
+        append_words(&mut self.words, self.list.as_slice())?;
         let end = self.words.len();
         Ok(WordRange { start, end })
     }
@@ -355,4 +355,19 @@ impl ImageVariables {
         self.kept = words.end;
         Ok(())
     }
+}
+
+/// Appends words, mostly one.
+///
+/// Errors: an allocation fails; the words are as before.
+#[inline(always)]
+fn append_words(words: &mut Vec<PlaceWord>, more: &[PlaceWord]) -> Result<(), AllocError>
+    ensures ok { OnOk result (words.new.items ≡ words.old.items ++ more.now) }
+    ensures err { OnErr result (words.new.items ≡ words.old.items) }
+{
+    if let [word] = more {
+        words.push(*word)?;
+        return Ok(());
+    }
+    words.extend_from_slice(more)
 }

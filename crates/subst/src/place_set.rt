@@ -75,6 +75,7 @@ impl PlaceSet {
     }
 
     /// Adds a word of which none stands there yet.
+    #[inline(always)]
     fn add_new(&mut self, word: PlaceWord) -> Result<(), AllocError>
         ensures { OnOk result (self.new ≡ self.old ++ word ∷ []) }
     {

@@ -95,14 +95,7 @@ impl Checker {
         let parts = items.parts();
         self.note_size(parts.numbers.len());
         fill_table(frames, at, parts.labels, &mut self.table)?;
-        run(
-            frames,
-            at,
-            None,
-            &self.table,
-            parts.numbers,
-            &mut self.buffers,
-        )
+        run_listed(frames, at, &self.table, parts.numbers, &mut self.buffers)
     }
 
     /// Returns whether the tokens write a right proof of the `$p` at that position.
@@ -145,7 +138,7 @@ impl Checker {
             return Ok(Answer::Wrong);
         }
         let numbers = self.reader.numbers();
-        run(frames, at, None, &self.table, numbers, &mut self.buffers)
+        run_listed(frames, at, &self.table, numbers, &mut self.buffers)
     }
 
     /// Returns whether the tokens write a right proof, in compressed form, of the `$p` at that position, whose mandatory
@@ -195,6 +188,26 @@ pub fn check(alloc: Global, frames: &Frames, at: usize, items: &Items) -> Result
     ensures { IfOk result (λ answer. Says answer (IsRight frames.now.statements at items.now)) }
 {
     Checker::new(alloc).check(frames, at, items)
+}
+
+/// Returns whether the items with these numbers, over a table of the meanings of the labels, are a right proof of the `$p` at
+/// that position.
+///
+/// Errors: an allocation fails.
+#[inline(never)]
+fn run_listed(
+    frames: &Frames,
+    at: usize,
+    table: &[LabelEntry],
+    numbers: &[u32],
+    buffers: &mut Buffers,
+) -> Result<Answer, AllocError>
+    requires provable { (s : Statement) × IsProvable frames.now.statements at s }
+    requires entries { (labels : List Name) × AreEntries frames.now.statements at labels table.now }
+    ensures { (labels : List Name) → AreEntries frames.now.statements at labels table.now
+        → IfOk result (λ answer. Says answer (IsRight frames.now.statements at (items_of labels numbers.now))) }
+{
+    run(frames, at, None, table, numbers, buffers)
 }
 
 /// Returns whether the items with these numbers, over the mandatory hypotheses that are viewed and a table of the meanings of

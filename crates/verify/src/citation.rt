@@ -58,14 +58,13 @@ fn cite_parts(
     let Some(front) = results.read_images(cited.heads, &cited.hypotheses)? else {
         return Ok(false);
     };
-    let fit = results.fits(claim.frames, &cited.hypotheses, front, remaining)?;
-    if !fit {
+    if !results.fits(claim.frames, &cited.hypotheses, front, remaining) {
         return Ok(false);
     }
     if !results.are_disjoint(&claim.pairs, &cited.groups)? {
         return Ok(false);
     }
-    let conclusion = results.shortened(claim.frames, position, cited.conclusion, remaining)?;
+    let conclusion = results.shortened(claim.frames, position, cited.conclusion, remaining);
     results.apply(&claim.pairs, count, conclusion)
 }
 

@@ -99,6 +99,7 @@ pub enum Mandatory<'a> {
 }
 
 /// Returns whether the entry is one of the mandatory hypotheses.
+#[inline(always)]
 fn is_mandatory(entry: LabelEntry, mandatory: Mandatory<'_>) -> bool
     requires { IsNonDecreasing (positions_in mandatory) }
     ensures { result ≡ is_hypothesis_among (positions_in mandatory.entry) entry }
@@ -113,6 +114,7 @@ fn is_mandatory(entry: LabelEntry, mandatory: Mandatory<'_>) -> bool
 }
 
 /// Returns whether the entry is one of these hypotheses.
+#[inline(always)]
 fn is_among(entry: LabelEntry, hypotheses: &[u32]) -> bool
     requires { IsNonDecreasing hypotheses.now }
     ensures { result ≡ is_hypothesis_among hypotheses.now entry }
@@ -130,6 +132,7 @@ fn is_among(entry: LabelEntry, hypotheses: &[u32]) -> bool
 /// hypothesis.
 ///
 /// Errors: an allocation fails. Cost: that of looking each label up.
+#[inline(always)]
 pub fn add_listed(
     frames: &Frames,
     at: usize,

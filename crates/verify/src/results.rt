@@ -201,7 +201,7 @@ impl Results {
     /// Returns whether the last results are the expressions of the `$e`, before which `front` `$f` stand, with the images
     /// put in. Results for `$f` are not looked at.
     ///
-    /// Errors: an allocation fails. Cost: the symbols that agree; for each long `$e` that of `shortened`.
+    /// Cost: the symbols that agree; for each long `$e` that of `shortened`.
     #[inline(always)]
     pub fn fits(
         &self,
@@ -209,32 +209,33 @@ impl Results {
         hypotheses: &Hypotheses<'_>,
         front: usize,
         remaining: &mut Remaining,
-    ) -> Result<bool, AllocError>
+    ) -> bool
         requires front { AreFront hypotheses.now front }
         requires legal { AreLegal frames.now.statements frames.now.names }
         requires standing { AreStanding frames.now.statements hypotheses.now }
         requires count { length hypotheses.now ≤ length self.now.results.stack }
         requires over { AreOver frames.now.names self.now.images }
         requires named { AllBelow (length frames.now.names) self.now.results.stack }
-        ensures { IfOk result (λ ok. IsTrue ok ↔ DoFit frames.now.statements (images_of_names frames.now.names self.now.images) hypotheses.now (map (decode frames.now.names) (top (length hypotheses.now) self.now.results.stack))) }
+        ensures { IsTrue result ↔ DoFit frames.now.statements (images_of_names frames.now.names self.now.images) hypotheses.now (map (decode frames.now.names) (top (length hypotheses.now) self.now.results.stack)) }
     {
         let places = &self.stack[self.stack.len() - hypotheses.len()..];
         for k in front..hypotheses.len() {
             if let Hypothesis::Essential(position) = hypotheses.get(k) {
                 let whole = frames.expr(position as usize);
-                let expr = self.shortened(frames, position as usize, whole, remaining)?;
+                let expr = self.shortened(frames, position as usize, whole, remaining);
                 if !self.symbols.matches(&self.images, expr, places[k]) {
-                    return Ok(false);
+                    return false;
                 }
             }
         }
-        Ok(true)
+        true
     }
 
     /// Returns the symbols of the expression of the statement at a position whose images are not empty, if the expression
-    /// is long and these are few; else the expression. With the images put in, both give the same.
+    /// is long and these are few; else the expression, and also if an allocation fails. With the images put in, both give the
+    /// same.
     ///
-    /// Errors: an allocation fails. Cost: the distinct symbols of a long expression, and the symbols that are returned.
+    /// Cost: the distinct symbols of a long expression, and the symbols that are returned.
     #[inline(always)]
     pub fn shortened<'a>(
         &self,
@@ -242,15 +243,15 @@ impl Results {
         position: usize,
         expr: &'a [u32],
         remaining: &'a mut Remaining,
-    ) -> Result<&'a [u32], AllocError>
+    ) -> &'a [u32]
         requires distinct { AreDistinct frames.now.names }
         requires below { AreBelow (length frames.now.names) expr.now }
         requires stands { (s : Statement) × IsExprAt frames.now.statements frames.now.names position expr.now s }
-        ensures same { IfOk result (λ short. code_apply self.now.images short.now ≡ code_apply self.now.images expr.now) }
-        ensures below { IfOk result (λ short. AreBelow (length frames.now.names) short.now) }
+        ensures same { code_apply self.now.images result.now ≡ code_apply self.now.images expr.now }
+        ensures below { AreBelow (length frames.now.names) result.now }
     {
         if expr.len() < LONG_EXPRESSION {
-            return Ok(expr);
+            return expr;
         }
         self.shorten(frames, position, expr, remaining)
     }
@@ -264,19 +265,22 @@ impl Results {
         position: usize,
         expr: &'a [u32],
         remaining: &'a mut Remaining,
-    ) -> Result<&'a [u32], AllocError>
+    ) -> &'a [u32]
         requires distinct { AreDistinct frames.now.names }
         requires below { AreBelow (length frames.now.names) expr.now }
         requires stands { (s : Statement) × IsExprAt frames.now.statements frames.now.names position expr.now s }
-        ensures same { IfOk result (λ short. code_apply self.now.images short.now ≡ code_apply self.now.images expr.now) }
-        ensures below { IfOk result (λ short. AreBelow (length frames.now.names) short.now) }
+        ensures same { code_apply self.now.images result.now ≡ code_apply self.now.images expr.now }
+        ensures below { AreBelow (length frames.now.names) result.now }
     {
         let Some(places) = frames.places(position) else {
-            return Ok(expr);
+            return expr;
         };
-        match remaining.of(&self.images, expr, places)? {
-            Some(left) => Ok(left),
-            None => Ok(expr),
+        let Ok(found) = remaining.of(&self.images, expr, places) else {
+            return expr;
+        };
+        match found {
+            Some(left) => left,
+            None => expr,
         }
     }
 
@@ -316,10 +320,9 @@ impl Results {
     {
         let keep = self.stack.len() - r;
         let start = self.symbols.len();
-        let light = SYMBOLS_LIMIT - self.weight;
-        let room = light.min(self.share.saturating_sub(start));
+        let room = (SYMBOLS_LIMIT - self.weight).min(self.share.saturating_sub(start));
         if !self.symbols.add_applied(&self.images, expr, room)? {
-            return if room < light {
+            return if room < SYMBOLS_LIMIT - self.weight {
                 Err(AllocError)
             } else {
                 Ok(false)

@@ -44,10 +44,10 @@ returns-in_default-clause-goes c =
     let r = reads-as _ false _ _ _ _ (ap is_some c.in_default.is) c.in_ok-front.ensures.read in
     not-cited _ _ _ _ c.requires.may c.args.cited.now c.requires.cited c.read_images.new.self.results (λ f m. r.3 (m.typed r.0 r.1 r.2))
 
-pub returns-then-not-fit-clause-goes : goal.returns-then-not-fit-clause-goes
-returns-then-not-fit-clause-goes c =
+pub returns-then-not-fits-clause-goes : goal.returns-then-not-fits-clause-goes
+returns-then-not-fits-clause-goes c =
     not-cited _ _ _ _ c.requires.may c.args.cited.now c.requires.cited c.read_images.new.self.results
-    (λ f m. (let e = (fit-as _ _ _ _ _ _ _ (ap (λ (v : Results ℕ). v.stack) c.in_ok-front.ensures.same) c.in_ok-fit.ensures).1 (m.fits c.read_images.new.self.images (reads-as _ true _ _ _ _ (ap is_some c.in-Some.is) c.in_ok-front.ensures.read)) in let t = c.if-not-fit.true in cc))
+    (λ f m. (let e = (fit-as _ _ _ _ _ _ _ (ap (λ (v : Results ℕ). v.stack) c.in_ok-front.ensures.same) c.fits.ensures).1 (m.fits c.read_images.new.self.images (reads-as _ true _ _ _ _ (ap is_some c.in-Some.is) c.in_ok-front.ensures.read)) in let t = c.if-not-fits.true in cc))
 
 pub returns-then-not-branch-clause-goes : goal.returns-then-not-branch-clause-goes
 returns-then-not-branch-clause-goes c =
@@ -57,9 +57,9 @@ returns-then-not-branch-clause-goes c =
 pub returns-clause-goes : goal.returns-clause-goes
 returns-clause-goes c =
     IfOk-weaker c.apply.result _ _
-    (λ ok adds. has-cited _ _ _ _ c.requires.may c.args.cited.now c.requires.cited ok _ c.read_images.new.self.images (let h = c.if-count-len.false in omega (arith, h, c.len.ensures)) (reads-as _ true _ _ _ _ (ap is_some c.in-Some.is) c.in_ok-front.ensures.read) ((fit-as _ _ _ _ _ _ _ (ap (λ (v : Results ℕ). v.stack) c.in_ok-front.ensures.same) c.in_ok-fit.ensures).0 c.if-not-fit.false)
+    (λ ok adds. has-cited _ _ _ _ c.requires.may c.args.cited.now c.requires.cited ok _ c.read_images.new.self.images (let h = c.if-count-len.false in omega (arith, h, c.len.ensures)) (reads-as _ true _ _ _ _ (ap is_some c.in-Some.is) c.in_ok-front.ensures.read) ((fit-as _ _ _ _ _ _ _ (ap (λ (v : Results ℕ). v.stack) c.in_ok-front.ensures.same) c.fits.ensures).0 c.if-not-fits.false)
     (apart-by _ _ _ _ _ c.read_images.new.self.images c.args.cited.now.groups _ c.requires.may.ready.active c.requires.may.ready.names c.in_ok-are_disjoint.ensures.disjoint c.if-not-branch.false)
-    (adds-as ok c.read_images.new.self.results _ _ _ _ _ c.in_ok-front.ensures.same c.len-count.ensures adds)) (rw (c.in_ok-conclusion.ensures.same, c.are_disjoint.ensures.same) at c.apply.ensures.adds)
+    (adds-as ok c.read_images.new.self.results _ _ _ _ _ c.in_ok-front.ensures.same c.len-count.ensures adds)) (rw (c.shortened-conclusion.ensures.same, c.are_disjoint.ensures.same) at c.apply.ensures.adds)
 
 pub are_disjoint-requires-clause-below : goal.are_disjoint-requires-clause-below
 are_disjoint-requires-clause-below c = subst (λ ns. AllBelow (length ns) c.args.cited.now.groups) (sym c.requires.may.ready.names) (c.requires.cited c.requires.may.assertion.0 c.requires.may.assertion.1.0).groups_below
@@ -77,12 +77,12 @@ pub apply-requires-clause-over : goal.apply-requires-clause-over
 apply-requires-clause-over c = rw c.are_disjoint.ensures.same (subst (λ v. AreOver v c.read_images.new.self.images) (sym c.requires.may.ready.names) (over-read _ _ _ _ c.requires.may c.args.cited.now c.requires.cited c.read_images.new.self.images (let h = c.if-count-len.false in omega (arith, h, c.len.ensures)) (reads-as _ true _ _ _ _ (ap is_some c.in-Some.is) c.in_ok-front.ensures.read)))
 
 pub apply-requires-clause-below : goal.apply-requires-clause-below
-apply-requires-clause-below c = subst (λ ns. AreBelow (length ns) c.in_ok-conclusion.conclusion.now) (sym c.requires.may.ready.names) c.in_ok-conclusion.ensures.below
+apply-requires-clause-below c = subst (λ ns. AreBelow (length ns) c.shortened-conclusion.result.now) (sym c.requires.may.ready.names) c.shortened-conclusion.ensures.below
 
-pub shortened-requires-clause-below : goal.shortened-requires-clause-below
-shortened-requires-clause-below c = (c.requires.cited c.requires.may.assertion.0 c.requires.may.assertion.1.0).conclusion_below
+pub shortened-conclusion-requires-clause-below : goal.shortened-conclusion-requires-clause-below
+shortened-conclusion-requires-clause-below c = (c.requires.cited c.requires.may.assertion.0 c.requires.may.assertion.1.0).conclusion_below
 
-pub shortened-requires-clause-stands : goal.shortened-requires-clause-stands
-shortened-requires-clause-stands c =
+pub shortened-conclusion-requires-clause-stands : goal.shortened-conclusion-requires-clause-stands
+shortened-conclusion-requires-clause-stands c =
     let s = c.requires.may.assertion.0 in
     (s, record { stands = c.requires.may.assertion.1.0; same = (c.requires.cited s c.requires.may.assertion.1.0).conclusion })

@@ -21,9 +21,9 @@ returns c =
     read-proves c.args.frames.now.statements c.args.at s c.args.tokens.now c.requires.1 (sym c.is_compressed.ensures ∙ c.if-not-is_compressed.false) _ _ _ _ (rw c.in-Some-2.is at c.in_ok-heading.ensures.read)
     c.in_ok-add_listed.field-0 c.if-not-branch.false (c.in_ok-add_listed.ensures.apart s c.requires.1)
     (many c.args.frames.now.statements c.args.at s c.args.tokens.now c.requires.1 (sym c.is_compressed.ensures ∙ c.if-not-is_compressed.false) c.as_slice-count.result.now (c.as_slice-count.ensures.value ∙ c.in_ok-fill_mandatory.ensures.mandatory s c.requires.1))
-    c.run.result
-    (subst (λ ns. IfOk c.run.result (λ answer. Says answer (IsRight c.args.frames.now.statements c.args.at (items_of labels ns)))) c.numbers-numbers.ensures
-    (c.run.ensures labels (subst (AreEntries c.args.frames.now.statements c.args.at labels) (sym c.deref-2.ensures.value)
+    c.run_listed.result
+    (subst (λ ns. IfOk c.run_listed.result (λ answer. Says answer (IsRight c.args.frames.now.statements c.args.at (items_of labels ns)))) c.numbers-numbers.ensures
+    (c.run_listed.ensures labels (subst (AreEntries c.args.frames.now.statements c.args.at labels) (sym c.deref-2.ensures.value)
     (c.in_ok-add_listed.ensures.entries c.if-not-branch.false (mandatory_labels c.args.frames.now.statements c.args.at s) (c.in_ok-fill_mandatory.ensures.entries s c.requires.1)))))
 
 pub prove_many-requires-clause-view : goal.prove_many-requires-clause-view

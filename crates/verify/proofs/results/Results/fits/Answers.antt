@@ -2,7 +2,7 @@ use Rattle.verify.proofs.Words.{◌≡◌, ◌↔◌, Bool, IsTrue, List, CodeIm
 use Rattle.verify.proofs.Named.{all-drop}
 use Rattle.verify.proofs.ResultPlaceLemmas.{seen_place}
 use Rattle.verify.proofs.ReadImageLemmas.{standing-at, fits-essential, one-more}
-use Rattle.verify.proofs.results.Results.fits.Goals.{in-Essential+in_ok-expr+else-not-matches, in_default}
+use Rattle.verify.proofs.results.Results.fits.Goals.{in-Essential+else-not-matches, in_default}
 use Rattle.verify.proofs.results.Results.fits.Goals as goal
 
 -- what is left of an expression is held against the result in its place
@@ -17,8 +17,8 @@ expr-whole-requires c =
     let s = standing-at c.args.frames.now.statements c.args.hypotheses.now c.loop-k.k (Essential c.in-Essential.position) c.requires.standing (c.get.ensures ∙ ap Some c.in-Essential.is) in
     stands-within c.args.frames.now.statements c.in-Essential.position s.0 s.1
 
-pub shortened-requires-clause-stands : goal.shortened-requires-clause-stands
-shortened-requires-clause-stands c =
+pub shortened-expr-requires-clause-stands : goal.shortened-expr-requires-clause-stands
+shortened-expr-requires-clause-stands c =
     let s = standing-at c.args.frames.now.statements c.args.hypotheses.now c.loop-k.k (Essential c.in-Essential.position) c.requires.standing (c.get.ensures ∙ ap Some c.in-Essential.is) in
     (s.0, record { stands = s.1; same = c.expr-whole.ensures.same s.0 s.1 })
 
@@ -30,18 +30,18 @@ returns-then-not-matches c =
     let at = c.get.ensures ∙ ap Some c.in-Essential.is in
     let place = seen_place c.self.inside.symbols c.self.inside.stack.items c.deref.result.now c.args.self.now.results.stack (c.len.result - c.len-2.result) c.len-2.result c.loop-k.k _ c.deref.ensures.value (ap (λ v. v.results.stack) c.self.view_is) (omega (arith, c.len.ensures)) (omega (arith, c.requires.count, c.len-2.ensures)) (let w = slice_get_within c.args.hypotheses.now c.loop-k.k c.get.result c.get.ensures in omega (arith, w, c.len-2.ensures)) c.self.invariant.kept.stack_within in
     let iff = fits-essential _ _ _ _ _ _ _ _ _ _ _ c.requires.legal.distinct c.requires.standing at c.expr-whole.ensures.same c.expr-whole.ensures.codes c.requires.over (all-drop _ (length c.args.self.now.results.stack - length c.args.hypotheses.now) _ c.requires.named)
-    refl (place.1 ∙ ap (λ n. get_or (top n c.args.self.now.results.stack) c.loop-k.k []) c.len-2.ensures) (short-iff _ _ _ _ _ _ (ap (λ v. v.images) c.self.view_is) c.in_ok-expr.ensures.same c.matches.ensures) in
+    refl (place.1 ∙ ap (λ n. get_or (top n c.args.self.now.results.stack) c.loop-k.k []) c.len-2.ensures) (short-iff _ _ _ _ _ _ (ap (λ v. v.images) c.self.view_is) c.shortened-expr.ensures.same c.matches.ensures) in
     (λ t. (let e : false ≡ true = t in cc), λ fit. let t = iff.1 (fit.each c.loop-k.k (Essential c.in-Essential.position) at) in let u = c.if-not-matches.true in cc)
 
 pub loop-k-preserved : goal.loop-k-preserved
 loop-k-preserved c =
     let P : ℕ → Hypothesis → Type 0 = λ j h. FitsOne c.args.frames.now.statements (images_of_names c.args.frames.now.names c.args.self.now.images) h (get_or (map (decode c.args.frames.now.names) (top (length c.args.hypotheses.now) c.args.self.now.results.stack)) j []) in
     elim c.match-get.branch [
-      | in-Essential+in_ok-expr+else-not-matches w ↦
+      | in-Essential+else-not-matches w ↦
           let at = c.get.ensures ∙ ap Some w.in-Essential.is in
           let place = seen_place c.self.inside.symbols c.self.inside.stack.items c.deref.result.now c.args.self.now.results.stack (c.len.result - c.len-2.result) c.len-2.result c.loop-k.k _ c.deref.ensures.value (ap (λ v. v.results.stack) c.self.view_is) (omega (arith, c.len.ensures)) (omega (arith, c.requires.count, c.len-2.ensures)) (let w = slice_get_within c.args.hypotheses.now c.loop-k.k c.get.result c.get.ensures in omega (arith, w, c.len-2.ensures)) c.self.invariant.kept.stack_within in
           let iff = fits-essential _ _ _ _ _ _ _ _ _ _ _ c.requires.legal.distinct c.requires.standing at w.expr-whole.ensures.same w.expr-whole.ensures.codes c.requires.over (all-drop _ (length c.args.self.now.results.stack - length c.args.hypotheses.now) _ c.requires.named)
-          refl (place.1 ∙ ap (λ n. get_or (top n c.args.self.now.results.stack) c.loop-k.k []) c.len-2.ensures) (short-iff _ _ _ _ _ _ (ap (λ v. v.images) c.self.view_is) w.in_ok-expr.ensures.same w.matches.ensures) in
+          refl (place.1 ∙ ap (λ n. get_or (top n c.args.self.now.results.stack) c.loop-k.k []) c.len-2.ensures) (short-iff _ _ _ _ _ _ (ap (λ v. v.images) c.self.view_is) w.shortened-expr.ensures.same w.matches.ensures) in
           one-more P _ c.loop-k.k (Essential w.in-Essential.position) at c.loop-k.invariant (iff.0 w.if-not-matches.false)
       | in_default w ↦ one-more P _ c.loop-k.k (Float w.in_default.field-0) (c.get.ensures ∙ ap Some w.in_default.is) c.loop-k.invariant tt
     ]

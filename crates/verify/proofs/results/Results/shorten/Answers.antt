@@ -25,10 +25,10 @@ of-requires c =
     let is = c.requires.stands.1 in
     places-of c.args.frames.now.names c.args.expr.now (expr_of s) _ c.requires.distinct c.requires.below is.same (rw c.in-Some.is at (c.places.ensures s is.stands))
 
-pub returns-in-Some-2-clause-same : goal.returns-in-Some-2-clause-same
-returns-in-Some-2-clause-same c = rw (← c.self.view_is) ((rw c.in-Some-2.is at c.in_ok-left.ensures.same) c.self.inside.symbols)
+pub returns-in-Some-found-clause-same : goal.returns-in-Some-found-clause-same
+returns-in-Some-found-clause-same c = rw (← c.self.view_is) ((rw (c.in-Ok.is, c.in-Some-found.is) at c.of.ensures.same) c.self.inside.symbols)
 
-pub returns-in-Some-2-clause-below : goal.returns-in-Some-2-clause-below
-returns-in-Some-2-clause-below c =
-    let left = rw c.in-Some-2.is at c.in_ok-left.ensures.left in
+pub returns-in-Some-found-clause-below : goal.returns-in-Some-found-clause-below
+returns-in-Some-found-clause-below c =
+    let left = rw (c.in-Ok.is, c.in-Some-found.is) at c.of.ensures.left in
     subst (AreBelow (length c.args.frames.now.names)) (sym left) (some-below (length c.args.frames.now.names) (is_left c.self.inside.images) c.args.expr.now c.requires.below)
