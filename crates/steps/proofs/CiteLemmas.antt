@@ -26,6 +26,7 @@ use Rattle.verify.specs.ResultPlaces.{below, top}
 use Rattle.verify.proofs.MandatoryAsked.{asked-lengths, asked-different}
 use Rattle.verify.proofs.CitationLemmas.{Meets, meets-step}
 use Rattle.verify.proofs.CitingLemmas.{read-over}
+use Rattle.verify.proofs.KeptListsLemmas.{cited-plain}
 use Rattle.verify.proofs.Decide.{append_cut, length-premises, not_both}
 use Rattle.verify.proofs.ImageLemmas.{apply-below}
 use Rattle.verify.proofs.Named.{halves, length-top}
@@ -139,7 +140,7 @@ module _ (S : Database) (at : ℕ) (names : List Name) (legal : AreLegal S names
 
     -- so the codes on the stack are those that the assertion requires
     meets' : Meets S names at a c results.stack run.1
-    meets' = meets-step S names at a s c legal bound cited results label run.0 run.1 are_named carries has cites'
+    meets' = meets-step S names at a s c legal bound (cited-plain S names a s c cited) results label run.0 run.1 are_named carries has cites'
 
     -- the stack has a step for each mandatory hypothesis
     pub many : n ≤ length d.stack.items

@@ -1,6 +1,14 @@
 -- Images are read off results that begin with the typecodes of their hypotheses.
-use Rattle.std.specs.Prelude.{◌≡◌, ℕ, Bool, true, false, List, [], length, map, get_or, slice_get, Some}
-use Rattle.std.proofs.Common.{subst}
+use Rattle.std.specs.Prelude.{◌≡◌, ℕ, Bool, true, false, List, [], length, map, get_or, slice_get, IfSome, None, Option, Some}
+use Rattle.std.specs.Borrow.{Bor}
+use Rattle.std.proofs.Common.{subst, sym, ◌∙◌}
+use Rattle.mm_lex.specs.Alphabet.{Name}
+use Rattle.mm_read.specs.Statements.{Expr}
+use Rattle.names.specs.Codes.{AreDistinct, decode}
+use Rattle.entries.specs.SymbolPlaces.{ArePlacesOf}
+use Rattle.frame.proofs.FoundByNumber.{decode-injective}
+use Rattle.frame.specs.Below.{AreBelow}
+use Rattle.frame.specs.ExprPlaces.{AreExprPlaces}
 use Rattle.subst.specs.declared.symbol_range.SymbolRange.{SymbolRange}
 use Rattle.subst.specs.SymbolRanges.{seen_at, images_at, AreWithin}
 use Rattle.entries.specs.declared.cited_parts.Hypothesis.{Hypothesis}
@@ -22,3 +30,9 @@ module _ (xs ys heads : List ℕ) (hs : List Hypothesis) (places : List SymbolRa
 
   pub all-read : (b : Bool) → ReadsAll b (length hs) ys heads hs places images → b ≡ true → AreRead heads hs (map (seen_at xs) places) (images_at xs images)
   all-read b r e = subst (λ v. Reads v heads hs (map (seen_at xs) places) (images_at xs images)) e (seen b r)
+
+-- the places of an expression are those of its numbers
+pub standing-codes : (names : List Name) (e : List ℕ) (x : Expr) (standing : Option (Bor (List (List ℕ)))) → AreDistinct names → AreBelow (length names) e → decode names e ≡ x
+    → IfSome standing (λ places. AreExprPlaces names x places.now) → IfSome standing (λ places. ArePlacesOf e places.now)
+standing-codes names e x None distinct below same p = tt
+standing-codes names e x (Some places) distinct below same p = subst (λ c. ArePlacesOf c places.now) (decode-injective names p.codes e distinct p.below below (p.named ∙ sym same)) p.places

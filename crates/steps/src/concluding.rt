@@ -1,24 +1,53 @@
 //! The conclusion that an assertion draws from the results that it takes.
-ghost use Rattle.std.specs.Prelude.{◌≡◌, ℕ, ◌++◌, [], List, Some, OnOk, IfOk, length, map, get_or, slice_get};
+ghost use Rattle.std.specs.Prelude.{◌≡◌, ℕ, ◌++◌, [], List, Some, OnOk, IfOk, IfSome, length, map, get_or, slice_get};
 ghost use Rattle.entries.specs.declared.cited_parts.Hypothesis.TheVariants.{Float};
+ghost use Rattle.entries.specs.SymbolPlaces.{ArePlacesOf};
 ghost use Rattle.frame.specs.Substitution.{CodeImages, code_apply};
 ghost use Rattle.subst.specs.SymbolRanges.{seen_at, AreWithin};
+ghost use Rattle.subst.specs.Vanishing.{HaveSameResult};
 ghost use Rattle.verify.specs.Fits.{AreDifferent, IsTyped, AreRead};
 
-use entries::Cited;
+use entries::{Cited, SymbolPlaces};
 use std::alloc::AllocError;
-use subst::{Buffer, ImageRanges, SYMBOLS_LIMIT, SymbolRange, place_between};
+use subst::{Buffer, ImageRanges, Remaining, SYMBOLS_LIMIT, SymbolRange, place_between};
 use verify::read_off;
 
-/// Appends to the symbols the conclusion of the assertion from the results at these places, and returns where it lies.
+/// Returns the symbols of an expression whose images are not empty, if it is known where its symbols stand and these are few;
+/// else the expression. With the images put in, both give the same.
 ///
-/// Cost: one look at each result, and the symbols written.
+/// Errors: an allocation fails. Cost: the distinct symbols of the expression, and the symbols that are returned.
+fn shortened<'a>(
+    images: &ImageRanges,
+    expr: &'a [u32],
+    standing: Option<&SymbolPlaces>,
+    remaining: &'a mut Remaining,
+) -> Result<&'a [u32], AllocError>
+    requires { IfSome standing (λ places. ArePlacesOf expr.now places.now) }
+    ensures { IfOk result (λ short. HaveSameResult images.now short.now expr.now) }
+{
+    let Some(places) = standing else {
+        return Ok(expr);
+    };
+    match remaining.of(images, expr, places)? {
+        Some(left) => Ok(left),
+        None => Ok(expr),
+    }
+}
+
+/// Appends to the symbols the conclusion of the assertion from the results at these places, and returns where it lies.
+/// `standing` tells where the symbols of its expression stand.
+///
+/// Cost: one look at each result, and the symbols written; and those of the expression, of which only the distinct ones count
+/// if it is known where they stand.
 pub fn conclude(
     symbols: &mut Buffer,
     images: &mut ImageRanges,
+    remaining: &mut Remaining,
     cited: &Cited<'_>,
+    standing: Option<&SymbolPlaces>,
     places: &[SymbolRange],
 ) -> Result<SymbolRange, AllocError>
+    requires standing { IfSome standing (λ places. ArePlacesOf cited.now.conclusion.now places.now) }
     requires same { length places.now ≡ length cited.now.hypotheses }
     requires heads { length cited.now.heads.now ≡ length cited.now.hypotheses }
     requires within { AreWithin (length symbols.old) places.now }
@@ -40,7 +69,8 @@ pub fn conclude(
     else {
         unreachable!();
     };
-    if !symbols.add_applied(images, cited.conclusion, SYMBOLS_LIMIT - start)? {
+    let conclusion = shortened(images, cited.conclusion, standing, remaining)?;
+    if !symbols.add_applied(images, conclusion, SYMBOLS_LIMIT - start)? {
         return Err(AllocError);
     }
     Ok(place_between(start, symbols.len()))

@@ -80,7 +80,7 @@ fn cite(
         Meaning::Hypothesis(expr) => cite_hypothesis(alloc, draft, position, expr),
         Meaning::Assertion => {
             let cited = cited_at(frames, position, gathered)?;
-            cite_parts(alloc, draft, position, &cited)
+            cite_parts(alloc, draft, position, &cited, frames.places(position))
         }
         Meaning::Nothing => unreachable!(),
     }

@@ -1,7 +1,8 @@
 //! A table that is being made, by the citations of a proof.
-ghost use Rattle.std.specs.Prelude.{◌≡◌, ℕ, ◌<◌, ◌≤◌, ◌∷◌, [], List, Some, OnOk, length, map, get_or, slice_get};
+ghost use Rattle.std.specs.Prelude.{◌≡◌, ℕ, ◌<◌, ◌≤◌, ◌∷◌, [], List, Some, OnOk, IfSome, length, map, get_or, slice_get};
 ghost use Rattle.mm_lex.specs.Alphabet.{Name};
 ghost use Rattle.mm_read.specs.declared.stmt.Stmt.{Stmt as Statement};
+ghost use Rattle.entries.specs.SymbolPlaces.{ArePlacesOf};
 ghost use Rattle.entries.specs.declared.cited_parts.Hypothesis.TheVariants.{Float};
 ghost use Rattle.frame.specs.Below.{AreBelow};
 ghost use Rattle.verify.specs.Fits.{AreDifferent, IsTyped};
@@ -10,10 +11,10 @@ ghost use Rattle.steps.specs.Stored.Drafted.{IsDraft, AreHeld, Adds, GivesHypoth
 
 use crate::concluding::conclude;
 use crate::known::{find, keep, key};
-use entries::Cited;
+use entries::{Cited, SymbolPlaces};
 use std::alloc::{AllocError, Global};
 use std::collections::BTreeMap;
-use subst::{Buffer, ImageRanges, SYMBOLS_LIMIT, SymbolRange, place_between};
+use subst::{Buffer, ImageRanges, Remaining, SYMBOLS_LIMIT, SymbolRange, place_between};
 
 /// A step, and where its expression lies.
 #[derive(Drop)]
@@ -35,6 +36,7 @@ pub struct TableDraft {
     pub saved: Vec<usize>,
     pub known: BTreeMap<Vec<usize>, usize>,
     pub images: ImageRanges,
+    pub remaining: Remaining,
     pub places: Vec<SymbolRange>,
 }
 
@@ -51,6 +53,7 @@ impl TableDraft {
             saved: Vec::new(alloc),
             known: BTreeMap::new(alloc),
             images: ImageRanges::new(alloc),
+            remaining: Remaining::new(alloc),
             places: Vec::new(alloc),
         }
     }
@@ -124,13 +127,15 @@ fn fill_places(
     Ok(())
 }
 
-/// Cites an assertion by its parts.
+/// Cites an assertion by its parts, and the places of the symbols of its expression if they are known.
 pub fn cite_parts(
     alloc: Global,
     draft: &mut TableDraft,
     position: usize,
     cited: &Cited<'_>,
+    standing: Option<&SymbolPlaces>,
 ) -> Result<(), AllocError>
+    requires standing { IfSome standing (λ places. ArePlacesOf cited.now.conclusion.now places.now) }
     requires held { AreHeld draft.old }
     requires many { length cited.now.hypotheses ≤ length draft.old.stack.items }
     requires heads { length cited.now.heads.now ≡ length cited.now.hypotheses }
@@ -147,7 +152,14 @@ pub fn cite_parts(
         return Ok(());
     }
     fill_places(&draft.placed, &taken, &mut draft.places)?;
-    let place = conclude(&mut draft.symbols, &mut draft.images, cited, &draft.places)?;
+    let place = conclude(
+        &mut draft.symbols,
+        &mut draft.images,
+        &mut draft.remaining,
+        cited,
+        standing,
+        &draft.places,
+    )?;
     add_step(
         draft,
         key,

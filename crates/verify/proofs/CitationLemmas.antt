@@ -1,6 +1,7 @@
 -- The citation of an assertion, by results of numbers.
 use Rattle.verify.proofs.Words.{◌≡◌, ℕ, ◌-◌, ◌<◌, ◌≤◌, Bool, true, false, List, [], ◌++◌, length, map, get_or, slice_get, Some, sym, ◌∙◌, ap, subst, arith, length-append, length-map, map-append}
-use Rattle.verify.proofs.Words.{Name, Stmt, Expr, Database, stmt_at, before, expr_of, is_assertion, is_variable, name_at, decode, HasAssertion, mandatory_groups, Images, applied, CodeImages, code_apply, images_of_names, are_groups_apart, Carries, IsInstance, premises, AreLegal, Cite, substitution_over_names, Float, IsBound, IsCited, IsTyped, AreRead, DoFit, named, AreNamed, Goes, Results, Cites, of_hypothesis, of_assertion, below, top, Adds, some-same, true≢false, AreOver, MayCite, HasCited, Assertion, Claim, Numbered}
+use Rattle.verify.proofs.Words.{Name, Stmt, Expr, Database, stmt_at, before, expr_of, is_assertion, is_variable, name_at, decode, HasAssertion, mandatory_groups, Images, applied, CodeImages, code_apply, images_of_names, are_groups_apart, Carries, IsInstance, premises, AreLegal, Cite, substitution_over_names, Float, IsBound, IsTyped, AreRead, DoFit, named, AreNamed, Goes, Results, Cites, of_hypothesis, of_assertion, below, top, Adds, some-same, true≢false, AreOver, MayCite, HasCited, Assertion, Claim, Numbered}
+use Rattle.verify.specs.KeptLists.{IsCitedBy}
 use Rattle.verify.proofs.LabelTableLemmas.{has_with}
 use Rattle.entries.specs.declared.cited_parts.Cited.{Cited}
 use Rattle.verify.proofs.MandatoryAsked.{asked-lengths}
@@ -17,7 +18,7 @@ pub record Meets (S : Database) (names : List Name) (at a : ℕ) (c : Cited) (st
   pub apart : (ρ : CodeImages) → AreRead c.heads.now c.hypotheses (top (length c.hypotheses) stack) ρ → are_groups_apart (before S at) (images_of_names names ρ) (map (decode names) c.groups) ≡ true
   pub gives : (ρ : CodeImages) → AreRead c.heads.now c.hypotheses (top (length c.hypotheses) stack) ρ → f ≡ decode names (code_apply ρ c.conclusion.now)
 
-module _ (S : Database) (names : List Name) (at a : ℕ) (s : Stmt) (c : Cited) (legal : AreLegal S names) (bound : IsBound S a s) (is : IsCited S names a s c) where
+module _ (S : Database) (names : List Name) (at a : ℕ) (s : Stmt) (c : Cited) (legal : AreLegal S names) (bound : IsBound S a s) (is : IsCitedBy S names a s c) where
   abbrev n : ℕ
   n = length c.hypotheses
 
@@ -43,7 +44,7 @@ module _ (S : Database) (names : List Name) (at a : ℕ) (s : Stmt) (c : Cited) 
         many = many;
         typed = premise-typed S names a s legal.distinct bound c.heads.now c.hypotheses is.asked es count low σ fits.of_variables (sym cut);
         fits = λ ρ read. fits-agree S names a s legal.distinct bound c.heads.now c.hypotheses is.asked es count low σ fits.of_variables (sym cut) ρ read;
-        apart = λ ρ read. ap (are_groups_apart (before S at) (images_of_names names ρ)) is.groups
+        apart = λ ρ read. is.groups (before S at) (images_of_names names ρ)
             ∙ (apart-agrees S names a s legal.distinct bound c.heads.now c.hypotheses is.asked es count low σ fits.of_variables (sym cut) ρ read (before S at) ∙ fits.apart);
         gives = λ ρ read. gives ∙ (conclusion-agrees S names a s legal.distinct bound c.heads.now c.hypotheses is.asked es count low σ fits.of_variables (sym cut) ρ read ∙ sym (conclusion-named ρ));
       }
@@ -73,7 +74,7 @@ module _ (S : Database) (names : List Name) (at a : ℕ) (s : Stmt) (c : Cited) 
       let τ = only (is_variable (before S a)) (images_of_names names ρ) in
       let prem : premises S a s τ ≡ map (decode names) es = premises-read S names a s legal.distinct bound c.heads.now c.hypotheses is.asked es count ρ read fits in
       let away : are_groups_apart (before S at) τ (mandatory_groups (before S a) s) ≡ true
-      = apart-τ S names a s legal.distinct bound c.heads.now c.hypotheses is.asked es count ρ read (before S at) (mandatory_groups (before S a) s) ∙ (ap (are_groups_apart (before S at) (images_of_names names ρ)) (sym is.groups) ∙ apart) in
+      = apart-τ S names a s legal.distinct bound c.heads.now c.hypotheses is.asked es count ρ read (before S at) (mandatory_groups (before S a) s) ∙ (sym (is.groups (before S at) (images_of_names names ρ)) ∙ apart) in
       let whole : map (decode names) old.stack ≡ map (decode names) (below n old.stack) ++ premises S a s τ
       = ap (map (decode names)) (halves n old.stack) ∙ (map-append (decode names) (below n old.stack) es ∙ ap (λ v. map (decode names) (below n old.stack) ++ v) (sym prem)) in
       let gives : decode names e ≡ applied τ (expr_of s) = conclusion-named ρ ∙ sym (apply-τ S names a s legal.distinct bound c.heads.now c.hypotheses is.asked es count ρ read (expr_of s)) in (
@@ -98,7 +99,7 @@ module _ (S : Database) (names : List Name) (at a : ℕ) (s : Stmt) (c : Cited) 
   goes-not old new label an carries has none = λ next p. absurd (none p.1 (meets-step old label p.0 p.1 an carries has p.2))
 
 -- the same by what a citation rests on
-module _ (t : Claim) (a : ℕ) (about : Numbered) (old : Results ℕ) (may : MayCite t a about old) (c : Cited) (cited : (s : Stmt) → stmt_at t.frames.now.statements a ≡ Some s → IsCited t.frames.now.statements t.frames.now.names a s c) where
+module _ (t : Claim) (a : ℕ) (about : Numbered) (old : Results ℕ) (may : MayCite t a about old) (c : Cited) (cited : (s : Stmt) → stmt_at t.frames.now.statements a ≡ Some s → IsCitedBy t.frames.now.statements t.frames.now.names a s c) where
   abbrev count : ℕ
   count = length c.hypotheses
 

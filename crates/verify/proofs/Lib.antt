@@ -7,6 +7,7 @@ pub mod ResultPlaceLemmas
 pub mod MandatoryAsked
 pub mod ImageLemmas
 pub mod CitingLemmas
+pub mod KeptListsLemmas
 pub mod CitationLemmas
 pub mod ReadImageLemmas
 pub mod Named

@@ -7,6 +7,7 @@ pub mod Machine
 pub mod ResultPlaces
 pub mod Fits
 pub mod ReadPlaces
+pub mod KeptLists
 pub mod Goes
 pub mod Stops
 pub mod LabelTable

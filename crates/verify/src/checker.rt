@@ -14,6 +14,7 @@ ghost use Rattle.verify.specs.Right.{IsProvable, IsRight, Says};
 use crate::answer::Answer;
 use crate::citation::{Buffers, Claim};
 use crate::failure::run_items;
+use crate::kept_lists::KeptLists;
 use crate::label_table::{LabelEntry, Mandatory, add_listed, fill_mandatory, fill_table};
 use crate::results::Results;
 use frame::{Frames, Gathered, MandatoryView};
@@ -49,6 +50,7 @@ impl Checker {
             mandatory: Vec::new(alloc),
             buffers: Buffers {
                 gathered: Gathered::new(alloc),
+                kept: KeptLists::new(alloc),
                 remaining: Remaining::new(alloc),
                 results: Results::new(alloc),
             },

@@ -1,16 +1,18 @@
 //! One item of a proof.
 
-ghost use Rattle.std.specs.Prelude.{◌≡◌, ◌++◌, List, Some, IfOk, map, option_map};
-ghost use Rattle.frame.specs.Cited.{IsCited};
+ghost use Rattle.std.specs.Prelude.{◌≡◌, ◌++◌, List, Some, IfOk, map, option_map, OnOk};
+ghost use Rattle.frame.specs.FrameOf.{HasAssertion};
 ghost use Rattle.mm_lex.specs.Alphabet.{Name};
 ghost use Rattle.mm_read.specs.declared.stmt.Stmt.{Stmt as Statement};
 ghost use Rattle.proof_code.specs.ItemNumbers.{item_of};
 ghost use Rattle.scope.specs.Active.{stmt_at};
 ghost use Rattle.verify.specs.Goes.{AreKnown, AreNamed, GoesOn, HasCited, IsReady, MayCite};
+ghost use Rattle.verify.specs.KeptLists.{AreKeptLists, IsAt, IsCitedBy};
 ghost use Rattle.verify.specs.LabelTable.{AreEntries, IsEntry, viewed};
 ghost use Rattle.verify.specs.ResultPlaces.{Stays};
 ghost use Rattle.verify.specs.declared.label_table.LabelEntry.TheVariants.{Hypothesis};
 
+use crate::kept_lists::KeptLists;
 use crate::label_table::LabelEntry;
 use crate::results::Results;
 use entries::Cited;
@@ -26,10 +28,12 @@ pub struct Claim<'a> {
     pub pairs: Pairs<'a>,
 }
 
-/// The buffers of a run over the items of a proof, and one for the long lists of an assertion that is cited.
+/// The buffers of a run over the items of a proof, one for the long lists of an assertion that is cited, and such lists that
+/// are kept.
 #[derive(Drop)]
 pub struct Buffers {
     pub gathered: Gathered,
+    pub kept: KeptLists,
     pub remaining: Remaining,
     pub results: Results,
 }
@@ -46,7 +50,7 @@ fn cite_parts(
     results: &mut Results,
 ) -> Result<bool, AllocError>
     requires may { MayCite claim.now position results.old.about results.old.results }
-    requires cited { (s : Statement) → stmt_at claim.now.frames.now.statements position ≡ Some s → IsCited claim.now.frames.now.statements claim.now.frames.now.names position s cited.now }
+    requires cited { (s : Statement) → stmt_at claim.now.frames.now.statements position ≡ Some s → IsCitedBy claim.now.frames.now.statements claim.now.frames.now.names position s cited.now }
     ensures goes { IfOk result (HasCited claim.now.frames.now.statements claim.now.at claim.now.frames.now.names (LabelEntry.Assertion position) results.old.results results.new.results) }
     ensures stays { IfOk result (λ ok. Stays ok results.old.results results.new.results) }
     ensures about { results.new.about ≡ claim.now.pairs }
@@ -76,6 +80,7 @@ fn cite_long(claim: &Claim<'_>, position: usize, buffers: &mut Buffers) -> Resul
     ensures goes { IfOk result (HasCited claim.now.frames.now.statements claim.now.at claim.now.frames.now.names (LabelEntry.Assertion position) buffers.old.results.results buffers.new.results.results) }
     ensures stays { IfOk result (λ ok. Stays ok buffers.old.results.results buffers.new.results.results) }
     ensures about { buffers.new.results.about ≡ claim.now.pairs }
+    ensures kept { buffers.new.kept ≡ buffers.old.kept }
 {
     claim.frames.gather(position, &mut buffers.gathered)?;
     let cited = claim.frames.gathered(position, &buffers.gathered);
@@ -84,16 +89,66 @@ fn cite_long(claim: &Claim<'_>, position: usize, buffers: &mut Buffers) -> Resul
     cite_parts(claim, position, &cited, remaining, results)
 }
 
-/// Takes the results for the hypotheses of an assertion, and adds the result that it gives.
+/// Cites an assertion whose lists are long and are to be kept.
+///
+/// Errors: an allocation fails. Cost: that of the citation; in the first one of a proof, also that of `Frames::gather` and
+/// `KeptLists::keep`.
+#[cold]
 #[inline(never)]
-fn cite(claim: &Claim<'_>, position: usize, buffers: &mut Buffers) -> Result<bool, AllocError>
-    requires { MayCite claim.now position buffers.old.results.about buffers.old.results.results }
+fn cite_kept(claim: &Claim<'_>, position: usize, buffers: &mut Buffers) -> Result<bool, AllocError>
+    requires may { MayCite claim.now position buffers.old.results.about buffers.old.results.results }
+    requires kept { AreKeptLists claim.now.frames.now.statements claim.now.frames.now.names buffers.old.kept.lists.items }
     ensures goes { IfOk result (HasCited claim.now.frames.now.statements claim.now.at claim.now.frames.now.names (LabelEntry.Assertion position) buffers.old.results.results buffers.new.results.results) }
     ensures stays { IfOk result (λ ok. Stays ok buffers.old.results.results buffers.new.results.results) }
     ensures about { buffers.new.results.about ≡ claim.now.pairs }
+    ensures kept { OnOk result (AreKeptLists claim.now.frames.now.statements claim.now.frames.now.names buffers.new.kept.lists.items) }
+{
+    let index = kept_index(claim, position, &mut buffers.gathered, &mut buffers.kept)?;
+    let conclusion = claim.frames.expr(position);
+    let cited = buffers.kept.at(index).cited(conclusion);
+    let remaining = &mut buffers.remaining;
+    let results = &mut buffers.results;
+    cite_parts(claim, position, &cited, remaining, results)
+}
+
+/// Returns the index of the lists of an assertion, which are kept at its first citation here.
+///
+/// Errors: an allocation fails. Cost: that of `Frames::gather` and `KeptLists::keep`.
+fn kept_index(
+    claim: &Claim<'_>,
+    position: usize,
+    gathered: &mut Gathered,
+    kept: &mut KeptLists,
+) -> Result<usize, AllocError>
+    requires assertion { (s : Statement) × HasAssertion claim.now.frames.now.statements position s }
+    requires kept { AreKeptLists claim.now.frames.now.statements claim.now.frames.now.names kept.old.lists.items }
+    ensures kept { OnOk result (AreKeptLists claim.now.frames.now.statements claim.now.frames.now.names kept.new.lists.items) }
+    ensures index { IfOk result (λ i. IsAt kept.new.lists.items i position) }
+{
+    if let Some(index) = kept.find(position) {
+        return Ok(index);
+    }
+    claim.frames.gather(position, gathered)?;
+    let cited = claim.frames.gathered(position, gathered);
+    kept.keep(position, &cited)
+}
+
+/// Takes the results for the hypotheses of an assertion, and adds the result that it gives.
+#[inline(never)]
+fn cite(claim: &Claim<'_>, position: usize, buffers: &mut Buffers) -> Result<bool, AllocError>
+    requires may { MayCite claim.now position buffers.old.results.about buffers.old.results.results }
+    requires kept { AreKeptLists claim.now.frames.now.statements claim.now.frames.now.names buffers.old.kept.lists.items }
+    ensures goes { IfOk result (HasCited claim.now.frames.now.statements claim.now.at claim.now.frames.now.names (LabelEntry.Assertion position) buffers.old.results.results buffers.new.results.results) }
+    ensures stays { IfOk result (λ ok. Stays ok buffers.old.results.results buffers.new.results.results) }
+    ensures about { buffers.new.results.about ≡ claim.now.pairs }
+    ensures kept { OnOk result (AreKeptLists claim.now.frames.now.statements claim.now.frames.now.names buffers.new.kept.lists.items) }
 {
     let Some(cited) = claim.frames.cited(position) else {
-        return cite_long(claim, position, buffers);
+        return if buffers.kept.is_due() {
+            cite_kept(claim, position, buffers)
+        } else {
+            cite_long(claim, position, buffers)
+        };
     };
     let remaining = &mut buffers.remaining;
     let results = &mut buffers.results;
@@ -110,9 +165,11 @@ fn cite_entry(
     requires ready { IsReady claim.now buffers.old.results.about }
     requires named { AreNamed claim.now.frames.now.names buffers.old.results.results }
     requires entry { (label : Name) × IsEntry claim.now.frames.now.statements claim.now.at label entry }
+    requires kept { AreKeptLists claim.now.frames.now.statements claim.now.frames.now.names buffers.old.kept.lists.items }
     ensures about { buffers.new.results.about ≡ claim.now.pairs }
     ensures goes { IfOk result (HasCited claim.now.frames.now.statements claim.now.at claim.now.frames.now.names entry buffers.old.results.results buffers.new.results.results) }
     ensures stays { IfOk result (λ ok. Stays ok buffers.old.results.results buffers.new.results.results) }
+    ensures kept { OnOk result (AreKeptLists claim.now.frames.now.statements claim.now.frames.now.names buffers.new.kept.lists.items) }
 {
     match entry {
         LabelEntry::Hypothesis(i) => buffers.results.add(&claim.pairs, claim.frames.expr(i)),
@@ -134,10 +191,12 @@ pub fn step(
     requires ready { IsReady claim.now buffers.old.results.about }
     requires known { AreKnown claim.now.frames.now.statements claim.now.at claim.now.frames.now.names table.now buffers.old.results.results }
     requires entries { (labels : List Name) × AreEntries claim.now.frames.now.statements claim.now.at labels table.now }
+    requires kept { AreKeptLists claim.now.frames.now.statements claim.now.frames.now.names buffers.old.kept.lists.items }
     ensures about { buffers.new.results.about ≡ claim.now.pairs }
     ensures goes { (labels : List Name) → AreEntries claim.now.frames.now.statements claim.now.at labels table.now
         → IfOk result (λ ok. GoesOn ok claim.now.frames.now.statements claim.now.at claim.now.frames.now.names table.now (item_of labels number) buffers.old.results.results buffers.new.results.results) }
     ensures stays { IfOk result (λ ok. Stays ok buffers.old.results.results buffers.new.results.results) }
+    ensures kept { OnOk result (AreKeptLists claim.now.frames.now.statements claim.now.frames.now.names buffers.new.kept.lists.items) }
 {
     if number == 0 {
         return buffers.results.mark();
@@ -168,10 +227,12 @@ pub fn step_at(
     requires ready { IsReady claim.now buffers.old.results.about }
     requires known { AreKnown claim.now.frames.now.statements claim.now.at claim.now.frames.now.names table.now buffers.old.results.results }
     requires entries { (labels : List Name) × AreEntries claim.now.frames.now.statements claim.now.at labels (viewed (option_map (λ v. v.now) view) ++ table.now) }
+    requires kept { AreKeptLists claim.now.frames.now.statements claim.now.frames.now.names buffers.old.kept.lists.items }
     ensures about { buffers.new.results.about ≡ claim.now.pairs }
     ensures goes { (labels : List Name) → AreEntries claim.now.frames.now.statements claim.now.at labels (viewed (option_map (λ v. v.now) view.entry) ++ table.now)
         → IfOk result (λ ok. GoesOn ok claim.now.frames.now.statements claim.now.at claim.now.frames.now.names table.now (item_of labels number) buffers.old.results.results buffers.new.results.results) }
     ensures stays { IfOk result (λ ok. Stays ok buffers.old.results.results buffers.new.results.results) }
+    ensures kept { OnOk result (AreKeptLists claim.now.frames.now.statements claim.now.frames.now.names buffers.new.kept.lists.items) }
 {
     match view {
         Some(view) => step_many(claim, view, table, number, buffers),
@@ -194,10 +255,12 @@ fn step_many(
     requires ready { IsReady claim.now buffers.old.results.about }
     requires known { AreKnown claim.now.frames.now.statements claim.now.at claim.now.frames.now.names table.now buffers.old.results.results }
     requires entries { (labels : List Name) × AreEntries claim.now.frames.now.statements claim.now.at labels (map Hypothesis view.now ++ table.now) }
+    requires kept { AreKeptLists claim.now.frames.now.statements claim.now.frames.now.names buffers.old.kept.lists.items }
     ensures about { buffers.new.results.about ≡ claim.now.pairs }
     ensures goes { (labels : List Name) → AreEntries claim.now.frames.now.statements claim.now.at labels (map Hypothesis view.now ++ table.now)
         → IfOk result (λ ok. GoesOn ok claim.now.frames.now.statements claim.now.at claim.now.frames.now.names table.now (item_of labels number) buffers.old.results.results buffers.new.results.results) }
     ensures stays { IfOk result (λ ok. Stays ok buffers.old.results.results buffers.new.results.results) }
+    ensures kept { OnOk result (AreKeptLists claim.now.frames.now.statements claim.now.frames.now.names buffers.new.kept.lists.items) }
 {
     let many = view.len();
     let number = number as usize;

@@ -10,6 +10,7 @@ ghost use Rattle.verify.specs.Right.{IsProvable, IsRight};
 ghost use Rattle.verify.specs.Stops.{IsFirstFailure, StopsAt};
 
 use crate::citation::{Buffers, Claim, step_at};
+use crate::kept_lists::KeptLists;
 use crate::label_table::{LabelEntry, fill_table};
 use crate::results::Results;
 use frame::{Frames, Gathered, MandatoryView};
@@ -51,6 +52,7 @@ pub(crate) fn run_items(
         → IfOk result (λ done. StopsAt claim.now.frames.now.statements claim.now.at claim.now.frames.now.names (items_of labels numbers.now) done (behind (length table.now) buffers.new.results.results)) }
 {
     buffers.results.start(&claim.pairs, table.len())?;
+    buffers.kept.begin();
     for (done, number) in numbers.iter().enumerate() {
         if !step_at(claim, view, table, *number, buffers)? {
             return Ok(done);
@@ -77,6 +79,7 @@ pub fn first_failure(
     fill_table(frames, at, parts.labels, &mut table)?;
     let mut buffers = Buffers {
         gathered: Gathered::new(alloc),
+        kept: KeptLists::new(alloc),
         remaining: Remaining::new(alloc),
         results: Results::new(alloc),
     };

@@ -4,16 +4,18 @@
 //! derivation is spelled that concludes the statement's expression and weighs no more than the limit; else it answers `Wrong`.
 //! `check` answers so for the items themselves, and `first_failure` tells where their run fails.
 //!
-//! Reading order: `answer`, `tree`; `results` (as ranges of one buffer), `label_table`, `citation` (one item), `failure` (all
-//! items), `checker` (a whole proof); `plan` (the derivation); `laws`.
+//! Reading order: `answer`, `tree`; `results` (as ranges of one buffer), `label_table`, `pair_places`, `kept_lists`, `citation`
+//! (one item), `failure` (all items), `checker` (a whole proof); `plan` (the derivation); `laws`.
 #![tactic(auto)]
 
 mod answer;
 mod checker;
 mod citation;
 mod failure;
+mod kept_lists;
 mod label_table;
 pub mod laws;
+mod pair_places;
 mod plan;
 mod results;
 mod tree;

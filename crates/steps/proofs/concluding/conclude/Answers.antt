@@ -1,4 +1,4 @@
-use Rattle.std.proofs.Common.{◌-◌, ap, is_some, subst}
+use Rattle.std.proofs.Common.{◌-◌, ◌++◌, ◌∙◌, ap, is_some, subst}
 use Rattle.frame.specs.Substitution.{code_apply}
 use Rattle.subst.specs.SymbolRanges.{images_at}
 use Rattle.subst.specs.declared.buffer.TheConstants.{SYMBOLS_LIMIT}
@@ -17,5 +17,6 @@ returns-clause-added c =
       σ,
       all-read c.args.symbols.now c.as_slice.result.now c.args.cited.now.heads.now c.args.cited.now.hypotheses c.args.places.now c.read_off.new.images c.as_slice.ensures.symbols c.requires.same c.requires.within
           (is_some c.in_ok-read_off.field-0) c.in_ok-read_off.ensures.ok (ap is_some c.in-Some.is),
-      (subst (λ v. Appends v (SYMBOLS_LIMIT - c.len-start.result) c.args.symbols.now c.add_applied.new.self (code_apply σ c.args.cited.now.conclusion.now)) c.if-not-branch.false c.in_ok-add_applied.ensures.ok).0,
+      (subst (λ v. Appends v (SYMBOLS_LIMIT - c.len-start.result) c.args.symbols.now c.add_applied.new.self (code_apply σ c.in_ok-conclusion.conclusion.now)) c.if-not-branch.false c.in_ok-add_applied.ensures.ok).0
+          ∙ ap (λ e. c.args.symbols.now ++ e) (c.in_ok-conclusion.ensures c.args.symbols.now),
     )

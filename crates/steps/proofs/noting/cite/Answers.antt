@@ -4,6 +4,8 @@ use Rattle.scope.specs.Active.{expr_of}
 use Rattle.frame.specs.Citations.{IsHypothesis}
 use Rattle.verify.proofs.LabelTableLemmas.{has_with}
 use Rattle.steps.proofs.CiteLemmas.{many, typed, heads-count, different, assertion-draft, assertion-done, hypothesis-draft, hypothesis-done}
+use Rattle.scope.proofs.StatementPlaces.{stands-within}
+use Rattle.steps.proofs.ConcludingLemmas.{standing-codes}
 use Rattle.steps.proofs.DraftedItemLemmas.{never-nothing}
 use Rattle.steps.proofs.noting.cite.Goals as goal
 use Rattle.frame.proofs.FoundByNumber.{some-same}
@@ -85,3 +87,12 @@ returns-in_ok-cited-in-Assertion-clause-done c =
     assertion-done c.args.frames.now.statements c.args.at c.args.frames.now.names c.requires.legal c.args.draft.now c.requires.draft label st tied c.args.position s c.in_ok-cited-in-Assertion.cited carries
     (has_with c.args.frames.now.statements c.args.position s m.0 label carries m.1) m.2 (c.in_ok-cited-in-Assertion.ensures s carries.stands) next run c.cite_parts.new.draft gives)
     c.cite_parts.ensures
+
+pub places-requires : goal.places-requires
+places-requires c = let p = c.requires.can in stands-within c.args.frames.now.statements c.args.position p.1 p.2.stands
+
+pub cite_parts-requires-clause-standing : goal.cite_parts-requires-clause-standing
+cite_parts-requires-clause-standing c =
+    let p = c.requires.can in
+    let is = c.in_ok-cited-in-Assertion.ensures p.1 p.2.stands in
+    standing-codes c.args.frames.now.names _ (expr_of p.1) _ c.requires.legal.distinct is.conclusion_below is.conclusion (c.places.ensures p.1 p.2.stands)

@@ -1,6 +1,7 @@
 use Rattle.verify.proofs.Words.{◌≡◌, Bool, true, false, Result, Ok, IfOk, get_or, length, map, take, arith, sym, subst, refl, IfOk-at_ok, item_of, behind, GoesOn, Stays, ap}
 use Rattle.verify.proofs.StepLemmas.{start-known, start-behind, Reached, reached-start, reached-step, items-more}
 use Rattle.verify.proofs.StopLemmas.{stops-at, stops-end}
+use Rattle.verify.specs.KeptLists.{AreKeptLists}
 use Rattle.verify.proofs.failure.run_items.Goals as goal
 
 pub loop-done-init : goal.loop-done-init
@@ -9,6 +10,7 @@ loop-done-init c = (
   start-known c.args.claim.now.frames.now.statements c.args.claim.now.frames.now.names c.args.claim.now.at c.args.table.now c.start.new.self.results c.in_ok-start.ensures.results,
   λ labels are. reached-start c.args.claim.now.frames.now.statements c.args.claim.now.frames.now.names c.args.claim.now.at c.requires.ready.legal (behind (length c.args.table.now) c.start.new.self.results) (start-behind (length c.args.table.now) c.start.new.self.results c.in_ok-start.ensures.results),
   c.start.ensures.about,
+  subst (AreKeptLists c.args.claim.now.frames.now.statements c.args.claim.now.frames.now.names) (sym c.begin.ensures) tt,
 )
 
 -- what the step did
@@ -30,6 +32,7 @@ loop-done-preserved c = (
       (λ v. GoesOn v c.args.claim.now.frames.now.statements c.args.claim.now.at c.args.claim.now.frames.now.names c.args.table.now (item_of labels (get_or c.args.numbers.now c.loop-done.done 0)) c.loop-done.buffers.results.results c.step_at.new.buffers.results.results)
       (c.step_at.ensures.goes labels are) c.in_ok-step_at.was c.if-not-branch.false).0),
   c.step_at.ensures.about,
+  c.in_ok-step_at.ensures.kept,
 )
 
 pub returns-then-not-branch : goal.returns-then-not-branch

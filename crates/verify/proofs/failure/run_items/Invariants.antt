@@ -2,6 +2,7 @@ use Rattle.verify.proofs.Words.{◌≡◌, List, length, map, take, Name, AreLeg
 use Rattle.std.specs.Prelude.{option_map, ◌++◌}
 use Rattle.verify.specs.LabelTable.{viewed}
 use Rattle.verify.proofs.StepLemmas.{Reached}
+use Rattle.verify.specs.KeptLists.{AreKeptLists}
 use Rattle.verify.proofs.failure.run_items.Given as goal
 
 -- behind the items so far
@@ -12,3 +13,4 @@ invariant-loop-done l =
     × ((labels : List Name) → AreEntries l.claim.frames.now.statements l.claim.at labels (viewed (option_map (λ v. v.now) l.view) ++ l.table)
     → Reached l.claim.frames.now.statements l.claim.frames.now.names l.claim.at legal (map (item_of labels) (take l.done l.numbers)) (behind (length l.table) l.buffers.results.results))
     × (l.buffers.results.about ≡ l.claim.pairs)
+    × AreKeptLists l.claim.frames.now.statements l.claim.frames.now.names l.buffers.kept.lists.items

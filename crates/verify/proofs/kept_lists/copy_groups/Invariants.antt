@@ -1,0 +1,11 @@
+use Rattle.verify.proofs.Words.{ℕ, length, take, AllBelow}
+use Rattle.entries.specs.Stored.Spans.{AreSpansIn, cut}
+use Rattle.verify.specs.KeptLists.{SaySame}
+use Rattle.verify.proofs.kept_lists.copy_groups.Given as goal
+
+abbrev pub invariant-loop-index : goal.invariant-loop-index
+invariant-loop-index l = record {
+  within : AreSpansIn (length l.places.items) l.groups.items;
+  same : SaySame (cut l.places.items l.groups.items) (take l.index l.from);
+  below : (n : ℕ) → AllBelow n l.from → AllBelow n (cut l.places.items l.groups.items);
+}

@@ -1,0 +1,6 @@
+use Rattle.verify.proofs.Words.{◌≡◌, map, take}
+use Rattle.entries.specs.Hypotheses.{told}
+use Rattle.verify.proofs.kept_lists.copy_hypotheses.Given as goal
+
+abbrev pub invariant-loop-index : goal.invariant-loop-index
+invariant-loop-index l = map told l.asked.items ≡ take l.index l.hypotheses

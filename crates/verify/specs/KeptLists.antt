@@ -1,0 +1,72 @@
+-- The lists by which an assertion is cited again and again.
+-- Metamath, 4.2.6: the images of each two variables that are mandatory disjoint have to be disjoint.
+-- The code keeps fewer lists of disjoint variables than the frame has; they have the same pairs.
+use Rattle.std.specs.Prelude.{◌≡◌, ℕ, ◌<◌, ◌==◌, Bool, ◌&&◌, ◌||◌, List, [], ◌∷◌, length, map, slice_get, Some}
+use Rattle.std.specs.List.{list_all, list_any}
+use Rattle.entries.specs.declared.cited_parts.Cited.{Cited}
+use Rattle.frame.specs.Below.{AllBelow, AreBelow}
+use Rattle.frame.specs.Cited.{AreAsked}
+use Rattle.frame.specs.Disjoint.{are_groups_apart}
+use Rattle.frame.specs.FrameOf.{mandatory_groups}
+use Rattle.names.specs.Codes.{decode}
+use Rattle.verify.specs.Words.{Name, Stmt, Database, Images, before, expr_of, hypotheses, stmt_at, Hypothesis}
+
+-- ---- the pairs of lists
+
+-- both numbers stand in the list
+abbrev pub has_both : ℕ → ℕ → List ℕ → Bool
+has_both x y g = list_any (λ c. c == x) g && list_any (λ c. c == y) g
+
+-- the two are one, or stand together in one of the lists
+abbrev pub is_paired : List (List ℕ) → ℕ → ℕ → Bool
+is_paired gs x y = x == y || list_any (has_both x y) gs
+
+-- each two numbers of the list g stand together in one of the lists
+abbrev pub are_covered : List (List ℕ) → List ℕ → Bool
+are_covered gs g = list_all (λ x. list_all (is_paired gs x) g) g
+
+-- under all images the one lists are apart where the others are
+abbrev pub SaySame : List (List ℕ) → List (List ℕ) → Type 0
+SaySame gs hs = (names : List Name) (D : Database) (σ : Images) → are_groups_apart D σ (map (decode names) gs) ≡ are_groups_apart D σ (map (decode names) hs)
+
+-- ---- what a citation reads
+
+-- the parts by which the assertion s at a is cited
+pub record IsCitedBy (S : Database) (names : List Name) (a : ℕ) (s : Stmt) (c : Cited) : Type 0 where
+  pub asked : AreAsked S names (hypotheses (before S a) s) c.heads.now c.hypotheses
+  pub conclusion : decode names c.conclusion.now ≡ expr_of s
+  pub conclusion_below : AreBelow (length names) c.conclusion.now
+  pub groups : (D : Database) (σ : Images) → are_groups_apart D σ (map (decode names) c.groups) ≡ are_groups_apart D σ (mandatory_groups (before S a) s)
+  pub groups_below : AllBelow (length names) c.groups
+
+-- ---- what is kept
+
+-- the lists of the assertion at a position
+pub record Lists : Type 0 where
+  pub position : ℕ
+  pub heads : List ℕ
+  pub asked : List Hypothesis
+  pub groups : List (List ℕ)
+
+-- they were made of these parts
+pub record AreMadeOf (position : ℕ) (c : Cited) (l : Lists) : Type 0 where
+  pub at : l.position ≡ position
+  pub heads_same : l.heads ≡ c.heads.now
+  pub asked_same : l.asked ≡ c.hypotheses
+  pub same : SaySame l.groups c.groups
+  pub below : (n : ℕ) → AllBelow n c.groups → AllBelow n l.groups
+
+-- they say of the assertion s at their position what its parts do
+pub record AreListsOf (S : Database) (names : List Name) (l : Lists) (s : Stmt) : Type 0 where
+  pub asked_of : AreAsked S names (hypotheses (before S l.position) s) l.heads l.asked
+  pub apart : (D : Database) (σ : Images) → are_groups_apart D σ (map (decode names) l.groups) ≡ are_groups_apart D σ (mandatory_groups (before S l.position) s)
+  pub below_names : AllBelow (length names) l.groups
+
+abbrev pub AreKeptLists : Database → List Name → List Lists → Type 0
+AreKeptLists S names [] = Unit {0}
+AreKeptLists S names (l ∷ ls) = ((s : Stmt) → stmt_at S l.position ≡ Some s → AreListsOf S names l s) × AreKeptLists S names ls
+
+-- the lists of the assertion at a position stand at the index i
+pub record IsAt (ls : List Lists) (i position : ℕ) : Type 0 where
+  pub within : i < length ls
+  pub there : (l : Lists) → slice_get ls i ≡ Some l → l.position ≡ position

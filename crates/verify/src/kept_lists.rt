@@ -1,0 +1,318 @@
+//! The lists of assertions that a proof cites again and again, if these are long.
+
+ghost use Rattle.std.specs.Prelude.{◌≡◌, ◌<◌, ◌==◌, ◌++◌, ◌∷◌, [], ℕ, List, length, map, true, get_or, slice_get, Some, IfOk, IfSome, OnOk};
+ghost use Rattle.std.specs.List.{list_all, list_any};
+ghost use Rattle.entries.specs.Hypotheses.{told};
+ghost use Rattle.entries.specs.Stored.Spans.{AreSpansIn, cut};
+ghost use Rattle.frame.specs.Below.{AllBelow};
+ghost use Rattle.mm_lex.specs.Alphabet.{Name};
+ghost use Rattle.mm_read.specs.Statements.{Database};
+ghost use Rattle.mm_read.specs.declared.stmt.Stmt.{Stmt as Statement};
+ghost use Rattle.scope.specs.Active.{stmt_at};
+ghost use Rattle.verify.specs.KeptLists.{AreKeptLists, AreListsOf, AreMadeOf, IsAt, Lists, SaySame, are_covered, has_both, is_paired};
+
+use crate::pair_places::{PairPlace, PairPlaces};
+use entries::buffer_part::between;
+use entries::{BufferPart, Cited, Groups, Hypotheses, number_of};
+use std::alloc::{AllocError, Global};
+use std::collections::BTreeMap;
+use std::marker::Model;
+
+/// In so many citations of a proof long lists are made anew. After them they are kept.
+const FEW: usize = 16;
+
+/// The most numbers that are kept.
+const MOST_NUMBERS: usize = 1_048_576;
+
+/// The lists by which an assertion is cited: its mandatory hypotheses, and lists of variables whose images must be disjoint.
+/// These have each mandatory pair, and no list that has only pairs of the others, where pairs are noted (`PairPlaces`).
+#[derive(Drop)]
+pub struct AssertionLists {
+    /// The position of the assertion.
+    position: usize,
+    /// The typecode of each hypothesis.
+    heads: Vec<u32>,
+    /// Each hypothesis as one number.
+    asked: Vec<u32>,
+    /// The variables of the lists, one list after another.
+    places: Vec<u32>,
+    /// The lists.
+    groups: Vec<BufferPart>,
+}
+
+impl Model for AssertionLists {
+    ghost use Rattle.std.specs.Prelude.{length, map};
+    ghost use Rattle.entries.specs.Hypotheses.{told};
+    ghost use Rattle.entries.specs.Stored.Spans.{AreSpansIn, cut};
+    ghost use Rattle.verify.specs.KeptLists.{Lists};
+
+    ghost Value = { Lists };
+
+    ghost view = { λ a. record { position = a.position; heads = a.heads.items; asked = map told a.asked.items; groups = cut a.places.items a.groups.items } };
+
+    ghost invariant = { λ a. AreSpansIn (length a.places.items) a.groups.items };
+}
+
+impl AssertionLists {
+    /// Returns the lists of an assertion at a position, by its parts.
+    ///
+    /// Errors: an allocation fails. Cost: the hypotheses, times a logarithm; the square of the count of their variables; and
+    /// for each group the square of the count of its variables.
+    fn of(
+        alloc: Global,
+        position: usize,
+        cited: &Cited<'_>,
+        pairs: &mut PairPlaces,
+    ) -> Result<AssertionLists, AllocError>
+        ensures { IfOk result (AreMadeOf position cited.now) }
+    {
+        let mut heads = Vec::new(alloc);
+        heads.extend_from_slice(cited.heads)?;
+        let mut asked = Vec::new(alloc);
+        copy_hypotheses(&cited.hypotheses, &mut asked)?;
+        pairs.begin(&cited.hypotheses)?;
+        let mut places = Vec::new(alloc);
+        let mut groups = Vec::new(alloc);
+        copy_groups(&cited.groups, pairs, &mut places, &mut groups)?;
+        Ok(AssertionLists {
+            position,
+            heads,
+            asked,
+            places,
+            groups,
+        })
+    }
+
+    /// Returns the parts of the assertion, whose expression is given.
+    pub fn cited<'a>(&'a self, conclusion: &'a [u32]) -> Cited<'a>
+        ensures heads { result.heads.now ≡ self.now.heads }
+        ensures asked { result.hypotheses ≡ self.now.asked }
+        ensures conclusion { result.conclusion.now ≡ conclusion.now }
+        ensures groups { result.groups ≡ self.now.groups }
+    {
+        Cited {
+            heads: &self.heads,
+            hypotheses: Hypotheses::new(&self.asked),
+            conclusion,
+            groups: Groups::new(&self.groups, &self.places),
+        }
+    }
+
+    /// Returns how many numbers there are.
+    fn size(&self) -> usize {
+        let hypotheses = self.heads.len().saturating_mul(2);
+        let groups = self.groups.len().saturating_mul(2);
+        hypotheses
+            .saturating_add(groups)
+            .saturating_add(self.places.len())
+    }
+}
+
+/// Appends the hypotheses, each as one number.
+fn copy_hypotheses(hypotheses: &Hypotheses<'_>, asked: &mut Vec<u32>) -> Result<(), AllocError>
+    requires { asked.old.items ≡ [] }
+    ensures { OnOk result (map told asked.new.items ≡ hypotheses.now) }
+{
+    for index in 0..hypotheses.len() {
+        asked.push(number_of(hypotheses.get(index))?)?;
+    }
+    Ok(())
+}
+
+/// Appends the groups, without those whose pairs are noted in others.
+fn copy_groups(
+    from: &Groups<'_>,
+    pairs: &mut PairPlaces,
+    places: &mut Vec<u32>,
+    groups: &mut Vec<BufferPart>,
+) -> Result<(), AllocError>
+    requires empty { (places.old.items ≡ []) × (groups.old.items ≡ []) }
+    ensures within { OnOk result (AreSpansIn (length places.new.items) groups.new.items) }
+    ensures same { OnOk result (SaySame (cut places.new.items groups.new.items) from.now) }
+    ensures below { OnOk result ((n : ℕ) → AllBelow n from.now → AllBelow n (cut places.new.items groups.new.items)) }
+{
+    for index in 0..from.len() {
+        let group = from.get(index);
+        let noted = pairs.look_up(group)?;
+        if noted && is_covered(&Groups::new(groups, places), group, pairs) {
+            continue;
+        }
+        pairs.note(groups.len());
+        add_group(group, places, groups)?;
+    }
+    Ok(())
+}
+
+/// Appends a group.
+fn add_group(
+    group: &[u32],
+    places: &mut Vec<u32>,
+    groups: &mut Vec<BufferPart>,
+) -> Result<(), AllocError>
+    requires within { AreSpansIn (length places.old.items) groups.old.items }
+    ensures within { OnOk result (AreSpansIn (length places.new.items) groups.new.items) }
+    ensures added { OnOk result (cut places.new.items groups.new.items ≡ cut places.old.items groups.old.items ++ group.now ∷ []) }
+{
+    let from = places.len();
+    places.extend_from_slice(group)?;
+    let span = between(from, places.len())?;
+    groups.push(span)?;
+    Ok(())
+}
+
+/// Returns whether each two variables of a group are noted in one of the groups.
+fn is_covered(groups: &Groups<'_>, group: &[u32], pairs: &PairPlaces) -> bool
+    ensures { result ≡ true → are_covered groups.now group.now ≡ true }
+{
+    for index in 0..group.len() {
+        if !is_one_covered(groups, group, index, pairs) {
+            return false;
+        }
+    }
+    true
+}
+
+/// Returns whether the variable at an index of a group and each other one are noted in one of the groups.
+fn is_one_covered(groups: &Groups<'_>, group: &[u32], index: usize, pairs: &PairPlaces) -> bool
+    requires { index < length group.now }
+    ensures { result ≡ true → list_all (is_paired groups.now (get_or group.now index 0)) group.now ≡ true }
+{
+    let x = group[index];
+    for other in 0..group.len() {
+        let y = group[other];
+        if x != y && !stand_at(groups, pairs.place(index, other), x, y) {
+            return false;
+        }
+    }
+    true
+}
+
+/// Returns whether two variables stand at a place.
+fn stand_at(groups: &Groups<'_>, place: PairPlace, x: u32, y: u32) -> bool
+    ensures { result ≡ true → list_any (has_both x y) groups.now ≡ true }
+{
+    let index = place.list as usize;
+    if index >= groups.len() {
+        return false;
+    }
+    let group = groups.get(index);
+    stands_at(group, place.first, x) && stands_at(group, place.second, y)
+}
+
+/// Returns whether a variable stands at an index of a group.
+fn stands_at(group: &[u32], index: u32, x: u32) -> bool
+    ensures { result ≡ true → list_any (λ c. c == x) group.now ≡ true }
+{
+    match group.get(index as usize) {
+        Some(code) => *code == x,
+        None => false,
+    }
+}
+
+/// The lists that one proof keeps.
+#[derive(Drop)]
+pub struct KeptLists {
+    alloc: Global,
+    /// How many assertions with long lists were cited.
+    cited: usize,
+    /// How many numbers are kept.
+    size: usize,
+    /// The index of the lists of the assertion at a position. An index only says where to look.
+    indexes: BTreeMap<usize, usize>,
+    pairs: PairPlaces,
+    pub lists: Vec<AssertionLists>,
+}
+
+impl KeptLists {
+    /// Returns a table with no lists. Does not allocate.
+    pub fn new(alloc: Global) -> KeptLists
+        ensures { result.lists.items ≡ [] }
+    {
+        KeptLists {
+            alloc,
+            cited: 0,
+            size: 0,
+            indexes: BTreeMap::new(alloc),
+            pairs: PairPlaces::new(alloc),
+            lists: Vec::new(alloc),
+        }
+    }
+
+    /// Begins a proof, with no lists.
+    ///
+    /// Cost: the lists that the last one kept.
+    pub fn begin(&mut self)
+        ensures { self.new.lists.items ≡ [] }
+    {
+        self.cited = 0;
+        self.empty();
+    }
+
+    /// Removes all lists.
+    fn empty(&mut self)
+        ensures { self.new.lists.items ≡ [] }
+    {
+        self.size = 0;
+        self.indexes.clear();
+        self.lists.clear();
+    }
+
+    /// Counts one more citation of an assertion with long lists, and returns whether these are to be kept.
+    pub fn is_due(&mut self) -> bool
+        ensures { self.new.lists ≡ self.old.lists }
+    {
+        if self.cited < FEW {
+            self.cited += 1;
+            return false;
+        }
+        true
+    }
+
+    /// Returns the index of the lists of the assertion at a position, if they are kept.
+    ///
+    /// Cost: log n for n lists.
+    pub fn find(&self, position: usize) -> Option<usize>
+        ensures { IfSome result (λ i. IsAt self.now.lists.items i position) }
+    {
+        let index = *self.indexes.get(&position)?;
+        if index < self.lists.len() && self.lists[index].position == position {
+            Some(index)
+        } else {
+            None
+        }
+    }
+
+    /// Returns the lists at an index.
+    pub fn at(&self, index: usize) -> &AssertionLists
+        requires { index < length self.now.lists.items }
+        ensures { slice_get self.now.lists.items index ≡ Some result.now }
+    {
+        &self.lists[index]
+    }
+
+    /// Makes and keeps the lists of an assertion, and returns their index. If many numbers are kept, it begins anew.
+    ///
+    /// Errors: an allocation fails. Cost: that of `AssertionLists::of`.
+    pub fn keep(&mut self, position: usize, cited: &Cited<'_>) -> Result<usize, AllocError>
+        ensures kept { OnOk result ((S : Database) (names : List Name) → AreKeptLists S names self.old.lists.items
+            → ((lists : Lists) → AreMadeOf position cited.now lists → (s : Statement) → stmt_at S position ≡ Some s → AreListsOf S names lists s) → AreKeptLists S names self.new.lists.items) }
+        ensures index { IfOk result (λ i. IsAt self.new.lists.items i position) }
+    {
+        let lists = AssertionLists::of(self.alloc, position, cited, &mut self.pairs)?;
+        self.make_room(lists.size());
+        let index = self.lists.len();
+        self.lists.push(lists)?;
+        let _recorded = self.indexes.insert(position, index);
+        Ok(index)
+    }
+
+    /// Counts so many more numbers, before which all lists are removed if there would be too many.
+    fn make_room(&mut self, size: usize)
+        ensures { (S : Database) (names : List Name) → AreKeptLists S names self.old.lists.items → AreKeptLists S names self.new.lists.items }
+    {
+        if self.size.saturating_add(size) > MOST_NUMBERS {
+            self.empty();
+        }
+        self.size = self.size.saturating_add(size);
+    }
+}

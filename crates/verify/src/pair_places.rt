@@ -1,0 +1,134 @@
+//! Where pairs of variables stand together in lists that are kept.
+
+use entries::{Hypotheses, Hypothesis};
+use std::alloc::{AllocError, Global};
+use std::collections::BTreeMap;
+
+/// The most variables of an assertion whose pairs are noted.
+const MOST_VARIABLES: usize = 512;
+
+/// The most variables of a list whose pairs are noted.
+const MOST_LISTED: usize = 256;
+
+/// Where two variables stand together: the index of a list, and the indexes in it.
+#[derive(Clone, Copy, Drop)]
+pub struct PairPlace {
+    pub list: u32,
+    pub first: u32,
+    pub second: u32,
+}
+
+/// Says that no place was noted.
+const NOWHERE: PairPlace = PairPlace {
+    list: u32::MAX,
+    first: 0,
+    second: 0,
+};
+
+/// For each two variables of an assertion a list in which they were noted to stand together.
+///
+/// A place only says where to look, so nothing holds of it.
+#[derive(Drop)]
+pub struct PairPlaces {
+    /// The number of each variable of the assertion, from 0.
+    variables: BTreeMap<u32, u32>,
+    /// For each two numbers a place.
+    places: Vec<PairPlace>,
+    /// The numbers of the variables of the list that is looked at.
+    listed: Vec<u32>,
+}
+
+impl PairPlaces {
+    /// Returns an empty table. Does not allocate.
+    pub fn new(alloc: Global) -> PairPlaces {
+        PairPlaces {
+            variables: BTreeMap::new(alloc),
+            places: Vec::new(alloc),
+            listed: Vec::new(alloc),
+        }
+    }
+
+    /// Begins with no places, for the variables of these hypotheses. If they are too many, no pair of them is noted.
+    ///
+    /// Errors: an allocation fails. Cost: the square of the count of variables.
+    pub fn begin(&mut self, hypotheses: &Hypotheses<'_>) -> Result<(), AllocError> {
+        self.variables.clear();
+        self.places.clear();
+        if hypotheses.len() > MOST_VARIABLES {
+            return Ok(());
+        }
+        for index in 0..hypotheses.len() {
+            if let Hypothesis::Float(variable) = hypotheses.get(index) {
+                let number = small(self.variables.len());
+                let _recorded = self.variables.insert(variable, number);
+            }
+        }
+        let count = self.variables.len();
+        self.places.resize(count.saturating_mul(count), NOWHERE)?;
+        Ok(())
+    }
+
+    /// Looks up the variables of a list, and returns whether pairs of them are noted.
+    ///
+    /// Errors: an allocation fails. Cost: the list, times a logarithm.
+    pub fn look_up(&mut self, list: &[u32]) -> Result<bool, AllocError> {
+        self.listed.clear();
+        if list.len() > MOST_LISTED {
+            return Ok(false);
+        }
+        for variable in list {
+            let Some(number) = self.variables.get(variable) else {
+                return Ok(false);
+            };
+            self.listed.push(*number)?;
+        }
+        Ok(true)
+    }
+
+    /// Returns the index among the places of those that stand at these indexes of the list.
+    fn index(&self, first: usize, second: usize) -> Option<usize> {
+        let first = *self.listed.get(first)? as usize;
+        let second = *self.listed.get(second)? as usize;
+        let row = first.saturating_mul(self.variables.len());
+        Some(row.saturating_add(second))
+    }
+
+    /// Returns where the variables were noted that stand at these indexes of the list that was looked up.
+    pub fn place(&self, first: usize, second: usize) -> PairPlace {
+        match self.index(first, second) {
+            Some(index) => match self.places.get(index) {
+                Some(place) => *place,
+                None => NOWHERE,
+            },
+            None => NOWHERE,
+        }
+    }
+
+    /// Notes that the list that was looked up is kept at an index.
+    ///
+    /// Cost: the square of the count of its variables.
+    pub fn note(&mut self, list: usize) {
+        let count = self.listed.len();
+        for first in 0..count {
+            for second in 0..count {
+                if let Some(index) = self.index(first, second) {
+                    if let Some(place) = self.places.get_mut(index) {
+                        *place = PairPlace {
+                            list: small(list),
+                            first: small(first),
+                            second: small(second),
+                        };
+                    }
+                }
+            }
+        }
+    }
+}
+
+/// Returns the number in 32 bits, or the greatest such number if it is more.
+fn small(number: usize) -> u32 {
+    match u32::try_from(number) {
+        Ok(number) => number,
+        Err(_) => u32::MAX,
+    }
+}
