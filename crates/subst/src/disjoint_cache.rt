@@ -102,7 +102,7 @@ impl DisjointCache {
     }
 
     /// Whether the images are disjoint, where there are groups.
-    #[inline(never)]
+    #[inline(always)]
     fn ask(
         &mut self,
         pairs: &Pairs<'_>,

@@ -100,6 +100,7 @@ impl DisjointTables {
     }
 
     /// Whether the images of each two variables of each group are disjoint.
+    #[inline(never)]
     pub fn are_groups_disjoint(
         &mut self,
         pairs: &Pairs<'_>,

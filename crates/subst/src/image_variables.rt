@@ -245,6 +245,7 @@ impl ImageVariables {
     }
 
     /// Reads the places of the variables of an image.
+    #[inline(always)]
     fn read(
         &mut self,
         pairs: &Pairs<'_>,
