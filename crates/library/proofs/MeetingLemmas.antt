@@ -1,7 +1,9 @@
 -- Whether a compressed proof cites what is marked, from its numbers and from a test of each of its labels.
-use Rattle.library.proofs.Words.{◌≡◌, ◌↔◌, ℕ, zero, suc, ◌+◌, ◌-◌, ◌<◌, ◌≤◌, Bool, true, false, ◌||◌, if◌then◌else◌, List, [], ◌∷◌, ◌++◌, length, map, get_or, slice_index_or, take, drop, Option, Some, None, option_map, slice_get, refl, list_any, true≢false, length-append, sym, ◌∙◌, ap, subst, arith, append_assoc, inl, inr, slice_get-map, bytes_eq-Decides, map-append, length-map, length-drop, take_more, drop_more, get_or_append_left, both_ways, true_from_ne_false, cases_lt}
+use Rattle.library.proofs.Words.{◌≡◌, ◌↔◌, ℕ, zero, suc, ◌+◌, ◌-◌, ◌<◌, ◌≤◌, Bool, true, false, ◌||◌, if◌then◌else◌, List, [], ◌∷◌, ◌++◌, length, map, get_or, slice_index_or, take, drop, Option, Some, None, option_map, slice_get, refl, list_any, true≢false, length-append, sym, ◌∙◌, ap, subst, arith, append_assoc, inl, inr, slice_get-map, bytes_eq-Decides, map-append, length-map, length-drop, take_more, drop_more, get_or_append_left, append-nil, both_ways, true_from_ne_false, cases_lt}
 use Rattle.library.proofs.Words.{Name, name_eq, has_name, Stmt, Database, bare, bares, before, stmt_at, proof_of, hypotheses, HasLabelsOnce, IsPosition, Item, Cite, Recall, item_of, items_of, finish, Writes, WritesCompressed, WritesPacked, WritesPlain, is_compressed, label_or_none, mandatory_labels, IsProvable, Good, HasItems, is_marked, place_of, AreWanted, ItemsMeet, ProofMeets, listed_in, ListsNone, ListsSome}
 use Rattle.std.proofs.Math.ListN.{get_or-map}
+use Rattle.std.proofs.lemmas.Option.{get_or_from_slice_get, slice_get_within}
+use Rattle.std.proofs.lemmas.List.{get_or-append_right}
 use Rattle.std.proofs.Math.Seq.{take-add}
 use Rattle.std.proofs.lemmas.Bool.{cases_Bool}
 use Rattle.std.proofs.lemmas.Simd.{map-map}
@@ -53,6 +55,12 @@ module _ (S : Database) (marks : List Bool) where
     pub rest : drop n words ≡ left
     pub tests : (front : List Name) → AreWanted S front marks old → AreWanted S (front ++ take n words) marks wanted
 
+  pub untested : (words : List Name) (old none : List Bool) → none ≡ [] → AreTested words words 0 old (old ++ none)
+  untested words old none is = record {
+    rest = refl;
+    tests = λ front w. subst (λ ls. AreWanted S ls marks (old ++ none)) (sym (append-nil front)) (subst (AreWanted S front marks) (sym (ap (λ ts. old ++ ts) is ∙ append-nil old)) w);
+  }
+
   module _ (words left : List Name) (n : ℕ) (old wanted : List Bool) (tested : AreTested words left n old wanted) (within : n < length words) where
     pub word-left : left ≡ [] → ⊥
     word-left none = let l = length-drop n words in let e = ap length (tested.rest ∙ none) in omega (arith, within, l, e)
@@ -77,6 +85,27 @@ module _ (S : Database) (marks : List Bool) where
 number-tested : (marks wanted : List Bool) (places : List (Option ℕ)) → wanted ≡ map (is_marked marks) places → (n : ℕ) → is_marked wanted (Some n) ≡ is_marked marks (place_of places n)
 number-tested marks wanted places tests zero = refl
 number-tested marks wanted places tests (suc n) = ap (λ bs. get_or bs n false) tests ∙ get_or-map (is_marked marks) places n None
+
+-- the test of a number, by the hypotheses or by what is listed after them
+pub wanted-first : (marks : List Bool) (positions : List ℕ) (wanted : List Bool) (n position : ℕ) → (n ≡ 0 → ⊥) → slice_get positions (n - 1) ≡ Some position
+    → is_marked (map (λ p. is_marked marks (Some p)) positions ++ wanted) (Some n) ≡ is_marked marks (Some position)
+wanted-first marks positions wanted zero position n_is here = absurd (n_is refl)
+wanted-first marks positions wanted (suc k) position n_is here =
+    let k_is : suc k - 1 ≡ k = omega arith in
+    let there : slice_get positions k ≡ Some position = ap (slice_get positions) (sym k_is) ∙ here in
+    let within = slice_get_within positions k position there in
+    let test = λ (p : ℕ). is_marked marks (Some p) in
+    get_or_append_left (map test positions) wanted false k (let l = length-map positions test in omega (arith, within, l))
+    ∙ (get_or_from_slice_get (map test positions) k (test position) false (slice_get-map test positions k ∙ ap (option_map test) there))
+
+pub wanted-next : (marks : List Bool) (positions : List ℕ) (wanted : List Bool) (n many : ℕ) → many ≡ length positions → many < n
+    → is_marked (map (λ p. is_marked marks (Some p)) positions ++ wanted) (Some n) ≡ is_marked wanted (Some (n - many))
+wanted-next marks positions wanted zero many is above = absurd (omega (arith, above))
+wanted-next marks positions wanted (suc k) many is above =
+    let test = λ (p : ℕ). is_marked marks (Some p) in
+    let long : length (map test positions) ≡ many = length-map positions test ∙ sym is in
+    let after : suc k - many ≡ suc (k - many) = omega (arith, above) in
+    get_or-append_right (map test positions) wanted many k false long (omega (arith, above)) ∙ sym (ap (λ i. is_marked wanted (Some i)) after)
 
 any-same : (f g : ℕ → Bool) → ((n : ℕ) → f n ≡ g n) → (ns : List ℕ) → list_any f ns ≡ list_any g ns
 any-same f g same [] = refl

@@ -1,17 +1,19 @@
 //! The theorems that use a statement: the `$p` that cite it, and those that cite one which rests on it.
 ghost use Rattle.std.specs.Prelude.{◌≡◌, ◌≤◌, ◌↔◌, ◌++◌, List, true, false, Some, length, map, take, IfOk};
 ghost use Rattle.frame.specs.AtPosition.{HasLabelsOnce};
+ghost use Rattle.frame.specs.FrameOf.{hypotheses};
 ghost use Rattle.library.specs.UseMarks.{is_marked, AreWanted, ItemsMeet, ProofMeets, ListsNone, ListsSome};
 ghost use Rattle.library.specs.Uses.{IsUser, AreLabelsOf};
 ghost use Rattle.mm_lex.specs.Alphabet.{Name};
 ghost use Rattle.mm_read.specs.declared.stmt.Stmt.{Stmt as Statement};
 ghost use Rattle.proof_code.specs.ItemNumbers.{items_of};
-ghost use Rattle.scope.specs.Active.{proof_of};
+ghost use Rattle.proof_code.specs.Writes.{is_compressed};
+ghost use Rattle.scope.specs.Active.{bare, bares, before, proof_of};
 ghost use Rattle.std.specs.List.{list_any};
 ghost use Rattle.verify.specs.Right.{IsProvable};
 
 use crate::checked_database::CheckedDatabase;
-use frame::Frames;
+use frame::{Frames, MandatoryView};
 use mm_lex::{Word, Words};
 use mm_read::Stmt;
 use proof_code::{Heading, Reader, is_compressed};
@@ -79,6 +81,9 @@ impl Search {
         if !is_compressed(tokens) {
             return Ok(lists_marked(frames, tokens, marks));
         }
+        if let Some(view) = frames.mandatory_view(at)? {
+            return self.meets_many(database, at, tokens, marks, &view);
+        }
         self.mandatory.clear();
         frames.mandatory(at, &mut self.mandatory)?;
         if !has_marked(&self.mandatory, marks) {
@@ -98,6 +103,30 @@ impl Search {
             marks,
             &mut self.wanted,
         )
+    }
+}
+
+impl Search {
+    /// Tells so where the mandatory hypotheses are many.
+    fn meets_many(
+        &mut self,
+        database: &CheckedDatabase,
+        at: usize,
+        tokens: &Words,
+        marks: &[bool],
+        view: &MandatoryView<'_>,
+    ) -> Result<bool, AllocError>
+        requires provable { (s : Statement) × IsProvable database.now at s × (proof_of s ≡ tokens.now) }
+        requires compressed { is_compressed tokens.now ≡ true }
+        requires view { (s : Statement) → IsProvable database.now at s → view.now ≡ hypotheses (before (bares database.now) at) (bare s) }
+        ensures { IfOk result (λ found. found ≡ true ↔ ProofMeets database.now at marks.now) }
+    {
+        let frames = database.frames();
+        let Some(heading) = self.reader.read(tokens, view.len())? else {
+            return Ok(false);
+        };
+        let numbers = self.reader.numbers();
+        listed_meet_many(frames, heading, numbers, view, marks, &mut self.wanted)
     }
 }
 
@@ -136,6 +165,54 @@ fn listed_meet(
         }
     }
     Ok(has_marked(numbers, wanted))
+}
+
+/// Tells so where the mandatory hypotheses are viewed, by a list with a test of each listed label alone.
+fn listed_meet_many(
+    frames: &Frames,
+    heading: Heading<'_>,
+    numbers: &[u32],
+    view: &MandatoryView<'_>,
+    marks: &[bool],
+    wanted: &mut Vec<bool>,
+) -> Result<bool, AllocError>
+    requires once { HasLabelsOnce frames.now.statements }
+    requires listed { heading.count ≤ length heading.words }
+    ensures { IfOk result (λ found. (front : List Name) → AreWanted frames.now.statements front marks.now (map (λ position. is_marked marks.now (Some position)) view.now)
+        → found ≡ true ↔ ItemsMeet frames.now.statements (items_of (front ++ take heading.entry.count heading.entry.words) numbers.now) marks.now) }
+{
+    wanted.clear();
+    let mut words = heading.words;
+    for _ in 0..heading.count {
+        let Some(label) = words.next() else {
+            unreachable!();
+        };
+        wanted.push(is_marked(marks, frames.position(label)))?;
+    }
+    Ok(has_wanted(view, marks, wanted, numbers))
+}
+
+/// Tells whether one of the numbers is that of a label that is marked.
+fn has_wanted(view: &MandatoryView<'_>, marks: &[bool], wanted: &[bool], numbers: &[u32]) -> bool
+    ensures { result ≡ list_any (λ n. is_marked (map (λ position. is_marked marks.now (Some position)) view.now ++ wanted.now) (Some n)) numbers.now }
+{
+    numbers
+        .iter()
+        .any(|number| is_wanted(view, marks, wanted, *number as usize))
+}
+
+/// Tells whether the number is that of a mandatory hypothesis that is marked, or of a listed label that is.
+fn is_wanted(view: &MandatoryView<'_>, marks: &[bool], wanted: &[bool], number: usize) -> bool
+    ensures { result ≡ is_marked (map (λ position. is_marked marks.now (Some position)) view.now ++ wanted.now) (Some number) }
+{
+    let many = view.len();
+    if number == 0 {
+        return false;
+    }
+    if number <= many {
+        return is_marked(marks, Some(view.get(number - 1) as usize));
+    }
+    is_marked(wanted, Some(number - many))
 }
 
 /// Tells whether one of the positions is marked; or one of the numbers of a proof, by the tests of its labels.
