@@ -23,6 +23,7 @@ pub mod LogsGrow
 pub mod HistoryLemmas
 mod Rows
 pub mod TakenLemmas
+pub mod NodeStatesLemmas
 pub mod EventsStaged
 pub mod StepsStaged
 pub mod StagedTaken

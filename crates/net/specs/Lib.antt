@@ -1,5 +1,6 @@
 pub mod Words
 pub mod World
+pub mod NodeStates
 pub mod Chosen
 pub mod Agree
 pub mod KeptPart

@@ -5,13 +5,14 @@
 //! survives a restart, `logs_grow` that nothing else shortens a log.
 //!
 //! Read `event` and `fault`, then the definitions: specs/World, Chosen, Agree, KeptPart, Laws, Taken, History; then `laws`,
-//! `staged` (an event that is ready to be taken) and `net`.
+//! `staged` (an event that is ready to be taken), `net` and `node_state`.
 #![tactic(auto)]
 
 mod event;
 mod fault;
 mod laws;
 mod net;
+mod node_state;
 mod staged;
 
 pub use event::{Event, MOST_EVENTS};

@@ -18,7 +18,7 @@ use synod::{NodeCore, Packet, Value, Weights};
 #[derive(Drop)]
 pub struct Net<V: Value> {
     weights: Weights,
-    nodes: Vec<NodeCore<V>>,
+    pub(crate) nodes: Vec<NodeCore<V>>,
     packets: Vec<Packet<V>>,
     events: Vec<Event<V>>,
 }

@@ -48,7 +48,7 @@ impl<V: Value, K: Keep<V>> Switch<V, K> {
     }
 
     /// Tells whether there is such a node and it is down.
-    pub(crate) fn is_down(&self, node: Option<u8>) -> bool
+    pub fn is_down(&self, node: Option<u8>) -> bool
         ensures { result ≡ is_down_at self.now.stores node }
     {
         let Some(k) = node else {

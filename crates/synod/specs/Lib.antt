@@ -6,6 +6,7 @@ pub mod PromisePages
 pub mod Record
 pub mod Node
 pub mod Log
+pub mod State
 pub mod Acceptor
 pub mod Proposer
 pub mod Learner

@@ -30,7 +30,7 @@ mod weights;
 pub use ballot::Ballot;
 pub use change::{Change, Held};
 pub use keep::{Failed, Keep};
-pub use node::NodeCore;
+pub use node::{NodeCore, NodeState};
 pub use packet::{Body, MOST_PAGES, PAGE_REPORTS, Packet, Reports, SlotReport};
 pub use proposer::{Heard, MOST_WAITING, Role};
 pub use ready::Ready;

@@ -6,6 +6,7 @@ mod accepting;
 mod gathering;
 mod learning;
 mod proposing;
+mod state;
 
 use crate::ballot::Ballot;
 use crate::learner::Learner;
@@ -18,6 +19,7 @@ use crate::refusal::Refusal;
 use crate::value::{MOST_BYTES, Value, copy_value};
 use crate::weights::Weights;
 use slots::SLOTS;
+pub use state::NodeState;
 use std::alloc::{AllocError, Global};
 use std::marker::Model;
 

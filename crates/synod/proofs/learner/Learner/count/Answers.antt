@@ -1,5 +1,5 @@
-use Rattle.synod.proofs.Words.{◌∙◌, ap, sym, later_at}
-use Rattle.synod.proofs.LaterTalliesLemmas.{counted_new, counted_first, counted_later, learner_put, learner_later}
+use Rattle.synod.proofs.Words.{◌∙◌, sym, later_at}
+use Rattle.synod.proofs.LaterTalliesLemmas.{counted_new, counted_first, counted_later, learner_put}
 use Rattle.synod.proofs.learner.Learner.count.Goals as goal
 
 pub invariant_of-self : goal.invariant_of-self

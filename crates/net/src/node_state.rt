@@ -1,0 +1,25 @@
+//! What a node of a world tells of itself.
+ghost use Rattle.std.specs.Prelude.{◌≡◌, ◌≤◌, ◌<◌, Err, Some, length, IfOk, IsOk};
+
+use crate::fault::StepFault;
+use crate::net::Net;
+use synod::{NodeState, Value};
+
+impl<V: Value> Net<V> {
+    ghost use Rattle.net.specs.NodeStates.{state_after};
+    ghost use Rattle.net.specs.Taken.{world_of};
+    ghost use Rattle.net.specs.declared.fault.StepFault.TheVariants.{NoNode};
+
+    /// Returns what node `k` tells of itself. It does not allocate.
+    pub fn state(&self, k: u8) -> Result<NodeState, StepFault>
+        ensures state { IfOk result
+            (λ state. state_after (world_of V.bytes self.now.taken) k ≡ Some state) }
+        ensures no_node { length self.now.taken.weights ≤ k → result ≡ Err NoNode }
+        ensures node { k < length self.now.taken.weights → IsOk result }
+    {
+        match self.nodes.get(k as usize) {
+            Some(node) => Ok(node.state()),
+            None => Err(StepFault::NoNode),
+        }
+    }
+}

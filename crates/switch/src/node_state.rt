@@ -1,0 +1,20 @@
+//! What a node of a switch tells of itself.
+ghost use Rattle.std.specs.Prelude.{◌≡◌, ◌≤◌, ◌<◌, Err, Some, length, IfOk, IsOk};
+ghost use Rattle.net.specs.NodeStates.{state_after};
+ghost use Rattle.net.specs.declared.fault.StepFault.TheVariants.{NoNode};
+ghost use Rattle.switch.specs.Switch.{world_of};
+
+use crate::switch::Switch;
+use net::StepFault;
+use synod::{Keep, NodeState, Value};
+
+impl<V: Value, K: Keep<V>> Switch<V, K> {
+    /// Returns what node `k` tells of itself, or `NoNode`. Does not allocate.
+    pub fn state(&self, k: u8) -> Result<NodeState, StepFault>
+        ensures state { IfOk result (λ state. state_after (world_of V.bytes self.now) k ≡ Some state) }
+        ensures no_node { length self.now.stores ≤ k → result ≡ Err NoNode }
+        ensures node { k < length self.now.stores → IsOk result }
+    {
+        self.net.state(k)
+    }
+}

@@ -1,0 +1,10 @@
+-- What a node tells of itself.
+-- Source: Lamport, Paxos Made Simple, 2.2 and 2.4 (promises, and a distinguished proposer).
+-- The code stores the length of the log.
+use Rattle.std.specs.Prelude.{length}
+use Rattle.synod.specs.Log.{log_length}
+use Rattle.synod.specs.Node.{Node}
+use Rattle.synod.specs.declared.node.state.NodeState.{NodeState}
+
+abbrev pub state_of : {V : Type 0} → Node V → NodeState
+state_of n = record { role = n.role; promise = n.promise; learned = log_length n; waiting = length n.waiting }

@@ -1,0 +1,36 @@
+//! What a node tells of itself.
+ghost use Rattle.std.specs.Prelude.{◌≡◌};
+
+use crate::ballot::Ballot;
+use crate::node::NodeCore;
+use crate::proposer::Role;
+use crate::value::Value;
+
+/// What a node tells of itself.
+#[derive(Clone, Copy, PartialEq, Eq)]
+pub struct NodeState {
+    /// The role of its proposer.
+    pub role: Role,
+    /// The ballot that it promised.
+    pub promise: Ballot,
+    /// How many entries its log has.
+    pub learned: u32,
+    /// How many values wait at it.
+    pub waiting: usize,
+}
+
+impl<V: Value> NodeCore<V> {
+    ghost use Rattle.synod.specs.State.{state_of};
+
+    /// Returns what the node tells of itself. Does not allocate.
+    pub fn state(&self) -> NodeState
+        ensures { result ≡ state_of self.now.node }
+    {
+        NodeState {
+            role: self.proposer.role(),
+            promise: self.record.promise(),
+            learned: self.learner.front(),
+            waiting: self.proposer.waiting().len(),
+        }
+    }
+}
