@@ -55,8 +55,8 @@ struct Choice<'a> {
 /// these, the `$d` that have two of their variables, the declarations of the symbols of all these, and the blocks that are not
 /// empty then.
 ///
-/// Cost: the statements; for each assertion that is taken its own expression and proof, and the active `$d` that have one of
-/// its own variables. The `$e` that are active are gone through once.
+/// Cost: the statements, each `$e` and `$d` once; for each assertion that is taken its own expression and proof, and the active
+/// `$d` that have one of its own variables: all but those of the `$e` that it shares with an assertion taken before it.
 pub(crate) fn choose(
     alloc: Global,
     library: &Library,
@@ -325,13 +325,13 @@ impl<'a> Choice<'a> {
         Ok(())
     }
 
-    /// Records a variable of the assertion at a position, once.
+    /// Records a variable of the assertion at a position, once, unless an active `$e` that is taken has it.
     fn note_variable(&mut self, at: usize, name: &[u8]) -> Result<(), AllocError> {
         let Some(code) = self.symbols.find(name) else {
             return Ok(());
         };
         if let Some(record) = self.records.get_mut(code) {
-            if record.variable_of != at {
+            if record.variable_of != at && record.given_by == 0 {
                 record.variable_of = at;
                 self.own.push(code)?;
             }
