@@ -1,9 +1,5 @@
 //! Chooses the statements of an extract.
-ghost use Rattle.std.specs.Prelude.{◌≡◌, option_map};
-ghost use Rattle.scope.specs.Active.{stmt_at};
-
 use crate::cited::{is_marked, mark, named};
-use frame::is_assertion;
 use library::Library;
 use mm_lex::Words;
 use mm_read::Stmt;
@@ -15,10 +11,25 @@ use std::alloc::{AllocError, Global};
 struct Block {
     /// The position of its `${`.
     open: usize,
-    /// How many `$d` are active before it.
-    disjoint: usize,
+    /// How many `$f`, `$e` and `$d` are active before it.
+    active: usize,
     /// Whether an assertion in it is taken.
     used: bool,
+}
+
+/// The records of a symbol, by positions, 0 for none.
+#[derive(Drop)]
+struct SymbolRecord {
+    /// Its last declaration.
+    declared: usize,
+    /// Its active `$f`.
+    float: usize,
+    /// An active `$e` that is taken and has it.
+    given_by: usize,
+    /// The last assertion that is taken and has it as a variable, or whose proof has.
+    variable_of: usize,
+    /// The active `$d` that have it.
+    disjoint: Vec<usize>,
 }
 
 /// The records of a walk up the statements, which are taken where they are marked.
@@ -29,18 +40,23 @@ struct Choice<'a> {
     marks: Vec<bool>,
     /// The symbols that were declared.
     symbols: NameTable,
-    /// The position of each symbol's last declaration.
-    declared: Vec<usize>,
-    /// The position of the last assertion that has a hypothesis for the symbol as a variable, for each symbol.
-    variable_of: Vec<usize>,
-    /// The positions of the active `$d`.
-    disjoint: Vec<usize>,
+    /// The record of each symbol.
+    records: Vec<SymbolRecord>,
+    /// The positions of the active `$f`, `$e` and `$d`.
+    active: Vec<usize>,
+    /// How many of these were passed by an assertion that is taken.
+    passed: usize,
+    /// The variables that an assertion adds to those of the `$e` that were taken before it.
+    own: Vec<usize>,
     blocks: Vec<Block>,
 }
 
 /// Returns for each statement whether it is taken: the assertions of the labels, all that their proofs name, the hypotheses of
 /// these, the `$d` that have two of their variables, the declarations of the symbols of all these, and the blocks that are not
 /// empty then.
+///
+/// Cost: the statements, each `$e` and `$d` once; for each assertion that is taken its own expression and proof, and the active
+/// `$d` that have one of its own variables: all but those of the `$e` that it shares with an assertion taken before it.
 pub(crate) fn choose(
     alloc: Global,
     library: &Library,
@@ -51,9 +67,10 @@ pub(crate) fn choose(
         library,
         marks: named(alloc, library, labels)?,
         symbols: NameTable::new(alloc),
-        declared: Vec::new(alloc),
-        variable_of: Vec::new(alloc),
-        disjoint: Vec::new(alloc),
+        records: Vec::new(alloc),
+        active: Vec::new(alloc),
+        passed: 0,
+        own: Vec::new(alloc),
         blocks: Vec::new(alloc),
     };
     for (index, statement) in library.statements().iter().enumerate() {
@@ -70,20 +87,21 @@ impl<'a> Choice<'a> {
             Stmt::Close => self.close(at),
             Stmt::Const(names) => self.declare(at, names)?,
             Stmt::Var(names) => self.declare(at, names)?,
-            Stmt::Disj(_) => self.disjoint.push(at)?,
+            Stmt::Disj(names) => self.separate(at, names)?,
+            Stmt::Float { variable, .. } => self.give_type(at, variable.as_bytes())?,
+            Stmt::Ess { .. } => self.active.push(at)?,
             Stmt::Axiom { expr, .. } => self.assertion(at, expr, None)?,
             Stmt::Prove { expr, proof, .. } => self.assertion(at, expr, Some(proof))?,
-            _ => {}
         }
         Ok(())
     }
 
     /// Opens a block.
     fn open(&mut self, at: usize) -> Result<(), AllocError> {
-        let disjoint = self.disjoint.len();
+        let active = self.active.len();
         self.blocks.push(Block {
             open: at,
-            disjoint,
+            active,
             used: false,
         })?;
         Ok(())
@@ -94,11 +112,44 @@ impl<'a> Choice<'a> {
         let Some(block) = self.blocks.pop() else {
             return;
         };
-        self.disjoint.truncate(block.disjoint);
+        for _ in block.active..self.active.len() {
+            if let Some(position) = self.active.pop() {
+                self.end(position);
+            }
+        }
+        self.passed = self.passed.min(self.active.len());
         if block.used {
             mark(&mut self.marks, Some(block.open));
             mark(&mut self.marks, Some(at));
             self.use_block();
+        }
+    }
+
+    /// Takes back what was recorded of a statement that is no longer active.
+    fn end(&mut self, position: usize) {
+        match statement_at(self.library.statements(), position) {
+            Some(Stmt::Disj(names)) => {
+                for name in names.iter() {
+                    if let Some(record) = self.record(name) {
+                        let _position = record.disjoint.pop();
+                    }
+                }
+            }
+            Some(Stmt::Float { variable, .. }) => {
+                if let Some(record) = self.record(variable.as_bytes()) {
+                    record.float = 0;
+                }
+            }
+            Some(Stmt::Ess { expr, .. }) => {
+                for name in expr.iter() {
+                    if let Some(record) = self.record(name) {
+                        if record.given_by == position {
+                            record.given_by = 0;
+                        }
+                    }
+                }
+            }
+            _ => {}
         }
     }
 
@@ -109,17 +160,46 @@ impl<'a> Choice<'a> {
         }
     }
 
+    /// Returns the record of a symbol, if it was declared.
+    fn record(&mut self, name: &[u8]) -> Option<&mut SymbolRecord> {
+        let code = self.symbols.find(name)?;
+        self.records.get_mut(code)
+    }
+
     /// Records where these symbols are declared.
     fn declare(&mut self, at: usize, names: &Words) -> Result<(), AllocError> {
         for name in names.iter() {
             let code = self.symbols.code(self.alloc, name)?;
-            match self.declared.get_mut(code) {
-                Some(declared) => *declared = at,
-                None => {
-                    self.declared.push(at)?;
-                    self.variable_of.push(0)?;
-                }
+            match self.records.get_mut(code) {
+                Some(record) => record.declared = at,
+                None => self.records.push(SymbolRecord {
+                    declared: at,
+                    float: 0,
+                    given_by: 0,
+                    variable_of: 0,
+                    disjoint: Vec::new(self.alloc),
+                })?,
             }
+        }
+        Ok(())
+    }
+
+    /// Records a `$d`.
+    fn separate(&mut self, at: usize, names: &Words) -> Result<(), AllocError> {
+        self.active.push(at)?;
+        for name in names.iter() {
+            if let Some(record) = self.record(name) {
+                record.disjoint.push(at)?;
+            }
+        }
+        Ok(())
+    }
+
+    /// Records a `$f`.
+    fn give_type(&mut self, at: usize, variable: &[u8]) -> Result<(), AllocError> {
+        self.active.push(at)?;
+        if let Some(record) = self.record(variable) {
+            record.float = at;
         }
         Ok(())
     }
@@ -134,44 +214,107 @@ impl<'a> Choice<'a> {
         if !is_marked(&self.marks, at) {
             return Ok(());
         }
-        for position in mandatory(self.alloc, self.library, at)? {
-            self.hypothesis(at, position as usize);
-        }
+        self.own.clear();
+        self.symbols_of(at, expr)?;
+        self.essentials()?;
         if let Some(proof) = proof {
-            self.hypotheses_of_proof(at, proof);
+            self.hypotheses_of_proof(at, proof)?;
         }
-        self.declarations(expr);
         self.disjoint_variables(at);
+        self.passed = self.active.len();
         self.use_block();
         Ok(())
     }
 
-    /// Takes the hypotheses that a proof names.
-    fn hypotheses_of_proof(&mut self, at: usize, proof: &Words) {
-        for token in proof.iter() {
-            if token == b")".as_slice() {
-                return;
+    /// Takes the declarations of the symbols of an assertion, and the `$f` of its variables, which are recorded.
+    fn symbols_of(&mut self, at: usize, expr: &Words) -> Result<(), AllocError> {
+        for name in expr.iter() {
+            self.declaration(name);
+            let float = match self.record(name) {
+                Some(record) => record.float,
+                None => 0,
+            };
+            if float != 0 {
+                self.float(float);
+                self.note_variable(at, name)?;
             }
-            if let Some(position) = self.library.frames().position(token) {
-                self.hypothesis(at, position);
+        }
+        Ok(())
+    }
+
+    /// Takes the active `$e` that were not passed yet, and records their variables.
+    fn essentials(&mut self) -> Result<(), AllocError> {
+        for index in self.passed..self.active.len() {
+            let Some(position) = self.active.get(index).copied() else {
+                return Ok(());
+            };
+            if let Some(Stmt::Ess { expr, .. }) = statement_at(
+                self.library.statements(),
+                position,
+            ) {
+                mark(&mut self.marks, Some(position));
+                for name in expr.iter() {
+                    self.declaration(name);
+                    self.give(position, name)?;
+                }
             }
+        }
+        Ok(())
+    }
+
+    /// Takes the `$f` of a symbol of the `$e` at a position, if it is a variable, which is recorded.
+    fn give(&mut self, position: usize, name: &[u8]) -> Result<(), AllocError> {
+        let Some(code) = self.symbols.find(name) else {
+            return Ok(());
+        };
+        let Some(record) = self.records.get_mut(code) else {
+            return Ok(());
+        };
+        if record.float == 0 || record.given_by != 0 {
+            return Ok(());
+        }
+        record.given_by = position;
+        let float = record.float;
+        self.own.push(code)?;
+        self.float(float);
+        Ok(())
+    }
+
+    /// Takes the `$f` at a position.
+    fn float(&mut self, position: usize) {
+        if let Some(
+            Stmt::Float {
+                constant,
+                variable,
+                ..
+            },
+        ) = statement_at(self.library.statements(), position)
+        {
+            mark(&mut self.marks, Some(position));
+            self.declaration(constant.as_bytes());
+            self.declaration(variable.as_bytes());
         }
     }
 
-    /// Takes a hypothesis of the assertion at a position.
-    fn hypothesis(&mut self, at: usize, position: usize) {
+    /// Takes the hypotheses that a proof names.
+    fn hypotheses_of_proof(&mut self, at: usize, proof: &Words) -> Result<(), AllocError> {
+        for token in proof.iter() {
+            if token == b")".as_slice() {
+                return Ok(());
+            }
+            if let Some(position) = self.library.frames().position(token) {
+                self.hypothesis(at, position)?;
+            }
+        }
+        Ok(())
+    }
+
+    /// Takes a hypothesis that the proof of the assertion at a position names.
+    fn hypothesis(&mut self, at: usize, position: usize) -> Result<(), AllocError> {
         match statement_at(self.library.statements(), position) {
-            Some(
-                Stmt::Float {
-                    constant,
-                    variable,
-                    ..
-                },
-            ) => {
-                mark(&mut self.marks, Some(position));
-                self.declaration(constant.as_bytes());
-                self.declaration(variable.as_bytes());
-                self.note_variable(at, variable.as_bytes());
+            Some(Stmt::Float { variable, .. }) => {
+                self.float(position);
+                self.note_variable(at, variable.as_bytes())?;
             }
             Some(Stmt::Ess { expr, .. }) => {
                 mark(&mut self.marks, Some(position));
@@ -179,28 +322,71 @@ impl<'a> Choice<'a> {
             }
             _ => {}
         }
+        Ok(())
     }
 
-    /// Records a variable of the assertion at a position.
-    fn note_variable(&mut self, at: usize, name: &[u8]) {
-        if let Some(code) = self.symbols.find(name) {
-            if let Some(assertion) = self.variable_of.get_mut(code) {
-                *assertion = at;
+    /// Records a variable of the assertion at a position, once, unless an active `$e` that is taken has it.
+    fn note_variable(&mut self, at: usize, name: &[u8]) -> Result<(), AllocError> {
+        let Some(code) = self.symbols.find(name) else {
+            return Ok(());
+        };
+        if let Some(record) = self.records.get_mut(code) {
+            if record.variable_of != at && record.given_by == 0 {
+                record.variable_of = at;
+                self.own.push(code)?;
+            }
+        }
+        Ok(())
+    }
+
+    /// Takes the active `$d` that have two variables of the assertion at a position: those that have one of its own, and those
+    /// that were not passed yet.
+    fn disjoint_variables(&mut self, at: usize) {
+        for index in 0..self.own.len() {
+            let Some(code) = self.own.get(index).copied() else {
+                return;
+            };
+            self.disjoint_of(at, code);
+        }
+        for index in self.passed..self.active.len() {
+            let Some(position) = self.active.get(index).copied() else {
+                return;
+            };
+            self.disjoint(at, position);
+        }
+    }
+
+    /// Takes those of the active `$d` of a symbol that have two variables of the assertion at a position.
+    fn disjoint_of(&mut self, at: usize, code: usize) {
+        for index in 0..self.disjoint_count(code) {
+            if let Some(position) = self.disjoint_at(code, index) {
+                self.disjoint(at, position);
             }
         }
     }
 
-    /// Takes the active `$d` that have two variables of the assertion at a position.
-    fn disjoint_variables(&mut self, at: usize) {
-        for index in 0..self.disjoint.len() {
-            let Some(position) = self.disjoint.get(index).copied() else {
-                return;
-            };
-            if let Some(Stmt::Disj(names)) = statement_at(self.library.statements(), position) {
-                if self.has_two(at, names) {
-                    mark(&mut self.marks, Some(position));
-                    self.declarations(names);
-                }
+    /// Returns how many active `$d` have a symbol.
+    fn disjoint_count(&self, code: usize) -> usize {
+        match self.records.get(code) {
+            Some(record) => record.disjoint.len(),
+            None => 0,
+        }
+    }
+
+    /// Returns the position of the active `$d` at an index of those of a symbol.
+    fn disjoint_at(&self, code: usize, index: usize) -> Option<usize> {
+        self.records.get(code)?.disjoint.get(index).copied()
+    }
+
+    /// Takes the `$d` at a position if it has two variables of the assertion at a position.
+    fn disjoint(&mut self, at: usize, position: usize) {
+        if is_marked(&self.marks, position) {
+            return;
+        }
+        if let Some(Stmt::Disj(names)) = statement_at(self.library.statements(), position) {
+            if self.has_two(at, names) {
+                mark(&mut self.marks, Some(position));
+                self.declarations(names);
             }
         }
     }
@@ -220,8 +406,11 @@ impl<'a> Choice<'a> {
     }
 
     fn is_variable(&self, at: usize, name: &[u8]) -> bool {
-        match self.symbols.find(name) {
-            Some(code) => self.variable_of.get(code).copied() == Some(at),
+        let Some(code) = self.symbols.find(name) else {
+            return false;
+        };
+        match self.records.get(code) {
+            Some(record) => record.variable_of == at || record.given_by != 0,
             None => false,
         }
     }
@@ -235,29 +424,17 @@ impl<'a> Choice<'a> {
 
     /// Takes the declaration of a symbol.
     fn declaration(&mut self, name: &[u8]) {
-        if let Some(code) = self.symbols.find(name) {
-            mark(&mut self.marks, self.declared.get(code).copied());
+        if let Some(record) = self.record(name) {
+            let declared = record.declared;
+            mark(&mut self.marks, Some(declared));
         }
     }
 }
 
 /// Returns the statement at a position, counted from 1.
-fn statement_at(statements: &[Stmt], position: usize) -> Option<&Stmt>
-    ensures { option_map (λ s. s.now) result ≡ stmt_at statements.now position }
-{
+fn statement_at(statements: &[Stmt], position: usize) -> Option<&Stmt> {
     if position == 0 {
         return None;
     }
     statements.get(position - 1)
-}
-
-/// Returns the mandatory hypotheses of the assertion at a position, by position; none if no assertion stands there.
-fn mandatory(alloc: Global, library: &Library, at: usize) -> Result<Vec<u32>, AllocError> {
-    let mut list = Vec::new(alloc);
-    if let Some(statement) = statement_at(library.statements(), at) {
-        if is_assertion(statement) {
-            library.frames().mandatory(at, &mut list)?;
-        }
-    }
-    Ok(list)
 }
