@@ -72,6 +72,20 @@ impl NodeCell {
         self.replica.library()
     }
 
+    /// Returns the entries taken over from its node's log, in order. Does not allocate.
+    pub fn entries(&self) -> &[Option<Carried>]
+        ensures { result.now ≡ self.now.entries }
+    {
+        &self.entries
+    }
+
+    /// Returns how many entries were applied. Does not allocate.
+    pub fn applied(&self) -> u32
+        ensures { result ≡ self.now.node.applied }
+    {
+        self.replica.applied()
+    }
+
     /// Tells whether an entry that was taken over is still to be applied.
     pub fn is_behind(&self) -> bool
         ensures { IsTrue result ↔ self.now.node.applied < length self.now.entries }

@@ -3,6 +3,7 @@ pub mod LineWords
 pub mod Remaining
 pub mod Texts
 pub mod Offered
+pub mod NodeQuestions
 pub mod NodeLines
 pub mod PlayLines
 pub mod ServeLines

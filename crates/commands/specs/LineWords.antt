@@ -1,11 +1,12 @@
 -- The words of a line: a verb, then numbers, nodes, entries by their author and serial number.
 -- Source: this project's own form.
 -- The code takes one word after another; here a definition has what it reads, and the words after it.
-use Rattle.std.specs.Prelude.{ℕ, List, [], ◌∷◌, Option, Some, None, option_map, option_and_then, nat_lt, if◌then◌else◌}
+use Rattle.std.specs.Prelude.{ℕ, Bool, true, false, List, [], ◌∷◌, Option, Some, None, option_map, option_and_then, nat_lt, if◌then◌else◌}
 use Rattle.numbers.specs.Numbers.{number_of}
 use Rattle.commands.specs.Pieces.{split_at}
 use Rattle.commands.specs.declared.line_words.TheConstants.{SPACE}
 use Rattle.commands.specs.declared.line_words.EntryAt.{EntryAt}
+use Rattle.commands.specs.declared.line_words.NodePair.{NodePair}
 
 infixl 10 ◌>>=◌
 abbrev pub ◌>>=◌ : {A B : Type 0} → Option A → (A → Option B) → Option B
@@ -34,6 +35,11 @@ abbrev pub alone : {A : Type 0} → A × Words → Option A
 alone (x, []) = Some x
 alone (x, w ∷ ws) = None
 
+-- no word is left
+abbrev pub nothing_left : Words → Bool
+nothing_left [] = true
+nothing_left (w ∷ ws) = false
+
 abbrev pub one_number : Words → Option ℕ
 one_number ws = do
   n ← number_at ws
@@ -45,6 +51,17 @@ node_of n = if nat_lt n 256 then n else 255
 
 abbrev pub one_node : Words → Option ℕ
 one_node ws = option_map node_of (one_number ws)
+
+-- a node, and the words after it
+abbrev pub node_at : Words → Option (ℕ × Words)
+node_at ws = option_map (λ k. (node_of k.0, k.1)) (number_at ws)
+
+-- J K
+abbrev pub two_nodes : Words → Option NodePair
+two_nodes ws = do
+  j ← node_at ws
+  k ← one_node j.1
+  Some (record { first = j.0; second = k })
 
 -- K AUTHOR SERIAL
 abbrev pub entry_at : Words → Option (EntryAt × Words)

@@ -4,7 +4,7 @@
 use Rattle.std.specs.Prelude.{ℕ, List, codes, Option, Some, None, option_map, if◌then◌else◌}
 use Rattle.std.specs.Str.{bytes_eq}
 use Rattle.commands.specs.declared.play_line.PlayLine.{PlayLine}
-use Rattle.commands.specs.declared.play_line.PlayLine.TheVariants.{Node, Deliver, Apply, Show, Log, Export}
+use Rattle.commands.specs.declared.play_line.PlayLine.TheVariants.{Node, Deliver, Apply, Show}
 use Rattle.commands.specs.LineWords.{Words, line_by, one_number, one_node}
 use Rattle.commands.specs.declared.text_form.TextForm.{TextForm}
 use Rattle.commands.specs.declared.text_form.TextForm.TheVariants.{Rest, Lines, Bytes}
@@ -15,9 +15,7 @@ abbrev pub world_line : List ℕ → Words → Option PlayLine
 world_line verb ws =
     if bytes_eq verb (codes "deliver") then option_map (λ n. Deliver n) (one_number ws) else (
     if bytes_eq verb (codes "apply") then option_map (λ k. Apply k) (one_node ws) else (
-    if bytes_eq verb (codes "show") then option_map (λ n. Show n) (one_number ws) else (
-    if bytes_eq verb (codes "log") then option_map (λ k. Log k) (one_node ws) else (
-    if bytes_eq verb (codes "export") then option_map (λ k. Export k) (one_node ws) else None))))
+    if bytes_eq verb (codes "show") then option_map (λ n. Show n) (one_number ws) else None))
 
 -- the first of two lines that is one
 abbrev pub or_node_line : Option PlayLine → List ℕ → Words → Option PlayLine

@@ -84,9 +84,11 @@ fn request<'a>(alloc: Global, matches: &ArgMatches<'a>) -> Result<Request<'a>, W
         Some(("serve", options)) => {
             let nodes = node_count(alloc, options)?;
             let workers = worker_count(alloc, options)?;
+            let weather = weather_seed(alloc, options)?;
             Ok(Request::Serve {
                 weights: weights(alloc, options, nodes)?,
                 workers,
+                weather,
             })
         }
         Some((name, options)) => Ok(Request::Ask(question(alloc, name, options)?)),
@@ -178,6 +180,17 @@ fn worker_count(alloc: Global, options: &ArgMatches) -> Result<WorkerCount, Word
     match number(options, "workers").and_then(WorkerCount::new) {
         Some(workers) => Ok(workers),
         None => Err(invalid(alloc, "--workers is a number from 1 to 16")),
+    }
+}
+
+/// Returns the seed of the weather, if one is given.
+fn weather_seed(alloc: Global, options: &ArgMatches) -> Result<Option<u64>, WordsFault> {
+    let Some(text) = options.get_str("weather") else {
+        return Ok(None);
+    };
+    match parse_number(text.as_bytes()) {
+        Some(seed) => Ok(Some(seed)),
+        None => Err(invalid(alloc, "--weather is a number")),
     }
 }
 

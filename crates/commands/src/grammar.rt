@@ -88,6 +88,12 @@ const WEIGHTS: Argument = Argument {
     help: "The weight of each node, 1 to 100; else each weighs 1",
 };
 
+const WEATHER: Argument = Argument {
+    name: "weather",
+    form: Form::Optional("SEED"),
+    help: "Lose, repeat or delay one packet in four, as a generator with this seed draws",
+};
+
 const ALL: Argument = Argument {
     name: "all",
     form: Form::Flag,
@@ -179,7 +185,7 @@ const COMMANDS: [Shape; 13] = [
     Shape(
         "serve",
         "Serve the script on standard input by nodes that are threads",
-        &[NODES, WORKERS, WEIGHTS],
+        &[NODES, WORKERS, WEIGHTS, WEATHER],
     ),
 ];
 

@@ -8,8 +8,8 @@
 //! Reading order: `request` (what a command line asks for), `weights` (numbers of a command line),
 //! `grammar` (its commands and options), `command_line`; `pieces` (a text between separators),
 //! `line_words` (the words of a line), `lines` (the lines of a script), `text_form` (a text on the
-//! line or on those that follow), `offered` (entries), `node_line`, `play_line` and `serve_line`
-//! (what a line asks for), `script` (all lines).
+//! line or on those that follow), `offered` (entries), `node_question` (labels), `node_line`,
+//! `play_line` and `serve_line` (what a line asks for), `script` (all lines).
 #![tactic(auto)]
 
 mod command_line;
@@ -17,6 +17,7 @@ mod grammar;
 mod line_words;
 mod lines;
 mod node_line;
+mod node_question;
 mod offered;
 mod pieces;
 mod play_line;
@@ -28,9 +29,10 @@ mod weights;
 
 pub use command_line::parse_words;
 pub use grammar::VERSION_LINE;
-pub use line_words::EntryAt;
+pub use line_words::{EntryAt, NodePair};
 pub use lines::Lines;
 pub use node_line::NodeLine;
+pub use node_question::{LabelQuestion, NodeQuestion};
 pub use offered::Offered;
 pub use play_line::PlayLine;
 pub use request::{ProofForm, ProofQuestion, Question, Request, WordsFault};

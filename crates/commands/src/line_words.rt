@@ -1,8 +1,8 @@
 //! The words of a line.
 ghost use Rattle.std.specs.Prelude.{◌≡◌, option_map};
 ghost use Rattle.std.specs.List.{join_with_byte};
-ghost use Rattle.commands.specs.LineWords.{number_at, one_number, node_of, one_node};
-ghost use Rattle.commands.specs.LineWords.{entry_at, one_entry};
+ghost use Rattle.commands.specs.LineWords.{number_at, one_number, node_of, node_at, one_node};
+ghost use Rattle.commands.specs.LineWords.{entry_at, one_entry, nothing_left, two_nodes};
 
 use crate::pieces::Pieces;
 use numbers::parse_number;
@@ -21,6 +21,13 @@ pub struct EntryAt {
     pub serial: u64,
 }
 
+/// Two nodes, in this order.
+#[derive(Clone, Copy, Debug, PartialEq, Eq)]
+pub struct NodePair {
+    pub first: u8,
+    pub second: u8,
+}
+
 impl<'a> Pieces<'a, SPACE> {
     /// Returns all bytes that are left, with the spaces between the words.
     pub fn text(self) -> &'a [u8]
@@ -37,6 +44,14 @@ impl<'a> Pieces<'a, SPACE> {
         ensures { option_map (λ number. (number, self.new)) result ≡ number_at self.old }
     {
         parse_number(self.take()?)
+    }
+
+    /// Takes the number of a node.
+    pub fn node(&mut self) -> Option<u8>
+        ensures { option_map (λ node. (node, self.new)) result ≡ node_at self.old }
+    {
+        let number = self.number()?;
+        Some(node(number))
     }
 
     /// Takes `K AUTHOR SERIAL`.
@@ -69,6 +84,22 @@ impl<'a> Pieces<'a, SPACE> {
         ensures { result ≡ one_node self.entry }
     {
         Some(node(self.only_number()?))
+    }
+
+    /// Tells whether no word is left.
+    pub fn is_done(mut self) -> bool
+        ensures { result ≡ nothing_left self.entry }
+    {
+        self.take().is_none()
+    }
+
+    /// Returns the two nodes that are left.
+    pub fn only_pair(mut self) -> Option<NodePair>
+        ensures { result ≡ two_nodes self.entry }
+    {
+        let first = self.node()?;
+        let second = self.only_node()?;
+        Some(NodePair { first, second })
     }
 
     /// Returns `K AUTHOR SERIAL`, which alone is left.

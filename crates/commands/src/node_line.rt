@@ -1,14 +1,15 @@
 //! The lines that scripts of `play` and of `serve` have in common.
 ghost use Rattle.std.specs.Prelude.{◌≡◌};
 ghost use Rattle.commands.specs.Scripts.{Parses};
-ghost use Rattle.commands.specs.NodeLines.{node_line, short_node_line};
+ghost use Rattle.commands.specs.NodeLines.{about_node, node_line, short_node_line};
 
-use crate::line_words::{EntryAt, Words};
+use crate::line_words::{EntryAt, NodePair, Words};
+use crate::node_question::{NodeQuestion, label_question, parse_question};
 use crate::offered::{Offered, parse_charter};
 use crate::script::LineFault;
 use std::alloc::Global;
 
-/// A line for one node: an event, or a question.
+/// A line that both commands have: an event at a node, or a question.
 #[derive(Drop)]
 pub enum NodeLine {
     /// `charter K AUTHOR SERIAL NAME ..`, `offer` and `submit`: an entry is offered.
@@ -19,8 +20,22 @@ pub enum NodeLine {
     Restart { node: u8 },
     /// `list K`: the assertions of the node's library.
     List { node: u8 },
+    /// `export K`: the statements of the node's library.
+    Export { node: u8 },
+    /// `log K`: the entries that the node learned, or took over from its log.
+    Log { node: u8 },
+    /// `state K`: the role of the node, its promise, and what it learned and applied.
+    State { node: u8 },
     /// `status K AUTHOR SERIAL`: what the node's library decided.
     Status(EntryAt),
+    /// `why K AUTHOR SERIAL`: why the entry was refused there.
+    Why(EntryAt),
+    /// `trace K LABEL`, `tree`, `usage`, `show` and `proof`: a question about a label.
+    Ask(NodeQuestion),
+    /// `compare J K`: which of two nodes has the library with more statements.
+    Compare(NodePair),
+    /// `events`: the history so far, as lines of `play`.
+    Events,
 }
 
 /// Parses the words after a verb.
@@ -37,10 +52,16 @@ pub(crate) fn parse_node_line(
         let offered = parse_charter(alloc, words)?;
         return Ok(NodeLine::Offer(offered));
     }
-    parse_short(verb, words).ok_or(LineFault::Bad)
+    match label_question(verb) {
+        Some(kind) => {
+            let question = parse_question(alloc, kind, words)?;
+            Ok(NodeLine::Ask(question))
+        }
+        None => parse_short(verb, words).ok_or(LineFault::Bad),
+    }
 }
 
-/// Parses the words after a verb, but for entries.
+/// Parses the words after a verb, but for entries and labels.
 fn parse_short(verb: &[u8], words: Words<'_>) -> Option<NodeLine>
     ensures { result ≡ short_node_line verb.now words.entry }
 {
@@ -52,12 +73,39 @@ fn parse_short(verb: &[u8], words: Words<'_>) -> Option<NodeLine>
         Some(NodeLine::Restart {
             node: words.only_node()?,
         })
-    } else if verb == b"list".as_slice() {
+    } else if verb == b"status".as_slice() {
+        Some(NodeLine::Status(words.only_entry()?))
+    } else if verb == b"why".as_slice() {
+        Some(NodeLine::Why(words.only_entry()?))
+    } else if verb == b"compare".as_slice() {
+        Some(NodeLine::Compare(words.only_pair()?))
+    } else {
+        parse_about_node(verb, words)
+    }
+}
+
+/// Parses a question about all that a node has, or about the history.
+fn parse_about_node(verb: &[u8], words: Words<'_>) -> Option<NodeLine>
+    ensures { result ≡ about_node verb.now words.entry }
+{
+    if verb == b"list".as_slice() {
         Some(NodeLine::List {
             node: words.only_node()?,
         })
-    } else if verb == b"status".as_slice() {
-        Some(NodeLine::Status(words.only_entry()?))
+    } else if verb == b"export".as_slice() {
+        Some(NodeLine::Export {
+            node: words.only_node()?,
+        })
+    } else if verb == b"log".as_slice() {
+        Some(NodeLine::Log {
+            node: words.only_node()?,
+        })
+    } else if verb == b"state".as_slice() {
+        Some(NodeLine::State {
+            node: words.only_node()?,
+        })
+    } else if verb == b"events".as_slice() && words.is_done() {
+        Some(NodeLine::Events)
     } else {
         None
     }

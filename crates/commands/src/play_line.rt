@@ -14,18 +14,14 @@ use std::alloc::Global;
 /// A line of a script of `play`.
 #[derive(Drop)]
 pub enum PlayLine {
-    /// A line for one node; `offer`, `offer-lines` and `offer-bytes` offer a text.
+    /// A line that both commands have; `offer`, `offer-lines` and `offer-bytes` offer a text.
     Node(NodeLine),
     /// `deliver N`: a packet is delivered.
     Deliver { packet: u64 },
     /// `apply K`: the next entry of the node's log is applied.
     Apply { node: u8 },
-    /// `show N`: a packet.
+    /// `show N`: a packet. `show K LABEL` is a line that both commands have.
     Show { packet: u64 },
-    /// `log K`: what the node learned.
-    Log { node: u8 },
-    /// `export K`: the statements of the node's library.
-    Export { node: u8 },
 }
 
 impl Line for PlayLine {
@@ -88,14 +84,6 @@ fn parse_world_line(verb: &[u8], words: Words<'_>) -> Option<PlayLine>
     } else if verb == b"show".as_slice() {
         Some(PlayLine::Show {
             packet: words.only_number()?,
-        })
-    } else if verb == b"log".as_slice() {
-        Some(PlayLine::Log {
-            node: words.only_node()?,
-        })
-    } else if verb == b"export".as_slice() {
-        Some(PlayLine::Export {
-            node: words.only_node()?,
         })
     } else {
         None

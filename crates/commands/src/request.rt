@@ -22,6 +22,8 @@ pub enum Request<'a> {
         weights: Weights,
         /// How many threads check the proofs of one entry.
         workers: WorkerCount,
+        /// The seed of the weather; `None` for one in which no packet is lost, repeated or delayed.
+        weather: Option<u64>,
     },
 }
 

@@ -1,7 +1,7 @@
 //! The lines of `serve`.
 ghost use Rattle.std.specs.Prelude.{◌≡◌};
 ghost use Rattle.commands.specs.Scripts.{Parses};
-ghost use Rattle.commands.specs.ServeLines.{serve_line_of, serve_text_form, settle_or_node_line};
+ghost use Rattle.commands.specs.ServeLines.{or_node_line, serve_line_of, serve_text_form, settle_line};
 
 use crate::line_words::{EntryAt, Words};
 use crate::lines::Lines;
@@ -14,7 +14,7 @@ use std::alloc::Global;
 /// A line of a script of `serve`.
 #[derive(Drop)]
 pub enum ServeLine {
-    /// A line for one node; `submit`, `submit-lines` and `submit-bytes` offer a text.
+    /// A line that both commands have; `submit`, `submit-lines` and `submit-bytes` offer a text.
     Node(NodeLine),
     /// `settle K AUTHOR SERIAL`: what the node's library decided, once it is known.
     Settle(EntryAt),
@@ -57,11 +57,21 @@ fn text_form(verb: &[u8]) -> Option<TextForm>
 
 /// Parses the words after a verb that offers no text.
 fn parse_alone(alloc: Global, verb: &[u8], words: Words<'_>) -> Result<ServeLine, LineFault>
-    ensures { Parses (settle_or_node_line verb.now words.entry) result }
+    ensures { Parses (or_node_line (settle_line verb.now words.entry) verb.now words.entry) result }
 {
-    if verb == b"settle".as_slice() {
-        let entry = words.only_entry().ok_or(LineFault::Bad)?;
-        return Ok(ServeLine::Settle(entry));
+    if let Some(line) = parse_settle(verb, words.copy()) {
+        return Ok(line);
     }
     Ok(ServeLine::Node(parse_node_line(alloc, verb, words)?))
+}
+
+/// Parses the words after a verb that `play` does not have.
+fn parse_settle(verb: &[u8], words: Words<'_>) -> Option<ServeLine>
+    ensures { result ≡ settle_line verb.now words.entry }
+{
+    if verb == b"settle".as_slice() {
+        Some(ServeLine::Settle(words.only_entry()?))
+    } else {
+        None
+    }
 }

@@ -42,7 +42,7 @@ pub(crate) fn take_text<'a>(
 }
 
 /// Returns the one word that is left, if it is not empty.
-fn only_word<'a>(mut words: Words<'a>) -> Option<&'a [u8]>
+pub(crate) fn only_word<'a>(mut words: Words<'a>) -> Option<&'a [u8]>
     ensures { option_map (λ word. word.now) result ≡ one_word words.entry }
 {
     let word = words.take()?;

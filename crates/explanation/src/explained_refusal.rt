@@ -38,7 +38,23 @@ pub fn explain_refusal(
 ) -> Result<Vec<u8>, AllocError>
     ensures short { IfOk result (λ lines. length lines.items ≤ MOST_BYTES) }
 {
-    let mut page = Page::new(alloc);
+    explain_behind(alloc, text, 0, fault)
+}
+
+/// Returns the lines that say why a text is refused behind the statements of a library, at most 65,536 bytes. The first
+/// `before` bytes of the text write these statements, each with its line feed on a line of its own; places are counted in the
+/// rest. A statement of the fault is counted from the first of the library.
+///
+/// Errors: an allocation fails. Cost: as that of `explain_refusal`.
+pub fn explain_behind(
+    alloc: Global,
+    text: &[u8],
+    before: usize,
+    fault: DatabaseFault,
+) -> Result<Vec<u8>, AllocError>
+    ensures short { IfOk result (λ lines. length lines.items ≤ MOST_BYTES) }
+{
+    let mut page = Page::new(alloc, before);
     push_lines(alloc, &mut page, text, fault);
     page.into_lines()
 }

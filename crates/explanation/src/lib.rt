@@ -20,5 +20,5 @@ mod text_fault;
 mod theorem;
 mod written_lines;
 
-pub use explained_refusal::{DatabaseFault, explain_refusal};
+pub use explained_refusal::{DatabaseFault, explain_behind, explain_refusal};
 pub use written_lines::MOST_BYTES;

@@ -18,13 +18,16 @@ const CUT: &[u8] = b"\n  the explanation is cut here: it has more than 65536 byt
 pub(crate) struct Page {
     lines: Vec<u8>,
     is_refused: bool,
+    /// How many bytes of the text are statements of a library, a line each, before the text that is explained.
+    before: usize,
 }
 
 impl Page {
-    pub(crate) fn new(alloc: Global) -> Page {
+    pub(crate) fn new(alloc: Global, before: usize) -> Page {
         Page {
             lines: Vec::new(alloc),
             is_refused: false,
+            before,
         }
     }
 
@@ -37,6 +40,7 @@ impl Page {
         let Page {
             mut lines,
             is_refused,
+            before: _,
         } = self;
         if is_refused {
             return Err(AllocError);
@@ -68,14 +72,18 @@ impl Page {
         self.push(buffer.format(number).as_bytes());
     }
 
-    /// Writes `LINE:COLUMN`.
+    /// Writes `LINE:COLUMN`, both counted in the text that is explained; or, before it, which statement of the library
+    /// stands there.
     pub(crate) fn push_place(&mut self, text: &[u8], offset: usize) {
-        let within = if offset <= text.len() {
-            offset
-        } else {
-            text.len()
-        };
-        let place = line_and_column(text, within);
+        let within = offset.min(text.len());
+        if within < self.before {
+            self.push(b"statement ");
+            self.push_number(line_and_column(text, within).line);
+            self.push(b" of the library");
+            return;
+        }
+        let own = &text[self.before..];
+        let place = line_and_column(own, within - self.before);
         self.push_number(place.line);
         self.push(b":");
         self.push_number(place.column);

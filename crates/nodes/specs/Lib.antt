@@ -1,3 +1,4 @@
 pub mod Words
 pub mod Report
 pub mod Desk
+pub mod Questions

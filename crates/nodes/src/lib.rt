@@ -5,12 +5,13 @@
 //! a `Report` keeps that its counts add up.
 //!
 //! Read `weather`, `shared_switch` and `shared_cell` (what the switch's and a node's lock guard), `shared_nodes` (the locks),
-//! `node_loop` (a node's thread), then `node_threads`, `desk` and `report`.
+//! `node_loop` (a node's thread), then `node_threads`, `desk`, `questions` and `report`.
 #![tactic(auto)]
 
 mod desk;
 mod node_loop;
 mod node_threads;
+mod questions;
 mod report;
 mod shared_cell;
 mod shared_nodes;
@@ -19,5 +20,6 @@ mod weather;
 
 pub use desk::Desk;
 pub use node_threads::{Cluster, start};
+pub use questions::NodeStanding;
 pub use report::Report;
 pub use weather::{Clear, Fate, Weather};

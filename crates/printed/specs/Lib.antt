@@ -1,3 +1,5 @@
 pub mod Printed
 pub mod Trees
 pub mod Outline
+pub mod Counted
+pub mod States

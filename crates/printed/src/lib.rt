@@ -4,14 +4,17 @@
 //! The crate above uses the clause of each call, which gives exactly the text of `specs/Printed`,
 //! `specs/Trees` or `specs/Outline`.
 //!
-//! Reading order: `verdict_text`, `packets`, `answers` (logs, lists and exports), `tree_text`;
+//! Reading order: `verdict_text`, `packets`, `answers` (logs, lists and exports), `counted`,
+//! `states`, `tree_text`;
 //! `broken_rules` (the first statement of a database that breaks a rule) and `outline`.
 #![tactic(auto)]
 
 mod answers;
 mod broken_rules;
+mod counted;
 mod outline;
 mod packets;
+mod states;
 mod tree_text;
 mod verdict_text;
 
@@ -19,7 +22,9 @@ pub use answers::{
     push_assertions, push_decided, push_export, push_library, push_list, push_log, push_posted,
 };
 pub use broken_rules::first_broken_rule;
+pub use counted::{push_counted, push_learned};
 pub use outline::outline_text;
 pub use packets::push_packet;
+pub use states::push_state;
 pub use tree_text::{push_labels, push_tree};
 pub use verdict_text::push_verdict;

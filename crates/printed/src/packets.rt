@@ -123,7 +123,7 @@ fn push_vote(
 }
 
 /// Appends a space and the value.
-fn push_value(text: &mut Vec<u8>, value: &Option<Carried>) -> Result<(), AllocError>
+pub(crate) fn push_value(text: &mut Vec<u8>, value: &Option<Carried>) -> Result<(), AllocError>
     ensures { OnOk result (text.new.items
         ≡ text.old.items ++ (codes " " ++ entry_text (entry_of value.now))) }
 {
@@ -150,7 +150,7 @@ pub fn push_entry(text: &mut Vec<u8>, entry: Option<&Entry>) -> Result<(), Alloc
 }
 
 /// Appends `R.N`.
-fn push_ballot(text: &mut Vec<u8>, ballot: Ballot) -> Result<(), AllocError>
+pub(crate) fn push_ballot(text: &mut Vec<u8>, ballot: Ballot) -> Result<(), AllocError>
     ensures { OnOk result (text.new.items ≡ text.old.items ++ ballot_text ballot) }
 {
     push_number(text, ballot.round)?;

@@ -47,12 +47,7 @@ pub fn write_answer<O: Write>(
                 blocks(alloc, library, text, labels.as_slice())?.as_slice(),
             )
         }
-        Question::Find(sought) => {
-            print(
-                output,
-                found(alloc, library, text, sought)?.as_slice(),
-            )
-        }
+        Question::Find(sought) => { print(output, found(alloc, library, text, sought)?.as_slice()) }
     }
 }
 

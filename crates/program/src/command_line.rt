@@ -52,6 +52,10 @@ fn answer<
         Request::Outline => print_outline(rt.alloc(), input, output, faults),
         Request::Ask(question) => ask(rt, &question, input, output, faults),
         Request::Play { weights } => play(rt.alloc(), weights, input, output),
-        Request::Serve { weights, workers } => serve(rt, weights, workers, input, output),
+        Request::Serve {
+            weights,
+            workers,
+            weather,
+        } => serve(rt, weights, workers, weather, input, output),
     }
 }

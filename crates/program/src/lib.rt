@@ -4,14 +4,18 @@
 //! command ends without its answer, and the line that says so), `streams` (reading and printing);
 //! `databases` (a database that is read and judged), `answers` (the one place that answers a
 //! question about a library), `proofs` (the steps of a proof), `searches` (assertions that are
-//! sought), `shown` (statements as blocks) and `refused_texts` (why a database is refused); `scripts` (the lines of a script, answered one by one), `play`, `serve` and
-//! `served_nodes`.
+//! sought), `shown` (statements as blocks) and `refused_texts` (why a database is refused); `scripts` (the lines of a script,
+//! answered one by one), `node_answers` (about the library of a node), `why` (an
+//! entry is refused there), `play`; `served_weather`,
+//! `served_nodes`, `desk_answers` and `serve`.
 #![tactic(auto)]
 
 mod answers;
 mod command_line;
 mod databases;
+mod desk_answers;
 mod fault;
+mod node_answers;
 mod play;
 mod proofs;
 mod refused_texts;
@@ -19,8 +23,10 @@ mod scripts;
 mod searches;
 mod serve;
 mod served_nodes;
+mod served_weather;
 mod shown;
 mod streams;
+mod why;
 
 pub use command_line::run;
 pub use fault::Fault;

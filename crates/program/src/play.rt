@@ -1,11 +1,19 @@
 //! The command `play`: a script drives nodes, event by event.
+ghost use Rattle.std.specs.Prelude.{◌≡◌, ◌++◌, OnOk};
+ghost use Rattle.event_lines.specs.EventLines.{history_text};
+
 use crate::fault::Fault;
+use crate::node_answers::{ahead_line, ahead_of, label_answer};
 use crate::scripts::{Answers, answer_lines, read_script};
-use commands::{NodeLine, PlayLine};
+use crate::why::{decided, push_why};
+use commands::{EntryAt, NodeLine, PlayLine};
+use event_lines::push_events;
 use library::Entry;
 use net::Event;
-use printed::{push_decided, push_export, push_library, push_log, push_packet, push_posted};
-use std::alloc::Global;
+use printed::{
+    push_decided, push_export, push_library, push_log, push_packet, push_posted, push_state,
+};
+use std::alloc::{AllocError, Global};
 use std::io::{Read, Write};
 use synod::Weights;
 use world::World;
@@ -32,13 +40,11 @@ impl Answers<PlayLine> for World {
                 push_packet(text, self.packet(packet)?)?;
                 Ok(text.extend_from_slice(b"\n")?)
             }
-            PlayLine::Log { node } => Ok(push_log(text, self.log(node)?.as_slice())?),
-            PlayLine::Export { node } => Ok(push_export(text, self.library(node)?)?),
         }
     }
 }
 
-/// Does what a line for one node asks for, and appends its answer.
+/// Does what a line asks for that `serve` has too, and appends its answer.
 fn answer_node_line(world: &mut World, line: NodeLine, text: &mut Vec<u8>) -> Result<(), Fault> {
     match line {
         NodeLine::Offer(offered) => {
@@ -51,7 +57,42 @@ fn answer_node_line(world: &mut World, line: NodeLine, text: &mut Vec<u8>) -> Re
             let verdict = world.library(at.node)?.status(at.author, at.serial);
             Ok(push_decided(text, verdict, b"unknown")?)
         }
+        NodeLine::Export { node } => Ok(push_export(text, world.library(node)?)?),
+        NodeLine::Log { node } => Ok(push_log(text, world.log(node)?.as_slice())?),
+        NodeLine::Why(at) => push_decision(world, at, text),
+        NodeLine::State { node } => {
+            let (state, applied) = (world.state(node)?, world.applied(node)?);
+            Ok(push_state(text, &state, applied, false)?)
+        }
+        NodeLine::Ask(asked) => {
+            let alloc = *text.allocator();
+            let answer = label_answer(alloc, world.library(asked.node)?, &asked)?;
+            Ok(text.extend_from_slice(answer.as_slice())?)
+        }
+        NodeLine::Compare(pair) => {
+            let ahead = ahead_of(world.library(pair.first)?, world.library(pair.second)?);
+            Ok(text.extend_from_slice(ahead_line(ahead))?)
+        }
+        NodeLine::Events => Ok(push_history(world, text)?),
     }
+}
+
+/// Appends why the node refused an entry.
+fn push_decision(world: &World, at: EntryAt, text: &mut Vec<u8>) -> Result<(), Fault> {
+    let alloc = *text.allocator();
+    let mut entries = world.log(at.node)?;
+    entries.truncate(world.applied(at.node)? as usize);
+    let decision = decided(alloc, world.library(at.node)?, entries.as_slice(), at)?;
+    Ok(push_why(alloc, text, &decision)?)
+}
+
+/// Appends the history so far, as lines of `play` after their count.
+fn push_history(world: &World, text: &mut Vec<u8>) -> Result<(), AllocError>
+    ensures { OnOk result (text.new.items
+        ≡ text.old.items ++ history_text world.now.taken.events) }
+{
+    let alloc = *text.allocator();
+    push_events(alloc, text, world.history())
 }
 
 /// Plays an event, and appends how many packets were posted so far.

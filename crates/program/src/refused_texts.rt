@@ -34,7 +34,7 @@ fn refusal_line(alloc: Global, cause: Cause) -> Result<Vec<u8>, AllocError> {
 }
 
 /// Returns the fault that is explained; `None` for a charter, which no database has.
-fn fault_of(cause: Cause) -> Option<DatabaseFault> {
+pub fn fault_of(cause: Cause) -> Option<DatabaseFault> {
     match cause {
         Cause::TooLong => Some(DatabaseFault::TooLong),
         Cause::Text => Some(DatabaseFault::Text),

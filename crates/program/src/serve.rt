@@ -5,6 +5,7 @@ ghost use Rattle.net.specs.declared.fault.StepFault.TheVariants.{NoNode, Apart};
 ghost use Rattle.nodes.specs.Desk.{IsListed, IsStatus};
 ghost use Rattle.printed.specs.Printed.{list_text};
 
+use crate::desk_answers::Asked;
 use crate::fault::Fault;
 use crate::scripts::{Answers, answer_lines, read_script};
 use crate::served_nodes::{Nodes, NodesDesk, start_nodes, stop_nodes};
@@ -35,11 +36,12 @@ pub fn serve<
     rt: &R,
     weights: Weights,
     workers: WorkerCount,
+    weather: Option<u64>,
     input: &mut I,
     output: &mut O,
 ) -> Result<u8, Fault> {
     let lines = read_script(rt.alloc(), input)?;
-    let mut nodes = start_nodes(rt, rt.alloc(), weights, workers)?;
+    let mut nodes = start_nodes(rt, rt.alloc(), weights, workers, weather)?;
     let answered = answer_at_desk(rt, &nodes, lines, output);
     let stopped = stop_nodes(rt, &mut nodes);
     let status = answered?;
@@ -56,21 +58,18 @@ fn answer_at_desk<R: AllocGlobal + Wait, O: Write>(
     output: &mut O,
 ) -> Result<u8, Fault> {
     let desk = nodes.desk()?;
-    let mut served = Served { rt, desk: &desk };
-    answer_lines::<ServeLine, Served<'_, R>, O>(rt.alloc(), &mut served, lines, output)
+    let mut asked = Asked {
+        rt,
+        alloc: rt.alloc(),
+        desk: &desk,
+    };
+    answer_lines::<ServeLine, Asked<'_, R>, O>(rt.alloc(), &mut asked, lines, output)
 }
 
-/// Nodes that are asked at a desk.
-#[derive(Drop)]
-struct Served<'a, R: Wait> {
-    rt: &'a R,
-    desk: &'a NodesDesk,
-}
-
-impl<R: Wait> Answers<ServeLine> for Served<'_, R> {
+impl<R: Wait> Answers<ServeLine> for Asked<'_, R> {
     fn answer(&mut self, line: ServeLine, text: &mut Vec<u8>) -> Result<(), Fault> {
         match line {
-            ServeLine::Node(line) => answer_node_line(self.rt, self.desk, line, text),
+            ServeLine::Node(line) => answer_node_line(self, line, text),
             ServeLine::Settle(at) => {
                 Ok(push_decided(text, settled(self.rt, self.desk, at)?, b"unknown")?)
             }
@@ -78,13 +77,13 @@ impl<R: Wait> Answers<ServeLine> for Served<'_, R> {
     }
 }
 
-/// Does what a line for one node asks for, and appends its answer.
+/// Does what a line asks for that `play` has too, and appends its answer.
 fn answer_node_line<R: Wait>(
-    rt: &R,
-    desk: &NodesDesk,
+    asked: &Asked<'_, R>,
     line: NodeLine,
     text: &mut Vec<u8>,
 ) -> Result<(), Fault> {
+    let Asked { rt, desk, .. } = *asked;
     match line {
         NodeLine::Offer(offered) => desk.submit(rt, offered.node, offered.entry)?,
         NodeLine::Begin { node } => desk.begin(rt, node)?,
@@ -93,6 +92,13 @@ fn answer_node_line<R: Wait>(
         NodeLine::Status(at) => {
             return Ok(push_decided(text, status(rt, desk, at)?, b"unknown")?);
         }
+        NodeLine::Export { node } => return asked.push_export(node, text),
+        NodeLine::Log { node } => return asked.push_log(node, text),
+        NodeLine::Why(at) => return asked.push_why(at, text),
+        NodeLine::State { node } => return asked.push_state(node, text),
+        NodeLine::Ask(question) => return asked.push_label_answer(&question, text),
+        NodeLine::Compare(pair) => return asked.push_compared(pair, text),
+        NodeLine::Events => return asked.push_events(text),
     }
     Ok(text.extend_from_slice(b"ok\n")?)
 }

@@ -4,10 +4,11 @@ ghost use Rattle.std.specs.List.{AllByRecursion};
 ghost use Rattle.synod.specs.Record.{new_kept};
 ghost use Rattle.net.specs.declared.fault.StepFault.TheVariants.{Memory};
 
+use crate::served_weather::weathers;
 use cluster::MemoryKeep;
 use commands::WorkerCount;
 use net::StepFault;
-use nodes::{Clear, Cluster, Desk, start};
+use nodes::{Cluster, Desk, start};
 use std::alloc::{AllocError, Global};
 use std::sync::{Arc, Wait};
 use std::thread::Threads;
@@ -24,8 +25,8 @@ pub type Nodes = Cluster<OpenGate, MemoryKeep<Carried>>;
 /// A desk of such nodes.
 pub type NodesDesk = Desk<OpenGate, MemoryKeep<Carried>>;
 
-/// Starts a node for each weight. No hint is lost, repeated or delayed, and each thread passes the
-/// gate at once.
+/// Starts a node for each weight, with the weather that the seed draws, or a clear one without a
+/// seed. Each thread passes the gate at once.
 ///
 /// Errors: `Memory` if an allocation fails; no thread is left then.
 pub fn start_nodes<R: Threads + Wait + Copy + Send + Sync + Drop + 'static>(
@@ -33,6 +34,7 @@ pub fn start_nodes<R: Threads + Wait + Copy + Send + Sync + Drop + 'static>(
     alloc: Global,
     weights: Weights,
     workers: WorkerCount,
+    weather: Option<u64>,
 ) -> Result<Nodes, StepFault>
     ensures nodes { IfOk result (λ nodes. nodes ≡ length weights) }
     ensures only_memory { IsOkUnless result Memory }
@@ -41,7 +43,7 @@ pub fn start_nodes<R: Threads + Wait + Copy + Send + Sync + Drop + 'static>(
     let Ok(gate) = Arc::new(alloc, OpenGate) else {
         return Err(StepFault::Memory);
     };
-    let weathers = vec![in alloc; Clear; usize::from(count)]?;
+    let weathers = weathers(alloc, count, weather)?;
     let keeps = keeps(alloc, count)?;
     start(
         rt,

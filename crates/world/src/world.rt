@@ -1,6 +1,7 @@
 //! All nodes, all packets and all libraries, driven by a list of events.
 ghost use Rattle.std.specs.Prelude.{◌≡◌, ◌↔◌, ◌≤◌, ◌<◌, None, Some, Ok, Err, length, slice_get, IfOk, IfErr, IfSome, IsSomeAnd, OnOk, OnErr, IsOk, IsOkUnless};
 ghost use Rattle.net.specs.World.{packets_after};
+ghost use Rattle.net.specs.NodeStates.{state_after};
 ghost use Rattle.net.specs.Taken.{world_of, with_event};
 ghost use Rattle.world.specs.Carried.{carried as carried_event, carried_size};
 ghost use Rattle.world.specs.Replicas.{log_entries, AppliesNext};
@@ -12,7 +13,7 @@ use library::{Entry, Library, Verdict};
 use net::{Event, MOST_EVENTS, Net, StepFault};
 use std::alloc::Global;
 use std::marker::Model;
-use synod::{Packet, Weights};
+use synod::{NodeState, Packet, Weights};
 
 /// A world of nodes and their libraries. Contracts see the weights, the events taken, and each node's library with the count of
 /// entries applied.
@@ -118,6 +119,27 @@ impl World {
         ensures only_memory { k < length self.now.taken.weights → IsOkUnless result Memory }
     {
         Ok(entries(self.alloc, self.net.log(k)?)?)
+    }
+
+    /// Returns what node `k` tells of itself. Does not allocate.
+    pub fn state(&self, k: u8) -> Result<NodeState, StepFault>
+        ensures state { IfOk result (λ state. state_after (world_of carried_size self.now.taken) k ≡ Some state) }
+        ensures no_node { length self.now.taken.weights ≤ k → result ≡ Err NoNode }
+        ensures node { k < length self.now.taken.weights → IsOk result }
+    {
+        self.net.state(k)
+    }
+
+    /// Returns how many entries of node `k`'s log were applied. Does not allocate.
+    pub fn applied(&self, k: u8) -> Result<u32, StepFault>
+        ensures applied { IfOk result (λ applied. IsSomeAnd (slice_get self.now.libraries k) (λ node. applied ≡ node.applied)) }
+        ensures no_node { length self.now.taken.weights ≤ k → result ≡ Err NoNode }
+        ensures node { k < length self.now.taken.weights → IsOk result }
+    {
+        match self.replicas.get(k as usize) {
+            Some(replica) => Ok(replica.applied()),
+            None => Err(StepFault::NoNode),
+        }
     }
 
     /// Returns the packet of that number, from 0 in the order of posting. Does not allocate.

@@ -1,0 +1,26 @@
+-- Questions about a label in the library of a node.
+-- Source: this project's own form.
+-- The code takes the words one after another.
+use Rattle.std.specs.Prelude.{ℕ, List, codes, Option, Some, None, if◌then◌else◌}
+use Rattle.std.specs.Str.{bytes_eq}
+use Rattle.commands.specs.declared.node_question.LabelQuestion.{LabelQuestion}
+use Rattle.commands.specs.declared.node_question.LabelQuestion.TheVariants.{Trace, Tree, Usage, Show, Proof}
+use Rattle.commands.specs.declared.node_question.NodeQuestion.{NodeQuestion}
+use Rattle.commands.specs.LineWords.{◌>>=◌, Words, node_at}
+use Rattle.commands.specs.Texts.{one_word}
+
+-- what a verb asks about a label
+abbrev pub label_question_of : List ℕ → Option LabelQuestion
+label_question_of verb =
+    if bytes_eq verb (codes "trace") then Some Trace else (
+    if bytes_eq verb (codes "tree") then Some Tree else (
+    if bytes_eq verb (codes "usage") then Some Usage else (
+    if bytes_eq verb (codes "show") then Some Show else (
+    if bytes_eq verb (codes "proof") then Some Proof else None))))
+
+-- K LABEL
+abbrev pub question_asked : LabelQuestion → Words → Option NodeQuestion
+question_asked kind ws = do
+  k ← node_at ws
+  label ← one_word k.1
+  Some (record { node = k.0; kind = kind; label = label })

@@ -1,0 +1,104 @@
+//! Questions about a label in the library of a node.
+ghost use Rattle.std.specs.Prelude.{◌≡◌};
+ghost use Rattle.commands.specs.Scripts.{Parses};
+ghost use Rattle.commands.specs.NodeQuestions.{label_question_of, question_asked};
+
+use crate::line_words::Words;
+use crate::request::{ProofForm, ProofQuestion, Question};
+use crate::script::LineFault;
+use crate::text_form::only_word;
+use bytes::Bytes;
+use std::alloc::{AllocError, Global};
+use std::str;
+
+/// What is asked about a label.
+#[derive(Clone, Copy, Debug, PartialEq, Eq)]
+pub enum LabelQuestion {
+    /// `trace`: the `$a` that the proof of the `$p` uses.
+    Trace,
+    /// `tree`: the derivation of the `$p`.
+    Tree,
+    /// `usage`: the `$p` whose proofs cite the statement.
+    Usage,
+    /// `show`: the statement as a block of lines.
+    Show,
+    /// `proof`: the steps of the proof of the `$p`.
+    Proof,
+}
+
+impl LabelQuestion {
+    /// Returns the word that asks it.
+    pub fn verb(self) -> &'static [u8] {
+        match self {
+            LabelQuestion::Trace => b"trace",
+            LabelQuestion::Tree => b"tree",
+            LabelQuestion::Usage => b"usage",
+            LabelQuestion::Show => b"show",
+            LabelQuestion::Proof => b"proof",
+        }
+    }
+
+    /// Returns the question of a database command about the label. A label that is no UTF-8 is
+    /// that of no statement, and neither is the empty one, which stands for it.
+    ///
+    /// Errors: an allocation fails.
+    pub fn about(self, alloc: Global, label: &[u8]) -> Result<Question<'_>, AllocError> {
+        Ok(match self {
+            LabelQuestion::Trace => Question::Trace(label),
+            LabelQuestion::Tree => Question::Tree(label),
+            LabelQuestion::Usage => Question::Usage { label, all: false },
+            LabelQuestion::Show => {
+                let text = str::from_utf8(label).unwrap_or("");
+                Question::Show(Vec::from_slice(alloc, &[text])?)
+            }
+            LabelQuestion::Proof => Question::Proof(ProofQuestion {
+                label,
+                is_essential: false,
+                form: ProofForm::Steps,
+            }),
+        })
+    }
+}
+
+/// A question about a label in the library of a node.
+#[derive(Drop)]
+pub struct NodeQuestion {
+    pub node: u8,
+    pub kind: LabelQuestion,
+    pub label: Bytes,
+}
+
+/// Returns what a verb asks about a label, if it does.
+pub(crate) fn label_question(verb: &[u8]) -> Option<LabelQuestion>
+    ensures { result ≡ label_question_of verb.now }
+{
+    if verb == b"trace".as_slice() {
+        Some(LabelQuestion::Trace)
+    } else if verb == b"tree".as_slice() {
+        Some(LabelQuestion::Tree)
+    } else if verb == b"usage".as_slice() {
+        Some(LabelQuestion::Usage)
+    } else if verb == b"show".as_slice() {
+        Some(LabelQuestion::Show)
+    } else if verb == b"proof".as_slice() {
+        Some(LabelQuestion::Proof)
+    } else {
+        None
+    }
+}
+
+/// Parses `K LABEL`.
+pub(crate) fn parse_question(
+    alloc: Global,
+    kind: LabelQuestion,
+    mut words: Words<'_>,
+) -> Result<NodeQuestion, LineFault>
+    ensures { Parses (question_asked kind words.entry) result }
+{
+    let node = words.node().ok_or(LineFault::Bad)?;
+    let label = only_word(words).ok_or(LineFault::Bad)?;
+    let Ok(label) = Bytes::copy_from_slice(alloc, label) else {
+        return Err(LineFault::Memory);
+    };
+    Ok(NodeQuestion { node, kind, label })
+}

@@ -1,0 +1,27 @@
+-- The answers to questions at a desk about what a node has, and about the history.
+-- Source: this project's profile.
+-- The code lets the lock go before it answers, so what is said is said of some cell, or of some switch.
+use Rattle.std.specs.Prelude.{◌≡◌, ℕ, List, Some, IsOk}
+use Rattle.net.specs.NodeStates.{state_after}
+use Rattle.switch.specs.Switch.{is_down_at}
+use Rattle.nodes.specs.declared.questions.NodeStanding.{NodeStanding}
+use Rattle.nodes.specs.Words.{Cell, Carried, Event, SwitchView, world_of, carried_size}
+
+-- the cell is node k's
+pub record IsCellAt (k : ℕ) (cell : Cell) : Type 0 where
+  pub at : cell.at ≡ k
+
+-- the events of some switch, whose history is taken
+pub record IsHistory (history : List (Event Carried)) : Type 0 where
+  pub switch : SwitchView Carried
+  pub taken : IsOk (world_of carried_size switch)
+  pub events : history ≡ switch.history
+
+-- what node k of some switch tells of itself, and how many entries some cell of it applied
+pub record IsStanding (k : ℕ) (standing : NodeStanding) : Type 0 where
+  pub cell : Cell
+  pub of_node : IsCellAt k cell
+  pub applied : standing.applied ≡ cell.node.applied
+  pub switch : SwitchView Carried
+  pub state : state_after (world_of carried_size switch) k ≡ Some standing.state
+  pub is_down : standing.is_down ≡ is_down_at switch.stores (Some k)

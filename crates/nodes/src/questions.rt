@@ -1,0 +1,110 @@
+//! Questions at a desk: about what a node has, and about the history.
+ghost use Rattle.std.specs.Prelude.{◌≡◌, ◌≤◌, ◌<◌, Err, IfOk, IsOkUnless};
+ghost use Rattle.std.specs.Fn.{FnOnceReturnsAt};
+ghost use Rattle.net.specs.declared.fault.StepFault.TheVariants.{Apart, Memory, NoNode};
+ghost use Rattle.cluster.specs.Cell.{Cell};
+ghost use Rattle.nodes.specs.Questions.{IsCellAt, IsHistory, IsStanding};
+
+use crate::desk::Desk;
+use cluster::NodeCell;
+use net::{Event, StepFault};
+use std::alloc::{AllocError, Global};
+use std::sync::Wait;
+use synod::{Keep, NodeState, Value};
+use verify_pool::Gate;
+use world::Carried;
+
+/// How a node stands.
+#[derive(Clone, Copy, PartialEq, Eq)]
+pub struct NodeStanding {
+    /// What it tells of itself.
+    pub state: NodeState,
+    /// How many entries of its log were applied.
+    pub applied: u32,
+    /// Whether it is down, since a store of its keep failed.
+    pub is_down: bool,
+}
+
+impl<G: Gate, K: Keep<Carried>> Desk<G, K> {
+    /// Returns what the question answers of node `k`'s cell. The node waits meanwhile, so a
+    /// question makes its answer and prints nothing.
+    ///
+    /// Errors: `NoNode`; else `Apart` where the cell is not of its node. Cost: that of the question.
+    pub fn ask<R: Wait, T, F: FnOnce(&NodeCell) -> T + Drop>(
+        &self,
+        rt: &R,
+        k: u8,
+        question: F,
+    ) -> Result<T, StepFault>
+        requires { F.IsAlwaysCallable question }
+        ensures answered { IfOk result (λ answer. (cell : Cell)
+            × IsCellAt k cell × FnOnceReturnsAt F.FnOnce question cell answer) }
+        ensures no_node { self.now ≤ k → result ≡ Err NoNode }
+        ensures only_apart { k < self.now → IsOkUnless result Apart }
+    {
+        let node = self.shared.cell(k)?.lock(rt);
+        if node.cell.at() != k {
+            return Err(StepFault::Apart);
+        }
+        Ok(question(&node.cell))
+    }
+
+    /// Returns how node `k` stands. Its cell and the switch are locked meanwhile.
+    ///
+    /// Errors: `NoNode`; else `Apart` where the cell is not of its node. Does not allocate.
+    pub fn standing<R: Wait>(&self, rt: &R, k: u8) -> Result<NodeStanding, StepFault>
+        ensures standing { IfOk result (IsStanding k) }
+        ensures no_node { self.now ≤ k → result ≡ Err NoNode }
+    {
+        let node = self.shared.cell(k)?.lock(rt);
+        if node.cell.at() != k {
+            return Err(StepFault::Apart);
+        }
+        let applied = node.cell.applied();
+        let shared = self.shared.switch.lock(rt);
+        let state = shared.switch.state(k)?;
+        Ok(NodeStanding {
+            state,
+            applied,
+            is_down: shared.switch.is_down(Some(k)),
+        })
+    }
+
+    /// Returns the events of the history so far. The switch is locked while they are copied.
+    ///
+    /// Errors: `Memory`. Cost: the count of the events and of the names of their charters; texts
+    /// are shared.
+    pub fn history<R: Wait>(&self, rt: &R) -> Result<Vec<Event<Carried>>, StepFault>
+        ensures history { IfOk result (λ events. IsHistory events.items) }
+        ensures only_memory { IsOkUnless result Memory }
+    {
+        let shared = self.shared.switch.lock(rt);
+        Ok(copied(self.shared.alloc, shared.switch.history())?)
+    }
+}
+
+/// Copies events.
+fn copied(alloc: Global, events: &[Event<Carried>]) -> Result<Vec<Event<Carried>>, AllocError>
+    ensures { IfOk result (λ copy. copy.items ≡ events.now) }
+{
+    let mut copy = Vec::with_capacity(alloc, events.len())?;
+    for event in events {
+        copy.push(copied_event(event)?)?;
+    }
+    Ok(copy)
+}
+
+/// Copies an event.
+fn copied_event(event: &Event<Carried>) -> Result<Event<Carried>, AllocError>
+    ensures { IfOk result (λ copy. copy ≡ event.now) }
+{
+    match event {
+        Event::Offer(k, value) => {
+            let value = value.copy()?;
+            Ok(Event::Offer(*k, value))
+        }
+        Event::Begin(k) => Ok(Event::Begin(*k)),
+        Event::Deliver(number) => Ok(Event::Deliver(*number)),
+        Event::Restart(k) => Ok(Event::Restart(*k)),
+    }
+}

@@ -1,0 +1,31 @@
+-- What a node tells of itself, on one line.
+-- Source: this project's own form.
+-- The code appends each part to the answer.
+use Rattle.std.specs.Prelude.{ℕ, Bool, List, [], ◌++◌, codes, decimal, if◌then◌else◌}
+use Rattle.synod.specs.declared.proposer.Role.{Role}
+use Rattle.synod.specs.declared.proposer.Role.TheVariants.{Idle, Preparing, Leading}
+use Rattle.synod.specs.declared.node.state.NodeState.{NodeState}
+use Rattle.printed.specs.Printed.{ballot_text}
+
+-- the role, and the ballot at which the node prepares or leads
+abbrev pub role_text : Role → List ℕ
+role_text Idle = codes "idle"
+role_text (Preparing ballot first) = codes "preparing " ++ ballot_text ballot
+role_text (Leading ballot next) = codes "leading " ++ ballot_text ballot
+
+-- a name and a number
+abbrev pub count_text : List ℕ → ℕ → List ℕ
+count_text name n = name ++ decimal n
+
+-- the role, and the ballot that the node promised
+abbrev pub role_and_promise : NodeState → List ℕ
+role_and_promise state = role_text state.role ++ codes " promise " ++ ballot_text state.promise
+
+abbrev pub counts_text : NodeState → ℕ → List ℕ
+counts_text state applied = count_text (codes " learned ") state.learned ++ count_text (codes " applied ") applied ++ count_text (codes " waiting ") state.waiting
+
+abbrev pub down_text : Bool → List ℕ
+down_text down = (if down then codes " down" else []) ++ codes "\n"
+
+abbrev pub state_text : NodeState → ℕ → Bool → List ℕ
+state_text state applied down = role_and_promise state ++ counts_text state applied ++ down_text down

@@ -1,0 +1,45 @@
+//! Answers of several lines, which begin with the count of their lines, and what a node learned.
+ghost use Rattle.std.specs.Prelude.{◌≡◌, ◌++◌, ◌==◌, codes, count_by, flat_map, OnOk};
+ghost use Rattle.printed.specs.Counted.{carried_text, counted_text};
+
+use crate::packets::push_value;
+use numbers::push_number;
+use std::alloc::AllocError;
+use world::Carried;
+
+/// The byte that ends a line.
+const LINE_FEED: u8 = b'\n';
+
+/// Appends a word, the count of the lines, and the lines.
+///
+/// Errors: an allocation fails. Cost: the size of the lines.
+pub fn push_counted(text: &mut Vec<u8>, word: &[u8], lines: &[u8]) -> Result<(), AllocError>
+    ensures { OnOk result (text.new.items ≡ text.old.items ++ counted_text word.now lines.now) }
+{
+    text.extend_from_slice(word)?;
+    text.extend_from_slice(b" ")?;
+    push_number(text, line_feeds(lines) as u64)?;
+    text.extend_from_slice(b"\n")?;
+    text.extend_from_slice(lines)
+}
+
+/// Counts the line feeds of a text.
+fn line_feeds(text: &[u8]) -> usize
+    ensures { result ≡ count_by (λ b. b == LINE_FEED) text.now }
+{
+    text.iter().filter(|byte| **byte == LINE_FEED).count()
+}
+
+/// Appends what a node learned, on one line: each entry, or `idle` for a no-operation.
+///
+/// Errors: an allocation fails. Cost: the count of the entries.
+pub fn push_learned(text: &mut Vec<u8>, entries: &[Option<Carried>]) -> Result<(), AllocError>
+    ensures { OnOk result (text.new.items
+        ≡ text.old.items ++ (codes "log" ++ flat_map carried_text entries.now ++ codes "\n")) }
+{
+    text.extend_from_slice(b"log")?;
+    for entry in entries {
+        push_value(text, entry)?;
+    }
+    text.extend_from_slice(b"\n")
+}

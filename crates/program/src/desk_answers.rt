@@ -1,0 +1,129 @@
+//! Answers about what a node has, at a desk of the nodes that `serve` starts.
+ghost use Rattle.std.specs.Prelude.{◌≡◌, ◌++◌, ◌≤◌, List, Err, IfOk, OnOk, codes, flat_map};
+ghost use Rattle.cluster.specs.Cell.{Cell};
+ghost use Rattle.net.specs.declared.event.Event.{Event as TakenEvent};
+ghost use Rattle.world.specs.declared.carried.Carried.{Carried as TakenEntry};
+ghost use Rattle.nodes.specs.Questions.{IsCellAt, IsHistory, IsStanding};
+ghost use Rattle.nodes.specs.declared.questions.NodeStanding.{NodeStanding};
+ghost use Rattle.printed.specs.Counted.{carried_text};
+ghost use Rattle.printed.specs.Printed.{export_text};
+ghost use Rattle.printed.specs.States.{state_text};
+ghost use Rattle.event_lines.specs.EventLines.{history_text};
+
+use crate::fault::Fault;
+use crate::node_answers::{ahead_line, label_answer};
+use crate::served_nodes::NodesDesk;
+use crate::why::{Decision, decided, push_why};
+use cluster::NodeCell;
+use commands::{EntryAt, NodePair, NodeQuestion};
+use event_lines::push_events;
+use printed::{push_export, push_learned, push_state};
+use std::alloc::{AllocError, Global};
+use std::sync::Wait;
+use world::Carried;
+
+/// A desk, and the allocator of its answers.
+#[derive(Drop)]
+pub struct Asked<'a, R: Wait> {
+    pub rt: &'a R,
+    pub alloc: Global,
+    pub desk: &'a NodesDesk,
+}
+
+impl<R: Wait> Asked<'_, R> {
+    /// Appends the statements of a node's library.
+    pub fn push_export(&self, node: u8, text: &mut Vec<u8>) -> Result<(), Fault>
+        ensures { OnOk result ((cell : Cell) × IsCellAt node cell
+            × (text.new.items ≡ text.old.items ++ export_text cell.node.library.statements)) }
+    {
+        let alloc = self.alloc;
+        let made = self
+            .desk
+            .ask(self.rt, node, |cell| export_of(alloc, cell))??;
+        Ok(text.extend_from_slice(made.as_slice())?)
+    }
+
+    /// Appends the entries that a node took over from its log.
+    pub fn push_log(&self, node: u8, text: &mut Vec<u8>) -> Result<(), Fault>
+        ensures { OnOk result ((cell : Cell) × IsCellAt node cell × (text.new.items
+            ≡ text.old.items ++ (codes "log" ++ flat_map carried_text cell.entries ++ codes "\n"))) }
+    {
+        let alloc = self.alloc;
+        let made = self.desk.ask(self.rt, node, |cell| log_of(alloc, cell))??;
+        Ok(text.extend_from_slice(made.as_slice())?)
+    }
+
+    /// Appends how a node stands.
+    pub fn push_state(&self, node: u8, text: &mut Vec<u8>) -> Result<(), Fault>
+        ensures { OnOk result ((standing : NodeStanding) × IsStanding node standing
+            × (text.new.items ≡ text.old.items
+            ++ state_text standing.state standing.applied standing.is_down)) }
+    {
+        let standing = self.desk.standing(self.rt, node)?;
+        Ok(push_state(text, &standing.state, standing.applied, standing.is_down)?)
+    }
+
+    /// Appends the answer to a question about a label of a node's library.
+    pub fn push_label_answer(&self, asked: &NodeQuestion, text: &mut Vec<u8>) -> Result<(), Fault> {
+        let alloc = self.alloc;
+        let made = self.desk.ask(self.rt, asked.node, |cell| {
+            label_answer(alloc, cell.library(), asked)
+        })??;
+        Ok(text.extend_from_slice(made.as_slice())?)
+    }
+
+    /// Appends why a node refused an entry.
+    pub fn push_why(&self, at: EntryAt, text: &mut Vec<u8>) -> Result<(), Fault> {
+        let alloc = self.alloc;
+        let decision = self
+            .desk
+            .ask(self.rt, at.node, |cell| { decision_at(alloc, cell, at) })??;
+        Ok(push_why(alloc, text, &decision)?)
+    }
+
+    /// Appends which of two nodes has the library with more statements.
+    pub fn push_compared(&self, pair: NodePair, text: &mut Vec<u8>) -> Result<(), Fault> {
+        let ahead = self.desk.compare(self.rt, pair.first, pair.second)?;
+        Ok(text.extend_from_slice(ahead_line(ahead))?)
+    }
+
+    /// Appends the history so far, as lines of `play` after their count.
+    pub fn push_events(&self, text: &mut Vec<u8>) -> Result<(), Fault>
+        ensures { OnOk result ((events : List (TakenEvent TakenEntry)) × IsHistory events
+            × (text.new.items ≡ text.old.items ++ history_text events)) }
+    {
+        let events = self.desk.history(self.rt)?;
+        Ok(push_events(self.alloc, text, events.as_slice())?)
+    }
+}
+
+/// Returns what a cell decided on an entry.
+fn decision_at(alloc: Global, cell: &NodeCell, at: EntryAt) -> Result<Decision, AllocError> {
+    let mut entries = Vec::new(alloc);
+    for entry in cell.entries().iter().take(cell.applied() as usize) {
+        match entry {
+            Some(Carried(entry)) => entries.push(Some(entry.copy()?))?,
+            None => entries.push(None)?,
+        }
+    }
+    decided(alloc, cell.library(), entries.as_slice(), at)
+}
+
+/// Returns the statements of the library of a cell.
+fn export_of(alloc: Global, cell: &NodeCell) -> Result<Vec<u8>, AllocError>
+    ensures { IfOk result (λ text. text.items ≡ export_text cell.now.node.library.statements) }
+{
+    let mut text = Vec::new(alloc);
+    push_export(&mut text, cell.library())?;
+    Ok(text)
+}
+
+/// Returns the entries of a cell, on one line.
+fn log_of(alloc: Global, cell: &NodeCell) -> Result<Vec<u8>, AllocError>
+    ensures { IfOk result (λ text. text.items
+        ≡ codes "log" ++ flat_map carried_text cell.now.entries ++ codes "\n") }
+{
+    let mut text = Vec::new(alloc);
+    push_learned(&mut text, cell.entries())?;
+    Ok(text)
+}

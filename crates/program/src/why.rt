@@ -1,0 +1,202 @@
+//! Why an entry is refused at a node: it is judged again behind exactly the statements that stood
+//! when it was decided.
+use crate::fault::Fault;
+use crate::refused_texts::fault_of;
+use bytes::Bytes;
+use commands::EntryAt;
+use explanation::{DatabaseFault, explain_behind};
+use library::{Cause, Entry, Library, Verdict};
+use mm_read::{ReadFault, read};
+use numbers::push_number;
+use places::{line_and_column, place_of};
+use printed::push_counted;
+use std::alloc::{AllocError, Global};
+use std::collections::BTreeSet;
+
+/// What a node decided on an entry.
+#[derive(Drop)]
+pub enum Decision {
+    /// Nothing.
+    Unknown,
+    /// It was added.
+    Added,
+    /// It was refused.
+    Refused(RefusedEntry),
+}
+
+/// An entry that was refused, and what stood when it was.
+#[derive(Drop)]
+pub struct RefusedEntry {
+    cause: Cause,
+    entry: Entry,
+    /// The texts that were added before it, in order.
+    added: Vec<Bytes>,
+    /// The statements of the library, a line each. Those of these texts come first.
+    export: Vec<u8>,
+}
+
+/// Returns what a library decided on an entry. Its entries are those that were applied, in order.
+///
+/// Errors: an allocation fails. Cost: the size of the library, and the count of the entries.
+pub fn decided(
+    alloc: Global,
+    library: &Library,
+    entries: &[Option<Entry>],
+    at: EntryAt,
+) -> Result<Decision, AllocError> {
+    let cause = match library.status(at.author, at.serial) {
+        None => return Ok(Decision::Unknown),
+        Some(Verdict::Refused(cause)) => cause,
+        Some(_) => return Ok(Decision::Added),
+    };
+    let mut earlier = BTreeSet::new(alloc);
+    let mut added = Vec::new(alloc);
+    for entry in entries {
+        let Some(entry) = entry else {
+            continue;
+        };
+        if entry.author() == at.author && entry.serial() == at.serial {
+            return Ok(Decision::Refused(RefusedEntry {
+                cause,
+                entry: entry.copy()?,
+                added,
+                export: library.export()?,
+            }));
+        }
+        // A later entry under the same number is a repeat, which adds nothing.
+        if earlier.insert((entry.author(), entry.serial()))? {
+            push_added(&mut added, library, entry)?;
+        }
+    }
+    Ok(Decision::Unknown)
+}
+
+/// Appends the text of an entry, if the library added it.
+fn push_added(added: &mut Vec<Bytes>, library: &Library, entry: &Entry) -> Result<(), AllocError> {
+    let verdict = library.status(entry.author(), entry.serial());
+    if let Entry::Text(submission) = entry
+        && verdict == Some(Verdict::Added)
+    {
+        added.push(submission.text.clone()?)?;
+    }
+    Ok(())
+}
+
+/// Appends why the entry is refused: `why`, the count of the lines, and the lines. There are none
+/// if it was added; if nothing is decided, the answer is `unknown`.
+///
+/// Errors: an allocation fails. Cost: that of `explanation::explain_behind`, and of reading the
+/// texts that were added before.
+pub fn push_why(alloc: Global, text: &mut Vec<u8>, decision: &Decision) -> Result<(), AllocError> {
+    match decision {
+        Decision::Unknown => text.extend_from_slice(b"unknown\n"),
+        Decision::Added => push_counted(text, b"why", b""),
+        Decision::Refused(refused) => {
+            push_counted(text, b"why", reason(alloc, refused)?.as_slice())
+        }
+    }
+}
+
+/// Returns the lines that tell why an entry is refused.
+fn reason(alloc: Global, refused: &RefusedEntry) -> Result<Vec<u8>, AllocError> {
+    match (&refused.entry, fault_of(refused.cause)) {
+        (Entry::Text(submission), Some(fault)) => {
+            explanation(alloc, refused, submission.text.as_slice(), fault)
+        }
+        (Entry::Text(submission), None) => {
+            not_chartered(alloc, submission.text.as_slice(), refused)
+        }
+        (Entry::Charter { .. }, _) => not_chartered(alloc, b"", refused),
+    }
+}
+
+/// Returns the explanation of a text that is refused, with the places in that text.
+fn explanation(
+    alloc: Global,
+    refused: &RefusedEntry,
+    text: &[u8],
+    fault: DatabaseFault,
+) -> Result<Vec<u8>, AllocError> {
+    let mut count = 0usize;
+    if tells_statement(fault) {
+        count = statement_count(alloc, refused.added.as_slice())?;
+    }
+    let before = first_lines(refused.export.as_slice(), count);
+    let mut whole = Vec::from_slice(alloc, before)?;
+    whole.extend_from_slice(text)?;
+    explain_behind(alloc, whole.as_slice(), before.len(), behind(fault, count))
+}
+
+/// Tells whether a fault is that of a statement.
+fn tells_statement(fault: DatabaseFault) -> bool {
+    !matches!(
+        fault,
+        DatabaseFault::TooLong | DatabaseFault::Text | DatabaseFault::Shape
+    )
+}
+
+/// Returns the fault of a statement that has so many others before it.
+fn behind(fault: DatabaseFault, count: usize) -> DatabaseFault {
+    match fault {
+        DatabaseFault::Rule { statement, rule } => DatabaseFault::Rule {
+            statement: statement.saturating_add(count),
+            rule,
+        },
+        DatabaseFault::Proof { statement } => DatabaseFault::Proof {
+            statement: statement.saturating_add(count),
+        },
+        DatabaseFault::Unfinished { statement } => DatabaseFault::Unfinished {
+            statement: statement.saturating_add(count),
+        },
+        other => other,
+    }
+}
+
+/// Counts the statements of texts.
+fn statement_count(alloc: Global, texts: &[Bytes]) -> Result<usize, AllocError> {
+    let mut count = 0usize;
+    for text in texts {
+        match read(alloc, text.as_slice()) {
+            Ok(statements) => count = count.saturating_add(statements.len()),
+            Err(ReadFault::Memory) => return Err(AllocError),
+            Err(_) => {}
+        }
+    }
+    Ok(count)
+}
+
+/// Returns so many of the first lines.
+fn first_lines(lines: &[u8], count: usize) -> &[u8] {
+    let mut rest = lines;
+    for _line in 0..count {
+        let Some(end) = rest.iter().position(|byte| *byte == b'\n') else {
+            break;
+        };
+        rest = rest.get(end.saturating_add(1)..).unwrap_or(b"");
+    }
+    let len = lines.len().saturating_sub(rest.len());
+    lines.get(..len).unwrap_or(lines)
+}
+
+/// Returns the line that says that the charter does not name the author, at the statement that is
+/// refused for that.
+fn not_chartered(
+    alloc: Global,
+    text: &[u8],
+    refused: &RefusedEntry,
+) -> Result<Vec<u8>, AllocError> {
+    let mut line = Vec::new(alloc);
+    if let Cause::NotChartered { statement } = refused.cause
+        && let Ok(Some(span)) = place_of(alloc, text, statement, 1)
+    {
+        let place = line_and_column(text, span.start.min(text.len()));
+        push_number(&mut line, place.line as u64)?;
+        line.extend_from_slice(b":")?;
+        push_number(&mut line, place.column as u64)?;
+        line.extend_from_slice(b": ")?;
+    }
+    line.extend_from_slice(b"the charter does not name author ")?;
+    push_number(&mut line, refused.entry.author())?;
+    line.extend_from_slice(b"\n")?;
+    Ok(line)
+}
