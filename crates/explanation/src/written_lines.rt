@@ -15,15 +15,18 @@ const CUT: &[u8] = b"\n  the explanation is cut here: it has more than 65536 byt
 
 /// The lines of an explanation, or nothing if an allocation failed. Keeps one byte more than the most, and drops the rest.
 #[derive(Drop)]
-pub(crate) struct Page {
+pub(crate) struct Page<'a> {
     lines: Vec<u8>,
+    /// The name of the file that stands before each place, if there is one.
+    name: Option<&'a str>,
     is_refused: bool,
 }
 
-impl Page {
-    pub(crate) fn new(alloc: Global) -> Page {
+impl<'a> Page<'a> {
+    pub(crate) fn new(alloc: Global, name: Option<&'a str>) -> Page<'a> {
         Page {
             lines: Vec::new(alloc),
+            name,
             is_refused: false,
         }
     }
@@ -37,6 +40,7 @@ impl Page {
         let Page {
             mut lines,
             is_refused,
+            ..
         } = self;
         if is_refused {
             return Err(AllocError);
@@ -68,8 +72,12 @@ impl Page {
         self.push(buffer.format(number).as_bytes());
     }
 
-    /// Writes `LINE:COLUMN`.
+    /// Writes `LINE:COLUMN`, after the name of the file and a colon if there is a name.
     pub(crate) fn push_place(&mut self, text: &[u8], offset: usize) {
+        if let Some(name) = self.name {
+            self.push(name.as_bytes());
+            self.push(b":");
+        }
         let within = if offset <= text.len() {
             offset
         } else {

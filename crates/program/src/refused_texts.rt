@@ -48,7 +48,7 @@ fn fault_of(cause: Cause) -> Option<DatabaseFault> {
 
 /// Prints why a text is refused, if allocation succeeds.
 fn print_reason<F: Write>(alloc: Global, text: &[u8], fault: DatabaseFault, faults: &mut F) {
-    if let Ok(lines) = explain_refusal(alloc, text, fault) {
+    if let Ok(lines) = explain_refusal(alloc, None, text, fault) {
         let _ = print(faults, lines.as_slice());
     }
 }
