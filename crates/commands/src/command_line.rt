@@ -1,8 +1,9 @@
 //! The words of a command line.
 ghost use Rattle.std.specs.Prelude.{◌≤◌, IfOk};
 
-use crate::grammar::commands;
-use crate::request::{ProofForm, ProofQuestion, Question, Request, WordsFault};
+use crate::grammar::{commands, matches_of};
+use crate::hints::push_hint;
+use crate::request::{Asked, ProofForm, ProofQuestion, Question, Request, WordsFault};
 use crate::weights::{WorkerCount, parse_weights};
 use clap::error::ErrorKind;
 use clap::{ArgMatches, Error};
@@ -22,17 +23,12 @@ pub fn parse_words<'a>(alloc: Global, words: &'a [&'a str]) -> Result<Request<'a
     }
 }
 
-/// Returns what `clap` finds in the words.
-fn matches_of<'a>(alloc: Global, words: &'a [&'a str]) -> Result<ArgMatches<'a>, Error> {
-    commands(alloc)?.try_get_matches_from(words)
-}
-
 /// Returns what is told of words that are no command line, or the request for the version.
 fn answered<'a>(alloc: Global, error: &Error, words: &[&str]) -> Result<Request<'a>, WordsFault> {
     match error.kind() {
         ErrorKind::OutOfMemory => Err(WordsFault::Memory),
         ErrorKind::DisplayVersion => Ok(Request::Version),
-        ErrorKind::UnknownArgument => Err(WordsFault::Bad {
+        ErrorKind::UnknownArgument | ErrorKind::InvalidSubcommand => Err(WordsFault::Bad {
             text: with_hint(alloc, error, words)?,
         }),
         _ => Err(WordsFault::Bad {
@@ -41,40 +37,21 @@ fn answered<'a>(alloc: Global, error: &Error, words: &[&str]) -> Result<Request<
     }
 }
 
-/// Returns the text of an error. If the words but the last are a request about a database and the
-/// last is no option, it may be the file of a database: then a hint comes before the text.
+/// Returns the text of an error, after a hint if a file stands among the words.
 fn with_hint(alloc: Global, error: &Error, words: &[&str]) -> Result<String, WordsFault> {
     let mut text = String::new(alloc);
-    if let Some((file, front)) = words.split_last()
-        && !file.starts_with('-')
-        && asks_about_database(alloc, front)
-    {
-        text.push_str("the database is read from standard input: mmlib ")?;
-        for word in front {
-            text.push_str(word)?;
-            text.push_str(" ")?;
-        }
-        text.push_str("< ")?;
-        text.push_str(file)?;
-        text.push_str("\n")?;
-    }
+    push_hint(alloc, words, &mut text)?;
     let told = format!(in alloc; "{error}")?;
     text.push_str(told.as_str())?;
     Ok(text)
 }
 
-/// Tells whether the words are a request about a database.
-fn asks_about_database(alloc: Global, words: &[&str]) -> bool {
-    match matches_of(alloc, words) {
-        Ok(matches) => !matches!(matches.subcommand(), None | Some(("play" | "serve", _))),
-        Err(_) => false,
-    }
-}
-
 /// Returns the request of a command and its options.
 fn request<'a>(alloc: Global, matches: &ArgMatches<'a>) -> Result<Request<'a>, WordsFault> {
     match matches.subcommand() {
-        Some(("outline", _)) => Ok(Request::Outline),
+        Some(("outline", options)) => Ok(Request::Outline {
+            name: options.get_str("name"),
+        }),
         Some(("play", options)) => {
             let nodes = node_count(alloc, options)?;
             Ok(Request::Play {
@@ -91,7 +68,11 @@ fn request<'a>(alloc: Global, matches: &ArgMatches<'a>) -> Result<Request<'a>, W
                 weather,
             })
         }
-        Some((name, options)) => Ok(Request::Ask(question(alloc, name, options)?)),
+        Some((command, options)) => Ok(Request::Ask(Asked {
+            question: question(alloc, command, options)?,
+            name: options.get_str("name"),
+            assumes: options.get_flag("assume"),
+        })),
         None => Err(no_command(alloc)),
     }
 }
@@ -104,6 +85,7 @@ fn question<'a>(
 ) -> Result<Question<'a>, WordsFault> {
     let label = options.get_str("label").unwrap_or("").as_bytes();
     Ok(match name {
+        "check" if options.get_flag("all") => Question::CheckEach,
         "check" => Question::Check,
         "list" => Question::List,
         "export" => Question::Export,
@@ -210,7 +192,9 @@ fn weights(alloc: Global, options: &ArgMatches, nodes: u8) -> Result<Weights, Wo
     match given {
         Some(weights) => Ok(weights),
         None => Err(WordsFault::Bad {
-            text: String::from_str(alloc, "bad weights\n")?,
+            text: format!(in alloc;
+                "bad weights\n--weights needs {nodes} numbers from 1 to 100, parted by commas\n"
+            )?,
         }),
     }
 }

@@ -1,5 +1,6 @@
 //! The commands of the program and their options.
-use clap::{Arg, ArgAction, Command};
+use crate::script_help::{PLAY_LINES, SERVE_LINES};
+use clap::{Arg, ArgAction, ArgMatches, Command, Error};
 use std::alloc::{AllocError, Global};
 
 /// The version that `--version` prints.
@@ -70,6 +71,24 @@ const WORDS: Argument = Argument {
     help: "PATTERN is words that the description has, in any case of letters",
 };
 
+const NAME: Argument = Argument {
+    name: "name",
+    form: Form::Optional("FILE"),
+    help: "A name that stands before each place that is printed, FILE:LINE:COLUMN",
+};
+
+const ASSUME: Argument = Argument {
+    name: "assume",
+    form: Form::Flag,
+    help: "Take each $p that has no right proof as a $a, and answer for the rest",
+};
+
+const EACH: Argument = Argument {
+    name: "all",
+    form: Form::Flag,
+    help: "Judge every $p by itself, and print each that is not proved",
+};
+
 const NODES: Argument = Argument {
     name: "nodes",
     form: Form::Required("N"),
@@ -97,13 +116,13 @@ const WEATHER: Argument = Argument {
 const ALL: Argument = Argument {
     name: "all",
     form: Form::Flag,
-    help: "Those too that use it through others",
+    help: "Also those that use it indirectly",
 };
 
 const ESSENTIAL: Argument = Argument {
     name: "essential",
     form: Form::Flag,
-    help: "The last step, and those alone that are taken for an $e",
+    help: "Only the steps a reader needs, without the building of syntax",
 };
 
 const DOT: Argument = Argument {
@@ -118,73 +137,91 @@ const HTML: Argument = Argument {
     help: "A page that stands alone",
 };
 
-/// A command: its name, its help, and its arguments.
-struct Shape(&'static str, &'static str, &'static [Argument]);
+/// A command: its name, its usage, its help, and its arguments.
+struct Shape(
+    &'static str,
+    &'static str,
+    &'static str,
+    &'static [Argument],
+);
 
 const COMMANDS: [Shape; 13] = [
     Shape(
         "outline",
+        "mmlib outline < DATABASE",
         "Print the statements of the database on standard input, one a line: mmlib outline < set.mm",
-        &[],
+        &[NAME],
     ),
     Shape(
         "check",
+        "mmlib check < DATABASE",
         "Check the proofs of the database on standard input: mmlib check < set.mm",
-        &[],
+        &[EACH, NAME],
     ),
     Shape(
         "list",
+        "mmlib list < DATABASE",
         "Print the assertions of the database on standard input, one a line: mmlib list < set.mm",
-        &[],
+        &[ASSUME, NAME],
     ),
     Shape(
         "export",
+        "mmlib export < DATABASE",
         "Print the database on standard input in the export form: mmlib export < set.mm",
-        &[],
+        &[ASSUME, NAME],
     ),
     Shape(
         "tree",
+        "mmlib tree LABEL < DATABASE",
         "Print the derivation of a $p of the database on standard input, a node a line: mmlib tree id < set.mm",
-        &[LABEL],
+        &[LABEL, ASSUME, NAME],
     ),
     Shape(
         "trace",
-        "Print the axioms that a $p of the database on standard input rests on: mmlib trace id < set.mm",
-        &[LABEL],
+        "mmlib trace LABEL < DATABASE",
+        "Print the $a (axioms, definitions, syntax) that a $p rests on: mmlib trace id < set.mm",
+        &[LABEL, ASSUME, NAME],
     ),
     Shape(
         "usage",
+        "mmlib usage LABEL < DATABASE",
         "Print who cites a statement of the database on standard input: mmlib usage id < set.mm",
-        &[LABEL, ALL],
+        &[LABEL, ALL, ASSUME, NAME],
     ),
     Shape(
         "proof",
+        "mmlib proof LABEL < DATABASE",
         "Print the steps of the proof of a $p of the database on standard input: mmlib proof id --essential < set.mm",
-        &[LABEL, ESSENTIAL, DOT, HTML],
+        &[LABEL, ESSENTIAL, DOT, HTML, ASSUME, NAME],
     ),
     Shape(
         "extract",
+        "mmlib extract LABEL .. < DATABASE",
         "Print some assertions of the database on standard input, with all that they need: mmlib extract id < set.mm",
-        &[LABELS],
+        &[LABELS, ASSUME, NAME],
     ),
     Shape(
         "show",
+        "mmlib show LABEL .. < DATABASE",
         "Print statements of the database on standard input, each with its description and its hypotheses: mmlib show id < set.mm",
-        &[ANY_LABELS],
+        &[ANY_LABELS, ASSUME, NAME],
     ),
     Shape(
         "find",
+        "mmlib find PATTERN < DATABASE",
         "Print the assertions of the database on standard input that have a pattern: mmlib find '( $? -> $? )' < set.mm",
-        &[PATTERN, HYPOTHESES, WORDS],
+        &[PATTERN, HYPOTHESES, WORDS, ASSUME, NAME],
     ),
     Shape(
         "play",
-        "Drive a world of nodes by the script on standard input",
+        "mmlib play --nodes N < SCRIPT",
+        "Drive nodes, event by event, by the lines of a script on standard input: mmlib play --nodes 3 < my.script",
         &[NODES, WEIGHTS],
     ),
     Shape(
         "serve",
-        "Serve the script on standard input by nodes that are threads",
+        "mmlib serve --nodes N --workers W < SCRIPT",
+        "Serve the lines of a script on standard input by nodes that are threads: mmlib serve --nodes 3 --workers 2 < my.script",
         &[NODES, WORKERS, WEIGHTS, WEATHER],
     ),
 ];
@@ -197,6 +234,7 @@ pub fn commands<'a>(alloc: Global) -> Result<Command<'a>, AllocError> {
             "Formal mathematics in the Metamath language, and replicas of one library.\n\
              A database is read from standard input: mmlib check < set.mm",
         )
+        .override_usage("mmlib COMMAND < DATABASE")
         .no_binary_name(true)
         .subcommand_required(true);
     for shape in &COMMANDS {
@@ -205,10 +243,20 @@ pub fn commands<'a>(alloc: Global) -> Result<Command<'a>, AllocError> {
     Ok(program)
 }
 
+/// Returns what `clap` finds in the words of a command line.
+pub(crate) fn matches_of<'a>(alloc: Global, words: &'a [&'a str]) -> Result<ArgMatches<'a>, Error> {
+    commands(alloc)?.try_get_matches_from(words)
+}
+
 /// Returns the command of a shape.
 fn command<'a>(alloc: Global, shape: &Shape) -> Result<Command<'a>, AllocError> {
-    let Shape(name, help, arguments) = *shape;
-    let mut command = Command::new(alloc, name).about(help);
+    let Shape(name, usage, help, arguments) = *shape;
+    let mut command = Command::new(alloc, name).about(help).override_usage(usage);
+    match name {
+        "play" => command = command.after_help(PLAY_LINES),
+        "serve" => command = command.after_help(SERVE_LINES),
+        _ => {}
+    }
     for argument in arguments {
         command = command.arg(made(alloc, argument)?)?;
     }

@@ -10,9 +10,12 @@ pub enum Request<'a> {
     /// `--version`: the name and the version of the program.
     Version,
     /// `outline`: the outline of a database.
-    Outline,
+    Outline {
+        /// `--name`: what stands before each place.
+        name: Option<&'a str>,
+    },
     /// A question about a database.
-    Ask(Question<'a>),
+    Ask(Asked<'a>),
     /// `play`: a script drives nodes, event by event.
     Play {
         weights: Weights,
@@ -27,11 +30,23 @@ pub enum Request<'a> {
     },
 }
 
+/// A question about a database, and how the database is taken.
+#[derive(Drop)]
+pub struct Asked<'a> {
+    pub question: Question<'a>,
+    /// `--name`: what stands before each place.
+    pub name: Option<&'a str>,
+    /// `--assume`: each `$p` that is not proved is taken as a `$a`.
+    pub assumes: bool,
+}
+
 /// A question about a library. It borrows the labels that it names.
 #[derive(Drop)]
 pub enum Question<'a> {
     /// `check`: how many `$p` it proves.
     Check,
+    /// `check --all`: how many of its `$p` are proved.
+    CheckEach,
     /// `list`: its assertions.
     List,
     /// `export`: its statements, in the export form.

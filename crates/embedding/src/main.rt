@@ -4,7 +4,7 @@
 use anyhow::Result;
 use bytes::Bytes;
 use cluster::{MemoryKeep, apply_on, begin_on, cells, compare_on, deliver_on, offer_on, take_on};
-use explanation::{DatabaseFault, explain_refusal};
+use explanation::{DatabaseFault, explain_behind};
 use library::{Cause, Entry, Library, Submission, Verdict};
 use std::alloc::Global;
 use synod::Weights;
@@ -13,7 +13,6 @@ use synod::Weights;
 const GOOD: &[u8] = b"$c wff |- ( ) -> $. $v p q $. wp $f wff p $. wq $f wff q $.
 wi $a wff ( p -> q ) $. ${ min $e |- p $. maj $e |- ( p -> q ) $. mp $a |- q $. $}
 ${ a $e |- p $. b $e |- ( p -> q ) $. th $p |- q $= wp wq a b mp $. $}";
-
 /// A text that is refused: its proof has the hypotheses in the wrong order.
 const WRONG: &[u8] = b"${ c $e |- p $. d $e |- ( p -> q ) $. two $p |- q $= wp wq d c mp $. $}";
 
@@ -39,10 +38,11 @@ fn apply_two(rt: &HostRuntime) -> Result<()> {
         println!(rt; "submission {serial}: {verdict:?}")?;
         if let Verdict::Refused(Cause::Proof { statement }) = verdict {
             let mut whole = library.export()?;
+            let before = whole.len();
             whole.extend_from_slice(text)?;
             let statement = library.statements().len().saturating_add(statement);
             let fault = DatabaseFault::Proof { statement };
-            let lines = explain_refusal(rt.alloc(), whole.as_slice(), fault)?;
+            let lines = explain_behind(rt.alloc(), whole.as_slice(), before, fault)?;
             print!(rt; "{}", str::from_utf8(lines.as_slice())?)?;
         }
     }

@@ -20,7 +20,7 @@ struct Broken<'a> {
 /// Writes which rule the statement breaks, by what, and where the other declaration stands.
 pub(crate) fn explain_rule(
     alloc: Global,
-    page: &mut Page,
+    page: &mut Page<'_>,
     text: &[u8],
     statement: usize,
     rule: Rule,
@@ -41,7 +41,7 @@ pub(crate) fn explain_rule(
     }
 }
 
-fn explain_broken(alloc: Global, page: &mut Page, broken: &Broken<'_>) {
+fn explain_broken(alloc: Global, page: &mut Page<'_>, broken: &Broken<'_>) {
     if broken.statement > broken.statements.len() {
         return explain_open(alloc, page, broken);
     }
@@ -49,7 +49,7 @@ fn explain_broken(alloc: Global, page: &mut Page, broken: &Broken<'_>) {
 }
 
 /// Writes that a block is never closed.
-fn explain_open(alloc: Global, page: &mut Page, broken: &Broken<'_>) {
+fn explain_open(alloc: Global, page: &mut Page<'_>, broken: &Broken<'_>) {
     let Some(open) = never_closed(broken.statements) else {
         return;
     };
@@ -60,7 +60,7 @@ fn explain_open(alloc: Global, page: &mut Page, broken: &Broken<'_>) {
 /// Writes `LINE:COLUMN: ` of a token of a statement.
 pub(crate) fn push_start(
     alloc: Global,
-    page: &mut Page,
+    page: &mut Page<'_>,
     text: &[u8],
     statement: usize,
     token: usize,
@@ -72,7 +72,7 @@ pub(crate) fn push_start(
 /// Writes `LINE:COLUMN` of a token of a statement.
 pub(crate) fn push_token_place(
     alloc: Global,
-    page: &mut Page,
+    page: &mut Page<'_>,
     text: &[u8],
     statement: usize,
     token: usize,
@@ -84,7 +84,7 @@ pub(crate) fn push_token_place(
     }
 }
 
-fn explain_statement(alloc: Global, page: &mut Page, broken: &Broken<'_>) {
+fn explain_statement(alloc: Global, page: &mut Page<'_>, broken: &Broken<'_>) {
     let Some(index) = broken.statement.checked_sub(1) else {
         return;
     };
@@ -111,7 +111,7 @@ fn explain_statement(alloc: Global, page: &mut Page, broken: &Broken<'_>) {
 }
 
 /// Writes that a `$c` stands in a block, or that a `$}` closes none.
-fn explain_alone(alloc: Global, page: &mut Page, broken: &Broken<'_>) {
+fn explain_alone(alloc: Global, page: &mut Page<'_>, broken: &Broken<'_>) {
     push_start(alloc, page, broken.text, broken.statement, 1);
     if broken.rule == Rule::G1 {
         return page.push(
@@ -122,13 +122,25 @@ fn explain_alone(alloc: Global, page: &mut Page, broken: &Broken<'_>) {
 }
 
 /// Writes the place of a symbol of the statement, and the symbol.
-fn push_symbol(alloc: Global, page: &mut Page, broken: &Broken<'_>, stmt: &Stmt, symbol: usize) {
+fn push_symbol(
+    alloc: Global,
+    page: &mut Page<'_>,
+    broken: &Broken<'_>,
+    stmt: &Stmt,
+    symbol: usize,
+) {
     let token = symbols_before(stmt).saturating_add(symbol);
     push_start(alloc, page, broken.text, broken.statement, token);
     page.push(symbol_at(stmt, symbol));
 }
 
-fn explain_symbol(alloc: Global, page: &mut Page, broken: &Broken<'_>, stmt: &Stmt, symbol: usize) {
+fn explain_symbol(
+    alloc: Global,
+    page: &mut Page<'_>,
+    broken: &Broken<'_>,
+    stmt: &Stmt,
+    symbol: usize,
+) {
     push_symbol(alloc, page, broken, stmt, symbol);
     match broken.rule {
         Rule::G5 => page.push(b" is neither a constant nor an active variable\n"),
@@ -140,7 +152,7 @@ fn explain_symbol(alloc: Global, page: &mut Page, broken: &Broken<'_>, stmt: &St
 
 fn explain_twice(
     alloc: Global,
-    page: &mut Page,
+    page: &mut Page<'_>,
     broken: &Broken<'_>,
     stmt: &Stmt,
     first: usize,
@@ -155,7 +167,7 @@ fn explain_twice(
 
 fn explain_earlier(
     alloc: Global,
-    page: &mut Page,
+    page: &mut Page<'_>,
     broken: &Broken<'_>,
     stmt: &Stmt,
     symbol: usize,
@@ -165,14 +177,20 @@ fn explain_earlier(
     push_other(alloc, page, broken, symbol_at(stmt, symbol), other);
 }
 
-fn explain_label(alloc: Global, page: &mut Page, broken: &Broken<'_>, stmt: &Stmt, other: usize) {
+fn explain_label(
+    alloc: Global,
+    page: &mut Page<'_>,
+    broken: &Broken<'_>,
+    stmt: &Stmt,
+    other: usize,
+) {
     push_start(alloc, page, broken.text, broken.statement, 1);
     page.push(label_of(stmt));
     push_other(alloc, page, broken, label_of(stmt), other);
 }
 
 /// Writes how the other statement declares the name, and where.
-fn push_other(alloc: Global, page: &mut Page, broken: &Broken<'_>, name: &[u8], other: usize) {
+fn push_other(alloc: Global, page: &mut Page<'_>, broken: &Broken<'_>, name: &[u8], other: usize) {
     let Some(stmt) = broken.statements.get(other.saturating_sub(1)) else {
         page.push(b"\n");
         return;

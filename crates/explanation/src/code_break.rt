@@ -1,54 +1,33 @@
 //! Writes the rule of proof code that the tokens of a proof break, in words.
 
 use crate::item_spots::{Spot, letter_spot};
+use crate::statement_symbols::word_at;
 use crate::theorem::Theorem;
 use crate::written_lines::Page;
 use explain::{CodeBreak, LetterFault};
 use mm_lex::Words;
 use proof_code::is_compressed;
-use std::alloc::Global;
 
 /// Writes the rule that the tokens break, and where.
-pub(crate) fn explain_break(
-    alloc: Global,
-    page: &mut Page,
-    theorem: &Theorem<'_>,
-    broken: CodeBreak,
-) {
+pub(crate) fn explain_break(page: &mut Page<'_>, theorem: &Theorem<'_>, broken: CodeBreak) {
     let proof = theorem.proof;
     match broken {
         CodeBreak::Unfinished { token } => {
-            theorem.push_spot(alloc, page, Spot { token, byte: 0 });
+            theorem.push_spot(page, Spot { token, byte: 0 });
             page.push(b" is not finished\n");
         }
         CodeBreak::NotLabel { token } => {
-            push_break(
-                alloc,
-                page,
-                theorem,
-                Spot { token, byte: 0 },
-                no_label(proof),
-            )
+            push_break(page, theorem, Spot { token, byte: 0 }, no_label(proof));
         }
-        CodeBreak::Mandatory { token } => push_break(
-            alloc,
-            page,
-            theorem,
-            Spot { token, byte: 0 },
-            b"this label of a mandatory hypothesis may not be listed",
-        ),
-        CodeBreak::Unclosed => push_break(
-            alloc,
-            page,
-            theorem,
-            Spot {
+        CodeBreak::Mandatory { token } => push_mandatory(page, theorem, token),
+        CodeBreak::Unclosed => {
+            let end = Spot {
                 token: proof.len(),
                 byte: 0,
-            },
-            b"no ) stands behind the listed labels",
-        ),
+            };
+            push_break(page, theorem, end, b"no ) stands behind the listed labels");
+        }
         CodeBreak::Letters(broken) => push_break(
-            alloc,
             page,
             theorem,
             letter_spot(proof, broken.letter),
@@ -57,12 +36,26 @@ pub(crate) fn explain_break(
     }
 }
 
+/// Writes that a listed label is that of a mandatory hypothesis.
+fn push_mandatory(page: &mut Page<'_>, theorem: &Theorem<'_>, token: usize) {
+    push_unread(page, theorem, Spot { token, byte: 0 });
+    page.push(word_at(theorem.proof, token));
+    page.push(b" is a mandatory hypothesis of ");
+    page.push(theorem.label);
+    page.push(b" and may not be listed\n");
+}
+
 /// Writes where the tokens cannot be read, and why.
-fn push_break(alloc: Global, page: &mut Page, theorem: &Theorem<'_>, spot: Spot, words: &[u8]) {
-    theorem.push_spot(alloc, page, spot);
-    page.push(b" cannot be read\n  ");
+fn push_break(page: &mut Page<'_>, theorem: &Theorem<'_>, spot: Spot, words: &[u8]) {
+    push_unread(page, theorem, spot);
     page.push(words);
     page.push(b"\n");
+}
+
+/// Writes where the tokens cannot be read.
+fn push_unread(page: &mut Page<'_>, theorem: &Theorem<'_>, spot: Spot) {
+    theorem.push_spot(page, spot);
+    page.push(b" cannot be read\n  ");
 }
 
 /// Returns the words for a token that is no label.

@@ -3,12 +3,14 @@
 ghost use Rattle.std.specs.Prelude.{◌≤◌, length, IfOk};
 
 use crate::broken_rule::explain_rule;
-use crate::proof::explain_proof;
+use crate::proof::{explain_entered, explain_proof};
 use crate::shape_fault::explain_shape;
 use crate::text_fault::explain_text;
+use crate::text_tokens::TextTokens;
 use crate::written_lines::{MOST_BYTES, Page};
 use scope::Rule;
 use std::alloc::{AllocError, Global};
+use unproved::Entered;
 
 /// Why a database is refused.
 #[derive(Clone, Copy, Debug, Drop, PartialEq, Eq)]
@@ -27,18 +29,22 @@ pub enum DatabaseFault {
     Unfinished { statement: usize },
 }
 
-/// Returns the lines that say why the text is refused, at most 65,536 bytes; none if it is not refused for that.
+/// Returns the lines that say why the text is refused, at most 65,536 bytes; none if it is not
+/// refused for that. The name of its file, if there is one, stands before each place.
 ///
 /// Errors: an allocation fails. Cost: that of reading the text and of its statements once more, and of judging the one
 /// proof twice.
 pub fn explain_refusal(
     alloc: Global,
+    name: Option<&str>,
     text: &[u8],
     fault: DatabaseFault,
 ) -> Result<Vec<u8>, AllocError>
     ensures short { IfOk result (λ lines. length lines.items ≤ MOST_BYTES) }
 {
-    explain_behind(alloc, text, 0, fault)
+    let mut page = Page::new(alloc, name, 0);
+    push_lines(alloc, &mut page, text, fault);
+    page.into_lines()
 }
 
 /// Returns the lines that say why a text is refused behind the statements of a library, at most 65,536 bytes. The first
@@ -54,12 +60,30 @@ pub fn explain_behind(
 ) -> Result<Vec<u8>, AllocError>
     ensures short { IfOk result (λ lines. length lines.items ≤ MOST_BYTES) }
 {
-    let mut page = Page::new(alloc, before);
+    let mut page = Page::new(alloc, None, before);
     push_lines(alloc, &mut page, text, fault);
     page.into_lines()
 }
 
-fn push_lines(alloc: Global, page: &mut Page, text: &[u8], fault: DatabaseFault) {
+/// Returns the lines that say why the proof of the `$p` at a position is not right, at most 65,536
+/// bytes; none if it is, or if no `$p` stands there. The statements are those of the text.
+///
+/// Errors: an allocation fails. Cost: that of judging the proof twice, and of going over the text.
+pub fn explain_unproved(
+    alloc: Global,
+    name: Option<&str>,
+    tokens: &TextTokens<'_>,
+    entered: &Entered,
+    statement: usize,
+) -> Result<Vec<u8>, AllocError>
+    ensures short { IfOk result (λ lines. length lines.items ≤ MOST_BYTES) }
+{
+    let mut page = Page::new(alloc, name, 0);
+    explain_entered(alloc, &mut page, tokens, entered, statement);
+    page.into_lines()
+}
+
+fn push_lines(alloc: Global, page: &mut Page<'_>, text: &[u8], fault: DatabaseFault) {
     match fault {
         DatabaseFault::TooLong => page.push(
             b"a database may have at most 67108864 bytes, and this one has more\n",

@@ -13,7 +13,7 @@ const MOST_EXPRESSION_BYTES: usize = 4_096;
 /// many or goes beyond the most bytes, and writes the number of its symbols.
 ///
 /// Cost: the bytes that are written.
-pub(crate) fn push_expression(page: &mut Page, frames: &Frames, expr: &[u32]) {
+pub(crate) fn push_expression(page: &mut Page<'_>, frames: &Frames, expr: &[u32]) {
     let mut left = MOST_EXPRESSION_BYTES;
     for (index, number) in expr.iter().enumerate() {
         let symbol = frames.symbol(*number);

@@ -1,9 +1,11 @@
 //! Explains in words why a database is refused, with the place in the text.
 //!
-//! `explain_refusal` writes the lines of an explanation, at most 65,536 bytes; it runs only after a refusal and reads the
-//! text again. The explanation rests on the clauses of `places`, `offence` and `explain`; the words have no contract. Read
-//! `explained_refusal`, `written_lines`, `text_fault`, `shape_fault`, `broken_rule` with `statement_symbols`; `proof` with
-//! `theorem`, `judged`, `item_spots`, `step_fault`, `expressions` and `code_break`.
+//! `explain_refusal` writes the lines of an explanation, at most 65,536 bytes; it runs only after a
+//! refusal and reads the text again. `explain_unproved` writes them for one `$p` of statements that
+//! the caller has read. The explanation rests on the clauses of `places`, `offence` and `explain`;
+//! the words have no contract. Read `explained_refusal`, `written_lines`, `text_fault`,
+//! `shape_fault`, `broken_rule` with `statement_symbols`; `proof` with `text_tokens`, `theorem`,
+//! `item_spots`, `step_fault`, `expressions` and `code_break`.
 #![tactic(auto)]
 
 mod broken_rule;
@@ -11,14 +13,15 @@ mod code_break;
 mod explained_refusal;
 mod expressions;
 mod item_spots;
-mod judged;
 mod proof;
 mod shape_fault;
 mod statement_symbols;
 mod step_fault;
 mod text_fault;
+mod text_tokens;
 mod theorem;
 mod written_lines;
 
-pub use explained_refusal::{DatabaseFault, explain_behind, explain_refusal};
+pub use explained_refusal::{DatabaseFault, explain_behind, explain_refusal, explain_unproved};
+pub use text_tokens::TextTokens;
 pub use written_lines::MOST_BYTES;

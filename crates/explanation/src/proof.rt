@@ -1,5 +1,4 @@
 //! Proofs that are wrong or unfinished.
-ghost use Rattle.std.specs.Prelude.{◌≡◌, []};
 ghost use Rattle.mm_read.specs.declared.stmt.Stmt.{Stmt as Statement};
 ghost use Rattle.mm_read.specs.Statements.{AreShaped};
 ghost use Rattle.verify.specs.Right.{IsProvable};
@@ -7,9 +6,9 @@ ghost use Rattle.verify.specs.Right.{IsProvable};
 use crate::code_break::explain_break;
 use crate::expressions::push_expression;
 use crate::item_spots::{spot_of, step_of};
-use crate::judged::enter;
 use crate::statement_symbols::word_at;
 use crate::step_fault::push_fault;
+use crate::text_tokens::TextTokens;
 use crate::theorem::Theorem;
 use crate::written_lines::Page;
 use explain::{WhyUnproved, explain};
@@ -17,87 +16,83 @@ use frame::Frames;
 use mm_read::{ReadFault, Stmt, read};
 use proof_code::Items;
 use reasons::{Fault, Reason};
-use scope::Rules;
 use std::alloc::Global;
+use unproved::Entered;
 
 /// Writes the rule of proof code that a proof breaks, or the first fault of its run.
-pub(crate) fn explain_proof(alloc: Global, page: &mut Page, text: &[u8], statement: usize) {
+pub(crate) fn explain_proof(alloc: Global, page: &mut Page<'_>, text: &[u8], statement: usize) {
     match read(alloc, text) {
-        Ok(statements) => explain_wrong(alloc, page, text, statements.as_slice(), statement),
+        Ok(statements) => explain_wrong(alloc, page, text, statements, statement),
         Err(ReadFault::Memory) => page.refuse(),
         Err(_) => {}
     }
 }
 
-fn explain_wrong(alloc: Global, page: &mut Page, text: &[u8], statements: &[Stmt], at: usize)
-    requires { AreShaped statements.now }
-{
-    if let Some(theorem) = Theorem::new(text, statements, at) {
-        explain_at(alloc, page, statements, &theorem);
-    }
-}
-
-/// Writes it for a `$p` of the statements.
-fn explain_at(alloc: Global, page: &mut Page, statements: &[Stmt], theorem: &Theorem<'_>)
-    requires shaped { AreShaped statements.now }
-    requires provable { (s : Statement) × IsProvable statements.now theorem.now.at s }
-{
-    let mut rules = Rules::new(alloc);
-    let mut frames = Frames::new(alloc);
-    explain_entered(alloc, page, statements, theorem, &mut rules, &mut frames);
-}
-
-/// Writes it for a `$p` of the statements, by rules and frames without statements.
-fn explain_entered(
+fn explain_wrong(
     alloc: Global,
-    page: &mut Page,
-    statements: &[Stmt],
-    theorem: &Theorem<'_>,
-    rules: &mut Rules,
-    frames: &mut Frames,
+    page: &mut Page<'_>,
+    text: &[u8],
+    statements: Vec<Stmt>,
+    statement: usize,
 )
-    requires shaped { AreShaped statements.now }
-    requires provable { (s : Statement) × IsProvable statements.now theorem.now.at s }
-    requires no_rules { rules.old.statements ≡ [] }
-    requires no_frames { frames.old.statements ≡ [] }
+    requires { AreShaped statements.items }
 {
-    match enter(rules, frames, statements) {
-        Ok(true) => explain_theorem(alloc, page, frames, theorem),
-        Ok(false) => {}
+    match Entered::new(alloc, statements) {
+        Ok(Some(entered)) => explain_in(alloc, page, text, &entered, statement),
+        Ok(None) => {}
         Err(_) => page.refuse(),
     }
 }
 
-fn explain_theorem(alloc: Global, page: &mut Page, frames: &Frames, theorem: &Theorem<'_>)
+fn explain_in(
+    alloc: Global,
+    page: &mut Page<'_>,
+    text: &[u8],
+    entered: &Entered,
+    statement: usize,
+) {
+    match TextTokens::new(alloc, text) {
+        Ok(tokens) => explain_entered(alloc, page, &tokens, entered, statement),
+        Err(_) => page.refuse(),
+    }
+}
+
+/// Writes it for the `$p` at a position of the statements, which are those of the text.
+pub(crate) fn explain_entered(
+    alloc: Global,
+    page: &mut Page<'_>,
+    tokens: &TextTokens<'_>,
+    entered: &Entered,
+    statement: usize,
+) {
+    if let Some(theorem) = Theorem::new(tokens, entered.statements(), statement) {
+        explain_theorem(alloc, page, entered.frames(), &theorem);
+    }
+}
+
+fn explain_theorem(alloc: Global, page: &mut Page<'_>, frames: &Frames, theorem: &Theorem<'_>)
     requires { (s : Statement) × IsProvable frames.now.statements theorem.now.at s }
 {
     match explain(alloc, frames, theorem.at, theorem.proof) {
-        Ok(Some(why)) => explain_why(alloc, page, frames, theorem, &why),
+        Ok(Some(why)) => explain_why(page, frames, theorem, &why),
         Ok(None) => {}
         Err(_) => page.refuse(),
     }
 }
 
 /// Writes the rule of proof code that is broken, or the first fault of the run.
-fn explain_why(
-    alloc: Global,
-    page: &mut Page,
-    frames: &Frames,
-    theorem: &Theorem<'_>,
-    why: &WhyUnproved,
-) {
+fn explain_why(page: &mut Page<'_>, frames: &Frames, theorem: &Theorem<'_>, why: &WhyUnproved) {
     match why {
-        WhyUnproved::Code(broken) => explain_break(alloc, page, theorem, *broken),
+        WhyUnproved::Code(broken) => explain_break(page, theorem, *broken),
         WhyUnproved::Run { items, reason } => {
-            explain_reason(alloc, page, frames, theorem, items, reason);
+            explain_reason(page, frames, theorem, items, reason);
         }
     }
 }
 
 /// Writes the first fault of the run over the items.
 fn explain_reason(
-    alloc: Global,
-    page: &mut Page,
+    page: &mut Page<'_>,
     frames: &Frames,
     theorem: &Theorem<'_>,
     items: &Items,
@@ -105,51 +100,38 @@ fn explain_reason(
 ) {
     match reason {
         Reason::Item { item, fault } => {
-            explain_step(alloc, page, frames, theorem, items, *item, fault);
+            explain_step(page, frames, theorem, items, *item, fault);
         }
-        Reason::Results { count } => explain_results(alloc, page, theorem, *count),
-        Reason::Theorem { proved } => explain_other(
-            alloc,
-            page,
-            frames,
-            theorem,
-            proved.as_slice(),
-        ),
+        Reason::Results { count } => explain_results(page, theorem, *count),
+        Reason::Theorem { proved } => explain_other(page, frames, theorem, proved.as_slice()),
     }
 }
 
 /// Writes that an item fails.
 fn explain_step(
-    alloc: Global,
-    page: &mut Page,
+    page: &mut Page<'_>,
     frames: &Frames,
     theorem: &Theorem<'_>,
     items: &Items,
     item: usize,
     fault: &Fault,
 ) {
-    theorem.push_spot(alloc, page, spot_of(theorem.proof, item));
+    theorem.push_spot(page, spot_of(theorem.proof, item));
     push_step(page, items, item);
     push_fault(page, theorem, frames, fault);
 }
 
 /// Writes that more or fewer results than one are left.
-fn explain_results(alloc: Global, page: &mut Page, theorem: &Theorem<'_>, count: usize) {
-    theorem.push_end(alloc, page);
+fn explain_results(page: &mut Page<'_>, theorem: &Theorem<'_>, count: usize) {
+    theorem.push_end(page);
     page.push(b" is wrong at its end\n  it leaves ");
     page.push_number(count);
     page.push(b" results, and one has to be left\n");
 }
 
 /// Writes that another theorem is proved.
-fn explain_other(
-    alloc: Global,
-    page: &mut Page,
-    frames: &Frames,
-    theorem: &Theorem<'_>,
-    proved: &[u32],
-) {
-    theorem.push_end(alloc, page);
+fn explain_other(page: &mut Page<'_>, frames: &Frames, theorem: &Theorem<'_>, proved: &[u32]) {
+    theorem.push_end(page);
     page.push(b" is wrong at its end\n  it proves");
     push_expression(page, frames, proved);
     page.push(b"\n  but ");
@@ -168,7 +150,7 @@ fn expr_at(frames: &Frames, at: usize) -> &[u32] {
 }
 
 /// Writes which step of the proof the item is, and what it cites.
-fn push_step(page: &mut Page, items: &Items, item: usize) {
+fn push_step(page: &mut Page<'_>, items: &Items, item: usize) {
     let parts = items.parts();
     page.push(b" is wrong at step ");
     page.push_number(step_of(parts.numbers, item));

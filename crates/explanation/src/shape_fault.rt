@@ -10,7 +10,7 @@ use places::statement_at;
 use std::alloc::Global;
 
 /// Writes which token fits nowhere, what may stand there, and where its statement begins.
-pub(crate) fn explain_shape(alloc: Global, page: &mut Page, text: &[u8]) {
+pub(crate) fn explain_shape(alloc: Global, page: &mut Page<'_>, text: &[u8]) {
     match read(alloc, text) {
         Err(ReadFault::Shape { token }) => explain_among(alloc, page, text, token),
         Err(ReadFault::Memory) => page.refuse(),
@@ -19,7 +19,7 @@ pub(crate) fn explain_shape(alloc: Global, page: &mut Page, text: &[u8]) {
 }
 
 /// Writes it for the token that fits nowhere, by its number from 1.
-fn explain_among(alloc: Global, page: &mut Page, text: &[u8], token: usize) {
+fn explain_among(alloc: Global, page: &mut Page<'_>, text: &[u8], token: usize) {
     match tokens(alloc, text) {
         Ok(spans) => explain_misfit(page, text, spans.as_slice(), token.saturating_sub(1)),
         Err(LexFault::Memory) => page.refuse(),
@@ -27,7 +27,7 @@ fn explain_among(alloc: Global, page: &mut Page, text: &[u8], token: usize) {
     }
 }
 
-fn explain_misfit(page: &mut Page, text: &[u8], spans: &[Span], index: usize)
+fn explain_misfit(page: &mut Page<'_>, text: &[u8], spans: &[Span], index: usize)
     requires { All (IsWordAt text.now) spans.now }
 {
     if index > spans.len() {
@@ -36,7 +36,7 @@ fn explain_misfit(page: &mut Page, text: &[u8], spans: &[Span], index: usize)
     explain_token(page, text, spans, index);
 }
 
-fn explain_token(page: &mut Page, text: &[u8], spans: &[Span], index: usize)
+fn explain_token(page: &mut Page<'_>, text: &[u8], spans: &[Span], index: usize)
     requires words { All (IsWordAt text.now) spans.now }
     requires within { index ≤ length spans.now }
 {
@@ -45,10 +45,7 @@ fn explain_token(page: &mut Page, text: &[u8], spans: &[Span], index: usize)
     match spans.get(index) {
         Some(span) => {
             page.push_place(text, span.start);
-            page.push(b": ");
-            page.push(expected);
-            page.push(b" may stand here, not ");
-            page.push(word(text, *span));
+            push_misfit(page, expected, word(text, *span), start == index);
         }
         None => {
             page.push_place(text, text.len());
@@ -67,6 +64,24 @@ fn explain_token(page: &mut Page, text: &[u8], spans: &[Span], index: usize)
     page.push(b"  in the statement that begins at ");
     page.push_place(text, first.start);
     page.push(b"\n");
+}
+
+/// Writes that a token may not stand there, and what may.
+fn push_misfit(page: &mut Page<'_>, expected: &[u8], token: &[u8], begins: bool) {
+    if token == b"$[".as_slice() {
+        page.push(
+            b": file inclusion is not supported; join the files first: cat a.mm b.mm | mmlib check",
+        );
+    } else if begins && !token.starts_with(b"$") {
+        page.push(b": ");
+        page.push(token);
+        page.push(b" is no label: letters, digits, . - and _ may stand in one");
+    } else {
+        page.push(b": ");
+        page.push(expected);
+        page.push(b" may stand here, not ");
+        page.push(token);
+    }
 }
 
 /// Returns what may follow these tokens of a statement.

@@ -7,14 +7,19 @@ use frame::Frames;
 use reasons::Fault;
 
 /// Writes the fault of the step.
-pub(crate) fn push_fault(page: &mut Page, theorem: &Theorem<'_>, frames: &Frames, fault: &Fault) {
+pub(crate) fn push_fault(
+    page: &mut Page<'_>,
+    theorem: &Theorem<'_>,
+    frames: &Frames,
+    fault: &Fault,
+) {
     match fault {
         Fault::Unknown => page.push(b"  no statement has this label\n"),
         Fault::Inactive { .. } => push_inactive(page, theorem),
         Fault::Later { statement } if theorem.is_hypothesis(*statement) => {
             push_inactive(page, theorem);
         }
-        Fault::Later { .. } => push_later(page, theorem),
+        Fault::Later { statement } => push_later(page, theorem, *statement),
         Fault::Few { takes, there, .. } => push_few(page, *takes, *there),
         Fault::Constant {
             hypothesis,
@@ -46,19 +51,26 @@ pub(crate) fn push_fault(page: &mut Page, theorem: &Theorem<'_>, frames: &Frames
     }
 }
 
-fn push_inactive(page: &mut Page, theorem: &Theorem<'_>) {
+fn push_inactive(page: &mut Page<'_>, theorem: &Theorem<'_>) {
     page.push(b"  this hypothesis is not active at ");
     page.push(theorem.label);
     page.push(b"\n");
 }
 
-fn push_later(page: &mut Page, theorem: &Theorem<'_>) {
-    page.push(b"  it stands at ");
+/// Writes that the assertion at a position is the theorem or comes after it.
+fn push_later(page: &mut Page<'_>, theorem: &Theorem<'_>, at: usize) {
+    page.push(b"  ");
+    page.push(theorem.label_at(at));
+    if at == theorem.at {
+        page.push(b" is the theorem itself\n");
+        return;
+    }
+    page.push(b" comes after ");
     page.push(theorem.label);
-    page.push(b" or behind it\n");
+    page.push(b"\n");
 }
 
-fn push_few(page: &mut Page, takes: usize, there: usize) {
+fn push_few(page: &mut Page<'_>, takes: usize, there: usize) {
     page.push(b"  it takes ");
     page.push_number(takes);
     page.push(if takes == 1 {
@@ -72,7 +84,7 @@ fn push_few(page: &mut Page, takes: usize, there: usize) {
 
 /// Writes that a result has another typecode than that of a `$f`.
 fn push_constant(
-    page: &mut Page,
+    page: &mut Page<'_>,
     theorem: &Theorem<'_>,
     frames: &Frames,
     hypothesis: usize,
@@ -86,7 +98,7 @@ fn push_constant(
 
 /// Writes that a result is not the one that a hypothesis requires.
 fn push_asked(
-    page: &mut Page,
+    page: &mut Page<'_>,
     theorem: &Theorem<'_>,
     frames: &Frames,
     hypothesis: usize,
@@ -99,19 +111,19 @@ fn push_asked(
     push_there(page, frames, there);
 }
 
-fn push_there(page: &mut Page, frames: &Frames, expr: &[u32]) {
-    page.push(b"\n  but this result stands there");
+fn push_there(page: &mut Page<'_>, frames: &Frames, expr: &[u32]) {
+    page.push(b"\n  but the result there is");
     push_expression(page, frames, expr);
     page.push(b"\n");
 }
 
-fn push_hypothesis(page: &mut Page, theorem: &Theorem<'_>, at: usize) {
+fn push_hypothesis(page: &mut Page<'_>, theorem: &Theorem<'_>, at: usize) {
     page.push(b"  its hypothesis ");
     page.push(theorem.label_at(at));
 }
 
 /// Writes that two variables are not disjoint.
-fn push_together(page: &mut Page, frames: &Frames, variables: [u32; 2], images: [u32; 2]) {
+fn push_together(page: &mut Page<'_>, frames: &Frames, variables: [u32; 2], images: [u32; 2]) {
     let [first, second] = variables;
     let [one, other] = images;
     page.push(b"  its variables ");

@@ -7,7 +7,7 @@ use places::{CommentFault, comment_fault};
 use std::alloc::Global;
 
 /// Writes the fault of the bytes or the comments of the text.
-pub(crate) fn explain_text(alloc: Global, page: &mut Page, text: &[u8]) {
+pub(crate) fn explain_text(alloc: Global, page: &mut Page<'_>, text: &[u8]) {
     match tokens(alloc, text) {
         Ok(_) => {}
         Err(LexFault::Text { offset }) => explain_byte(page, text, offset),
@@ -16,7 +16,7 @@ pub(crate) fn explain_text(alloc: Global, page: &mut Page, text: &[u8]) {
     }
 }
 
-fn explain_byte(page: &mut Page, text: &[u8], offset: usize) {
+fn explain_byte(page: &mut Page<'_>, text: &[u8], offset: usize) {
     let Some(byte) = text.get(offset) else {
         return;
     };
@@ -35,7 +35,7 @@ fn hexadecimal(number: u8) -> u8 {
     }
 }
 
-fn explain_comment(page: &mut Page, text: &[u8], offset: usize)
+fn explain_comment(page: &mut Page<'_>, text: &[u8], offset: usize)
     requires { IsCommentFault text.now offset }
 {
     page.push_place(text, offset);
@@ -46,6 +46,45 @@ fn explain_comment(page: &mut Page, text: &[u8], offset: usize)
             page.push_place(text, outer);
             page.push(b"\n");
         }
-        CommentFault::Unclosed => page.push(b": this comment is never closed\n"),
+        CommentFault::Unclosed => {
+            page.push(b": this comment is never closed\n");
+            explain_glued(page, text, offset);
+        }
     }
+}
+
+/// Writes where after an offset a `$)` is only a part of a token, if there is one.
+fn explain_glued(page: &mut Page<'_>, text: &[u8], offset: usize) {
+    let Some(rest) = text.get(offset..) else {
+        return;
+    };
+    let mut start = offset;
+    for token in rest.split(|byte| is_space(*byte)) {
+        if has_end(token) {
+            page.push(b"  $) must stand between spaces: ");
+            page.push_place(text, start);
+            page.push(b" has ");
+            page.push(token);
+            page.push(b"\n");
+            return;
+        }
+        start = start.saturating_add(token.len()).saturating_add(1);
+    }
+}
+
+/// Tells whether a byte stands between tokens.
+fn is_space(byte: u8) -> bool {
+    byte == b' ' || byte == b'\t' || byte == b'\n' || byte == 12 || byte == b'\r'
+}
+
+/// Tells whether a token has `$)` as a part.
+fn has_end(token: &[u8]) -> bool {
+    let mut last = 0;
+    for byte in token {
+        if last == b'$' && *byte == b')' {
+            return true;
+        }
+        last = *byte;
+    }
+    false
 }

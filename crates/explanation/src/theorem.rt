@@ -5,16 +5,15 @@ ghost use Rattle.verify.specs.Right.{IsProvable};
 
 use crate::item_spots::Spot;
 use crate::statement_symbols::label_of;
+use crate::text_tokens::TextTokens;
 use crate::written_lines::Page;
 use mm_lex::Words;
 use mm_read::Stmt;
-use places::place_of;
-use std::alloc::Global;
 
 /// A `$p` of a text that reads as these statements.
 #[derive(Clone, Copy)]
 pub(crate) struct Theorem<'a> {
-    pub(crate) text: &'a [u8],
+    pub(crate) tokens: &'a TextTokens<'a>,
     pub(crate) statements: &'a [Stmt],
     /// Its position, from 1.
     pub(crate) at: usize,
@@ -25,7 +24,11 @@ pub(crate) struct Theorem<'a> {
 
 impl<'a> Theorem<'a> {
     /// Returns the `$p` at a position, or `None` if no `$p` stands there.
-    pub(crate) fn new(text: &'a [u8], statements: &'a [Stmt], at: usize) -> Option<Theorem<'a>>
+    pub(crate) fn new(
+        tokens: &'a TextTokens<'a>,
+        statements: &'a [Stmt],
+        at: usize,
+    ) -> Option<Theorem<'a>>
         ensures { IfSome result (λ theorem. (s : Statement) × IsProvable statements.now theorem.at s) }
     {
         let index = at.checked_sub(1)?;
@@ -33,7 +36,7 @@ impl<'a> Theorem<'a> {
             return None;
         };
         Some(Theorem {
-            text,
+            tokens,
             statements,
             at,
             label: label.as_bytes(),
@@ -43,21 +46,18 @@ impl<'a> Theorem<'a> {
     }
 
     /// Writes `LINE:COLUMN: the proof of LABEL` for a byte of a token of the proof, or for the `$.` after the last token.
-    pub(crate) fn push_spot(&self, alloc: Global, page: &mut Page, spot: Spot) {
+    pub(crate) fn push_spot(&self, page: &mut Page<'_>, spot: Spot) {
         let token = self.expr.len().saturating_add(4).saturating_add(spot.token);
-        match place_of(alloc, self.text, self.at, token) {
-            Ok(Some(span)) => page.push_place(self.text, span.start.saturating_add(spot.byte)),
-            Ok(None) => {}
-            Err(_) => page.refuse(),
-        }
+        let start = self.tokens.start_of(self.at, token);
+        page.push_place(self.tokens.text(), start.saturating_add(spot.byte));
         page.push(b": the proof of ");
         page.push(self.label);
     }
 
     /// Writes `LINE:COLUMN: the proof of LABEL` for the `$.`.
-    pub(crate) fn push_end(&self, alloc: Global, page: &mut Page) {
+    pub(crate) fn push_end(&self, page: &mut Page<'_>) {
         let token = self.proof.len();
-        self.push_spot(alloc, page, Spot { token, byte: 0 });
+        self.push_spot(page, Spot { token, byte: 0 });
     }
 
     /// Returns the label of the statement at a position.

@@ -15,17 +15,20 @@ const CUT: &[u8] = b"\n  the explanation is cut here: it has more than 65536 byt
 
 /// The lines of an explanation, or nothing if an allocation failed. Keeps one byte more than the most, and drops the rest.
 #[derive(Drop)]
-pub(crate) struct Page {
+pub(crate) struct Page<'a> {
     lines: Vec<u8>,
+    /// The name of the file that stands before each place, if there is one.
+    name: Option<&'a str>,
     is_refused: bool,
     /// How many bytes of the text are statements of a library, a line each, before the text that is explained.
     before: usize,
 }
 
-impl Page {
-    pub(crate) fn new(alloc: Global, before: usize) -> Page {
+impl<'a> Page<'a> {
+    pub(crate) fn new(alloc: Global, name: Option<&'a str>, before: usize) -> Page<'a> {
         Page {
             lines: Vec::new(alloc),
+            name,
             is_refused: false,
             before,
         }
@@ -40,7 +43,7 @@ impl Page {
         let Page {
             mut lines,
             is_refused,
-            before: _,
+            ..
         } = self;
         if is_refused {
             return Err(AllocError);
@@ -72,8 +75,8 @@ impl Page {
         self.push(buffer.format(number).as_bytes());
     }
 
-    /// Writes `LINE:COLUMN`, both counted in the text that is explained; or, before it, which statement of the library
-    /// stands there.
+    /// Writes `LINE:COLUMN`, both counted in the text that is explained, after the name of the file and a colon if there is a
+    /// name; or, before that text, which statement of the library stands there.
     pub(crate) fn push_place(&mut self, text: &[u8], offset: usize) {
         let within = offset.min(text.len());
         if within < self.before {
@@ -81,6 +84,10 @@ impl Page {
             self.push_number(line_and_column(text, within).line);
             self.push(b" of the library");
             return;
+        }
+        if let Some(name) = self.name {
+            self.push(name.as_bytes());
+            self.push(b":");
         }
         let own = &text[self.before..];
         let place = line_and_column(own, within - self.before);

@@ -1,5 +1,6 @@
 //! The answers to questions about a library.
 use crate::fault::Fault;
+use crate::named_text::NamedText;
 use crate::proofs::write_proof;
 use crate::searches::found;
 use crate::shown::blocks;
@@ -14,19 +15,23 @@ use printed::{push_assertions, push_labels, push_tree};
 use std::alloc::{AllocError, Global};
 use std::io::Write;
 
-/// Writes the answer to a question about a library whose statements this text writes.
+/// Writes the answer to a question about a library whose statements stand in the text, as those of
+/// the same numbers.
 ///
 /// Errors: those of the question, before anything is written; `Output` if a write fails. If an
 /// allocation fails while a proof is written, `Memory` after some of its steps.
 pub fn write_answer<O: Write>(
     alloc: Global,
     library: &Library,
-    text: &[u8],
+    text: NamedText<'_>,
     question: &Question<'_>,
     output: &mut O,
 ) -> Result<(), Fault> {
     match question {
         Question::Check => print(output, proved(alloc, library.statements())?.as_slice()),
+        Question::CheckEach => {
+            print(output, all_proved(alloc, library.statements())?.as_slice())
+        }
         Question::List => print(output, list(alloc, library)?.as_slice()),
         Question::Export => print(output, library.export()?.as_slice()),
         Question::Tree(label) => print(output, tree(alloc, library, label)?.as_slice()),
@@ -47,22 +52,53 @@ pub fn write_answer<O: Write>(
                 blocks(alloc, library, text, labels.as_slice())?.as_slice(),
             )
         }
-        Question::Find(sought) => { print(output, found(alloc, library, text, sought)?.as_slice()) }
+        Question::Find(sought) => {
+            print(
+                output,
+                found(alloc, library, text.bytes, sought)?.as_slice(),
+            )
+        }
     }
 }
 
 /// Returns `proved` and the number of `$p`.
 fn proved(alloc: Global, statements: &[Stmt]) -> Result<Vec<u8>, AllocError> {
-    let mut count = 0u64;
+    let mut line = Vec::from_slice(alloc, b"proved ")?;
+    push_number(&mut line, count_of_proofs(statements) as u64)?;
+    line.extend_from_slice(b"\n")?;
+    Ok(line)
+}
+
+/// Returns `proved`, how many `$p` are proved, and of how many, where all are.
+fn all_proved(alloc: Global, statements: &[Stmt]) -> Result<Vec<u8>, AllocError> {
+    let mut line = Vec::new(alloc);
+    push_proved(&mut line, statements, 0)?;
+    Ok(line)
+}
+
+/// Appends `proved`, how many `$p` are proved, and of how many, where so many are not.
+pub fn push_proved(
+    line: &mut Vec<u8>,
+    statements: &[Stmt],
+    unproved: usize,
+) -> Result<(), AllocError> {
+    let all = count_of_proofs(statements);
+    line.extend_from_slice(b"proved ")?;
+    push_number(line, all.saturating_sub(unproved) as u64)?;
+    line.extend_from_slice(b" of ")?;
+    push_number(line, all as u64)?;
+    line.extend_from_slice(b"\n")
+}
+
+/// Returns how many of the statements are `$p`.
+fn count_of_proofs(statements: &[Stmt]) -> usize {
+    let mut count = 0usize;
     for statement in statements {
         if let Stmt::Prove { .. } = statement {
             count = count.saturating_add(1);
         }
     }
-    let mut line = Vec::from_slice(alloc, b"proved ")?;
-    push_number(&mut line, count)?;
-    line.extend_from_slice(b"\n")?;
-    Ok(line)
+    count
 }
 
 /// Returns a line for each assertion.

@@ -15,8 +15,7 @@ use std::thread::Threads;
 ///
 /// 0 is good (the version too), 1 a refusal (of the input, of a line, out of memory) or a failed
 /// write, 2 a bad command line, bad weights or a bad script. The text of a bad command line and of
-/// bad weights goes to `faults`, and so does the reason why a database is refused; all else goes to
-/// `output`.
+/// bad weights goes to `faults`, and so does the reason of a refusal; all else goes to `output`.
 pub fn run<
     R: AllocGlobal + Threads + Wait + Copy + Send + Sync + Drop + 'static,
     I: Read,
@@ -30,7 +29,11 @@ pub fn run<
     };
     match answered {
         Ok(status) => status,
-        Err(fault) => fault.print(output),
+        Err(fault) => {
+            let status = fault.print(output);
+            fault.tell(faults);
+            status
+        }
     }
 }
 
@@ -49,8 +52,8 @@ fn answer<
 ) -> Result<u8, Fault> {
     match request {
         Request::Version => print(output, VERSION_LINE.as_bytes()).map(|()| 0),
-        Request::Outline => print_outline(rt.alloc(), input, output, faults),
-        Request::Ask(question) => ask(rt, &question, input, output, faults),
+        Request::Outline { name } => print_outline(rt.alloc(), name, input, output, faults),
+        Request::Ask(asked) => ask(rt, &asked, input, output, faults),
         Request::Play { weights } => play(rt.alloc(), weights, input, output),
         Request::Serve {
             weights,

@@ -1,10 +1,14 @@
 //! A database: read, judged and asked.
 use crate::answers::write_answer;
+use crate::assumed::answer_assuming;
+use crate::each_proof::print_each;
 use crate::fault::Fault;
+use crate::named_text::NamedText;
+use crate::refused_questions::print_refused;
 use crate::refused_texts::{print_outline_reason, print_refusal};
 use crate::streams::{print, read_text};
 use bytes::Bytes;
-use commands::Question;
+use commands::{Asked, Question};
 use library::{Cause, Entry, Library, MOST_BYTES, Submission, Verdict};
 use printed::outline_text;
 use std::alloc::{AllocError, Global};
@@ -14,23 +18,28 @@ use std::thread::Threads;
 use verify_pool::{OpenGate, Workers};
 
 /// Prints the outline of a database, and returns the exit status. The reason of a refusal goes to
-/// `faults`.
+/// `faults`, with the name of the file before its places.
 pub fn print_outline<I: Read, O: Write, F: Write>(
     alloc: Global,
+    name: Option<&str>,
     input: &mut I,
     output: &mut O,
     faults: &mut F,
 ) -> Result<u8, Fault> {
     let text = read_text(alloc, input)?;
-    if text.len() > MOST_BYTES {
-        return print_refusal(alloc, text.as_slice(), Cause::TooLong, output, faults);
+    let text = NamedText {
+        name,
+        bytes: text.as_slice(),
+    };
+    if text.bytes.len() > MOST_BYTES {
+        return print_refusal(alloc, text, Cause::TooLong, output, faults);
     }
-    let lines = outline_text(alloc, text.as_slice())?;
+    let lines = outline_text(alloc, text.bytes)?;
     print(output, lines.as_slice())?;
     if lines.ends_with(b"good\n") {
         return Ok(0);
     }
-    print_outline_reason(alloc, text.as_slice(), faults);
+    print_outline_reason(alloc, text, faults);
     Ok(1)
 }
 
@@ -40,14 +49,14 @@ pub fn print_outline<I: Read, O: Write, F: Write>(
 /// library is left to the end of the process, which frees all of it at once.
 pub fn ask<R: AllocGlobal + Threads + Sync, I: Read, O: Write, F: Write>(
     rt: &R,
-    question: &Question<'_>,
+    asked: &Asked<'_>,
     input: &mut I,
     output: &mut O,
     faults: &mut F,
 ) -> Result<u8, Fault> {
     let text = Bytes::from_vec(read_text(rt.alloc(), input)?)?;
     let mut library = Library::new(rt.alloc());
-    let answered = ask_library(rt, question, &text, &mut library, output, faults);
+    let answered = ask_library(rt, asked, &text, &mut library, output, faults);
     forget(library);
     answered
 }
@@ -55,16 +64,19 @@ pub fn ask<R: AllocGlobal + Threads + Sync, I: Read, O: Write, F: Write>(
 /// Adds a text to an empty library, and prints the answer about that.
 fn ask_library<R: AllocGlobal + Threads + Sync, O: Write, F: Write>(
     rt: &R,
-    question: &Question<'_>,
-    text: &Bytes,
+    asked: &Asked<'_>,
+    bytes: &Bytes,
     library: &mut Library,
     output: &mut O,
     faults: &mut F,
 ) -> Result<u8, Fault> {
-    let alloc = rt.alloc();
-    match judge(rt, library, text)? {
-        Verdict::Refused(cause) => print_refusal(alloc, text.as_slice(), cause, output, faults),
-        _ => write_answer(alloc, library, text.as_slice(), question, output).map(|()| 0),
+    let text = NamedText {
+        name: asked.name,
+        bytes: bytes.as_slice(),
+    };
+    match judge(rt, library, bytes)? {
+        Verdict::Refused(cause) => answer_refused(rt, asked, text, cause, output, faults),
+        _ => answer_good(rt.alloc(), library, text, &asked.question, output, faults),
     }
 }
 
@@ -80,4 +92,53 @@ fn judge<R: Threads + Sync>(
         text: text.clone()?,
     });
     library.apply_with(rt, Some(&entry), Workers::offered(rt), &OpenGate)
+}
+
+/// Prints the answer about a library whose statements stand in the text as these numbers, and
+/// returns the exit status. The reason of a refusal goes to `faults`.
+pub fn answer_good<O: Write, F: Write>(
+    alloc: Global,
+    library: &Library,
+    text: NamedText<'_>,
+    question: &Question<'_>,
+    output: &mut O,
+    faults: &mut F,
+) -> Result<u8, Fault> {
+    match write_answer(alloc, library, text, question, output) {
+        Ok(()) => {
+            note_emptiness(library, question, faults);
+            Ok(0)
+        }
+        Err(fault) => print_refused(library, question, fault, output, faults),
+    }
+}
+
+/// Prints on `faults` that the database of a `check` has no statement, if it has none.
+fn note_emptiness<F: Write>(library: &Library, question: &Question<'_>, faults: &mut F) {
+    if matches!(question, Question::Check | Question::CheckEach)
+        && library.statements().is_empty()
+    {
+        let _ = print(faults, b"the database has no statement\n");
+    }
+}
+
+/// Prints the answer about a text that is refused: the refusal, unless the question bears `$p` that
+/// are not proved.
+fn answer_refused<R: AllocGlobal + Threads + Sync, O: Write, F: Write>(
+    rt: &R,
+    asked: &Asked<'_>,
+    text: NamedText<'_>,
+    cause: Cause,
+    output: &mut O,
+    faults: &mut F,
+) -> Result<u8, Fault> {
+    if let Cause::Proof { .. } | Cause::Unfinished { .. } = cause {
+        if let Question::CheckEach = asked.question {
+            return print_each(rt, text, output, faults);
+        }
+        if asked.assumes {
+            return answer_assuming(rt, asked, text, output, faults);
+        }
+    }
+    print_refusal(rt.alloc(), text, cause, output, faults)
 }

@@ -54,6 +54,18 @@ impl Fault {
     }
 }
 
+impl Fault {
+    /// Writes to the standard error why the input or the output is at fault, if it can be written.
+    pub fn tell<F: Write>(&self, faults: &mut F) {
+        let words = match self {
+            Fault::Input => b"standard input cannot be read\n".as_slice(),
+            Fault::Output => b"standard output cannot be written\n".as_slice(),
+            _ => return,
+        };
+        let _ = print(faults, words);
+    }
+}
+
 impl From<io::Error> for Fault {
     fn from(_error: io::Error) -> Fault {
         Fault::Output

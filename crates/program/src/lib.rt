@@ -1,23 +1,28 @@
 //! The program `mmlib`: from a command line, an input and an output to an exit status.
 //!
 //! Reading order: `command_line` (`run`, which does what a command line asks for), `fault` (why a
-//! command ends without its answer, and the line that says so), `streams` (reading and printing);
-//! `databases` (a database that is read and judged), `answers` (the one place that answers a
-//! question about a library), `proofs` (the steps of a proof), `searches` (assertions that are
-//! sought), `shown` (statements as blocks) and `refused_texts` (why a database is refused); `scripts` (the lines of a script,
-//! answered one by one), `node_answers` (about the library of a node), `why` (an
-//! entry is refused there), `play`; `served_weather`,
-//! `served_nodes`, `desk_answers` and `serve`.
+//! command ends without its answer, and the line that says so), `streams` (reading and printing),
+//! `named_text`; `databases` (a database that is read and judged), `answers` (the one place that
+//! answers a question about a library), `proofs` (the steps of a proof), `searches` (assertions that
+//! are sought), `shown` (statements as blocks), `each_proof` (every `$p` judged by itself), `assumed`
+//! (what is not proved taken as axioms), `refused_texts` and `refused_questions` (why there is no
+//! answer); `scripts` (the lines of a script, answered one by one), `node_answers` (about the
+//! library of a node), `why` (an entry is refused there), `play`; `served_weather`, `served_nodes`,
+//! `desk_answers` and `serve`.
 #![tactic(auto)]
 
 mod answers;
+mod assumed;
 mod command_line;
 mod databases;
 mod desk_answers;
+mod each_proof;
 mod fault;
+mod named_text;
 mod node_answers;
 mod play;
 mod proofs;
+mod refused_questions;
 mod refused_texts;
 mod scripts;
 mod searches;

@@ -1,5 +1,6 @@
 //! A database that is refused: the line that is printed of it, and the reason in words.
 use crate::fault::Fault;
+use crate::named_text::NamedText;
 use crate::streams::print;
 use explanation::{DatabaseFault, explain_refusal};
 use library::{Cause, Verdict};
@@ -13,7 +14,7 @@ use std::io::Write;
 /// If an allocation fails for the reason, the line stands alone.
 pub fn print_refusal<O: Write, F: Write>(
     alloc: Global,
-    text: &[u8],
+    text: NamedText<'_>,
     cause: Cause,
     output: &mut O,
     faults: &mut F,
@@ -47,15 +48,20 @@ pub fn fault_of(cause: Cause) -> Option<DatabaseFault> {
 }
 
 /// Prints why a text is refused, if allocation succeeds.
-fn print_reason<F: Write>(alloc: Global, text: &[u8], fault: DatabaseFault, faults: &mut F) {
-    if let Ok(lines) = explain_refusal(alloc, text, fault) {
+fn print_reason<F: Write>(
+    alloc: Global,
+    text: NamedText<'_>,
+    fault: DatabaseFault,
+    faults: &mut F,
+) {
+    if let Ok(lines) = explain_refusal(alloc, text.name, text.bytes, fault) {
         let _ = print(faults, lines.as_slice());
     }
 }
 
 /// Prints why the outline of a text refuses it.
-pub fn print_outline_reason<F: Write>(alloc: Global, text: &[u8], faults: &mut F) {
-    if let Ok(Some(fault)) = outline_fault(alloc, text) {
+pub fn print_outline_reason<F: Write>(alloc: Global, text: NamedText<'_>, faults: &mut F) {
+    if let Ok(Some(fault)) = outline_fault(alloc, text.bytes) {
         print_reason(alloc, text, fault, faults);
     }
 }

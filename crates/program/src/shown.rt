@@ -4,6 +4,7 @@ ghost use Rattle.std.specs.List.{All};
 ghost use Rattle.mm_lex.specs.Tokens.{IsWordAt};
 
 use crate::fault::Fault;
+use crate::named_text::NamedText;
 use library::{AskFault, Library};
 use mm_lex::{Span, tokens};
 use places::{Position, descriptions, line_and_column, place_within};
@@ -13,6 +14,8 @@ use std::alloc::{AllocError, Global};
 /// Where the statements of a text stand in it.
 #[derive(Drop)]
 struct Written<'a> {
+    /// The name of the file, which stands before each place.
+    name: Option<&'a str>,
     text: &'a [u8],
     /// The places of its tokens.
     spans: &'a [Span],
@@ -26,16 +29,17 @@ struct Written<'a> {
 pub fn blocks(
     alloc: Global,
     library: &Library,
-    text: &[u8],
+    text: NamedText<'_>,
     labels: &[&str],
 ) -> Result<Vec<u8>, Fault> {
     let positions = positions(alloc, library, labels)?;
-    let Ok(spans) = tokens(alloc, text) else {
+    let Ok(spans) = tokens(alloc, text.bytes) else {
         return Err(Fault::Memory(AllocError));
     };
-    let descriptions = descriptions(alloc, text)?;
+    let descriptions = descriptions(alloc, text.bytes)?;
     let written = Written {
-        text,
+        name: text.name,
+        text: text.bytes,
         spans: spans.as_slice(),
         descriptions: descriptions.as_slice(),
     };
@@ -83,6 +87,10 @@ fn push_shown(
         place: position(written, at),
         description: description(written, at),
     };
+    if let Some(name) = written.name {
+        blocks.extend_from_slice(name.as_bytes())?;
+        blocks.push(b':')?;
+    }
     push_block(alloc, blocks, &shown)
 }
 

@@ -180,11 +180,13 @@ impl<'a, 'w, R: AllocGlobal + Threads + Wait + Copy + Send + Sync + Drop + 'stat
 
     /// Runs the program on writers that fail at each of their calls, and on one that writes all.
     fn failing_writes(&self, input: &[u8], wanted: &Wanted<'_>) -> Told {
+        let told = Vec::from_slice(self.rt.alloc(), b"standard output cannot be written\n")?;
+        let told = Faults::Exactly(told);
         for calls in 0..wanted.output.len() {
             let front = Wanted {
                 output: &wanted.output[..calls],
                 lines: None,
-                faults: &Faults::Exactly(Vec::new(self.rt.alloc())),
+                faults: &told,
                 status: 1,
             };
             match self.failing_write(input, &front) {
@@ -215,10 +217,11 @@ impl<'a, 'w, R: AllocGlobal + Threads + Wait + Copy + Send + Sync + Drop + 'stat
 
 /// Tells how an output differs from the refusal of an input that cannot be read.
 fn unread_difference(alloc: Global, printed: &Printed) -> Told {
+    let told = Vec::from_slice(alloc, b"standard input cannot be read\n")?;
     let refused = Wanted {
         output: b"refused Input\n",
         lines: None,
-        faults: &Faults::Exactly(Vec::new(alloc)),
+        faults: &Faults::Exactly(told),
         status: 1,
     };
     difference(alloc, &refused, printed)

@@ -2,6 +2,9 @@
 use crate::row::Faults;
 use std::alloc::{AllocError, Global};
 
+/// The standard error of a database without a statement.
+const NO_STATEMENT: &[u8] = b"the database has no statement\n";
+
 /// The output that is wanted of a run.
 #[derive(Clone, Copy)]
 pub struct Wanted<'a> {
@@ -63,7 +66,11 @@ fn begins(output: &[u8], beginning: &[u8], lines: u64) -> bool {
 /// Tells whether this text is wanted on standard error.
 fn are_told(wanted: &Wanted<'_>, told: &[u8]) -> bool {
     match wanted.faults {
-        Faults::Unsaid => told.is_empty() || is_refusal(wanted.output),
+        Faults::Unsaid => {
+            told.is_empty()
+                || is_refusal(wanted.output)
+                || (told == NO_STATEMENT && wanted.output == b"proved 0\n".as_slice())
+        }
         Faults::Exactly(faults) => told == faults.as_slice(),
         Faults::Beginning(faults) => !told.is_empty() && told.starts_with(faults.as_slice()),
     }

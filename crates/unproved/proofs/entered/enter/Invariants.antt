@@ -1,6 +1,6 @@
 use Rattle.std.proofs.Common.{◌≡◌, take}
 use Rattle.scope.specs.Active.{bares}
-use Rattle.explanation.proofs.judged.enter.Given as goal
+use Rattle.unproved.proofs.entered.enter.Given as goal
 
 abbrev pub invariant-loop-stmt : goal.invariant-loop-stmt
 invariant-loop-stmt l = record {

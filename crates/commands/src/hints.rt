@@ -1,0 +1,120 @@
+//! Hints on files that stand among the words of a command line.
+use crate::grammar::matches_of;
+use std::alloc::{AllocError, Global};
+
+/// The kind of text that a command reads from standard input.
+#[derive(Clone, Copy, PartialEq, Eq)]
+enum Source {
+    Database,
+    Script,
+}
+
+/// Appends a line that says how the file among the words is given, if a word may be one: without
+/// it the words are a request. Else appends nothing.
+///
+/// Errors: an allocation fails. Cost: that of parsing the words, for each word that may be a file.
+pub(crate) fn push_hint(
+    alloc: Global,
+    words: &[&str],
+    text: &mut String,
+) -> Result<(), AllocError> {
+    if let [file] = words {
+        if is_file_name(file) {
+            return push_file(text, Source::Database, &["check"], file);
+        }
+        return Ok(());
+    }
+    for step in 0..words.len() {
+        let place = words.len() - 1 - step;
+        if may_be_file(words, place) {
+            let others = without(alloc, words, place)?;
+            if let Some(source) = source_of(alloc, others.as_slice())
+                && (source == Source::Database || is_file_name(words[place]))
+            {
+                return push_file(text, source, others.as_slice(), words[place]);
+            }
+        }
+    }
+    push_files(alloc, words, text)
+}
+
+/// Tells whether the word at a place may be the name of a file: it is no option, and it is the last
+/// word or has a full stop or a slash.
+fn may_be_file(words: &[&str], place: usize) -> bool {
+    match words.get(place) {
+        Some(word) => { !word.starts_with('-') && (place + 1 == words.len() || is_file_name(word)) }
+        None => false,
+    }
+}
+
+/// Tells whether a word has a full stop or a slash, as the name of a file has.
+fn is_file_name(word: &str) -> bool {
+    !word.starts_with('-') && (word.contains('.') || word.contains('/'))
+}
+
+/// Returns the words but the one at a place.
+fn without<'a>(alloc: Global, words: &[&'a str], place: usize) -> Result<Vec<&'a str>, AllocError> {
+    let mut others = Vec::new(alloc);
+    for (at, word) in words.iter().enumerate() {
+        if at != place {
+            others.push(*word)?;
+        }
+    }
+    Ok(others)
+}
+
+/// Returns what the request of these words reads; `None` if they are no request.
+fn source_of(alloc: Global, words: &[&str]) -> Option<Source> {
+    match matches_of(alloc, words) {
+        Ok(matches) => match matches.subcommand() {
+            Some(("play" | "serve", _)) => Some(Source::Script),
+            Some(_) => Some(Source::Database),
+            None => None,
+        },
+        Err(_) => None,
+    }
+}
+
+/// Appends how one file is given to a request.
+fn push_file(
+    text: &mut String,
+    source: Source,
+    words: &[&str],
+    file: &str,
+) -> Result<(), AllocError> {
+    text.push_str(match source {
+        Source::Database => "the database is read from standard input: mmlib ",
+        Source::Script => "the script is read from standard input: mmlib ",
+    })?;
+    for word in words {
+        text.push_str(word)?;
+        text.push_str(" ")?;
+    }
+    text.push_str("< ")?;
+    text.push_str(file)?;
+    text.push_str("\n")
+}
+
+/// Appends how two files are given to a request about a database, if the last two words are names of
+/// files.
+fn push_files(alloc: Global, words: &[&str], text: &mut String) -> Result<(), AllocError> {
+    let [front @ .., first, second] = words else {
+        return Ok(());
+    };
+    if !is_file_name(first)
+        || !is_file_name(second)
+        || source_of(alloc, front) != Some(Source::Database)
+    {
+        return Ok(());
+    }
+    text.push_str("the database is read from standard input; join the files first: cat ")?;
+    text.push_str(first)?;
+    text.push_str(" ")?;
+    text.push_str(second)?;
+    text.push_str(" | mmlib")?;
+    for word in front {
+        text.push_str(" ")?;
+        text.push_str(word)?;
+    }
+    text.push_str("\n")
+}

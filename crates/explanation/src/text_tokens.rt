@@ -1,0 +1,59 @@
+//! A text with the places of its tokens.
+ghost use Rattle.std.specs.Prelude.{◌≡◌, IfOk};
+ghost use Rattle.std.specs.List.{All};
+ghost use Rattle.mm_lex.specs.Tokens.{IsWordAt};
+
+use mm_lex::{LexFault, Span, tokens};
+use places::place_within;
+use std::alloc::Global;
+use std::marker::Model;
+
+/// A text with the places of its tokens. Contracts see the bytes of the text.
+#[derive(Drop)]
+pub struct TextTokens<'a> {
+    text: &'a [u8],
+    spans: Vec<Span>,
+}
+
+impl<'a> Model for TextTokens<'a> {
+    ghost use Rattle.std.specs.Prelude.{ℕ, List};
+    ghost use Rattle.std.specs.List.{All};
+    ghost use Rattle.mm_lex.specs.Tokens.{IsWordAt};
+
+    ghost Value = { List ℕ };
+
+    ghost view = { λ a. a.text.now };
+
+    ghost invariant = { λ a. All (IsWordAt a.text.now) a.spans.items };
+}
+
+impl<'a> TextTokens<'a> {
+    /// Finds the tokens of a text.
+    ///
+    /// Errors: a fault of its bytes or comments; an allocation fails. Cost: the size of the text.
+    pub fn new(alloc: Global, text: &'a [u8]) -> Result<TextTokens<'a>, LexFault>
+        ensures { IfOk result (λ tokens. tokens ≡ text.now) }
+    {
+        let spans = tokens(alloc, text)?;
+        Ok(TextTokens { text, spans })
+    }
+
+    /// Returns the text.
+    pub(crate) fn text(&self) -> &'a [u8]
+        ensures { result.now ≡ self.now }
+    {
+        self.text
+    }
+
+    /// Returns where a token of a statement begins, both counted from 1; the end of the text if
+    /// there is no such token.
+    pub(crate) fn start_of(&self, statement: usize, token: usize) -> usize {
+        if statement == 0 || token == 0 {
+            return self.text.len();
+        }
+        match place_within(self.text, self.spans.as_slice(), statement, token) {
+            Some(span) => span.start,
+            None => self.text.len(),
+        }
+    }
+}

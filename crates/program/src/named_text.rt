@@ -1,0 +1,8 @@
+//! A text with the name of its file.
+
+/// A text, and the name of its file, which stands before each place that is printed.
+#[derive(Clone, Copy)]
+pub struct NamedText<'a> {
+    pub name: Option<&'a str>,
+    pub bytes: &'a [u8],
+}

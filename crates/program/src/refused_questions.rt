@@ -1,0 +1,121 @@
+//! A question that is refused: the line that is printed, and the reason in words.
+use crate::fault::Fault;
+use crate::streams::print;
+use commands::Question;
+use extract::ExtractFault;
+use library::{AskFault, Library};
+use mm_read::Stmt;
+use std::io::Write;
+
+/// Prints the line of a question that is refused, and the reason on `faults`; returns the exit
+/// status.
+///
+/// Errors: the output cannot be written.
+pub fn print_refused<O: Write, F: Write>(
+    library: &Library,
+    question: &Question<'_>,
+    fault: Fault,
+    output: &mut O,
+    faults: &mut F,
+) -> Result<u8, Fault> {
+    fault.write(output)?;
+    let _ = write_reason(library, question, &fault, faults);
+    Ok(1)
+}
+
+/// Writes why a question is refused; nothing if an allocation failed.
+fn write_reason<F: Write>(
+    library: &Library,
+    question: &Question<'_>,
+    fault: &Fault,
+    faults: &mut F,
+) -> Result<(), Fault> {
+    let label = refused_label(library, question, fault);
+    match fault {
+        Fault::Ask(AskFault::NoLabel) | Fault::Extract(ExtractFault::NoLabel) => {
+            write_parts(faults, &[b"no statement has the label ", label])
+        }
+        Fault::Ask(AskFault::NotProvable) => write_parts(
+            faults,
+            &[
+                label,
+                b" is a ",
+                kind_of(library, label),
+                b"; only a $p has a proof",
+            ],
+        ),
+        Fault::Ask(AskFault::TooLarge) => write_parts(
+            faults,
+            &[
+                b"the tree has more than 65536 nodes or is deeper than 1024; proof ",
+                label,
+                b" shows the same steps without a limit",
+            ],
+        ),
+        Fault::Extract(ExtractFault::NotAssertion) => write_parts(
+            faults,
+            &[
+                label,
+                b" is a ",
+                kind_of(library, label),
+                b"; only an assertion can be extracted",
+            ],
+        ),
+        Fault::Extract(ExtractFault::SameLabel) => {
+            write_parts(faults, &[label, b" is named twice"])
+        }
+        _ => Ok(()),
+    }
+}
+
+/// Writes a line of these parts.
+fn write_parts<F: Write>(faults: &mut F, parts: &[&[u8]]) -> Result<(), Fault> {
+    for part in parts {
+        faults.write_all(part)?;
+    }
+    print(faults, b"\n")
+}
+
+/// Returns the label for which a question is refused.
+fn refused_label<'a>(library: &Library, question: &Question<'a>, fault: &Fault) -> &'a [u8] {
+    match question {
+        Question::Tree(label) => label,
+        Question::Trace(label) => label,
+        Question::Usage { label, .. } => label,
+        Question::Proof(asked) => asked.label,
+        Question::Extract(labels) => first_refused(library, labels.as_slice(), fault),
+        Question::Show(labels) => first_refused(library, labels.as_slice(), fault),
+        _ => b"",
+    }
+}
+
+/// Returns the first of the labels that the fault is about.
+fn first_refused<'a>(library: &Library, labels: &[&'a str], fault: &Fault) -> &'a [u8] {
+    for (index, label) in labels.iter().enumerate() {
+        let is_refused = match fault {
+            Fault::Extract(ExtractFault::SameLabel) => labels[..index].contains(label),
+            Fault::Extract(ExtractFault::NotAssertion) => {
+                matches!(kind_of(library, label.as_bytes()), b"$f" | b"$e")
+            }
+            _ => library.frames().position(label.as_bytes()).is_none(),
+        };
+        if is_refused {
+            return label.as_bytes();
+        }
+    }
+    b""
+}
+
+/// Returns the keyword of the statement with a label; nothing if there is none.
+fn kind_of(library: &Library, label: &[u8]) -> &'static [u8] {
+    let Some(at) = library.frames().position(label) else {
+        return b"";
+    };
+    match library.statements().get(at.saturating_sub(1)) {
+        Some(Stmt::Float { .. }) => b"$f",
+        Some(Stmt::Ess { .. }) => b"$e",
+        Some(Stmt::Axiom { .. }) => b"$a",
+        Some(Stmt::Prove { .. }) => b"$p",
+        _ => b"",
+    }
+}

@@ -1,0 +1,62 @@
+-- Statements whose unproved `$p` are taken as `$a`, and the empty library that adds them.
+use Rattle.std.proofs.Common.{◌≡◌, ℕ, zero, suc, ◌+◌, ◌-◌, ◌<◌, List, [], ◌∷◌, ◌∙◌, length, drop, get_or, slice_set, Some, Result, Ok, Err, IfOk, ap, subst, sym, arith, true}
+use Rattle.std.proofs.lemmas.Bool.{and_parts}
+use Rattle.std.proofs.lemmas.List.{drop_more, get_or_default}
+use Rattle.std.specs.List.{list_all}
+use Rattle.library.specs.Words.{AreShaped, Database, Prove, Reads, Stmt}
+use Rattle.library.specs.LibraryOf.{Applies, Replica, empty}
+use Rattle.library.specs.declared.entry.Entry.TheVariants.{Text}
+use Rattle.library.specs.declared.submission.Submission.{Submission}
+use Rattle.library.specs.declared.verdict.Verdict.{Verdict}
+use Rattle.library.specs.declared.verdict.Verdict.TheVariants.{Added}
+use Rattle.mm_read.proofs.OneReading.{one_reading}
+use Rattle.mm_read.specs.Statements.{is_shaped}
+use Rattle.mm_read.specs.declared.stmt.Stmt.TheVariants.{Open}
+use Rattle.unproved.specs.Unproved.{as_axiom, assumed}
+
+-- a `$a` in place of a `$p` is well shaped
+pub shaped-axiom : (s : Stmt) → is_shaped s ≡ true → is_shaped (as_axiom s) ≡ true
+shaped-axiom (Prove label expr proof) h = let w = and_parts _ _ h in w.0
+shaped-axiom s h = h
+
+-- a well-shaped statement in place of another
+pub shaped-set : (S : Database) (i : ℕ) (s : Stmt) → AreShaped S → is_shaped s ≡ true → AreShaped (slice_set S i s)
+shaped-set [] i s h e = h
+shaped-set (first ∷ S) zero s h e = let w = and_parts (is_shaped first) (list_all is_shaped S) h in rw e w.1
+shaped-set (first ∷ S) (suc i) s h e =
+    let w = and_parts (is_shaped first) (list_all is_shaped S) h in
+    let f : is_shaped first ≡ true = w.0 in
+    rw f (shaped-set S i s w.1 e)
+
+-- a statement of well-shaped ones
+pub shaped-get : (S : Database) (i : ℕ) (d : Stmt) → i < length S → AreShaped S → is_shaped (get_or S i d) ≡ true
+shaped-get [] i d less h = absurd (omega (arith, less))
+shaped-get (first ∷ S) zero d less h = let w = and_parts (is_shaped first) (list_all is_shaped S) h in w.0
+shaped-get (first ∷ S) (suc i) d less h =
+    let w = and_parts (is_shaped first) (list_all is_shaped S) h in
+    shaped-get S i d (omega (arith, less)) w.1
+
+-- the positions that are left, where one more was taken
+module _ (S : Database) (list : List ℕ) (i : ℕ) (old new : Stmt) (less : i < length list) (within : get_or list i 0 - 1 < length S)
+    (was : old ≡ get_or S (get_or list i 0 - 1) old) (now : new ≡ as_axiom old) where
+  pub assumed-on : assumed (slice_set S (get_or list i 0 - 1) new) (drop (i + 1) list) ≡ assumed S (drop i list)
+  assumed-on =
+      sym (ap (assumed S) (drop_more list i 0 less)
+      ∙ (ap (λ s. assumed (slice_set S (get_or list i 0 - 1) (as_axiom s)) (drop (i + 1) list)) (sym (was ∙ get_or_default S (get_or list i 0 - 1) old Open within))
+      ∙ ap (λ s. assumed (slice_set S (get_or list i 0 - 1) s) (drop (i + 1) list)) (sym now)))
+
+  pub shaped-on : AreShaped S → AreShaped (slice_set S (get_or list i 0 - 1) new)
+  shaped-on h =
+      let e : is_shaped old ≡ true = ap is_shaped was ∙ shaped-get S (get_or list i 0 - 1) old within h in
+      shaped-set S (get_or list i 0 - 1) new h (ap is_shaped now ∙ shaped-axiom old e)
+
+-- what an empty replica adds is what the text of the entry reads as
+added-here : (S : Database) (new : Replica) (submission : Submission) → Reads submission.text S → Applies empty (Some (Text submission)) Added new → new.statements ≡ S
+added-here S new submission reads step =
+    ap (λ r. r.statements) step.3 ∙ one_reading submission.text step.0 step.1.readable.read S reads
+
+pub added_empty : {E : Type 0} (S : Database) (old new : Replica) (submission : Submission) (r : Result Verdict E) → old ≡ empty → Reads submission.text S
+    → IfOk r (λ v. Applies old (Some (Text submission)) v new) → IfOk r (λ v. v ≡ Added → new.statements ≡ S)
+added_empty S old new submission (Ok verdict) e reads step =
+    λ is. added-here S new submission reads (subst (λ v. Applies empty (Some (Text submission)) v new) is (subst (λ o. Applies o (Some (Text submission)) verdict new) e step))
+added_empty S old new submission (Err error) e reads step = step

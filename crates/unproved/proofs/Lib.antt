@@ -1,0 +1,2 @@
+pub mod UnprovedLemmas
+pub mod AssumedLemmas

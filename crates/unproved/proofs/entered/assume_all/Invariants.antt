@@ -1,0 +1,11 @@
+use Rattle.std.proofs.Common.{◌≡◌, drop, length}
+use Rattle.library.specs.Words.{AreShaped}
+use Rattle.unproved.specs.Unproved.{assumed}
+use Rattle.unproved.proofs.entered.assume_all.Given as goal
+
+abbrev pub invariant-loop-at : goal.invariant-loop-at
+invariant-loop-at l = record {
+  count : length l.statements.items ≡ length l.fn.statements.items;
+  shaped : AreShaped l.statements.items;
+  left : assumed l.statements.items (drop l.at-index l.unproved) ≡ assumed l.fn.statements.items l.unproved;
+}

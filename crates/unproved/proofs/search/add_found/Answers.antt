@@ -1,0 +1,23 @@
+use Rattle.std.proofs.Common.{◌+◌, Some, subst, sym}
+use Rattle.unproved.specs.Stretches.{IsLeastIn}
+use Rattle.unproved.specs.Unproved.{AreUnproved}
+use Rattle.unproved.proofs.UnprovedLemmas.{all-found, least-more, least-within}
+use Rattle.unproved.proofs.search.add_found.Goals as goal
+
+pub loop-found-preserved : goal.loop-found-preserved
+loop-found-preserved g c =
+    let S = c.args.search.now.statements.now in
+    let front = c.loop-found.front in
+    let end = c.args.end in
+    let i = c.in-Some.index in
+    let least : IsLeastIn S front end (Some i) = subst (IsLeastIn S front end) c.in-Some.is c.loop-found.invariant.least in
+    record {
+      within = least-within S front end i least;
+      list = subst (AreUnproved S 0 (front + i + 1)) (sym c.in_ok-push.ensures.items) (least-more S front end i least c.loop-found.list.items c.loop-found.invariant.list);
+      least = c.in_ok-found-2.ensures;
+    }
+
+pub returns : goal.returns
+returns g c =
+    let now = c.loop-found.invariant in
+    all-found c.args.search.now.statements.now c.loop-found.front c.args.end c.loop-found.list.items c.loop-found.found c.in_default.not-Some now.within now.list now.least

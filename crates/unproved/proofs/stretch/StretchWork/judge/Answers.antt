@@ -1,0 +1,32 @@
+use Rattle.std.proofs.Common.{◌≡◌, ◌+◌, ◌-◌, ◌<◌, ◌≤◌, ◌∙◌, IfOk, Some, ap, arith, length, subst, sym}
+use Rattle.library.specs.Words.{proof_of, is_provable, stmt_at}
+use Rattle.library.specs.Judging.{StandsProved}
+use Rattle.library.proofs.CitedByLemmas.{not-provable}
+use Rattle.library.proofs.FrontLemmas.{stands_index}
+use Rattle.library.proofs.ProvingLemmas.{judged-stands, not-there}
+use Rattle.verify.proofs.RightLemmas.{provable-bare}
+use Rattle.verify.specs.Right.{Says}
+use Rattle.unproved.proofs.stretch.StretchWork.judge.Goals as goal
+
+pub prove-requires : goal.prove-requires
+prove-requires c =
+    let less : c.args.index < c.self.inside.end - c.self.inside.front = subst (λ v. c.args.index < v.end - v.front) (sym c.self.view_is) c.requires in
+    let within : c.self.inside.end ≤ length c.self.inside.statements.now = c.self.invariant.within in
+    let stands : stmt_at c.self.inside.statements.now (c.self.inside.front + c.args.index + 1) ≡ Some c.index-self-at.result = stands_index c.self.inside.statements.now (c.self.inside.front + c.args.index + 1) c.index-self-at.result (omega arith) (omega (arith, less, within)) c.index-self-at.is in
+    (_, provable-bare _ _ _ _ c.self.invariant.same (record { stands = stands; provable = ap is_provable (c.index-self-at.is ∙ c.in-Prove.is) }))
+
+pub returns-in-Prove : goal.returns-in-Prove
+returns-in-Prove c =
+    let less : c.args.index < c.self.inside.end - c.self.inside.front = subst (λ v. c.args.index < v.end - v.front) (sym c.self.view_is) c.requires in
+    let within : c.self.inside.end ≤ length c.self.inside.statements.now = c.self.invariant.within in
+    let stands : stmt_at c.self.inside.statements.now (c.self.inside.front + c.args.index + 1) ≡ Some c.index-self-at.result = stands_index c.self.inside.statements.now (c.self.inside.front + c.args.index + 1) c.index-self-at.result (omega arith) (omega (arith, less, within)) c.index-self-at.is in
+    subst (λ v. IfOk c.prove.result (λ answer. Says answer (StandsProved v.statements (v.front + c.args.index + 1)))) c.self.view_is
+    (judged-stands _ _ _ _ c.self.invariant.same (record { stands = stands; provable = ap is_provable (c.index-self-at.is ∙ c.in-Prove.is) }) c.in-Prove.proof (ap proof_of (c.index-self-at.is ∙ c.in-Prove.is)) c.prove.result c.prove.ensures)
+
+pub returns-in_default : goal.returns-in_default
+returns-in_default c =
+    let less : c.args.index < c.self.inside.end - c.self.inside.front = subst (λ v. c.args.index < v.end - v.front) (sym c.self.view_is) c.requires in
+    let within : c.self.inside.end ≤ length c.self.inside.statements.now = c.self.invariant.within in
+    let stands : stmt_at c.self.inside.statements.now (c.self.inside.front + c.args.index + 1) ≡ Some c.index-self-at.result = stands_index c.self.inside.statements.now (c.self.inside.front + c.args.index + 1) c.index-self-at.result (omega arith) (omega (arith, less, within)) c.index-self-at.is in
+    subst (λ v. StandsProved v.statements (v.front + c.args.index + 1)) c.self.view_is
+    (λ r p. absurd (not-there _ _ _ stands (not-provable c.index-self-at.result (λ label expr proof e. c.in_default.not-Prove label expr proof (sym c.index-self-at.is ∙ e))) r p))

@@ -1,0 +1,2 @@
+pub mod Unproved
+pub mod Stretches

@@ -1,0 +1,28 @@
+-- Statements that follow one another, as jobs of a pool.
+-- Source: none; for the private functions of `stretch` and `search`.
+-- The code keeps a reference to all statements.
+use Rattle.std.specs.Prelude.{◌≡◌, ℕ, ◌+◌, ◌-◌, ◌≤◌, length, Option}
+use Rattle.library.specs.Words.{Database, bares}
+use Rattle.library.specs.Judging.{StandsProved}
+use Rattle.verify_pool.specs.Least.{IsLeast}
+
+-- statements, and the positions after which and up to which some of them stand
+pub record Within : Type 0 where
+  pub statements : Database
+  pub front : ℕ
+  pub end : ℕ
+
+-- these positions are in order, and the frames are those of the statements
+pub record IsStretch (frames S : Database) (front end : ℕ) : Type 0 where
+  pub same : frames ≡ bares S
+  pub order : front ≤ end
+  pub within : end ≤ length S
+
+-- the `$p` of that index is proved, if one stands there
+abbrev pub IsRightIn : Within → ℕ → Type 0
+IsRightIn stretch k = StandsProved stretch.statements (stretch.front + k + 1)
+
+-- the answer is the index of the first `$p` of these that is not proved
+abbrev pub IsLeastIn : Database → ℕ → ℕ → Option ℕ → Type 0
+IsLeastIn S front end answer =
+    IsLeast (IsRightIn (record { statements = S; front = front; end = end })) (end - front) answer

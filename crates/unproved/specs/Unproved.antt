@@ -1,0 +1,43 @@
+-- The `$p` that are not proved.
+-- Source: Metamath, 4.2.6 and appendix B; that each is judged by itself is this project's.
+-- The code judges some statements in parallel, and then goes on from each that is not proved.
+use Rattle.std.specs.Prelude.{◌≡◌, ℕ, ◌-◌, ◌<◌, ◌≤◌, List, [], ◌∷◌, get_or, slice_set, IsTrue, IsFalse, Some}
+use Rattle.library.specs.Words.{AreShaped, Stmt, Database, Prove, Axiom, bares, proof_of, stmt_at, is_unfinished}
+use Rattle.mm_read.specs.declared.stmt.Stmt.TheVariants.{Open}
+use Rattle.library.specs.Judging.{StandsProved}
+use Rattle.library.specs.declared.verdict.Cause.{Cause}
+use Rattle.library.specs.declared.verdict.Cause.TheVariants.{Proof, Unfinished}
+
+-- the positions above the one, up to the other, of exactly the `$p` that are not proved, in order
+abbrev pub AreUnproved : Database → ℕ → ℕ → List ℕ → Type 0
+AreUnproved S front end [] = (at : ℕ) → front < at → at ≤ end → StandsProved S at
+AreUnproved S front end (at ∷ list) =
+    (front < at) × (at ≤ end) × (¬ StandsProved S at)
+    × ((m : ℕ) → front < m → m < at → StandsProved S m) × AreUnproved S at end list
+
+-- the cause of a `$p` there: unfinished exactly if a token of its proof has the byte `?`
+abbrev pub CauseAt : Database → ℕ → Cause → Type 0
+CauseAt S at (Proof n) =
+    (n ≡ at) × ((s : Stmt) → stmt_at S at ≡ Some s → IsFalse (is_unfinished (proof_of s)))
+CauseAt S at (Unfinished n) =
+    (n ≡ at) × ((s : Stmt) → stmt_at S at ≡ Some s → IsTrue (is_unfinished (proof_of s)))
+CauseAt S at cause = ⊥
+
+-- the `$a` with the label and the expression of a `$p`
+abbrev pub as_axiom : Stmt → Stmt
+as_axiom (Prove label expr proof) = Axiom label expr
+as_axiom s = s
+
+-- the statements, those at these positions taken as `$a` if they are `$p`
+abbrev pub assumed : Database → List ℕ → Database
+assumed S [] = S
+assumed S (at ∷ list) = assumed (slice_set S (at - 1) (as_axiom (get_or S (at - 1) Open))) list
+
+-- a position of one of so many statements
+abbrev pub IsWithin : ℕ → ℕ → Type 0
+IsWithin count at = (1 ≤ at) × (at ≤ count)
+
+-- well-shaped statements, and their frames
+pub record IsEntered (frames S : Database) : Type 0 where
+  pub same : frames ≡ bares S
+  pub shaped : AreShaped S

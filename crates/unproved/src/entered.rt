@@ -1,0 +1,230 @@
+//! The statements of a text, with their frames.
+ghost use Rattle.std.specs.Prelude.{◌≡◌, ◌≤◌, [], length, Ok, true, IfOk, IfSome};
+ghost use Rattle.std.specs.List.{All};
+ghost use Rattle.mm_read.specs.Reads.{Reads};
+ghost use Rattle.mm_read.specs.Statements.{AreShaped};
+ghost use Rattle.scope.specs.Active.{bares};
+ghost use Rattle.library.specs.LibraryOf.{empty};
+ghost use Rattle.library.specs.declared.verdict.Verdict.TheVariants.{Added};
+ghost use Rattle.unproved.specs.Unproved.{AreUnproved, CauseAt, IsWithin, as_axiom, assumed};
+
+use crate::search::{Search, find_all};
+use bytes::Bytes;
+use frame::Frames;
+use library::{Cause, Entry, Library, Submission, Verdict};
+use mm_read::{Stmt, spell};
+use proof_code::is_unfinished;
+use scope::{Rule, Rules, Steps};
+use std::alloc::{AllocError, Global};
+use std::marker::Model;
+use std::mem::replace;
+use std::thread::Threads;
+use verify_pool::{OpenGate, Workers};
+
+/// The statements of a text, with their frames. Contracts see the statements.
+#[derive(Drop)]
+pub struct Entered {
+    alloc: Global,
+    statements: Vec<Stmt>,
+    frames: Frames,
+}
+
+impl Model for Entered {
+    ghost use Rattle.mm_read.specs.Statements.{Database};
+    ghost use Rattle.unproved.specs.Unproved.{IsEntered};
+
+    ghost Value = { Database };
+
+    ghost view = { λ a. a.statements.items };
+
+    ghost invariant = { λ a. IsEntered a.frames.statements a.statements.items };
+}
+
+impl Entered {
+    /// Makes the frames of the statements of a text. Returns `None` if a statement is not legal.
+    ///
+    /// Errors: an allocation fails. Cost: the size of the statements.
+    /// Source: Metamath, chapter 4.
+    pub fn new(alloc: Global, statements: Vec<Stmt>) -> Result<Option<Entered>, AllocError>
+        requires { AreShaped statements.items }
+        ensures { IfOk result (λ entered. IfSome entered (λ e. e ≡ statements.items)) }
+    {
+        let mut rules = Rules::new(alloc);
+        let mut frames = Frames::new(alloc);
+        let is_legal = enter(&mut rules, &mut frames, statements.as_slice())?;
+        if !is_legal {
+            return Ok(None);
+        }
+        Ok(Some(Entered {
+            alloc,
+            statements,
+            frames,
+        }))
+    }
+
+    /// Returns the statements, in order.
+    pub fn statements(&self) -> &[Stmt]
+        ensures same { result.now ≡ self.now }
+        ensures shaped { AreShaped self.now }
+    {
+        self.statements.as_slice()
+    }
+
+    /// Returns the frames of the statements.
+    pub fn frames(&self) -> &Frames
+        ensures { result.now.statements ≡ bares self.now }
+    {
+        &self.frames
+    }
+
+    /// Finds every `$p` that is not proved, each judged against the statements before it. Returns
+    /// their positions, in order. No answer depends on the number of workers.
+    ///
+    /// Errors: an allocation fails. Cost: that of the proofs over the workers, and for each 4,096
+    /// statements with one that is not proved once more theirs, on the calling thread.
+    /// Source: Metamath, 4.2.6 and appendix B.
+    pub fn unproved<R: Threads + Sync>(
+        &self,
+        rt: &R,
+        workers: Workers,
+    ) -> Result<Vec<usize>, AllocError>
+        ensures list { IfOk result (λ list. AreUnproved self.now 0 (length self.now) list.items) }
+        ensures within { IfOk result (λ list. All (IsWithin (length self.now)) list.items) }
+    {
+        let search = Search {
+            rt,
+            alloc: self.alloc,
+            frames: &self.frames,
+            statements: self.statements.as_slice(),
+            workers,
+        };
+        find_all(&search)
+    }
+
+    /// Adds the statements to a library without entries, each `$p` at one of these positions taken
+    /// as a `$a` with the same label and expression. Returns the verdict of the library.
+    ///
+    /// Errors: an allocation fails. Cost: that of the text of these statements, over the workers.
+    pub fn assume_into<R: Threads + Sync>(
+        self,
+        rt: &R,
+        library: &mut Library,
+        unproved: &[usize],
+        workers: Workers,
+    ) -> Result<Verdict, AllocError>
+        requires within { All (IsWithin (length self)) unproved.now }
+        requires empty { library.old.replica ≡ empty }
+        ensures { IfOk result (λ verdict. verdict ≡ Added
+            → library.new.replica.statements ≡ assumed self unproved.now) }
+    {
+        let alloc = self.alloc;
+        let statements = self.assumed(unproved);
+        add_to_empty(rt, alloc, library, statements.as_slice(), workers)
+    }
+
+    /// Returns the statements, each `$p` at one of these positions taken as a `$a`.
+    fn assumed(self, unproved: &[usize]) -> Vec<Stmt>
+        requires { All (IsWithin (length self)) unproved.now }
+        ensures is { result.items ≡ assumed self unproved.now }
+        ensures shaped { AreShaped result.items }
+    {
+        let Entered { mut statements, .. } = self;
+        assume_all(&mut statements, unproved);
+        statements
+    }
+
+    /// Returns why a text is refused in which the `$p` at this position is not proved: it is
+    /// unfinished if a token of its proof has the byte `?`, else wrong.
+    pub fn cause(&self, at: usize) -> Cause
+        requires { IsWithin (length self.now) at }
+        ensures { CauseAt self.now at result }
+    {
+        let Stmt::Prove { proof, .. } = &self.statements[at - 1] else {
+            return Cause::Proof { statement: at };
+        };
+        if is_unfinished(proof) {
+            Cause::Unfinished { statement: at }
+        } else {
+            Cause::Proof { statement: at }
+        }
+    }
+}
+
+/// Adds statements to a library without entries, as a text in the export form.
+fn add_to_empty<R: Threads + Sync>(
+    rt: &R,
+    alloc: Global,
+    library: &mut Library,
+    statements: &[Stmt],
+    workers: Workers,
+) -> Result<Verdict, AllocError>
+    requires shaped { AreShaped statements.now }
+    requires empty { library.old.replica ≡ empty }
+    ensures { IfOk result (λ verdict. verdict ≡ Added
+        → library.new.replica.statements ≡ statements.now) }
+{
+    let text = text_of(alloc, statements)?;
+    let entry = Entry::Text(Submission {
+        author: 0,
+        serial: 0,
+        text,
+    });
+    library.apply_with(rt, Some(&entry), workers, &OpenGate)
+}
+
+/// Returns the statements as a text in the export form.
+fn text_of(alloc: Global, statements: &[Stmt]) -> Result<Bytes, AllocError>
+    requires { AreShaped statements.now }
+    ensures { IfOk result (λ text. Reads text statements.now) }
+{
+    let text = spell(alloc, statements)?;
+    match Bytes::from_vec(text) {
+        Ok(text) => Ok(text),
+        Err(_failed) => Err(AllocError),
+    }
+}
+
+/// Takes each `$p` at one of these positions as a `$a`.
+fn assume_all(statements: &mut Vec<Stmt>, unproved: &[usize])
+    requires within { All (IsWithin (length statements.old.items)) unproved.now }
+    requires shaped { AreShaped statements.old.items }
+    ensures is { statements.new.items ≡ assumed statements.old.items unproved.now }
+    ensures shaped { AreShaped statements.new.items }
+{
+    for at in unproved {
+        assume(&mut statements[*at - 1]);
+    }
+}
+
+/// Takes a `$p` as a `$a` with the same label and expression.
+fn assume(statement: &mut Stmt)
+    ensures { statement.new ≡ as_axiom statement.old }
+{
+    let old = replace(statement, Stmt::Open);
+    *statement = match old {
+        Stmt::Prove {
+            label,
+            expr,
+            proof: _proof,
+        } => Stmt::Axiom { label, expr },
+        other => other,
+    };
+}
+
+/// Adds the statements to rules and frames that have none; false if one of them is not legal.
+fn enter(rules: &mut Rules, frames: &mut Frames, statements: &[Stmt]) -> Result<bool, AllocError>
+    requires shaped { AreShaped statements.now }
+    requires no_rules { rules.old.statements ≡ [] }
+    requires no_frames { frames.old.statements ≡ [] }
+    ensures { result ≡ Ok true → frames.new.statements ≡ bares statements.now }
+{
+    let mut steps = Steps::new();
+    for stmt in statements {
+        match frames.add(rules, stmt, &mut steps) {
+            Ok(()) => {}
+            Err(Rule::Memory) => return Err(AllocError),
+            Err(_) => return Ok(false),
+        }
+    }
+    Ok(true)
+}

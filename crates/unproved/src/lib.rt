@@ -1,0 +1,14 @@
+//! The `$p` of a list of statements that are not proved.
+//!
+//! The crate above uses one contract: `Entered::unproved` returns the positions of exactly the `$p`
+//! that are not proved, in order, with any number of workers.
+//!
+//! Reading order: `entered` (statements with their frames), `stretch` (statements as jobs of a
+//! pool), `search` (all that are not proved).
+#![tactic(auto)]
+
+mod entered;
+mod search;
+mod stretch;
+
+pub use entered::Entered;

@@ -1,0 +1,113 @@
+//! All `$p` that are not proved.
+ghost use Rattle.std.specs.Prelude.{◌≡◌, ◌-◌, ◌≤◌, [], length, IfOk, OnOk};
+ghost use Rattle.scope.specs.Active.{bares};
+ghost use Rattle.unproved.specs.Stretches.{IsLeastIn};
+ghost use Rattle.unproved.specs.Unproved.{AreUnproved};
+
+use crate::stretch::Stretch;
+use frame::Frames;
+use mm_read::Stmt;
+use std::alloc::{AllocError, Global};
+use std::thread::Threads;
+use verify_pool::{Checkers, OpenGate, Workers, judge_all, judge_here};
+
+/// How many statements are judged in parallel before the next.
+const STRETCH: usize = 4_096;
+
+/// Statements with their frames, and the workers that judge them.
+#[derive(Drop)]
+pub(crate) struct Search<'a, R: Threads + Sync> {
+    pub(crate) rt: &'a R,
+    pub(crate) alloc: Global,
+    pub(crate) frames: &'a Frames,
+    pub(crate) statements: &'a [Stmt],
+    pub(crate) workers: Workers,
+}
+
+/// Returns the positions of the `$p` that are not proved, in order.
+///
+/// Errors: an allocation fails. Cost: that of the proofs over the workers, and once more that of
+/// the stretches in which one is not proved.
+pub(crate) fn find_all<R: Threads + Sync>(search: &Search<'_, R>) -> Result<Vec<usize>, AllocError>
+    requires { search.now.frames.now.statements ≡ bares search.now.statements.now }
+    ensures { IfOk result (λ list.
+        AreUnproved search.now.statements.now 0 (length search.now.statements.now) list.items) }
+{
+    let mut checkers = Checkers::new(search.alloc);
+    let mut list = Vec::new(search.alloc);
+    let mut front = 0;
+    while front < search.statements.len() {
+        let end = front + (search.statements.len() - front).min(STRETCH);
+        add_found(search, &mut checkers, front, end, &mut list)?;
+        front = end;
+    }
+    Ok(list)
+}
+
+/// Appends the positions of the `$p` after the first `front` statements, up to `end`, that are not
+/// proved. The workers find the first of them, and the calling thread the others.
+fn add_found<R: Threads + Sync>(
+    search: &Search<'_, R>,
+    checkers: &mut Checkers,
+    front: usize,
+    end: usize,
+    list: &mut Vec<usize>,
+) -> Result<(), AllocError>
+    requires same { search.now.frames.now.statements ≡ bares search.now.statements.now }
+    requires order { front ≤ end }
+    requires within { end ≤ length search.now.statements.now }
+    requires before { AreUnproved search.now.statements.now 0 front list.old.items }
+    ensures { OnOk result (AreUnproved search.now.statements.now 0 end list.new.items) }
+{
+    let mut front = front;
+    let mut found = first_by_workers(search, checkers, front, end)?;
+    while let Some(index) = found {
+        front = front + index + 1;
+        list.push(front)?;
+        found = first_here(search, checkers, front, end)?;
+    }
+    Ok(())
+}
+
+/// Returns how many statements, after the first `front`, stand before the first `$p` up to `end`
+/// that is not proved, judged by the workers; `None` if each is proved.
+fn first_by_workers<R: Threads + Sync>(
+    search: &Search<'_, R>,
+    checkers: &mut Checkers,
+    front: usize,
+    end: usize,
+) -> Result<Option<usize>, AllocError>
+    requires same { search.now.frames.now.statements ≡ bares search.now.statements.now }
+    requires order { front ≤ end }
+    requires within { end ≤ length search.now.statements.now }
+    ensures { IfOk result (IsLeastIn search.now.statements.now front end) }
+{
+    let stretch = Stretch {
+        frames: search.frames,
+        statements: search.statements,
+        front,
+        end,
+    };
+    judge_all(search.rt, checkers, &stretch, search.workers, &OpenGate)
+}
+
+/// Returns the same, judged on the calling thread up to that `$p`.
+fn first_here<R: Threads + Sync>(
+    search: &Search<'_, R>,
+    checkers: &mut Checkers,
+    front: usize,
+    end: usize,
+) -> Result<Option<usize>, AllocError>
+    requires same { search.now.frames.now.statements ≡ bares search.now.statements.now }
+    requires order { front ≤ end }
+    requires within { end ≤ length search.now.statements.now }
+    ensures { IfOk result (IsLeastIn search.now.statements.now front end) }
+{
+    let stretch = Stretch {
+        frames: search.frames,
+        statements: search.statements,
+        front,
+        end,
+    };
+    judge_here(checkers, &stretch)
+}

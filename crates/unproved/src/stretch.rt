@@ -1,0 +1,48 @@
+//! Statements that follow one another, as jobs of a pool.
+use frame::Frames;
+use mm_read::Stmt;
+use std::alloc::AllocError;
+use std::marker::Model;
+use verify::{Answer, Checker};
+use verify_pool::Work;
+
+/// The statements after the first `front`, up to `end`, as jobs in order. Contracts see all
+/// statements and where these stand.
+#[derive(Drop)]
+pub(crate) struct Stretch<'a> {
+    pub(crate) frames: &'a Frames,
+    pub(crate) statements: &'a [Stmt],
+    pub(crate) front: usize,
+    pub(crate) end: usize,
+}
+
+impl<'a> Model for Stretch<'a> {
+    ghost use Rattle.unproved.specs.Stretches.{IsStretch, Within};
+
+    ghost Value = { Within };
+
+    ghost view = { λ a. record { statements = a.statements.now; front = a.front; end = a.end } };
+
+    ghost invariant = { λ a. IsStretch a.frames.now.statements a.statements.now a.front a.end };
+}
+
+impl<'a> Work for Stretch<'a> {
+    ghost use Rattle.std.specs.Prelude.{◌-◌};
+    ghost use Rattle.unproved.specs.Stretches.{IsRightIn};
+
+    ghost count = { λ stretch. stretch.end - stretch.front };
+
+    ghost right = { IsRightIn };
+
+    fn count(&self) -> usize {
+        self.end - self.front
+    }
+
+    fn judge(&self, index: usize, checker: &mut Checker) -> Result<Answer, AllocError> {
+        let at = self.front + index + 1;
+        match &self.statements[at - 1] {
+            Stmt::Prove { proof, .. } => checker.prove(self.frames, at, proof),
+            _ => Ok(Answer::Proved),
+        }
+    }
+}
