@@ -4,6 +4,7 @@ ghost use Rattle.cluster.specs.declared.compare.Ahead.TheVariants.{First, Same, 
 
 use crate::answers::write_answer;
 use crate::fault::Fault;
+use crate::named_text::NamedText;
 use cluster::Ahead;
 use commands::{LabelQuestion, NodeQuestion};
 use library::Library;
@@ -21,8 +22,12 @@ pub fn label_answer(
 ) -> Result<Vec<u8>, Fault> {
     let question = asked.kind.about(alloc, asked.label.as_slice())?;
     let text = text_of(alloc, library, asked.kind)?;
+    let text = NamedText {
+        name: None,
+        bytes: text.as_slice(),
+    };
     let mut lines = Vec::new(alloc);
-    match write_answer(alloc, library, text.as_slice(), &question, &mut lines) {
+    match write_answer(alloc, library, text, &question, &mut lines) {
         // A list of bytes takes each write for which an allocation succeeds.
         Err(Fault::Output) => return Err(Fault::Memory(AllocError)),
         Err(fault) => return Err(fault),
