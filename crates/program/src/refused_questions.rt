@@ -33,47 +33,36 @@ fn write_reason<F: Write>(
     let label = refused_label(library, question, fault);
     match fault {
         Fault::Ask(AskFault::NoLabel) | Fault::Extract(ExtractFault::NoLabel) => {
-            write_parts(faults, &[b"no statement has the label ", label])
+            faults.write_all(b"no statement has the label ")?;
+            faults.write_all(label)?;
         }
-        Fault::Ask(AskFault::NotProvable) => write_parts(
-            faults,
-            &[
-                label,
-                b" is a ",
-                kind_of(library, label),
-                b"; only a $p has a proof",
-            ],
-        ),
-        Fault::Ask(AskFault::TooLarge) => write_parts(
-            faults,
-            &[
-                b"the tree has more than 65536 nodes or is deeper than 1024; proof ",
-                label,
-                b" shows the same steps without a limit",
-            ],
-        ),
-        Fault::Extract(ExtractFault::NotAssertion) => write_parts(
-            faults,
-            &[
-                label,
-                b" is a ",
-                kind_of(library, label),
-                b"; only an assertion can be extracted",
-            ],
-        ),
+        Fault::Ask(AskFault::NotProvable) => {
+            write_kind(library, label, faults)?;
+            faults.write_all(b"; only a $p has a proof")?;
+        }
+        Fault::Ask(AskFault::TooLarge) => {
+            faults.write_all(b"the tree has more than 65536 nodes or is deeper than 1024; proof ")?;
+            faults.write_all(label)?;
+            faults.write_all(b" shows the same steps without a limit")?;
+        }
+        Fault::Extract(ExtractFault::NotAssertion) => {
+            write_kind(library, label, faults)?;
+            faults.write_all(b"; only an assertion can be extracted")?;
+        }
         Fault::Extract(ExtractFault::SameLabel) => {
-            write_parts(faults, &[label, b" is named twice"])
+            faults.write_all(label)?;
+            faults.write_all(b" is named twice")?;
         }
-        _ => Ok(()),
-    }
-}
-
-/// Writes a line of these parts.
-fn write_parts<F: Write>(faults: &mut F, parts: &[&[u8]]) -> Result<(), Fault> {
-    for part in parts {
-        faults.write_all(part)?;
+        _ => return Ok(()),
     }
     print(faults, b"\n")
+}
+
+/// Writes a label, and the keyword of the statement that has it.
+fn write_kind<F: Write>(library: &Library, label: &[u8], faults: &mut F) -> Result<(), Fault> {
+    faults.write_all(label)?;
+    faults.write_all(b" is a ")?;
+    Ok(faults.write_all(kind_of(library, label))?)
 }
 
 /// Returns the label for which a question is refused.
