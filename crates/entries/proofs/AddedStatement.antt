@@ -52,15 +52,15 @@ module _ (ns ms : List ℕ) (gs hs : List BufferPart) (rs qs : List StatementRec
 -- a statement without parts has only empty lists but its symbols
 pub record IsBare (p : AssertionParts) : Type 0 where
   pub hypotheses : p.hypotheses.now ≡ []
-  pub asked : p.asked.now ≡ []
-  pub heads : p.heads.now ≡ []
+  pub required : p.required.now ≡ []
+  pub typecodes : p.typecodes.now ≡ []
   pub groups : p.groups.now ≡ []
 
 bare : (p : AssertionParts) → AreShapedParts p → has_parts p ≡ false → IsBare p
 bare p shaped none =
     let n = ltb-false 0 (length p.hypotheses.now + length p.groups.now) none in
     let s = shaped in
-    record { hypotheses = nil_from_length _ (omega arith); asked = nil_from_length _ (omega arith); heads = nil_from_length _ (omega arith); groups = nil_from_length _ (omega arith) }
+    record { hypotheses = nil_from_length _ (omega arith); required = nil_from_length _ (omega arith); typecodes = nil_from_length _ (omega arith); groups = nil_from_length _ (omega arith) }
 
 pub run-laid : (p : AssertionParts) (t : Bool) → AreShapedParts p → has_parts p ≡ t → IsLaid (layout_in t (run_of t p)) (run_of t p) p.groups.now
 run-laid p true shaped e =
@@ -74,21 +74,21 @@ run-laid p false shaped e =
 pub run-body : (h : Kind) (p : AssertionParts) (from groups : ℕ) (t : Bool) → AreShapedParts p → has_parts p ≡ t → body_of (record_by h t p.whole from groups) (run_of t p) p.groups.now ≡ record { kind = h; symbols = p.symbols.now; assertion = assertion_of p }
 run-body h p from groups true shaped e =
     let s = shaped in
-    let heads = counts_of p ++ p.heads.now in
-    let asked = heads ++ p.asked.now in
-    let symbols = asked ++ p.symbols.now in
+    let typecodes = counts_of p ++ p.typecodes.now in
+    let required = typecodes ++ p.required.now in
+    let symbols = required ++ p.symbols.now in
     let hypotheses = symbols ++ p.hypotheses.now in
     let run = hypotheses ++ p.places.now in
     let to_hypotheses : Extends hypotheses run = (p.places.now, refl) in
     let to_symbols : Extends symbols run = extends-trans symbols hypotheses run (p.hypotheses.now, refl) to_hypotheses in
-    let to_asked : Extends asked run = extends-trans asked symbols run (p.symbols.now, refl) to_symbols in
-    let to_heads : Extends heads run = extends-trans heads asked run (p.asked.now, refl) to_asked in
+    let to_required : Extends required run = extends-trans required symbols run (p.symbols.now, refl) to_symbols in
+    let to_typecodes : Extends typecodes run = extends-trans typecodes required run (p.required.now, refl) to_required in
     let l = layout_in true run in
-    let i = length-append (counts_of p) p.heads.now in let j = length-append heads p.asked.now in let k = length-append asked p.symbols.now in
+    let i = length-append (counts_of p) p.typecodes.now in let j = length-append typecodes p.required.now in let k = length-append required p.symbols.now in
     let m = length-append symbols p.hypotheses.now in let n = length-append hypotheses p.places.now in
-    let u = range-behind (counts_of p) p.heads.now heads run l.heads l.asked (omega arith) refl (omega arith) to_heads in
-    let v = range-behind heads p.asked.now asked run l.asked l.symbols (omega arith) refl (omega arith) to_asked in
-    let w = range-behind asked p.symbols.now symbols run l.symbols l.hypotheses (omega arith) refl (omega arith) to_symbols in
+    let u = range-behind (counts_of p) p.typecodes.now typecodes run l.typecodes l.required (omega arith) refl (omega arith) to_typecodes in
+    let v = range-behind typecodes p.required.now required run l.required l.symbols (omega arith) refl (omega arith) to_required in
+    let w = range-behind required p.symbols.now symbols run l.symbols l.hypotheses (omega arith) refl (omega arith) to_symbols in
     let x = range-behind symbols p.hypotheses.now hypotheses run l.hypotheses l.places (omega arith) refl (omega arith) to_hypotheses in
     let y = range-behind hypotheses p.places.now run run l.places l.end (omega arith) refl (omega arith) (extends-refl run) in
     cc
@@ -99,7 +99,7 @@ run-body h p from groups false shaped e =
     let m : at.places - at.hypotheses ≡ 0 = omega arith in
     let u : slice_range p.symbols.now 0 at.hypotheses ≡ p.symbols.now = ap (λ k. take k p.symbols.now) n ∙ take-length p.symbols.now in
     let v : slice_range p.symbols.now at.hypotheses at.places ≡ [] = ap (λ k. take k (drop at.hypotheses p.symbols.now)) m in
-    rw (b.hypotheses, b.asked, b.heads, b.groups) cc
+    rw (b.hypotheses, b.required, b.typecodes, b.groups) cc
 
 -- ---- fewer
 

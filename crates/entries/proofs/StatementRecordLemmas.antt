@@ -1,5 +1,5 @@
 -- The kept form of the statement at an index.
-use Rattle.entries.proofs.Words.{◌≡◌, ℕ, zero, suc, ◌+◌, Bool, true, false, List, [], ◌∷◌, ◌++◌, length, take, slice_get, slice_range, Option, Some, refl, ◌∙◌, ap, sym, arith, Bor, same_Some, Layout, StatementRecord, Background, BufferPart, Body, Entry, with_background, with_backgrounds, layout_in, groups_by, run_by, spans_by, body_of, bodies_of, IsKept, AreKept, IsOrdered, IsStored}
+use Rattle.entries.proofs.Words.{◌≡◌, ℕ, zero, suc, ◌+◌, Bool, true, false, List, [], ◌∷◌, ◌++◌, length, take, slice_get, slice_range, Option, Some, refl, ◌∙◌, ap, sym, arith, Bor, same_Some, Layout, StatementRecord, StateBefore, BufferPart, Body, Entry, with_state_before, with_states_before, layout_in, groups_by, run_by, spans_by, body_of, bodies_of, IsKept, AreKept, IsOrdered, IsStored}
 
 -- an element keeps its place where more stands after the list
 pub get-more : {A : Type 0} (xs more : List A) (k : ℕ) (x : A) → slice_get xs k ≡ Some x → slice_get (xs ++ more) k ≡ Some x
@@ -18,22 +18,22 @@ bodies-length numbers groups (r ∷ rs) = ap suc (bodies-length numbers groups r
 -- ---- with what was there before each
 
 -- as many statements as records
-pub within : (numbers : List ℕ) (groups : List BufferPart) (rs : List StatementRecord) (ks : List Background) → length ks ≡ length rs → length (with_backgrounds (bodies_of numbers groups rs) ks) ≡ length rs
+pub within : (numbers : List ℕ) (groups : List BufferPart) (rs : List StatementRecord) (ks : List StateBefore) → length ks ≡ length rs → length (with_states_before (bodies_of numbers groups rs) ks) ≡ length rs
 within numbers groups [] ks e = refl
 within numbers groups (r ∷ rs) [] e = e
 within numbers groups (r ∷ rs) (k ∷ ks) e = ap suc (within numbers groups rs ks (omega (arith, e)))
 
-pub with-push : (bs : List Body) (ks : List Background) (b : Body) (k : Background) → length ks ≡ length bs → with_backgrounds (bs ++ b ∷ []) (ks ++ k ∷ []) ≡ with_backgrounds bs ks ++ with_background b k ∷ []
+pub with-push : (bs : List Body) (ks : List StateBefore) (b : Body) (k : StateBefore) → length ks ≡ length bs → with_states_before (bs ++ b ∷ []) (ks ++ k ∷ []) ≡ with_states_before bs ks ++ with_state_before b k ∷ []
 with-push [] [] b k e = refl
 with-push [] (x ∷ ks) b k e = absurd (cc)
 with-push (y ∷ bs) [] b k e = absurd (cc)
-with-push (y ∷ bs) (x ∷ ks) b k e = ap (λ es. with_background y x ∷ es) (with-push bs ks b k (omega (arith, e)))
+with-push (y ∷ bs) (x ∷ ks) b k e = ap (λ es. with_state_before y x ∷ es) (with-push bs ks b k (omega (arith, e)))
 
-pub with-take : (n : ℕ) (bs : List Body) (ks : List Background) → with_backgrounds (take n bs) (take n ks) ≡ take n (with_backgrounds bs ks)
+pub with-take : (n : ℕ) (bs : List Body) (ks : List StateBefore) → with_states_before (take n bs) (take n ks) ≡ take n (with_states_before bs ks)
 with-take zero bs ks = refl
 with-take (suc n) [] ks = refl
 with-take (suc n) (b ∷ bs) [] = refl
-with-take (suc n) (b ∷ bs) (k ∷ ks) = ap (λ es. with_background b k ∷ es) (with-take n bs ks)
+with-take (suc n) (b ∷ bs) (k ∷ ks) = ap (λ es. with_state_before b k ∷ es) (with-take n bs ks)
 
 -- ---- the statement at an index
 
@@ -43,31 +43,31 @@ kept-at numbers groups r (q ∷ rs) zero k e = rw (← same_Some q r e) k.0
 kept-at numbers groups r (q ∷ rs) (suc i) k e = kept-at numbers groups r rs i k.1 e
 
 -- the statement with this record is kept before that one, and is the entry
-pub record IsAt (numbers : List ℕ) (groups : List BufferPart) (r : StatementRecord) (next : Option StatementRecord) (behind : Option Background) (found : Option Entry) : Type 0 where
+pub record IsAt (numbers : List ℕ) (groups : List BufferPart) (r : StatementRecord) (next : Option StatementRecord) (behind : Option StateBefore) (found : Option Entry) : Type 0 where
   pub kept : IsKept numbers groups r next
-  pub background : Background
-  pub stands : behind ≡ Some background
-  pub entry : found ≡ Some (with_background (body_of r (run_by numbers r next) (spans_by groups r next)) background)
+  pub state_before : StateBefore
+  pub stands : behind ≡ Some state_before
+  pub entry : found ≡ Some (with_state_before (body_of r (run_by numbers r next) (spans_by groups r next)) state_before)
 
-pub at-index : (numbers : List ℕ) (groups : List BufferPart) (rs : List StatementRecord) (ks : List Background) (es : List Entry) (i : ℕ) (r : StatementRecord) → AreKept numbers groups rs → length ks ≡ length rs → with_backgrounds (bodies_of numbers groups rs) ks ≡ es
+pub at-index : (numbers : List ℕ) (groups : List BufferPart) (rs : List StatementRecord) (ks : List StateBefore) (es : List Entry) (i : ℕ) (r : StatementRecord) → AreKept numbers groups rs → length ks ≡ length rs → with_states_before (bodies_of numbers groups rs) ks ≡ es
     → {qs : List StatementRecord} → qs ≡ rs → slice_get qs i ≡ Some r → IsAt numbers groups r (slice_get rs (i + 1)) (slice_get ks i) (slice_get es i)
 at-index numbers groups rs ks es i r kept many view same here =
     let n : suc i ≡ i + 1 = omega arith in
     rw (← view, ← n) (by rs ks i kept many (rw (← same) here))
   where
-    by : (qs : List StatementRecord) (ls : List Background) (j : ℕ) → AreKept numbers groups qs → length ls ≡ length qs → slice_get qs j ≡ Some r → IsAt numbers groups r (slice_get qs (suc j)) (slice_get ls j) (slice_get (with_backgrounds (bodies_of numbers groups qs) ls) j)
+    by : (qs : List StatementRecord) (ls : List StateBefore) (j : ℕ) → AreKept numbers groups qs → length ls ≡ length qs → slice_get qs j ≡ Some r → IsAt numbers groups r (slice_get qs (suc j)) (slice_get ls j) (slice_get (with_states_before (bodies_of numbers groups qs) ls) j)
     by [] ls j k l e = absurd (cc)
     by (q ∷ qs) [] j k l e = absurd (cc)
-    by (q ∷ qs) (b ∷ ls) zero k l e = rw (← same_Some q r e) (record { kept = k.0; background = b; stands = refl; entry = refl })
+    by (q ∷ qs) (b ∷ ls) zero k l e = rw (← same_Some q r e) (record { kept = k.0; state_before = b; stands = refl; entry = refl })
     by (q ∷ qs) (b ∷ ls) (suc j) k l e = by qs ls j k.1 (omega (arith, l)) e
 
 -- the parts stand one after the other
 ordered : (t : Bool) (run : List ℕ) → IsOrdered (layout_in t run)
-ordered true run = record { heads = omega arith; asked = omega arith; symbols = omega arith; hypotheses = omega arith; places = omega arith }
-ordered false run = record { heads = omega arith; asked = omega arith; symbols = omega arith; hypotheses = omega arith; places = omega arith }
+ordered true run = record { typecodes = omega arith; required = omega arith; symbols = omega arith; hypotheses = omega arith; places = omega arith }
+ordered false run = record { typecodes = omega arith; required = omega arith; symbols = omega arith; hypotheses = omega arith; places = omega arith }
 
 -- the parts that were read are the kept ones
-module _ (numbers : List ℕ) (groups : List BufferPart) (r : StatementRecord) (next : Option StatementRecord) (behind : Option Background) (found : Option Entry) (run : Bor (List ℕ)) (at : Layout)
+module _ (numbers : List ℕ) (groups : List BufferPart) (r : StatementRecord) (next : Option StatementRecord) (behind : Option StateBefore) (found : Option Entry) (run : Bor (List ℕ)) (at : Layout)
     (a : IsAt numbers groups r next behind found) (same : run.now ≡ run_by numbers r next) (laid : at ≡ layout_in r.has_parts run.now) where
   layout : layout_in r.has_parts (run_by numbers r next) ≡ at
   layout = sym (laid ∙ ap (layout_in r.has_parts) same)
@@ -75,7 +75,7 @@ module _ (numbers : List ℕ) (groups : List BufferPart) (r : StatementRecord) (
   pub groups-count : r.groups + at.groups ≡ groups_by groups next
   groups-count = ap (λ (x : Layout). r.groups + x.groups) (sym layout) ∙ a.kept.grouped.count
 
-  pub is-stored : (spans : Bor (List BufferPart)) (k : Background) → spans.now ≡ slice_range groups r.groups (r.groups + at.groups) → behind ≡ Some k → IsStored found (record { kept = r; before = k; numbers = run; at = at; groups = spans })
+  pub is-stored : (spans : Bor (List BufferPart)) (k : StateBefore) → spans.now ≡ slice_range groups r.groups (r.groups + at.groups) → behind ≡ Some k → IsStored found (record { kept = r; before = k; numbers = run; at = at; groups = spans })
   is-stored spans k part there =
       let p = a.kept.placed in let w = a.kept.grouped in
       let of_next : spans.now ≡ spans_by groups r next = part ∙ ap (slice_range groups r.groups) groups-count in

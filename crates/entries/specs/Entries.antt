@@ -2,13 +2,13 @@
 -- Metamath, 4.2.6 and 4.2.7: a citation of an assertion needs its mandatory hypotheses. The meaning of the numbers is in `frame`.
 -- The code keeps the lists of all statements in a few buffers.
 use Rattle.std.specs.Prelude.{◌≡◌, ℕ, Bool, true, List, [], length, map, slice_get, Some}
-use Rattle.entries.specs.declared.cited_parts.Hypothesis.{Hypothesis}
-use Rattle.entries.specs.declared.cited_parts.Cited.{Cited}
-use Rattle.entries.specs.declared.links.Links.{Links}
+use Rattle.entries.specs.declared.assertion_view.Hypothesis.{Hypothesis}
+use Rattle.entries.specs.declared.assertion_view.AssertionView.{AssertionView}
+use Rattle.entries.specs.declared.last_active.LastActive.{LastActive}
 use Rattle.entries.specs.declared.kind.Kind.{Kind}
-use Rattle.entries.specs.declared.head.Head.{Head}
+use Rattle.entries.specs.declared.entry_header.EntryHeader.{EntryHeader}
 use Rattle.entries.specs.declared.parts.AssertionParts.{AssertionParts}
-use Rattle.entries.specs.declared.head.EntryRef.{EntryRef}
+use Rattle.entries.specs.declared.entry_header.EntryRef.{EntryRef}
 use Rattle.entries.specs.Hypotheses.{told}
 use Rattle.entries.specs.Stored.Spans.{cut, AreSpansIn}
 
@@ -17,8 +17,8 @@ use Rattle.entries.specs.Stored.Spans.{cut, AreSpansIn}
 pub record Assertion : Type 0 where
   pub whole : Bool
   pub hypotheses : List ℕ
-  pub asked : List Hypothesis
-  pub heads : List ℕ
+  pub required : List Hypothesis
+  pub typecodes : List ℕ
   pub groups : List (List ℕ)
 
 -- its kind, the counts of labels and names before it, what was active before it, and the numbers of its symbols
@@ -26,37 +26,37 @@ pub record Entry : Type 0 where
   pub kind : Kind
   pub label : ℕ
   pub names : ℕ
-  pub links : Links
+  pub last_active : LastActive
   pub symbols : List ℕ
   pub assertion : Assertion
 
 -- the parts of an assertion that is added
 abbrev pub assertion_of : AssertionParts → Assertion
-assertion_of p = record { whole = p.whole; hypotheses = p.hypotheses.now; asked = map told p.asked.now; heads = p.heads.now; groups = cut p.places.now p.groups.now }
+assertion_of p = record { whole = p.whole; hypotheses = p.hypotheses.now; required = map told p.required.now; typecodes = p.typecodes.now; groups = cut p.places.now p.groups.now }
 
 -- each hypothesis has its kind and its typecode, and the groups are parts of the places
 pub record AreShapedParts (p : AssertionParts) : Type 0 where
-  pub paired : length p.asked.now ≡ length p.hypotheses.now
-  pub headed : length p.heads.now ≡ length p.hypotheses.now
+  pub paired : length p.required.now ≡ length p.hypotheses.now
+  pub headed : length p.typecodes.now ≡ length p.hypotheses.now
   pub grouped : AreSpansIn (length p.places.now) p.groups.now
 
 -- the statement with this header, these symbols and these parts
-abbrev pub made : Head → List ℕ → Assertion → Entry
-made h codes a = record { kind = h.kind; label = h.before.label; names = h.before.names; links = h.before.links; symbols = codes; assertion = a }
+abbrev pub made : EntryHeader → List ℕ → Assertion → Entry
+made h codes a = record { kind = h.kind; label = h.before.label; names = h.before.names; last_active = h.before.last_active; symbols = codes; assertion = a }
 
 -- no parts, and whether they are whole
 abbrev pub partless : Bool → Assertion
-partless whole = record { whole = whole; hypotheses = []; asked = []; heads = []; groups = [] }
+partless whole = record { whole = whole; hypotheses = []; required = []; typecodes = []; groups = [] }
 
 -- the statement that was read
 abbrev pub seen : EntryRef → Assertion → Entry
-seen x a = record { kind = x.kind; label = x.before.label; names = x.before.names; links = x.before.links; symbols = x.symbols.now; assertion = a }
+seen x a = record { kind = x.kind; label = x.before.label; names = x.before.names; last_active = x.before.last_active; symbols = x.symbols.now; assertion = a }
 
 -- the parts of a statement that are whole
-pub record AreWhole (e : Entry) (c : Cited) : Type 0 where
+pub record AreWhole (e : Entry) (c : AssertionView) : Type 0 where
   pub whole : e.assertion.whole ≡ true
-  pub heads : c.heads.now ≡ e.assertion.heads
-  pub hypotheses : c.hypotheses ≡ e.assertion.asked
+  pub typecodes : c.typecodes.now ≡ e.assertion.typecodes
+  pub hypotheses : c.hypotheses ≡ e.assertion.required
   pub conclusion : c.conclusion.now ≡ e.symbols
   pub groups : c.groups ≡ e.assertion.groups
 

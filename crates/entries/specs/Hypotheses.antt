@@ -2,9 +2,9 @@
 -- Metamath, 4.2.6: a citation reads of a `$f` the variable, of a `$e` the expression.
 -- The code keeps the numbers in one list with the others of its assertion.
 use Rattle.std.specs.Prelude.{ℕ, ◌-◌, nat_lt, if◌then◌else◌}
-use Rattle.entries.specs.declared.cited_parts.Hypothesis.{Hypothesis}
-use Rattle.entries.specs.declared.cited_parts.Hypothesis.TheVariants.{Float, Essential}
-use Rattle.entries.specs.declared.cited_parts.TheConstants.{ESSENTIALS}
+use Rattle.entries.specs.declared.assertion_view.Hypothesis.{Hypothesis}
+use Rattle.entries.specs.declared.assertion_view.Hypothesis.TheVariants.{Float, Essential}
+use Rattle.entries.specs.declared.assertion_view.TheConstants.{ESSENTIALS}
 
 -- the numbers of positions stand after those of variables
 abbrev pub told : ℕ → Hypothesis

@@ -2,10 +2,10 @@
 ghost use Rattle.std.specs.Prelude.{◌≡◌, ◌≤◌, ◌<◌, ◌+◌, ◌^◌, ◌++◌, ◌∷◌, [], length, take, slice_get, Some, OnOk, OnErr, IfOk, IfSome, true};
 ghost use Rattle.{entries.specs.Entries.Entry, entries.specs.Entries.IsEntry, entries.specs.Entries.AreWhole, entries.specs.Entries.AreShapedParts, entries.specs.Entries.assertion_of, entries.specs.Entries.made, entries.specs.Stored.Records.IsPlaced, entries.specs.Stored.Records.IsStored, entries.specs.Stored.Records.has_parts, entries.specs.Stored.Records.layout_in, entries.specs.Stored.Records.record_by, entries.specs.Stored.Records.run_by, entries.specs.Stored.Records.run_of, entries.specs.Stored.Spans.Extends};
 
+use crate::assertion_view::{AssertionView, Hypotheses};
 use crate::buffer_part::{BufferPart, item, part, place};
-use crate::cited_parts::{Cited, Hypotheses};
+use crate::entry_header::{EntryHeader, EntryRef, StateBefore};
 use crate::groups::Groups;
-use crate::head::{Background, EntryRef, Head};
 use crate::layout::{Layout, assertion_layout, counts, lay};
 use crate::parts::AssertionParts;
 use crate::room::give_back;
@@ -20,7 +20,7 @@ use std::marker::Model;
 #[derive(Drop)]
 pub struct Entries {
     records: Vec<StatementRecord>,
-    backgrounds: Vec<Background>,
+    states_before: Vec<StateBefore>,
     numbers: Vec<u32>,
     groups: Vec<BufferPart>,
 }
@@ -30,7 +30,7 @@ pub struct Entries {
 #[derive(Clone, Copy, Drop)]
 struct Stored<'a> {
     kept: StatementRecord,
-    before: Background,
+    before: StateBefore,
     numbers: &'a [u32],
     at: Layout,
     groups: &'a [BufferPart],
@@ -38,13 +38,13 @@ struct Stored<'a> {
 
 impl Model for Entries {
     ghost use Rattle.std.specs.Prelude.{List, length, ◌≡◌};
-    ghost use Rattle.{entries.specs.Entries.Entry, entries.specs.Stored.Records.bodies_of, entries.specs.Stored.Records.with_backgrounds, entries.specs.Stored.Records.ArePacked};
+    ghost use Rattle.{entries.specs.Entries.Entry, entries.specs.Stored.Records.bodies_of, entries.specs.Stored.Records.with_states_before, entries.specs.Stored.Records.ArePacked};
 
     ghost Value = { List Entry };
 
-    ghost view = { λ a. with_backgrounds (bodies_of a.numbers.items a.groups.items a.records.items) a.backgrounds.items };
+    ghost view = { λ a. with_states_before (bodies_of a.numbers.items a.groups.items a.records.items) a.states_before.items };
 
-    ghost invariant = { λ a. ArePacked a.numbers.items a.groups.items a.records.items × (length a.backgrounds.items ≡ length a.records.items) };
+    ghost invariant = { λ a. ArePacked a.numbers.items a.groups.items a.records.items × (length a.states_before.items ≡ length a.records.items) };
 }
 
 impl Entries {
@@ -54,7 +54,7 @@ impl Entries {
     {
         Entries {
             records: Vec::new(alloc),
-            backgrounds: Vec::new(alloc),
+            states_before: Vec::new(alloc),
             numbers: Vec::new(alloc),
             groups: Vec::new(alloc),
         }
@@ -107,7 +107,7 @@ impl Entries {
     }
 
     /// Returns the parts of the assertion at an index, where they are whole.
-    pub fn cited(&self, index: usize) -> Option<Cited<'_>>
+    pub fn cited(&self, index: usize) -> Option<AssertionView<'_>>
         requires { index < length self.now }
         ensures { (e : Entry) → slice_get self.now index ≡ Some e → IfSome result (AreWhole e) }
     {
@@ -121,9 +121,9 @@ impl Entries {
         if !kept.whole {
             return None;
         }
-        Some(Cited {
-            heads: part(numbers, at.heads, at.asked),
-            hypotheses: Hypotheses::new(part(numbers, at.asked, at.symbols)),
+        Some(AssertionView {
+            typecodes: part(numbers, at.typecodes, at.required),
+            hypotheses: Hypotheses::new(part(numbers, at.required, at.symbols)),
             conclusion: part(numbers, at.symbols, at.hypotheses),
             groups: Groups::new(groups, part(numbers, at.places, at.end)),
         })
@@ -139,7 +139,7 @@ impl Entries {
         let (numbers, at) = run_at(&self.records, &self.numbers, index, kept);
         let from = kept.groups as usize;
         let groups = part(&self.groups, from, from + at.groups);
-        let before = item(&self.backgrounds, index);
+        let before = item(&self.states_before, index);
         Stored {
             kept,
             before,
@@ -150,9 +150,13 @@ impl Entries {
     }
 
     /// Appends a statement. If an allocation fails, everything is as before.
-    pub fn push(&mut self, head: Head, parts: &AssertionParts<'_>) -> Result<(), AllocError>
+    pub fn push(
+        &mut self,
+        header: EntryHeader,
+        parts: &AssertionParts<'_>,
+    ) -> Result<(), AllocError>
         requires { AreShapedParts parts.now }
-        ensures added { OnOk result (self.new ≡ self.old ++ made head parts.now.symbols.now (assertion_of parts.now) ∷ []) }
+        ensures added { OnOk result (self.new ≡ self.old ++ made header parts.now.symbols.now (assertion_of parts.now) ∷ []) }
         ensures same { OnErr result (self.new ≡ self.old) }
     {
         let count = self.records.len();
@@ -163,14 +167,14 @@ impl Entries {
         let groups = self.groups.len();
         let added = add(
             &mut self.records,
-            &mut self.backgrounds,
+            &mut self.states_before,
             &mut self.numbers,
             &mut self.groups,
-            head,
+            header,
             parts,
         );
         if added.is_err() {
-            self.backgrounds.truncate(count);
+            self.states_before.truncate(count);
             self.numbers.truncate(from);
             self.groups.truncate(groups);
         }
@@ -186,7 +190,7 @@ impl Entries {
             self.numbers.truncate(first.from as usize);
             self.groups.truncate(first.groups as usize);
             self.records.truncate(len);
-            self.backgrounds.truncate(len);
+            self.states_before.truncate(len);
         }
     }
 
@@ -195,7 +199,7 @@ impl Entries {
         ensures { self.new ≡ self.old }
     {
         give_back(&mut self.records);
-        give_back(&mut self.backgrounds);
+        give_back(&mut self.states_before);
         give_back(&mut self.numbers);
         give_back(&mut self.groups);
     }
@@ -230,18 +234,18 @@ fn run_at<'a>(
 /// Appends a statement's parts, and its record.
 fn add(
     records: &mut Vec<StatementRecord>,
-    backgrounds: &mut Vec<Background>,
+    states_before: &mut Vec<StateBefore>,
     numbers: &mut Vec<u32>,
     groups: &mut Vec<BufferPart>,
-    head: Head,
+    header: EntryHeader,
     parts: &AssertionParts<'_>,
 ) -> Result<(), AllocError>
     ensures added { OnOk result (numbers.new.items ≡ numbers.old.items ++ run_of (has_parts parts.now) parts.now) }
     ensures groups { OnOk result (groups.new.items ≡ groups.old.items ++ parts.now.groups.now) }
-    ensures last { OnOk result (records.new.items ≡ records.old.items ++ record_by head.kind (has_parts parts.now) parts.now.whole (length numbers.old.items) (length groups.old.items) ∷ []) }
-    ensures background { OnOk result (backgrounds.new.items ≡ backgrounds.old.items ++ head.before ∷ []) }
+    ensures last { OnOk result (records.new.items ≡ records.old.items ++ record_by header.kind (has_parts parts.now) parts.now.whole (length numbers.old.items) (length groups.old.items) ∷ []) }
+    ensures state_before { OnOk result (states_before.new.items ≡ states_before.old.items ++ header.before ∷ []) }
     ensures same { OnErr result (records.new.items ≡ records.old.items) }
-    ensures more_backgrounds { Extends backgrounds.old.items backgrounds.new.items }
+    ensures more_states_before { Extends states_before.old.items states_before.new.items }
     ensures more { Extends numbers.old.items numbers.new.items }
     ensures more_groups { Extends groups.old.items groups.new.items }
 {
@@ -250,13 +254,13 @@ fn add(
     let has_parts = parts.hypotheses.len() + parts.groups.len() > 0;
     append(groups, parts.groups)?;
     add_numbers(numbers, parts, has_parts)?;
-    append(backgrounds, &[head.before])?;
+    append(states_before, &[header.before])?;
     append(
         records,
         &[StatementRecord {
             from,
             groups: first,
-            kind: head.kind,
+            kind: header.kind,
             has_parts,
             whole: parts.whole,
         }],
@@ -275,8 +279,8 @@ fn add_numbers(
     if !has_parts {
         return append(numbers, parts.symbols);
     }
-    append_both(numbers, &counts(parts)?, parts.heads)?;
-    append_both(numbers, parts.asked, parts.symbols)?;
+    append_both(numbers, &counts(parts)?, parts.typecodes)?;
+    append_both(numbers, parts.required, parts.symbols)?;
     append_both(numbers, parts.hypotheses, parts.places)
 }
 

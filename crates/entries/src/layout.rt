@@ -13,9 +13,9 @@ pub const COUNTS: usize = 4;
 #[derive(Clone, Copy, Drop)]
 pub struct Layout {
     /// The typecodes of its hypotheses.
-    pub heads: usize,
+    pub typecodes: usize,
     /// Its hypotheses, each as one number.
-    pub asked: usize,
+    pub required: usize,
     /// Its symbols.
     pub symbols: usize,
     /// The positions of its hypotheses.
@@ -29,16 +29,16 @@ pub struct Layout {
 
 /// Returns the layout of so many hypotheses, symbols, groups and variables of groups, the first part of which begins there.
 #[inline(always)]
-pub fn lay(heads: usize, count: usize, symbols: usize, groups: usize, places: usize) -> Layout
-    requires { (laid heads count symbols groups places).end < 2 ^ 64 }
-    ensures { result ≡ laid heads count symbols groups places }
+pub fn lay(typecodes: usize, count: usize, symbols: usize, groups: usize, places: usize) -> Layout
+    requires { (laid typecodes count symbols groups places).end < 2 ^ 64 }
+    ensures { result ≡ laid typecodes count symbols groups places }
 {
-    let asked = heads + count;
-    let hypotheses = asked + count + symbols;
+    let required = typecodes + count;
+    let hypotheses = required + count + symbols;
     Layout {
-        heads,
-        asked,
-        symbols: asked + count,
+        typecodes,
+        required,
+        symbols: required + count,
         hypotheses,
         places: hypotheses + count,
         end: hypotheses + count + places,

@@ -10,10 +10,10 @@ pub struct AssertionParts<'a> {
     pub symbols: &'a [u32],
     /// The positions of its hypotheses, in order.
     pub hypotheses: &'a [u32],
-    /// Each of them as one number, as `cited_parts::number_of` has it.
-    pub asked: &'a [u32],
+    /// Each of them as one number, as `assertion_view::number_of` has it.
+    pub required: &'a [u32],
     /// The typecode of each.
-    pub heads: &'a [u32],
+    pub typecodes: &'a [u32],
     /// The variables whose images must be disjoint, one group after another.
     pub places: &'a [u32],
     /// The groups.

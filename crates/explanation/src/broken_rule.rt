@@ -2,8 +2,8 @@
 use crate::statement_symbols::{label_of, symbol_at, symbols_before};
 use crate::written_lines::Page;
 use mm_read::{ReadFault, Stmt, read};
-use offence::{Witness, never_closed, witness_of};
 use places::place_of;
+use rule_violation::{RuleViolation, never_closed, violation_of};
 use scope::Rule;
 use std::alloc::Global;
 
@@ -93,16 +93,18 @@ fn explain_statement(alloc: Global, page: &mut Page<'_>, broken: &Broken<'_>) {
     }
     let (earlier, rest) = broken.statements.split_at(index);
     let stmt = &rest[0];
-    match witness_of(alloc, earlier, stmt, broken.rule) {
-        Ok(Some(Witness::Statement)) => explain_alone(alloc, page, broken),
-        Ok(Some(Witness::Symbol { symbol })) => explain_symbol(alloc, page, broken, stmt, symbol),
-        Ok(Some(Witness::Twice { first, second })) => {
+    match violation_of(alloc, earlier, stmt, broken.rule) {
+        Ok(Some(RuleViolation::Statement)) => explain_alone(alloc, page, broken),
+        Ok(Some(RuleViolation::Symbol { symbol })) => explain_symbol(
+            alloc, page, broken, stmt, symbol,
+        ),
+        Ok(Some(RuleViolation::Twice { first, second })) => {
             explain_twice(alloc, page, broken, stmt, first, second);
         }
-        Ok(Some(Witness::Earlier { symbol, statement })) => {
+        Ok(Some(RuleViolation::Earlier { symbol, statement })) => {
             explain_earlier(alloc, page, broken, stmt, symbol, statement);
         }
-        Ok(Some(Witness::Label { statement })) => explain_label(
+        Ok(Some(RuleViolation::Label { statement })) => explain_label(
             alloc, page, broken, stmt, statement,
         ),
         Ok(None) => {}

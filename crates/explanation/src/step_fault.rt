@@ -28,15 +28,15 @@ pub(crate) fn push_fault(
         } => push_constant(page, theorem, frames, *hypothesis, result.as_slice()),
         Fault::Expression {
             hypothesis,
-            asked,
+            required,
             result,
             ..
-        } => push_asked(
+        } => push_required(
             page,
             theorem,
             frames,
             *hypothesis,
-            asked.as_slice(),
+            required.as_slice(),
             result.as_slice(),
         ),
         Fault::Together {
@@ -97,17 +97,17 @@ fn push_constant(
 }
 
 /// Writes that a result is not the one that a hypothesis requires.
-fn push_asked(
+fn push_required(
     page: &mut Page<'_>,
     theorem: &Theorem<'_>,
     frames: &Frames,
     hypothesis: usize,
-    asked: &[u32],
+    required: &[u32],
     there: &[u32],
 ) {
     push_hypothesis(page, theorem, hypothesis);
     page.push(b" asks for");
-    push_expression(page, frames, asked);
+    push_expression(page, frames, required);
     push_there(page, frames, there);
 }
 

@@ -49,7 +49,7 @@ fn taken_by(
     requires { AreRight library.now.replica.statements [] (map (λ label. label.now) labels.now) }
     ensures { IfOk result (λ text. IsExtract library.now.replica.statements (map (λ label. label.now) labels.now) text.items) }
 {
-    enter(chosen(alloc, library, labels)?, part)?;
+    add_text(chosen(alloc, library, labels)?, part)?;
     if is_extract(alloc, library.statements(), part.statements(), labels)? {
         part.export()
     } else {
@@ -70,7 +70,7 @@ fn chosen(alloc: Global, library: &Library, labels: &[&str]) -> Result<Vec<u8>, 
 }
 
 /// Adds the statements of a text, if they are good.
-fn enter(text: Vec<u8>, part: &mut Library) -> Result<(), AllocError> {
+fn add_text(text: Vec<u8>, part: &mut Library) -> Result<(), AllocError> {
     let text = Bytes::from_vec(text).map_err(AllocError::from)?;
     let entry = Entry::Text(Submission {
         author: 0,

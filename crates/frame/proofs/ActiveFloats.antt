@@ -1,6 +1,6 @@
 -- One `$f` of a variable is active, and a hypothesis is a `$e` or such a `$f`.
 use Rattle.frame.proofs.Words.{sym, ◌∙◌, ap, subst, arith, inl, inr, length-append, take-append-drop, ◌≡◌, ℕ, suc, ◌+◌, ◌-◌, ◌<◌, true, false, not, ◌&&◌, ◌⊎◌, ◌∷◌, ◌++◌, length, take, drop, slice_get, Some, refl, take-append-add, bytes_eq-Decides, and_parts, Name, has_name, Stmt, Expr, Database, stays_open, is_active, is_essential, is_variable, has_float, is_float_of, IsLegal, is_mandatory, is_hypothesis, is_float_in}
-use Rattle.frame.proofs.LinksLemmas.{drop-front}
+use Rattle.frame.proofs.LastActiveLemmas.{drop-front}
 use Rattle.mm_read.specs.declared.stmt.Stmt.TheVariants as stmt
 use Rattle.frame.proofs.LegalLabels.{AllKept}
 use Rattle.frame.proofs.ActiveBehind.{stands-active}

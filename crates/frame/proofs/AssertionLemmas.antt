@@ -1,6 +1,6 @@
 -- A statement is kept with the parts that were found, and stays so when others are appended.
 use Rattle.frame.proofs.Words.{Result, Ok, Err, OnOk, sym, ◌∙◌, ap, subst, arith, inl, inr, ◌≡◌, ℕ, ◌-◌, ◌≤◌, Bool, true, false, List, [], ◌∷◌, ◌++◌, length, map, filter, take, slice_get, Some, refl, take-append_seam, take-map, take_all}
-use Rattle.frame.proofs.Words.{Name, Stmt, Expr, Database, active, expr_of, is_essential, name_at, decode, hypotheses, is_hypothesis, actives, is_disj, is_hypothesis_kind, head_of, Kind, Float, Ess, Entry, Assertion, take-get, stmt_by, stmt_of, In, AreHypotheses, IsSpread, is_hypothesis_entry, IsDraftOf, IsKeptAs, IsKeptOf, Stock, length-map, kept_with, is_float_in, floats_in, asked_at, option_asked, head_at, symbols_at, option_symbols, groups_by}
+use Rattle.frame.proofs.Words.{Name, Stmt, Expr, Database, active, expr_of, is_essential, name_at, decode, hypotheses, is_hypothesis, actives, is_disj, is_hypothesis_kind, typecode_of, Kind, Float, Ess, Entry, Assertion, take-get, stmt_by, stmt_of, In, AreHypotheses, IsFilledFrom, is_hypothesis_entry, ArePartsFor, IsKeptAs, IsKeptOf, Storage, length-map, kept_with, is_float_in, floats_in, required_at, option_required, typecode_at, symbols_at, option_symbols, groups_by}
 use Rattle.std.proofs.lemmas.Simd.{map-map}
 use Rattle.mm_read.specs.declared.stmt.Stmt.TheVariants as stmt
 use Rattle.frame.proofs.ActivePositions.{active-members}
@@ -70,9 +70,9 @@ pub kept-moved : (names labels : List Name) (es fs : List Entry) (i : ℕ) (s : 
     → IsKeptAs es (take i (map (stmt_of names labels) es)) s d → IsKeptAs fs (take i (map (stmt_of names labels) es)) s d
 kept-moved names labels es fs i s d same k = record {
   hypotheses_kept = k.hypotheses_kept;
-  asked_kept = k.asked_kept ∙ alike (asked_at es) (asked_at fs) d.hypotheses (λ p j. ap (option_asked p) (agree p j));
-  heads_kept = k.heads_kept ∙ alike (head_at es) (head_at fs) d.hypotheses (λ p j. ap (λ o. head_of (option_symbols o)) (agree p j));
-  groups_kept = λ w. k.groups_kept w ∙ ap (groups_by d.asked) symbols;
+  required_kept = k.required_kept ∙ alike (required_at es) (required_at fs) d.hypotheses (λ p j. ap (option_required p) (agree p j));
+  typecodes_kept = k.typecodes_kept ∙ alike (typecode_at es) (typecode_at fs) d.hypotheses (λ p j. ap (λ o. typecode_of (option_symbols o)) (agree p j));
+  groups_kept = λ w. k.groups_kept w ∙ ap (groups_by d.required) symbols;
   own_kept = k.own_kept;
 }
   where
@@ -105,19 +105,19 @@ kept-more names labels es more s d k =
     (kept-moved names labels es (es ++ more) (length es) s d (take_all (length es) es (omega arith) ∙ sym (take-append_seam es more)) (subst (λ T. IsKeptAs es T s d) (sym all) k))
 
 -- all mandatory hypotheses of s with their groups are the kept form of s
-pub spread-kept : (es : List Entry) (S : Database) (s : Stmt) (ps : List ℕ) (d : Assertion) → ps ≡ hypotheses S s → (is_essential s ≡ true → ⊥) → IsSpread es S ps d → IsKeptAs es S s d
-spread-kept es S s ps d all other p = record {
+pub filled-kept : (es : List Entry) (S : Database) (s : Stmt) (ps : List ℕ) (d : Assertion) → ps ≡ hypotheses S s → (is_essential s ≡ true → ⊥) → IsFilledFrom es S ps d → IsKeptAs es S s d
+filled-kept es S s ps d all other p = record {
   hypotheses_kept = p.same ∙ (all ∙ ap (λ b. kept_with b S s) (sym p.is_whole));
-  asked_kept = p.described.asked_made;
-  heads_kept = p.described.heads_made;
+  required_kept = p.described.required_made;
+  typecodes_kept = p.described.typecodes_made;
   groups_kept = p.described.groups_made;
   own_kept = λ e. absurd (other e);
 }
 
-pub drafted-of : (k : Stock) (s : Stmt) (d : Assertion) → IsKeptOf k s d → IsDraftOf k s d
-drafted-of k s d p = record {
-  paired = ap length p.asked_kept ∙ length-map d.hypotheses (asked_at k.entries);
-  headed = ap length p.heads_kept ∙ length-map d.hypotheses (head_at k.entries);
+pub parts-for : (k : Storage) (s : Stmt) (d : Assertion) → IsKeptOf k s d → ArePartsFor k s d
+parts-for k s d p = record {
+  paired = ap length p.required_kept ∙ length-map d.hypotheses (required_at k.entries);
+  headed = ap length p.typecodes_kept ∙ length-map d.hypotheses (typecode_at k.entries);
   kept = λ has. p;
 }
 

@@ -1,12 +1,12 @@
 -- Going back over the active statements of a kind that stand in the last block.
 use Rattle.frame.proofs.Words.{◌≡◌, ◌∙◌, ap, sym, subst, arith, refl, inl, inr, ℕ, suc, ◌+◌, ◌-◌, ◌<◌, ◌≤◌, ◌⊎◌, Bool, true, false, cond, nat_eq, List, [], ◌∷◌, ◌++◌, length, length-take, take, take_all, take-append_seam, length-append, append_assoc, append-nil, slice_get, Some, list_any}
-use Rattle.frame.proofs.Words.{Stmt, Database, Entry, Kind, Links, is_open, is_close, actives, actives_from, last_active, links_of, Stock, statements_of, names_in, labels_in, stmt_of, AreStored}
+use Rattle.frame.proofs.Words.{Stmt, Database, Entry, Kind, LastActive, is_open, is_close, actives, actives_from, last_active_of_kind, last_active_of, Storage, statements_of, names_in, labels_in, stmt_of, AreStored}
 use Rattle.mm_read.specs.declared.stmt.Stmt.TheVariants as stmt
 use Rattle.entries.specs.declared.kind.Kind.TheVariants.{Close, Disj, Var}
 use Rattle.entries.specs.Histories.{StackVersion, IsUntil, AreUntil, history, kept_until, gone_back, stack_at}
 use Rattle.entries.proofs.HistoryLemmas.{stack-later, stack-changed}
 use Rattle.frame.specs.Stored.AssertionParts.{option_symbols}
-use Rattle.frame.specs.Stored.Stacks.{has_code, having, AreStacks, kind_test, latest_of, link_by, opening, KeepsUntil, AreChangedBy, IsNext}
+use Rattle.frame.specs.Stored.Stacks.{has_code, having, AreStacks, kind_test, latest_of, last_by_kind, opening, KeepsUntil, AreChangedBy, IsNext}
 use Rattle.frame.specs.declared.stacks.NextStatement.{NextStatement}
 use Rattle.frame.specs.Stored.Whole.{IsWalked}
 use Rattle.frame.proofs.OpenLemmas.{HasLast, split_last, last-position, actives-append, stays-from, is-open}
@@ -32,14 +32,14 @@ same-split b h (p ∷ xs) ys (q ∷ us) vs x u y v e =
 
 -- ---- those before the last block
 
-module _ (kind : Stmt → Bool) (no_open : kind stmt.Open ≡ false) (S : Database) (block : ℕ) (is : block ≡ last_active is_open S) where
+module _ (kind : Stmt → Bool) (no_open : kind stmt.Open ≡ false) (S : Database) (block : ℕ) (is : block ≡ last_active_of_kind is_open S) where
   -- those that stand at the block or before it were active where it opened
   pub front-same : (p high : ℕ) (rest : List (ℕ × Stmt)) → p ≤ block → actives kind S ≡ actives kind (take p S) ++ rest → AreIn (suc block) high rest → actives kind (take p S) ≡ actives kind (take (block - 1) S)
   front-same p high rest le list above = by (split_last is_open S)
     where
       by : HasLast is_open S → actives kind (take p S) ≡ actives kind (take (block - 1) S)
       by (inl none) =
-          let z : last_active is_open S ≡ 0 = rw (none 1) refl in
+          let z : last_active_of_kind is_open S ≡ 0 = rw (none 1) refl in
           ap (λ n. actives kind (take n S)) (omega (arith, le, is, z))
       by (inr q) =
           let A = q.0 in
@@ -59,7 +59,7 @@ module _ (kind : Stmt → Bool) (no_open : kind stmt.Open ≡ false) (S : Databa
           (sym list ∙ whole)
           ∙ ap (actives kind) front
 
-chain_of : (of : Kind) → IsChain (kind_test of) (link_by of)
+chain_of : (of : Kind) → IsChain (kind_test of) (last_by_kind of)
 chain_of Disj = disjoint_chain
 chain_of kind = variable_chain
 
@@ -69,24 +69,24 @@ no-open kind = refl
 
 -- ---- the walk: each stack went back, or is that of the statements that are left
 
-pub record IsGoing (of : Kind) (k : Stock) (block before at p : ℕ) (old now : List (List StackVersion)) : Type 0 where
+pub record IsGoing (of : Kind) (k : Storage) (block before at p : ℕ) (old now : List (List StackVersion)) : Type 0 where
   pub place : IsAt (kind_test of) k p
   pub rest : List (ℕ × Stmt)
   pub list : actives (kind_test of) (statements_of k) ≡ walked (kind_test of) k p ++ rest
   pub above : AreIn (suc block) (length k.entries) rest
   pub each : (c : ℕ) → (history now c ≡ gone_back at before (history old c)) ⊎ ((history now c ≡ history old c) × (stack_at (history old c) at ≡ having k.entries c (walked (kind_test of) k p)))
 
-module _ (of : Kind) (k : Stock) (block before at : ℕ) (old : List (List StackVersion)) (stored : AreStored k) (stacks : AreStacks (kind_test of) old k.entries (statements_of k)) (place : at ≡ length k.entries + 1) where
+module _ (of : Kind) (k : Storage) (block before at : ℕ) (old : List (List StackVersion)) (stored : AreStored k) (stacks : AreStacks (kind_test of) old k.entries (statements_of k)) (place : at ≡ length k.entries + 1) where
   abbrev S : Database
   S = statements_of k
 
   abbrev kind : Stmt → Bool
   kind = kind_test of
 
-  pub going-start : (p : ℕ) → p ≡ link_by of k.links → IsGoing of k block before at p old old
+  pub going-start : (p : ℕ) → p ≡ last_by_kind of k.last_active → IsGoing of k block before at p old old
   going-start p is =
       let whole : take (length S) S ≡ S = take_all (length S) S (omega arith) in
-      let f = walk-from k (length S) k.links (chain_of of) (omega arith) (stored.kept.last ∙ ap links_of (sym whole)) in
+      let f = walk-from k (length S) k.last_active (chain_of of) (omega arith) (stored.kept.last ∙ ap last_active_of (sym whole)) in
       let same : walked kind k p ≡ actives kind S = ap (walked kind k) is ∙ (f.same ∙ ap (actives kind) whole) in
       record {
         place = subst (IsAt kind k) (sym is) f.at;
@@ -100,7 +100,7 @@ module _ (of : Kind) (k : Stock) (block before at : ℕ) (old : List (List Stack
       }
 
   pub going-step : (p : ℕ) (now new : List (List StackVersion)) (e : Entry) → IsGoing of k block before at p old now → block < p → slice_get k.entries (p - 1) ≡ Some e → AreChangedBy (gone_back at before) e.symbols now new
-      → IsGoing of k block before at (link_by of e.links) old new
+      → IsGoing of k block before at (last_by_kind of e.last_active) old new
   going-step p now new e g lt got are =
       let s = walk-step e (chain_of of) stored g.place (omega (arith, lt)) got in
       let x : ℕ × Stmt = (p, stmt_of (names_in k) (labels_in k) e) in
@@ -108,20 +108,20 @@ module _ (of : Kind) (k : Stock) (block before at : ℕ) (old : List (List Stack
       record {
         place = s.at;
         rest = x ∷ g.rest;
-        list = g.list ∙ (ap (λ r. r ++ g.rest) s.list ∙ append_assoc (walked kind k (link_by of e.links)) (x ∷ []) g.rest);
+        list = g.list ∙ (ap (λ r. r ++ g.rest) s.list ∙ append_assoc (walked kind k (last_by_kind of e.last_active)) (x ∷ []) g.rest);
         above = ((omega (arith, lt), within), g.above);
         each = λ c. by c (list_any (λ y. nat_eq c y) e.symbols) refl (are c) (g.each c);
       }
     where
       by : (c : ℕ) (b : Bool) → list_any (λ y. nat_eq c y) e.symbols ≡ b → history new c ≡ cond b (gone_back at before (history now c)) (history now c)
           → (history now c ≡ gone_back at before (history old c)) ⊎ ((history now c ≡ history old c) × (stack_at (history old c) at ≡ having k.entries c (walked kind k p)))
-          → (history new c ≡ gone_back at before (history old c)) ⊎ ((history new c ≡ history old c) × (stack_at (history old c) at ≡ having k.entries c (walked kind k (link_by of e.links))))
+          → (history new c ≡ gone_back at before (history old c)) ⊎ ((history new c ≡ history old c) × (stack_at (history old c) at ≡ having k.entries c (walked kind k (last_by_kind of e.last_active))))
       by c true has h (inl back) = inl (h ∙ (ap (gone_back at before) back ∙ back-twice at before (history old c)))
       by c true has h (inr stay) = inl (h ∙ ap (gone_back at before) stay.0)
       by c false has h (inl back) = inl (h ∙ back)
       by c false has h (inr stay) =
           let s = walk-step e (chain_of of) stored g.place (omega (arith, lt)) got in
-          let q = link_by of e.links in
+          let q = last_by_kind of e.last_active in
           let told : has_code k.entries c p ≡ false = ap (λ o. list_any (λ y. nat_eq c y) (option_symbols o)) got ∙ has in
           inr (
             h ∙ stay.0,
@@ -149,10 +149,10 @@ module _ (of : Kind) (k : Stock) (block before at : ℕ) (old : List (List Stack
         by (inl back) = ap (kept_until (at - 1)) back ∙ back-kept at before (at - 1) low (history old c)
         by (inr stay) = ap (kept_until (at - 1)) stay.0
 
-    pub going-end : p ≤ block → block ≡ k.links.block → before ≡ opening block → IsNext at (λ c. stack_at (history old c) (opening block)) old now
+    pub going-end : p ≤ block → block ≡ k.last_active.block → before ≡ opening block → IsNext at (λ c. stack_at (history old c) (opening block)) old now
     going-end le is opens = record { latest = λ c. by c (g.each c); until = going-until; kept = going-kept }
       where
-        last : block ≡ last_active is_open S
+        last : block ≡ last_active_of_kind is_open S
         last = is ∙ ap (λ l. l.block) stored.kept.last
 
         by : (c : ℕ) → (history now c ≡ gone_back at before (history old c)) ⊎ ((history now c ≡ history old c) × (stack_at (history old c) at ≡ having k.entries c (walked kind k p))) → stack_at (history now c) (at + 1) ≡ stack_at (history old c) (opening block)
@@ -167,45 +167,45 @@ module _ (of : Kind) (k : Stock) (block before at : ℕ) (old : List (List Stack
 
 -- ---- the walk over the entries that a storage has
 
-pub record IsBackTo (of : Kind) (es : List Entry) (links : Links) (before at p : ℕ) (old now : List (List StackVersion)) : Type 0 where
-  pub walked_by : IsWalked of es links old
-  pub going : IsGoing of walked_by.storage links.block before at p old now
+pub record IsBackTo (of : Kind) (es : List Entry) (last_active : LastActive) (before at p : ℕ) (old now : List (List StackVersion)) : Type 0 where
+  pub walked_by : IsWalked of es last_active old
+  pub going : IsGoing of walked_by.storage last_active.block before at p old now
 
-module _ (of : Kind) (es : List Entry) (links : Links) (before at : ℕ) (old : List (List StackVersion)) (place : at ≡ length es + 1) where
-  stacks-of : (w : IsWalked of es links old) → AreStacks (kind_test of) old w.storage.entries (statements_of w.storage)
+module _ (of : Kind) (es : List Entry) (last_active : LastActive) (before at : ℕ) (old : List (List StackVersion)) (place : at ≡ length es + 1) where
+  stacks-of : (w : IsWalked of es last_active old) → AreStacks (kind_test of) old w.storage.entries (statements_of w.storage)
   stacks-of w = subst (λ fs. AreStacks (kind_test of) old fs (statements_of w.storage)) w.entries_are w.stacks
 
-  place-of : (w : IsWalked of es links old) → at ≡ length w.storage.entries + 1
+  place-of : (w : IsWalked of es last_active old) → at ≡ length w.storage.entries + 1
   place-of w = place ∙ ap (λ fs. length fs + 1) w.entries_are
 
-  pub back-start : (p : ℕ) → IsWalked of es links old → p ≡ link_by of links → IsBackTo of es links before at p old old
-  back-start p w is = record { walked_by = w; going = going-start of w.storage links.block before at old w.stored (stacks-of w) (place-of w) p (is ∙ ap (link_by of) w.links_are) }
+  pub back-start : (p : ℕ) → IsWalked of es last_active old → p ≡ last_by_kind of last_active → IsBackTo of es last_active before at p old old
+  back-start p w is = record { walked_by = w; going = going-start of w.storage last_active.block before at old w.stored (stacks-of w) (place-of w) p (is ∙ ap (last_by_kind of) w.last_active_are) }
 
-  module _ (p : ℕ) (now : List (List StackVersion)) (b : IsBackTo of es links before at p old now) where
-    abbrev w : IsWalked of es links old
+  module _ (p : ℕ) (now : List (List StackVersion)) (b : IsBackTo of es last_active before at p old now) where
+    abbrev w : IsWalked of es last_active old
     w = b.walked_by
 
     pub back-within : p ≤ length es
     back-within = omega (arith, b.going.place.within, ap length w.entries_are)
 
     pub walk-until : AreUntil at now
-    walk-until = going-until of w.storage links.block before at old w.stored (stacks-of w) (place-of w) p now b.going
+    walk-until = going-until of w.storage last_active.block before at old w.stored (stacks-of w) (place-of w) p now b.going
 
     pub walk-kept : KeepsUntil (at - 1) old now
-    walk-kept = going-kept of w.storage links.block before at old w.stored (stacks-of w) (place-of w) p now b.going
+    walk-kept = going-kept of w.storage last_active.block before at old w.stored (stacks-of w) (place-of w) p now b.going
 
-    pub back-end : p ≤ links.block → before ≡ opening links.block → IsNext at (λ c. stack_at (history old c) (opening links.block)) old now
-    back-end le opens = going-end of w.storage links.block before at old w.stored (stacks-of w) (place-of w) p now b.going le (ap (λ l. l.block) w.links_are) opens
+    pub back-end : p ≤ last_active.block → before ≡ opening last_active.block → IsNext at (λ c. stack_at (history old c) (opening last_active.block)) old now
+    back-end le opens = going-end of w.storage last_active.block before at old w.stored (stacks-of w) (place-of w) p now b.going le (ap (λ l. l.block) w.last_active_are) opens
 
-    module _ (e : Entry) (lt : links.block < p) (got : slice_get es (p - 1) ≡ Some e) where
+    module _ (e : Entry) (lt : last_active.block < p) (got : slice_get es (p - 1) ≡ Some e) where
       there : slice_get w.storage.entries (p - 1) ≡ Some e
       there = ap (λ fs. slice_get fs (p - 1)) (sym w.entries_are) ∙ got
 
-      pub back-smaller : link_by of e.links < p
+      pub back-smaller : last_by_kind of e.last_active < p
       back-smaller = (walk-step e (chain_of of) w.stored b.going.place (omega (arith, lt)) there).smaller
 
-      pub back-step : (new : List (List StackVersion)) → AreChangedBy (gone_back at before) e.symbols now new → IsBackTo of es links before at (link_by of e.links) old new
-      back-step new are = record { walked_by = w; going = going-step of w.storage links.block before at old w.stored (stacks-of w) (place-of w) p now new e b.going lt there are }
+      pub back-step : (new : List (List StackVersion)) → AreChangedBy (gone_back at before) e.symbols now new → IsBackTo of es last_active before at (last_by_kind of e.last_active) old new
+      back-step new are = record { walked_by = w; going = going-step of w.storage last_active.block before at old w.stored (stacks-of w) (place-of w) p now new e b.going lt there are }
 
 -- ---- a statement that changes no stack of a kind
 
@@ -223,12 +223,12 @@ pub next-other : (at : ℕ) (old : List (List StackVersion)) (behind : ℕ → L
 next-other at old behind one until is = let n = next-same at one old until in record { latest = λ c. n.latest c ∙ sym (is c); until = n.until; kept = n.kept }
 
 -- until the last entry
-pub walked-until : (of : Kind) (es : List Entry) (links : Links) (hs : List (List StackVersion)) (at : ℕ) → IsWalked of es links hs → at ≡ length es + 1 → AreUntil (at - 1) hs
-walked-until of es links hs at w place c = subst (λ n. IsUntil n (history hs c)) (omega (arith, place)) (w.stacks.until c)
+pub walked-until : (of : Kind) (es : List Entry) (last_active : LastActive) (hs : List (List StackVersion)) (at : ℕ) → IsWalked of es last_active hs → at ≡ length es + 1 → AreUntil (at - 1) hs
+walked-until of es last_active hs at w place c = subst (λ n. IsUntil n (history hs c)) (omega (arith, place)) (w.stacks.until c)
 
 -- a storage that grew has the stacks that it had
-pub walked-disj : (old : Stock) (es : List Entry) (links : Links) (hs : List (List StackVersion)) → AreStored old → es ≡ old.entries → links ≡ old.links → hs ≡ old.disjoints → IsWalked Disj es links hs
-walked-disj old es links hs stored entries same is = record { storage = old; stored = stored; entries_are = entries; links_are = same; stacks = rw (is, entries) stored.disjoints }
+pub walked-disj : (old : Storage) (es : List Entry) (last_active : LastActive) (hs : List (List StackVersion)) → AreStored old → es ≡ old.entries → last_active ≡ old.last_active → hs ≡ old.disjoints → IsWalked Disj es last_active hs
+walked-disj old es last_active hs stored entries same is = record { storage = old; stored = stored; entries_are = entries; last_active_are = same; stacks = rw (is, entries) stored.disjoints }
 
-pub walked-var : (old : Stock) (es : List Entry) (links : Links) (hs : List (List StackVersion)) → AreStored old → es ≡ old.entries → links ≡ old.links → hs ≡ old.variables → IsWalked Var es links hs
-walked-var old es links hs stored entries same is = record { storage = old; stored = stored; entries_are = entries; links_are = same; stacks = rw (is, entries) stored.variables }
+pub walked-var : (old : Storage) (es : List Entry) (last_active : LastActive) (hs : List (List StackVersion)) → AreStored old → es ≡ old.entries → last_active ≡ old.last_active → hs ≡ old.variables → IsWalked Var es last_active hs
+walked-var old es last_active hs stored entries same is = record { storage = old; stored = stored; entries_are = entries; last_active_are = same; stacks = rw (is, entries) stored.variables }

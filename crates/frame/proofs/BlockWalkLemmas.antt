@@ -1,7 +1,7 @@
 -- The active statements at a position, and walking back from one active statement of a kind to the one before it.
-use Rattle.frame.proofs.Words.{sym, ◌∙◌, ap, arith, inl, inr, length-append, le-leb, lt-ltb, ◌≡◌, ℕ, zero, suc, ◌+◌, ◌-◌, ◌<◌, ◌≤◌, Bool, true, ◌&&◌, nat_lt, List, [], ◌∷◌, ◌++◌, length, take, drop, slice_get, Some, refl, take-append_seam, take-take, take_all, drop-take, Stmt, Database, stays_open, is_active, take-get, actives, last_position, last_active}
+use Rattle.frame.proofs.Words.{sym, ◌∙◌, ap, arith, inl, inr, length-append, le-leb, lt-ltb, ◌≡◌, ℕ, zero, suc, ◌+◌, ◌-◌, ◌<◌, ◌≤◌, Bool, true, ◌&&◌, nat_lt, List, [], ◌∷◌, ◌++◌, length, take, drop, slice_get, Some, refl, take-append_seam, take-take, take_all, drop-take, Stmt, Database, stays_open, is_active, take-get, actives, last_position, last_active_of_kind}
 use Rattle.frame.proofs.LegalBehind.{stands-at}
-use Rattle.frame.proofs.LinksLemmas.{actives-push, length-cut}
+use Rattle.frame.proofs.LastActiveLemmas.{actives-push, length-cut}
 use Rattle.frame.proofs.OpenLemmas.{HasLast, IsNoClose, no_close, split_last, last-actives, last-position}
 
 pub get-take : {A : Type 0} (i m : ℕ) (S : List A) → i < m → slice_get (take m S) i ≡ slice_get S i
@@ -10,10 +10,10 @@ get-take i (suc m) [] h = refl
 get-take zero (suc m) (x ∷ S) h = refl
 get-take (suc i) (suc m) (x ∷ S) h = get-take i m S (omega (arith, h))
 
-pub last-within : (kind : Stmt → Bool) (S : Database) → IsNoClose kind → last_active kind S ≤ length S
+pub last-within : (kind : Stmt → Bool) (S : Database) → IsNoClose kind → last_active_of_kind kind S ≤ length S
 last-within kind S n = by (split_last kind S)
   where
-    by : HasLast kind S → last_active kind S ≤ length S
+    by : HasLast kind S → last_active_of_kind kind S ≤ length S
     by (inl none) = rw (none 1) (omega arith)
     by (inr p) = omega (arith, last-position kind S p.0 p.1 p.2 n p.3, ap length p.3.cut, length-append p.0 (p.1 ∷ p.2))
 
@@ -38,7 +38,7 @@ pub record IsBack (kind : Stmt → Bool) (S : Database) (m p : ℕ) (s : Stmt) :
   pub of_kind : kind s ≡ true
   pub list : actives kind (take m S) ≡ actives kind (take (p - 1) S) ++ (p, s) ∷ []
 
-pub walk-back : (kind : Stmt → Bool) (S : Database) (m p : ℕ) → IsNoClose kind → p ≡ last_active kind (take m S) → (p ≡ 0 → ⊥) → (s : Stmt) × IsBack kind S m p s
+pub walk-back : (kind : Stmt → Bool) (S : Database) (m p : ℕ) → IsNoClose kind → p ≡ last_active_of_kind kind (take m S) → (p ≡ 0 → ⊥) → (s : Stmt) × IsBack kind S m p s
 walk-back kind S m p n e some = by (split_last kind (take m S))
   where
     by : HasLast kind (take m S) → (s : Stmt) × IsBack kind S m p s
@@ -76,7 +76,7 @@ back-own kind S m p s n b =
     ∙ (ap (actives kind) (take-one S (p - 1) s b.stands)
     ∙ (actives-push kind (take (p - 1) S) s (no_close kind s n b.of_kind) ∙ rw (b.of_kind, place) refl))
 
-pub walk-over : (kind : Stmt → Bool) (S : Database) → IsNoClose kind → last_active kind S ≡ 0 → actives kind S ≡ []
+pub walk-over : (kind : Stmt → Bool) (S : Database) → IsNoClose kind → last_active_of_kind kind S ≡ 0 → actives kind S ≡ []
 walk-over kind S n z = by (split_last kind S)
   where
     by : HasLast kind S → actives kind S ≡ []

@@ -1,6 +1,6 @@
 -- Collecting positions: the loops' steps.
 use Rattle.frame.proofs.Words.{◌||◌, ◌==◌, list_any, list_any-append, or_cases, sym, ◌∙◌, ap, subst, arith, inl, inr, ⊎_elim, true≢false, cond, false, nat_cmp, ◌≡◌, ℕ, suc, ◌+◌, ◌-◌, ◌<◌, ◌≤◌, Bool, true, ◌⊎◌, List, [], ◌∷◌, ◌++◌, length, map, get_or, slice_get, eqb, Some, refl, ⊎_map, and_parts, or_left, length-map, Contains, dedup, slice_get_within, slice_get_read, get_or_from_slice_get}
-use Rattle.frame.proofs.Words.{is_active, Stock, Database, Name, Kind, Float, Var, Entry, In, Ascends, AreThose, HasMore, OfSome, IsFloatOf, AreLooked, AreFloats, AreWith, AreCollected, floats, last_where, stmt_by, stmt_of, is_float_kind, is_var_kind, names_in, labels_in, statements_of, IsPlain}
+use Rattle.frame.proofs.Words.{is_active, Storage, Database, Name, Kind, Float, Var, Entry, In, Ascends, AreThose, HasMore, OfSome, IsFloatOf, AreLooked, AreFloats, AreWith, AreCollected, floats, last_where, stmt_by, stmt_of, is_float_kind, is_var_kind, names_in, labels_in, statements_of, IsPlain}
 use Rattle.std.proofs.lemmas.List.Kept.{Contains-dedup_nat, Contains-from_dedup}
 use Rattle.std.proofs.lemmas.List.Sorted.{Contains-permutation, IsPermutation-sym}
 use Rattle.std.proofs.lemmas.Map.Keys.{IsStrictlyIncreasing-dedup}
@@ -98,7 +98,7 @@ pushed-more {q = q} {old = old} {new = new} ys is more = let put = subst (λ l. 
 -- ---- the `$f` of a symbol
 
 -- the last `$f` was added, where it is active
-pub float-more : (k : Stock) (c q at : ℕ) (list new : List ℕ) (b : Bool) → q ≡ last_where (floats c) k.entries → (q ≡ 0 → ⊥) → at ≡ length k.entries → b ≡ is_active (statements_of k) q (at + 1) → new ≡ cond b (list ++ q ∷ []) list
+pub float-more : (k : Storage) (c q at : ℕ) (list new : List ℕ) (b : Bool) → q ≡ last_where (floats c) k.entries → (q ≡ 0 → ⊥) → at ≡ length k.entries → b ≡ is_active (statements_of k) q (at + 1) → new ≡ cond b (list ++ q ∷ []) list
     → HasMore (IsFloatOf k.entries (statements_of k) c) list new
 float-more k c q at list new b last some size stands is =
     let S = statements_of k in

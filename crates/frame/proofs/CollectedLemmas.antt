@@ -1,7 +1,7 @@
 -- The positions that are collected are those of the mandatory hypotheses, in order.
 use Rattle.frame.proofs.Words.{take_all, take-take, sym, ◌∙◌, ap, subst, arith, inl, inr, ⊎_elim, append_assoc, ◌≡◌, ℕ, suc, ◌+◌, ◌-◌, ◌<◌, true, ◌&&◌, ◌⊎◌, List, [], ◌∷◌, ◌++◌, length, map, take, drop, slice_get, Some, refl, take-append_seam, or_left, and_parts, and_from, both_ways, slice_get_within, ⊎_map, length-map}
 use Rattle.frame.proofs.Words.{Name, has_name, Stmt, Database, stays_open, is_active, expr_of, is_essential, is_variable, is_float_of, name_at, decode, AreDistinct, is_used, is_hypothesis, hypotheses, AreBelow, Entry, stmt_of, floats, last_from, last_where, AreNumbered, In, IsFloatOf, SomeFloat, IsGiven, AreFloats, AreWith, AreCollected, kept_at, option_kept, is_float_in, floats_in, take-get}
-use Rattle.frame.proofs.LinksLemmas.{cut-here, length-cut}
+use Rattle.frame.proofs.LastActiveLemmas.{cut-here, length-cut}
 use Rattle.mm_read.specs.declared.stmt.Stmt.TheVariants as stmt
 use Rattle.frame.proofs.LegalLabels.{AllKept}
 use Rattle.frame.proofs.ActiveBehind.{active-stands, open_both}
@@ -97,8 +97,8 @@ module _ (es : List Entry) (names labels : List Name) (i : ℕ) (all : AllKept (
       ]
 
   -- its own `$f` with the active `$e` and what is kept with these
-  pub gathered-hypotheses : (list : List ℕ) → AreWith es S (floats_in S (expr_of s)) list → list ≡ hypotheses S s
-  gathered-hypotheses list w =
+  pub buffered-hypotheses : (list : List ℕ) → AreWith es S (floats_in S (expr_of s)) list → list ≡ hypotheses S s
+  buffered-hypotheses list w =
       same-lists list (hypotheses S s) w.ascends (ascends-active (is_hypothesis S s) 1 S).1 (λ p i. given-hyp p (w.only p i)) (λ p i. w.all p (hyp-given p i))
 
 -- ---- the hypotheses that are found by the numbers of the symbols
@@ -167,5 +167,5 @@ module _ (es : List Entry) (names labels : List Name) (m : ℕ) (S : Database)
       let e : S ≡ take (length es) full = whole ∙ sym (take_all (length es) full (omega (arith, length-map es (stmt_of names labels)))) in
       let w : AreWith es S (floats_in S (expr_of s)) list
       = those-by l (λ p. ⊎_map (λ f. subst (λ x. In p (floats_in S x)) same (found-float codes low p f)) (λ g. g)) (λ p. ⊎_map (λ j. float-found codes low p (subst (λ x. In p (floats_in S x)) (sym same) j)) (λ g. g)) in
-      gathered-hypotheses es names labels (length es) (subst AllKept whole all) (λ k x h is. kept k x h is ∙ ap (λ D. floats_in (take k D) (expr_of (stmt_of names labels x))) whole) s list
+      buffered-hypotheses es names labels (length es) (subst AllKept whole all) (λ k x h is. kept k x h is ∙ ap (λ D. floats_in (take k D) (expr_of (stmt_of names labels x))) whole) s list
       (subst (λ D. AreWith es D (floats_in D (expr_of s)) list) e w) ∙ ap (λ D. hypotheses D s) (sym e)

@@ -1,6 +1,6 @@
 -- The storage with its first statements alone, and as before when all that was added is taken back.
 use Rattle.frame.proofs.Words.{sym, ◌∙◌, ap, subst, arith, take-take, ◌≡◌, ℕ, ◌+◌, ◌<◌, ◌≤◌, true, List, length, map, take, drop, slice_get, Some, refl, suc, [], ◌∷◌, Option, None, length-take-le, take-map, take-append-drop, take_at, length-map}
-use Rattle.frame.proofs.Words.{Name, Database, IsNumberingOf, Declared, declared_symbols, declared_labels, stays_open, label_of, symbols_of, labels_of, option_list, Links, Entry, Symbol, is_disj, is_var, links_of, stmt_of, statements_of, positions_from, AreAllLegal, ReadsAs, replaced_of, symbol_of, names_in, labels_in, option_position, AreNumbered, KeepsCounts, IsBehind, Stock, naming_of, AreKept, AreStored, Extends, has_parts, IsKeptAs, extends-length, extends-take, take-get, labels_of-append}
+use Rattle.frame.proofs.Words.{Name, Database, IsNumberingOf, Declared, declared_symbols, declared_labels, stays_open, label_of, symbols_of, labels_of, option_list, LastActive, Entry, Symbol, is_disj, is_var, last_active_of, stmt_of, statements_of, positions_from, AreAllLegal, ReadsAs, replaced_of, symbol_of, names_in, labels_in, option_position, AreNumbered, KeepsCounts, IsBehind, Storage, naming_of, AreKept, AreStored, Extends, has_parts, IsKeptAs, extends-length, extends-take, take-get, labels_of-append}
 use Rattle.entries.specs.Histories.{AreKeptUntil}
 use Rattle.frame.proofs.StackLemmas.{stacks-back}
 use Rattle.frame.proofs.BlockWalkLemmas.{get-take}
@@ -36,7 +36,7 @@ positions-front n S =
 -- ---- the changes of the parts: the statement after the first n is e
 
 pub record IsCut (names labels : List Name) (positions : List ℕ) (symbols : List Symbol) (entries : List Entry)
-    (names' labels' : List Name) (positions' : List ℕ) (between symbols' : List Symbol) (replaced' : List ℕ) (entries' : List Entry) (links' : Links) (n : ℕ) (e : Entry) : Type 0 where
+    (names' labels' : List Name) (positions' : List ℕ) (between symbols' : List Symbol) (replaced' : List ℕ) (entries' : List Entry) (links' : LastActive) (n : ℕ) (e : Entry) : Type 0 where
   pub at : slice_get entries n ≡ Some e
   pub names_cut : names' ≡ symbols_of (take n (map (stmt_of names labels) entries))
   pub labels_cut : labels' ≡ labels_of (take n (map (stmt_of names labels) entries))
@@ -45,12 +45,12 @@ pub record IsCut (names labels : List Name) (positions : List ℕ) (symbols : Li
   pub symbols_cut : symbols' ≡ take e.names between
   pub entries_cut : entries' ≡ take n entries
   pub declared : ReadsAs between (symbol_of entries')
-  pub noted : replaced' ≡ replaced_of entries'
-  pub links_back : links' ≡ e.links
+  pub recorded : replaced' ≡ replaced_of entries'
+  pub last_active_back : links' ≡ e.last_active
 
-module _ {names labels : List Name} {positions : List ℕ} {symbols : List Symbol} {replaced : List ℕ} {entries : List Entry} {links : Links}
-    {names' labels' : List Name} {positions' : List ℕ} {between symbols' : List Symbol} {replaced' : List ℕ} {entries' : List Entry} {links' : Links} {n : ℕ} {e : Entry}
-    (k : AreKept names labels positions symbols replaced entries links)
+module _ {names labels : List Name} {positions : List ℕ} {symbols : List Symbol} {replaced : List ℕ} {entries : List Entry} {last_active : LastActive}
+    {names' labels' : List Name} {positions' : List ℕ} {between symbols' : List Symbol} {replaced' : List ℕ} {entries' : List Entry} {links' : LastActive} {n : ℕ} {e : Entry}
+    (k : AreKept names labels positions symbols replaced entries last_active)
     (p : IsCut names labels positions symbols entries names' labels' positions' between symbols' replaced' entries' links' n e) where
   abbrev pub S : Database
   S = map (stmt_of names labels) entries
@@ -125,8 +125,8 @@ module _ {names labels : List Name} {positions : List ℕ} {symbols : List Symbo
 
   pub kept-cut : AreKept names' labels' positions' symbols' replaced' entries' links'
   kept-cut = record {
-    last = p.links_back ∙ (k.linked n e p.at ∙ ap links_of (sym cut-statements));
-    linked = λ i d h. let q = there i d h in k.linked i d q.1 ∙ ap links_of (sym (front-of i q.0));
+    last = p.last_active_back ∙ (k.linked n e p.at ∙ ap last_active_of (sym cut-statements));
+    linked = λ i d h. let q = there i d h in k.linked i d q.1 ∙ ap last_active_of (sym (front-of i q.0));
     stays = ap (stays_open 0) cut-statements ∙ stays_open-front 0 (take n S) (drop n S) (ap (stays_open 0) (take-append-drop n S) ∙ k.stays);
     legal = subst AreAllLegal (sym cut-statements) (kept-front S n k.legal);
     names_kept = p.names_cut ∙ ap symbols_of (sym cut-statements);
@@ -134,7 +134,7 @@ module _ {names labels : List Name} {positions : List ℕ} {symbols : List Symbo
     positions_kept = p.positions_cut ∙ (ap (take e.label) k.positions_kept ∙ (ap (λ m. take m (positions_from 1 S)) counts.label_count ∙ (positions-front n S ∙ ap (positions_from 1) (sym cut-statements))));
     coded = subst (AreNumbered (length names') (length labels')) (sym p.entries_cut) numbered;
     symbols_kept = symbols'';
-    replaced_kept = p.noted;
+    replaced_kept = p.recorded;
     counts_kept = counts';
     count =
         let a = names-count in let b = p.between_count in let d = k.count in let w = within in
@@ -146,7 +146,7 @@ module _ {names labels : List Name} {positions : List ℕ} {symbols : List Symbo
 
 -- ---- the numbering of the first statements
 
-module _ (k : Stock) (n : ℕ) (e : Entry) (stored : AreStored k) (at : slice_get k.entries n ≡ Some e) where
+module _ (k : Storage) (n : ℕ) (e : Entry) (stored : AreStored k) (at : slice_get k.entries n ≡ Some e) where
   pub front-naming : IsNumberingOf (take n (statements_of k)) (naming_of (take n (statements_of k)))
   front-naming = naming-all (take n (statements_of k)) (kept-front (statements_of k) n stored.kept.legal)
 
@@ -161,7 +161,7 @@ module _ (k : Stock) (n : ℕ) (e : Entry) (stored : AreStored k) (at : slice_ge
 -- ---- taken back, everything is as before
 
 -- the contents that remained, and those after truncation
-pub record IsTakenBack (old mid new : Stock) : Type 0 where
+pub record IsTakenBack (old mid new : Storage) : Type 0 where
   pub behind : IsBehind old mid
   pub numbering_cut : new.numbering ≡ take (length old.numbering) mid.numbering
   pub symbols_cut : new.symbols.items ≡ take (length (names_in new)) mid.symbols.items
@@ -171,10 +171,10 @@ pub record IsTakenBack (old mid new : Stock) : Type 0 where
   pub entries_cut : new.entries ≡ mid.entries
   pub disjoints_cut : AreKeptUntil (length mid.entries) mid.disjoints new.disjoints
   pub variables_cut : AreKeptUntil (length mid.entries) mid.variables new.variables
-  pub links_cut : new.links ≡ mid.links
+  pub last_active_cut : new.last_active ≡ mid.last_active
 
-module _ (old mid new : Stock) (stored : AreStored old) (t : IsTakenBack old mid new) where
-  k : AreKept (names_in old) (labels_in old) old.positions.items old.symbols.items old.replaced.items old.entries old.links
+module _ (old mid new : Storage) (stored : AreStored old) (t : IsTakenBack old mid new) where
+  k : AreKept (names_in old) (labels_in old) old.positions.items old.symbols.items old.replaced.items old.entries old.last_active
   k = stored.kept
 
   back-numbering : new.numbering ≡ old.numbering
@@ -208,7 +208,7 @@ module _ (old mid new : Stock) (stored : AreStored old) (t : IsTakenBack old mid
       let long : length mid.entries ≡ length old.entries = ap length t.behind.entries in
       let replaced : new.replaced.items ≡ old.replaced.items = t.replaced_cut ∙ take-extends old.replaced.items mid.replaced.items t.behind.replaced in
       record {
-        kept = rw (back-names, back-labels, positions, symbols, replaced, back-entries, t.links_cut, t.behind.links) k;
+        kept = rw (back-names, back-labels, positions, symbols, replaced, back-entries, t.last_active_cut, t.behind.last_active) k;
         numbered = back-numbering ∙ (stored.numbered ∙ ap naming_of (sym back-statements));
         ended = rw (back-statements, ends) stored.ended;
         disjoints = rw (back-statements, back-entries) (stacks-back is_disj old.disjoints mid.disjoints new.disjoints old.entries (statements_of old) stored.disjoints t.behind.disjoints (subst (λ m. AreKeptUntil m mid.disjoints new.disjoints) long t.disjoints_cut));

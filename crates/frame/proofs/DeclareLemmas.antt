@@ -4,8 +4,8 @@ use Rattle.frame.proofs.Words.{Float, last_of, with_last, is_float_kind, is_var_
 use Rattle.frame.proofs.BlockWalkLemmas.{take-one}
 use Rattle.frame.proofs.LegalBehind.{stands-at}
 
-abbrev pub noted : Kind → Symbol → ℕ → Bool → Symbol
-noted kind x at any = cond any (with_last kind at x) x
+abbrev pub recorded : Kind → Symbol → ℕ → Bool → Symbol
+recorded kind x at any = cond any (with_last kind at x) x
 
 get-set : (xs : List Symbol) (k c : ℕ) (new x : Symbol) → slice_get xs c ≡ Some x → slice_get (slice_set xs k new) c ≡ Some (cond (nat_eq c k) new x)
 get-set [] k c new x g = cc
@@ -15,23 +15,23 @@ get-set (y ∷ xs) (suc k) zero new x g = let no : nat_eq zero (suc k) ≡ false
 get-set (y ∷ xs) (suc k) (suc c) new x g = let same : nat_eq c k ≡ nat_eq (suc c) (suc k) = grind arith in get-set xs k c new x g ∙ ap (λ b. Some (cond b new x)) same
 
 -- the last declaration of a symbol is the one that was recorded last
-noted-again : (kind : Kind) (n : ℕ) (y : Symbol) (any : Bool) → with_last kind n (noted kind y n any) ≡ noted kind y n (any || true)
-noted-again Float n y true = refl
-noted-again Float n y false = refl
-noted-again kind n y true = refl
-noted-again kind n y false = refl
+recorded-again : (kind : Kind) (n : ℕ) (y : Symbol) (any : Bool) → with_last kind n (recorded kind y n any) ≡ recorded kind y n (any || true)
+recorded-again Float n y true = refl
+recorded-again Float n y false = refl
+recorded-again kind n y true = refl
+recorded-again kind n y false = refl
 
 -- one symbol recorded, by the record for each: the others stay
-pub note-step : (kind : Kind) (xs : List Symbol) (k c v : ℕ) (r y : Symbol) (x : ℕ → ℕ) (any : Bool) → slice_get xs c ≡ Some (noted kind y (x c) any) → r ≡ get_or xs k r → v ≡ x k
-    → slice_get (slice_set xs k (with_last kind v r)) c ≡ Some (noted kind y (x c) (any || nat_eq c k))
-note-step kind xs k c v r y x any g e h = get-set xs k c (with_last kind v r) (noted kind y (x c) any) g ∙ by (nat_eq c k) refl
+pub record-step : (kind : Kind) (xs : List Symbol) (k c v : ℕ) (r y : Symbol) (x : ℕ → ℕ) (any : Bool) → slice_get xs c ≡ Some (recorded kind y (x c) any) → r ≡ get_or xs k r → v ≡ x k
+    → slice_get (slice_set xs k (with_last kind v r)) c ≡ Some (recorded kind y (x c) (any || nat_eq c k))
+record-step kind xs k c v r y x any g e h = get-set xs k c (with_last kind v r) (recorded kind y (x c) any) g ∙ by (nat_eq c k) refl
   where
-    by : (t : Bool) → nat_eq c k ≡ t → ◌≡◌ {A = Option Symbol} (Some (cond t (with_last kind v r) (noted kind y (x c) any))) (Some (noted kind y (x c) (any || t)))
+    by : (t : Bool) → nat_eq c k ≡ t → ◌≡◌ {A = Option Symbol} (Some (cond t (with_last kind v r) (recorded kind y (x c) any))) (Some (recorded kind y (x c) (any || t)))
     by true same =
         let c-is : c ≡ k = grind (arith, same) in
-        let f : r ≡ noted kind y (x c) any = e ∙ get_or_from_slice_get xs k (noted kind y (x c) any) r (ap (slice_get xs) (sym c-is) ∙ g) in
-        ap Some (ap (λ n. with_last kind n r) (h ∙ ap x (sym c-is)) ∙ (ap (with_last kind (x c)) f ∙ noted-again kind (x c) y any))
-    by false other = ap (λ b. Some (noted kind y (x c) b)) (sym (or-false any))
+        let f : r ≡ recorded kind y (x c) any = e ∙ get_or_from_slice_get xs k (recorded kind y (x c) any) r (ap (slice_get xs) (sym c-is) ∙ g) in
+        ap Some (ap (λ n. with_last kind n r) (h ∙ ap x (sym c-is)) ∙ (ap (with_last kind (x c)) f ∙ recorded-again kind (x c) y any))
+    by false other = ap (λ b. Some (recorded kind y (x c) b)) (sym (or-false any))
 
 pub last_from-push : (test : Entry → Bool) (found at : ℕ) (es : List Entry) (e : Entry) → last_from test found at (es ++ e ∷ []) ≡ cond (test e) (at + length es) (last_from test found at es)
 last_from-push test found at [] e = ap (λ n. cond (test e) n found) (sym (add-zero at))
@@ -78,22 +78,22 @@ replaced_of-push es e = replaced-push [] es e
 
 -- the declarations that a statement with these symbols replaced are restored
 pub restored : (old new : List Symbol) (kind : Kind) (codes olds : List ℕ) (x : ℕ → Symbol) (at : ℕ) → olds ≡ map (λ c. last_of kind (x c)) codes
-    → ((y : ℕ → ℕ) → olds ≡ map y codes → (c : ℕ) (s : Symbol) → slice_get old c ≡ Some s → slice_get new c ≡ Some (noted kind s (y c) (list_any (λ k. nat_eq c k) codes)))
-    → length new ≡ length old → ReadsAs old (λ c. noted kind (x c) at (list_any (nat_eq c) codes)) → ReadsAs new x
+    → ((y : ℕ → ℕ) → olds ≡ map y codes → (c : ℕ) (s : Symbol) → slice_get old c ≡ Some s → slice_get new c ≡ Some (recorded kind s (y c) (list_any (λ k. nat_eq c k) codes)))
+    → length new ≡ length old → ReadsAs old (λ c. recorded kind (x c) at (list_any (nat_eq c) codes)) → ReadsAs new x
 restored old new kind codes olds x at h each n reads c lt =
     each (λ k. last_of kind (x k)) h c _ (reads c (omega (arith, n, lt))) ∙ ap Some (back kind (x c) (list_any (nat_eq c) codes))
   where
-    back : (kind : Kind) (s : Symbol) (b : Bool) → noted kind (noted kind s at b) (last_of kind s) b ≡ s
+    back : (kind : Kind) (s : Symbol) (b : Bool) → recorded kind (recorded kind s at b) (last_of kind s) b ≡ s
     back Float s true = refl
     back Float s false = refl
     back kind s true = refl
     back kind s false = refl
 
 -- the loop's step: what one more symbol's declaration replaces is recorded
-pub note-more : (kind : Kind) (symbols : List Symbol) (codes : List ℕ) (x : ℕ → Symbol) (i v : ℕ) (d : Symbol) (old here new : List ℕ) → i < length codes → get_or codes i 0 < length symbols → ReadsAs symbols x
+pub record-more : (kind : Kind) (symbols : List Symbol) (codes : List ℕ) (x : ℕ → Symbol) (i v : ℕ) (d : Symbol) (old here new : List ℕ) → i < length codes → get_or codes i 0 < length symbols → ReadsAs symbols x
     → here ≡ old ++ map (λ c. last_of kind (x c)) (take i codes) → v ≡ last_of kind (get_or symbols (get_or codes i 0) d) → new ≡ here ++ v ∷ []
     → new ≡ old ++ map (λ c. last_of kind (x c)) (take (i + 1) codes)
-note-more kind symbols codes x i v d old here new lt inside reads h is more =
+record-more kind symbols codes x i v d old here new lt inside reads h is more =
     let last = λ (c : ℕ). last_of kind (x c) in
     more ∙ (ap (λ r. r ++ v ∷ []) h ∙ (append_assoc old (map last (take i codes)) (v ∷ [])
     ∙ ap (λ r. old ++ r) (ap (λ n. map last (take i codes) ++ n ∷ []) (is ∙ ap (last_of kind) (get_or_from_slice_get symbols (get_or codes i 0) (x (get_or codes i 0)) d (reads (get_or codes i 0) inside)))
@@ -112,9 +112,9 @@ left {whole = whole} {all = all} n e p size some got =
     record { is = is; extends = (e ∷ p.0, more); here = ap (λ r. slice_get r (length (take (n - 1) all))) more ∙ stands-at (take (n - 1) all) e p.0 }
 
 -- the last recorded declarations, as a slice
-pub noted-last : (all front last w : List ℕ) (size count : ℕ) → w ≡ all → all ≡ front ++ last → size ≡ length all → length last ≡ count
+pub recorded-last : (all front last w : List ℕ) (size count : ℕ) → w ≡ all → all ≡ front ++ last → size ≡ length all → length last ≡ count
     → take (length w - (size - count)) (drop (size - count) w) ≡ last
-noted-last all front last w size count same h n m =
+recorded-last all front last w size count same h n m =
     let a = length-append front last in
     let b = ap length h in
     let e = ap length same in

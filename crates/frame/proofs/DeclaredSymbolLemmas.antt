@@ -1,10 +1,10 @@
 -- The declared symbols, and that a name of another kind is none of them.
 use Rattle.frame.proofs.Words.{list_all, sym, ◌∙◌, ap, subst, arith, take-append-drop, ◌≡◌, ℕ, Bool, true, false, cond, ◌||◌, nat_lt, List, [], ◌∷◌, ◌++◌, length, take, drop, refl, take-append_seam, and_parts, or_parts, or-false}
-use Rattle.frame.proofs.Words.{Name, name_eq, has_name, Stmt, Const, Database, constants, variables, was_symbol, was_variable, with_name, with_names, AreCodes, AreDistinct, Declared, declared_symbols, kind_in, is_constant_kind, TellsAll, symbols_by, symbols_from, symbols_of, has_name-append, symbols_of-later, symbols-distinct, was_symbol-either, AreBelow, Stock, is_declared, AreStored, names_in, statements_of}
+use Rattle.frame.proofs.Words.{Name, name_eq, has_name, Stmt, Const, Database, constants, variables, was_symbol, was_variable, with_name, with_names, AreCodes, AreDistinct, Declared, declared_symbols, kind_in, is_constant_kind, MatchesKinds, symbols_by, symbols_from, symbols_of, has_name-append, symbols_of-later, symbols-distinct, was_symbol-either, AreBelow, Storage, is_declared, AreStored, names_in, statements_of}
 use Rattle.mm_read.specs.declared.stmt.Stmt.TheVariants.{Var}
 
 -- the names of a storage are distinct
-pub stored-distinct : (k : Stock) → AreStored k → AreDistinct (names_in k)
+pub stored-distinct : (k : Storage) → AreStored k → AreDistinct (names_in k)
 stored-distinct k stored = subst AreDistinct (sym stored.kept.names_kept) (symbols-distinct (statements_of k))
 
 -- the symbols of the first statements are the first of all
@@ -42,10 +42,10 @@ never-named names (s ∷ S) x h k =
     never-named (with_names names (symbols_by s)) S x (with-unnamed names (symbols_by s) x h (by-unnamed s x p.0)) p.1
 
 -- a symbol's kind tells that it was declared
-was-declared : (S : Database) (names : Declared) (x : Name) → TellsAll S names → was_symbol S x ≡ is_declared (kind_in names x)
+was-declared : (S : Database) (names : Declared) (x : Name) → MatchesKinds S names → was_symbol S x ≡ is_declared (kind_in names x)
 was-declared S names x told =
     was_symbol-either S x ∙ (ap (λ b. b || was_variable S x) (told x).constant ∙ ap (λ b. is_constant_kind (kind_in names x) || b) (told x).variable)
 
 -- a name of another kind has no number among the symbols
-pub no-number : (S : Database) (names : Declared) (x : Name) → TellsAll S names → declared_symbols names ≡ symbols_of S → is_declared (kind_in names x) ≡ false → has_name x (declared_symbols names) ≡ false
+pub no-number : (S : Database) (names : Declared) (x : Name) → MatchesKinds S names → declared_symbols names ≡ symbols_of S → is_declared (kind_in names x) ≡ false → has_name x (declared_symbols names) ≡ false
 no-number S names x told same h = ap (has_name x) same ∙ never-named [] S x refl (was-declared S names x told ∙ h)

@@ -1,6 +1,6 @@
 -- Where blocks end: with one statement more, with one less, and what is active by it.
 use Rattle.frame.proofs.Words.{sym, ◌∙◌, ap, subst, arith, inl, inr, length-append, length-drop, add-zero, ◌≡◌, ◌≢◌, ℕ, zero, suc, ◌+◌, ◌-◌, ◌<◌, ◌≤◌, Bool, true, false, cond, not, ◌==◌, ◌&&◌, ◌||◌, nat_eq, nat_le, ◌⊎◌, List, [], ◌∷◌, ◌++◌, length, take, drop, get_or, slice_get, slice_set, Option, Some, None, refl, get_or-append_seam, get_or-take, get_or_read, drop-append-le, drop-take, length-take-le, take-append-drop, get_or-set_other, drop_all, length-set, length-map, nil_from_length, take-take, cases_eq, and_parts, slice_get_within, same_Some, slice_get-get_or}
-use Rattle.frame.proofs.Words.{Stmt, Open, Close, Database, stays_open, is_open, is_close, is_active, deficit, no_deficit, below-deficit, deficit-close, left_open, stays_open-same, place, Links, last_active, last_position, links_of, kind_of, IsPlain, Kind, Stock, names_in, labels_in, statements_of, stmt_by, stmt_of, Name, decode, name_at, get-push, get-more, AreStored, end_from, end_of, TellEnds, AreEnds, AreBlocks, with_end, Entry}
+use Rattle.frame.proofs.Words.{Stmt, Open, Close, Database, stays_open, is_open, is_close, is_active, deficit, no_deficit, below-deficit, deficit-close, left_open, stays_open-same, place, LastActive, last_active_of_kind, last_position, last_active_of, kind_of, IsPlain, Kind, Storage, names_in, labels_in, statements_of, stmt_by, stmt_of, Name, decode, name_at, get-push, get-more, AreStored, end_from, end_of, TellEnds, AreEnds, AreBlocks, with_end, Entry}
 use Rattle.std.proofs.Math.ListN.{get_or-append}
 use Rattle.std.proofs.lemmas.Grind.{get_or-set_at}
 use Rattle.std.specs.Cmp.{both_ways}
@@ -8,30 +8,30 @@ use Rattle.scope.proofs.ActiveLemmas as scope
 use Rattle.entries.specs.declared.kind.Kind.TheVariants as kind
 use Rattle.frame.proofs.StoredReading.{get-stmt}
 use Rattle.frame.proofs.OpenLemmas.{HasLast, IsLast, split_last, last-position, left-count, deficit-join, stays_open-front, is-open}
-use Rattle.frame.proofs.LinksLemmas.{cut-here, length-cut, drop-front}
+use Rattle.frame.proofs.LastActiveLemmas.{cut-here, length-cut, drop-front}
 use Rattle.frame.proofs.BlockWalkLemmas.{get-take, take-one, last-within, active-stays, IsBack, walk-back, walk-over}
 
 -- ---- the last open block
 
 -- it has nothing open after it
-last-open : (S : Database) (b : ℕ) → last_active is_open S ≡ suc b → (stays_open 0 (drop (suc b) S) ≡ true) × (left_open (drop (suc b) S) ≡ 0)
+last-open : (S : Database) (b : ℕ) → last_active_of_kind is_open S ≡ suc b → (stays_open 0 (drop (suc b) S) ≡ true) × (left_open (drop (suc b) S) ≡ 0)
 last-open S b e = by (split_last is_open S)
   where
     by : HasLast is_open S → (stays_open 0 (drop (suc b) S) ≡ true) × (left_open (drop (suc b) S) ≡ 0)
-    by (inl none) = let z : last_active is_open S ≡ 0 = ap last_position (none 1) in absurd (omega (arith, z, e))
+    by (inl none) = let z : last_active_of_kind is_open S ≡ 0 = ap last_position (none 1) in absurd (omega (arith, z, e))
     by (inr p) =
         let n : suc b ≡ suc (length p.0) = omega (arith, e, last-position is_open S p.0 p.1 p.2 refl p.3) in
         let rest : drop (suc b) S ≡ p.2 = ap (λ m. drop m S) n ∙ (ap (drop (suc (length p.0))) p.3.cut ∙ drop-front p.0 p.1 p.2) in
         (ap (stays_open 0) rest ∙ p.3.stays, ap left_open rest ∙ (left-count 0 p.2 ∙ ap length (p.3.alone 0)))
 
 -- an open block with nothing open after it is the last one
-open-last : (S : Database) (b : ℕ) (t : Stmt) → slice_get S b ≡ Some t → is_open t ≡ true → stays_open 0 (drop (suc b) S) ≡ true → left_open (drop (suc b) S) ≡ 0 → last_active is_open S ≡ suc b
+open-last : (S : Database) (b : ℕ) (t : Stmt) → slice_get S b ≡ Some t → is_open t ≡ true → stays_open 0 (drop (suc b) S) ≡ true → left_open (drop (suc b) S) ≡ 0 → last_active_of_kind is_open S ≡ suc b
 open-last S b t g o h z =
     let l : IsLast is_open S (take b S) t (drop (suc b) S) = record { cut = cut-here S b t g; of_kind = o; stays = h; alone = λ at. nil_from_length _ (sym (left-count at (drop (suc b) S)) ∙ z) } in
     omega (arith, last-position is_open S (take b S) t (drop (suc b) S) refl l, length-cut S b t g)
 
 -- an open block is closed by the `$}` that stands in it
-module _ (S : Database) (b block : ℕ) (t : Stmt) (get : slice_get S b ≡ Some t) (opens : is_open t ≡ true) (is : block ≡ last_active is_open S) where
+module _ (S : Database) (b block : ℕ) (t : Stmt) (get : slice_get S b ≡ Some t) (opens : is_open t ≡ true) (is : block ≡ last_active_of_kind is_open S) where
   abbrev R : Database
   R = drop (suc b) S
 
@@ -112,17 +112,17 @@ length-with kind.Close (suc b) at ends = length-set ends b at
 length-with q block at ends = refl
 
 -- a statement records the end of the block that it ends
-noted-end : (ends : List ℕ) (s : Stmt) (block at b : ℕ) → b < length ends → get_or (with_end (kind_of s) block at ends) b 0 ≡ cond (is_close s && nat_eq block (suc b)) at (get_or ends b 0)
-noted-end ends Close zero at b lt = let no : nat_eq zero (suc b) ≡ false = grind arith in rw no refl
-noted-end ends Close (suc k) at b lt = by (cases_eq b k)
+recorded-end : (ends : List ℕ) (s : Stmt) (block at b : ℕ) → b < length ends → get_or (with_end (kind_of s) block at ends) b 0 ≡ cond (is_close s && nat_eq block (suc b)) at (get_or ends b 0)
+recorded-end ends Close zero at b lt = let no : nat_eq zero (suc b) ≡ false = grind arith in rw no refl
+recorded-end ends Close (suc k) at b lt = by (cases_eq b k)
   where
     by : (b ≡ k) ⊎ (b ≢ k) → get_or (slice_set ends k at) b 0 ≡ cond (nat_eq (suc k) (suc b)) at (get_or ends b 0)
     by (inl e) = let here : nat_eq (suc k) (suc b) ≡ true = grind (arith, e) in rw here (get_or-set_at ends k b at 0 e (omega (arith, e, lt)))
     by (inr n) = let no : nat_eq (suc k) (suc b) ≡ false = grind (arith, n) in rw no (get_or-set_other ends k b at 0 n)
-noted-end ends s block at b lt = refl
+recorded-end ends s block at b lt = refl
 
 -- where an open block ends with one statement more, and without it
-end-step : (S : Database) (b block : ℕ) (t s : Stmt) → slice_get S b ≡ Some t → is_open t ≡ true → block ≡ last_active is_open S
+end-step : (S : Database) (b block : ℕ) (t s : Stmt) → slice_get S b ≡ Some t → is_open t ≡ true → block ≡ last_active_of_kind is_open S
     → (end_of b (S ++ s ∷ []) ≡ cond (is_close s && nat_eq block (suc b)) (length S + 1) (end_of b S)) × (end_of b S ≡ cond (is_close s && nat_eq block (suc b)) 0 (end_of b (S ++ s ∷ [])))
 end-step S b block t s get opens is = (more, less (is_close s && nat_eq block (suc b)) (shuts S b block t get opens is s) more)
   where
@@ -140,9 +140,9 @@ end-step S b block t s get opens is = (more, less (is_close s && nat_eq block (s
     less false e f = sym f
 
 -- one statement more
-pub tells-more : (ends : List ℕ) (S : Database) (s : Stmt) (block : ℕ) → length ends ≡ length S → TellEnds ends S → block ≡ last_active is_open S
+pub tells-more : (ends : List ℕ) (S : Database) (s : Stmt) (block : ℕ) → length ends ≡ length S → TellEnds ends S → block ≡ last_active_of_kind is_open S
     → TellEnds (with_end (kind_of s) block (length S + 1) (ends ++ 0 ∷ [])) (S ++ s ∷ [])
-tells-more ends S s block n told is b t g opens = noted-end (ends ++ 0 ∷ []) s block (length S + 1) b (omega (arith, length-append ends (0 ∷ []), length-append S (s ∷ []), slice_get_within (S ++ s ∷ []) b t g, n)) ∙ by (get-push S s t b g)
+tells-more ends S s block n told is b t g opens = recorded-end (ends ++ 0 ∷ []) s block (length S + 1) b (omega (arith, length-append ends (0 ∷ []), length-append S (s ∷ []), slice_get_within (S ++ s ∷ []) b t g, n)) ∙ by (get-push S s t b g)
   where
     by : ((b < length S) × (slice_get S b ≡ Some t)) ⊎ ((b ≡ length S) × (s ≡ t)) → cond (is_close s && nat_eq block (suc b)) (length S + 1) (get_or (ends ++ 0 ∷ []) b 0) ≡ end_of b (S ++ s ∷ [])
     by (inl p) = rw (get_or-append ends (0 ∷ []) 0 b (omega (arith, n, p.0)), told b t p.1 opens) (sym (end-step S b block t s p.1 opens is).0)
@@ -152,11 +152,11 @@ tells-more ends S s block n told is b t g opens = noted-end (ends ++ 0 ∷ []) s
         rw (none, is-open s (ap is_open p.1 ∙ opens)) zero_there
 
 -- one statement less
-pub tells-less : (ends : List ℕ) (S : Database) (s : Stmt) (block : ℕ) → length S ≤ length ends → TellEnds ends (S ++ s ∷ []) → block ≡ last_active is_open S
+pub tells-less : (ends : List ℕ) (S : Database) (s : Stmt) (block : ℕ) → length S ≤ length ends → TellEnds ends (S ++ s ∷ []) → block ≡ last_active_of_kind is_open S
     → TellEnds (with_end (kind_of s) block 0 ends) S
 tells-less ends S s block n told is b t g opens =
     let lt = slice_get_within S b t g in
-    noted-end ends s block 0 b (omega (arith, n, lt))
+    recorded-end ends s block 0 b (omega (arith, n, lt))
     ∙ (ap (cond (is_close s && nat_eq block (suc b)) 0) (told b t (get-more S (s ∷ []) b t g) opens) ∙ sym (end-step S b block t s g opens is).1)
 
 -- ---- the active statements by the ends
@@ -183,7 +183,7 @@ module _ (S : Database) (i at : ℕ) (s : Stmt) (one : 1 ≤ i) (lt : i < at) (l
       ∙ (ap (λ n. take (i - 1) E ++ s ∷ drop n E) up ∙ ap (λ r. r ++ s ∷ T) (take-take (i - 1) (at - 1) S (omega (arith, lt))))
 
   -- outside all blocks it is active
-  pub active-outside : stays_open 0 S ≡ true → last_active is_open X ≡ 0 → is_active S i at ≡ true
+  pub active-outside : stays_open 0 S ≡ true → last_active_of_kind is_open X ≡ 0 → is_active S i at ≡ true
   active-outside whole z =
       let none : left_open X ≡ 0 = left-count 1 X ∙ ap length (walk-over is_open X refl z) in
       let h : stays_open 0 E ≡ true = stays_open-front 0 E (drop (at - 1) S) (ap (stays_open 0) (take-append-drop (at - 1) S) ∙ whole) in
@@ -191,7 +191,7 @@ module _ (S : Database) (i at : ℕ) (s : Stmt) (one : 1 ≤ i) (lt : i < at) (l
       active-stays S i at one lt ∙ below-deficit 0 T (omega (arith, no_deficit E h, join, none, plain-deficit s T o c))
 
   -- in a block it is active where that has no end, or a later one
-  pub active-inside : (b : ℕ) → last_active is_open X ≡ suc b → is_active S i at ≡ (end_of b S == 0 || nat_le at (end_of b S))
+  pub active-inside : (b : ℕ) → last_active_of_kind is_open X ≡ suc b → is_active S i at ≡ (end_of b S == 0 || nat_le at (end_of b S))
   active-inside b is =
       let last = last-open X b is in
       let B = drop (suc b) X in
@@ -213,7 +213,7 @@ pub record IsTold (ends : List ℕ) (S : Database) (i at block : ℕ) : Type 0 w
   pub inside : (x : ℕ) → block ≢ 0 → x ≡ get_or ends (block - 1) x → is_active S i at ≡ (x == 0 || nat_le at x)
 
 told-by : (ends : List ℕ) (S : Database) (i at block : ℕ) (found : Option Stmt) → AreEnds ends S → stays_open 0 S ≡ true → slice_get S (i - 1) ≡ found → IsPlain found
-    → 1 ≤ i → i < at → at ≤ length S + 1 → block ≡ last_active is_open (take (i - 1) S) → IsTold ends S i at block
+    → 1 ≤ i → i < at → at ≤ length S + 1 → block ≡ last_active_of_kind is_open (take (i - 1) S) → IsTold ends S i at block
 told-by ends S i at block None told whole g plain one lt le is = absurd plain
 told-by ends S i at block (Some s) told whole g plain one lt le is = record {
   outside = λ z. active-outside S i at s one lt le g plain.0 plain.1 whole (sym is ∙ z);
@@ -231,7 +231,7 @@ told-by ends S i at block (Some s) told whole g plain one lt le is = record {
     within : block ≢ 0 → block - 1 < length ends
     within some = let b = back some in omega (arith, b.1.within, told.count, lt, le, one, b.1.above)
 
-pub active-told : (k : Stock) (i at : ℕ) (l : Links) → AreStored k → (1 ≤ i) × (i < at) × (at ≤ length (statements_of k) + 1) → IsPlain (slice_get (statements_of k) (i - 1)) → l ≡ links_of (take (i - 1) (statements_of k))
+pub active-told : (k : Storage) (i at : ℕ) (l : LastActive) → AreStored k → (1 ≤ i) × (i < at) × (at ≤ length (statements_of k) + 1) → IsPlain (slice_get (statements_of k) (i - 1)) → l ≡ last_active_of (take (i - 1) (statements_of k))
     → IsTold k.ends.items (statements_of k) i at l.block
 active-told k i at l stored place plain is =
     told-by k.ends.items (statements_of k) i at l.block (slice_get (statements_of k) (i - 1)) stored.ended stored.kept.stays refl plain place.0 place.1 place.2 (ap (λ r. r.block) is)
@@ -239,21 +239,21 @@ active-told k i at l stored place plain is =
 -- ---- the ends in the storage
 
 -- room for one statement more
-pub block-within : (k : Stock) (block : ℕ) (ends : List ℕ) → AreStored k → block ≡ k.links.block → ends ≡ k.ends.items ++ 0 ∷ [] → block ≤ length ends
+pub block-within : (k : Storage) (block : ℕ) (ends : List ℕ) → AreStored k → block ≡ k.last_active.block → ends ≡ k.ends.items ++ 0 ∷ [] → block ≤ length ends
 block-within k block ends stored same more =
     let a = last-within is_open (statements_of k) refl in
-    let links = ap (λ l. l.block) stored.kept.last in
-    omega (arith, a, links, stored.ended.count, length-append k.ends.items (0 ∷ []), ap length more, same)
+    let last_active = ap (λ l. l.block) stored.kept.last in
+    omega (arith, a, last_active, stored.ended.count, length-append k.ends.items (0 ∷ []), ap length more, same)
 
 -- one statement more
-pub ends-next : (k : Stock) (s : Stmt) (T : Database) (q : Kind) (block at : ℕ) (ends ends' : List ℕ) → AreStored k → q ≡ kind_of s → block ≡ k.links.block → at ≡ length k.entries + 1 → ends ≡ k.ends.items ++ 0 ∷ []
+pub ends-next : (k : Storage) (s : Stmt) (T : Database) (q : Kind) (block at : ℕ) (ends ends' : List ℕ) → AreStored k → q ≡ kind_of s → block ≡ k.last_active.block → at ≡ length k.entries + 1 → ends ≡ k.ends.items ++ 0 ∷ []
     → ends' ≡ with_end q block at ends → T ≡ statements_of k ++ s ∷ [] → AreEnds ends' T
-ends-next k s T q block at ends ends' stored of_kind same place more noted is =
+ends-next k s T q block at ends ends' stored of_kind same place more recorded is =
     let S = statements_of k in
     let n = stored.ended.count in
     let size : length k.entries ≡ length S = sym (length-map k.entries (stmt_of (names_in k) (labels_in k))) in
     let at_end : at ≡ length S + 1 = omega (arith, place, size) in
-    let all : ends' ≡ with_end (kind_of s) block (length S + 1) (k.ends.items ++ 0 ∷ []) = rw (← more, ← at_end, ← of_kind) noted in
+    let all : ends' ≡ with_end (kind_of s) block (length S + 1) (k.ends.items ++ 0 ∷ []) = rw (← more, ← at_end, ← of_kind) recorded in
     rw (all, is) (record {
       count = omega (arith, length-with (kind_of s) block (length S + 1) (k.ends.items ++ 0 ∷ []), length-append k.ends.items (0 ∷ []), length-append S (s ∷ []), n);
       tell = tells-more k.ends.items S s block n stored.ended.tell (same ∙ ap (λ l. l.block) stored.kept.last);
@@ -268,28 +268,28 @@ ends-front ends S n le size told = record {
 
 -- ---- the last one taken away
 
-pub block-fits : (es : List Entry) (S : Database) (i n : ℕ) (e : Entry) → AreBlocks es S → slice_get es i ≡ Some e → length S ≡ n → e.links.block ≤ n
+pub block-fits : (es : List Entry) (S : Database) (i n : ℕ) (e : Entry) → AreBlocks es S → slice_get es i ≡ Some e → length S ≡ n → e.last_active.block ≤ n
 block-fits es S i n e told g size =
     let lt = slice_get_within es i e g in
     omega (arith, told.blocks i e g, last-within is_open (take i S) refl, lt, length-take-le i S (omega (arith, lt, told.count)), told.count, size)
 
 pub ends-taken : (es front all : List Entry) (S : Database) (e : Entry) (ends ends' : List ℕ) → AreBlocks es S → all ≡ front ++ e ∷ [] → slice_get es (length front) ≡ Some e → length S ≡ length ends
-    → TellEnds ends (take (length all) S) → ends' ≡ with_end e.kind e.links.block 0 ends → TellEnds ends' (take (length front) S)
-ends-taken es front all S e ends ends' blocks is here size told noted =
+    → TellEnds ends (take (length all) S) → ends' ≡ with_end e.kind e.last_active.block 0 ends → TellEnds ends' (take (length front) S)
+ends-taken es front all S e ends ends' blocks is here size told recorded =
     let i = length front in
     let below : i < length S = omega (arith, slice_get_within es i e here, blocks.count) in
     let s = get_or S i Open in
     let g : slice_get S i ≡ Some s = slice_get-get_or S i Open below in
     let one : length all ≡ suc i = omega (arith, ap length is, length-append front (e ∷ [])) in
     let more : take (length all) S ≡ take i S ++ s ∷ [] = ap (λ k. take k S) one ∙ take-one S i s g in
-    rw (noted, blocks.kinds i e s here g)
-    (tells-less ends (take i S) s e.links.block (omega (arith, length-take-le i S (omega (arith, below)), below, size)) (subst (TellEnds ends) more told) (blocks.blocks i e here))
+    rw (recorded, blocks.kinds i e s here g)
+    (tells-less ends (take i S) s e.last_active.block (omega (arith, length-take-le i S (omega (arith, below)), below, size)) (subst (TellEnds ends) more told) (blocks.blocks i e here))
 
 kind-by : (q : Kind) (label : Name) (names : List Name) → q ≡ kind_of (stmt_by q label names)
 kind-by kind.Open label names = refl
 kind-by kind label names = refl
 
-pub stored-blocks : (k : Stock) → AreStored k → AreBlocks k.entries (statements_of k)
+pub stored-blocks : (k : Storage) → AreStored k → AreBlocks k.entries (statements_of k)
 stored-blocks k stored = record {
   count = sym (length-map k.entries (stmt_of (names_in k) (labels_in k)));
   kinds = λ i e s g h. kind-by e.kind (name_at (labels_in k) e.label) (decode (names_in k) e.symbols)

@@ -1,9 +1,9 @@
 -- A statement entered with its label stands for itself, and what was done to the storage for it.
 use Rattle.frame.proofs.Words.{sym, ◌∙◌, ap, subst, arith, length-append, inl, inr, ◌≡◌, ℕ, List, [], ◌∷◌, ◌++◌, length, take, slice_get, Option, Some, true, refl, ◌+◌, ◌<◌, ◌⊎◌, map, length-map, take-append-le, map_push, same_Some, take-append_seam}
-use Rattle.frame.proofs.Words.{name_at-last, Name, Stmt, Database, bare, label_of, expr_of, is_assertion, is_essential, stays_open, declared_with, IsNotedBy, IsLegal, name_at, decode, with_names, symbols_by, symbols_in, symbols_of, symbols_after, labels_of, option_list, AreNumbers, AreVariableNumbers, AreNoted, IsNumberingOf, numbering-after, noted-after, symbols_of-append, labels_of-append, AreBelow, Assertion, Entry, made, Kind, Ess, Stock, names_in, labels_in, stmt_by, stmt_of, statements_of, option_position, ReadsAs, replaced_by, symbol_of, positions_from, AreAllLegal, AreStored, IsKeptOf, AreKept, floats_in, kept_with, has_parts, IsKeptAs, is_label_kind, kind_of, IsLabelBelow, HasTwo, Grown, HasRoom, with_declared, AreNumbered, with_entry, KeepsCounts, Links, Symbol, links_of, naming_of, get-last, Extends, get-push, extends-length}
+use Rattle.frame.proofs.Words.{name_at-last, Name, Stmt, Database, bare, label_of, expr_of, is_assertion, is_essential, stays_open, declared_with, IsRecordedBy, IsLegal, name_at, decode, with_names, symbols_by, symbols_in, symbols_of, symbols_after, labels_of, option_list, AreNumbers, AreVariableNumbers, AreRecorded, IsNumberingOf, numbering-after, recorded-after, symbols_of-append, labels_of-append, AreBelow, Assertion, Entry, made, Kind, Ess, Storage, names_in, labels_in, stmt_by, stmt_of, statements_of, option_position, ReadsAs, replaced_by, symbol_of, positions_from, AreAllLegal, AreStored, IsKeptOf, AreKept, floats_in, kept_with, has_parts, IsKeptAs, is_label_kind, kind_of, IsLabelBelow, HasTwo, Grown, HasRoom, with_declared, AreNumbered, with_entry, KeepsCounts, LastActive, Symbol, last_active_of, naming_of, get-last, Extends, get-push, extends-length}
 use Rattle.scope.proofs.BareLemmas.{bare-same, symbols_by-bare, declared_with-bare, legal-bare}
-use Rattle.entries.specs.declared.head.Head.{Head}
-use Rattle.frame.specs.Stored.Whole.{IsHead}
+use Rattle.entries.specs.declared.entry_header.EntryHeader.{EntryHeader}
+use Rattle.frame.specs.Stored.Whole.{IsEntryHeader}
 use Rattle.frame.proofs.DeclaredSymbolLemmas.{codes-below}
 use Rattle.frame.proofs.NamingLemmas.{stored-naming, naming_of-append, symbols-extend}
 use Rattle.frame.proofs.StoredOneMore.{still-reads, numbered-at, statements-more, stmt-more, numbered-push, positions_from-push, legal-push, stays-push}
@@ -39,7 +39,7 @@ pub kind_of-bare : (s : Stmt) → kind_of (bare s) ≡ kind_of s
 kind_of-bare s = bare-same kind_of (λ l e p. refl) s
 
 -- the numbers are those of the expression, where the statement is an assertion or a `$e`
-pub next-bare : (k : Stock) (codes : List ℕ) (s : Stmt) → has_parts (kind_of s) ≡ true → AreNumbers (with_names (names_in k) (symbols_by s)) (symbols_in s) codes
+pub next-bare : (k : Storage) (codes : List ℕ) (s : Stmt) → has_parts (kind_of s) ≡ true → AreNumbers (with_names (names_in k) (symbols_by s)) (symbols_in s) codes
     → AreBelow (length (names_in k)) codes × (decode (names_in k) codes ≡ expr_of (bare s))
 next-bare k codes (stmt.Axiom label expr) a n = (codes-below (names_in k) codes n.0, n.1)
 next-bare k codes (stmt.Prove label expr proof) a n = (codes-below (names_in k) codes n.0, n.1)
@@ -51,15 +51,15 @@ essential-bare (stmt.Prove label expr proof) = refl
 essential-bare s = refl
 
 -- the declarations of a statement, and the numbers recorded of it before and after
-pub record IsEntered (old new : Stock) (s : Stmt) (h : Head) (before after : Option (List ℕ)) : Type 0 where
+pub record IsEntered (old new : Storage) (s : Stmt) (h : EntryHeader) (before after : Option (List ℕ)) : Type 0 where
   pub stored : AreStored old
   pub legal : IsLegal (statements_of old) s
-  pub head : IsHead old (bare s) h
+  pub header : IsEntryHeader old (bare s) h
   pub declared : new.numbering ≡ declared_with old.numbering s
-  pub noted : AreNoted (with_names (names_in old) (symbols_by s)) (symbols_in s) before
-  pub noted_after : IsNotedBy new.numbering s before after
+  pub recorded : AreRecorded (with_names (names_in old) (symbols_by s)) (symbols_in s) before
+  pub recorded_after : IsRecordedBy new.numbering s before after
 
-module _ (old new : Stock) (s : Stmt) (h : Head) (before after : Option (List ℕ)) (codes : List ℕ) (e : IsEntered old new s h before after) (are : after ≡ Some codes) where
+module _ (old new : Storage) (s : Stmt) (h : EntryHeader) (before after : Option (List ℕ)) (codes : List ℕ) (e : IsEntered old new s h before after) (are : after ≡ Some codes) where
   abbrev pub S : Database
   S = statements_of old
 
@@ -73,23 +73,23 @@ module _ (old new : Stock) (s : Stmt) (h : Head) (before after : Option (List �
 
   numbers-after : AreNumbers (symbols_after S s) (symbols_in s) codes
   numbers-after =
-      subst (λ (o : Option (List ℕ)). AreNoted (symbols_after S s) (symbols_in s) o) are
-      (noted-after S s old.numbering before after e.legal (stored-naming old e.stored) (rw e.declared at e.noted_after) (rw e.stored.kept.names_kept at e.noted))
+      subst (λ (o : Option (List ℕ)). AreRecorded (symbols_after S s) (symbols_in s) o) are
+      (recorded-after S s old.numbering before after e.legal (stored-naming old e.stored) (rw e.declared at e.recorded_after) (rw e.stored.kept.names_kept at e.recorded))
 
   numbers : AreNumbers (names_in new) (symbols_in s) codes
   numbers = subst (λ (N : List Name). AreNumbers N (symbols_in s) codes) (sym (named.symbols ∙ (symbols_of-append S (bare s) ∙ ap (with_names (symbols_of S)) (symbols_by-bare s)))) numbers-after
 
   kind : h.kind ≡ kind_of s
-  kind = e.head.kind ∙ kind_of-bare s
+  kind = e.header.kind ∙ kind_of-bare s
 
   pub entered-stands : (a : Assertion) → stmt_of (names_in new) (labels_in new) (made h codes a) ≡ bare s
-  entered-stands a = rw (kind, e.head.label, labels, numbers.1) (stands-for s (labels_in old))
+  entered-stands a = rw (kind, e.header.label, labels, numbers.1) (stands-for s (labels_in old))
 
   pub entered-below : AreBelow (length (names_in new)) codes
   entered-below = codes-below (names_in new) codes numbers.0
 
   pub entered-label : IsLabelBelow h.kind h.before.label (length (labels_in new))
-  entered-label = rw (kind, e.head.label, labels) (label-below s (labels_in old))
+  entered-label = rw (kind, e.header.label, labels) (label-below s (labels_in old))
 
   pub entered-two : HasTwo h.kind codes
   entered-two = subst (λ q. HasTwo q codes) (sym kind) (has-two s (names_in new) codes numbers.1)
@@ -99,7 +99,7 @@ not-essential (stmt.Ess label expr) a e = cc
 not-essential s a e = cc
 
 -- the hypotheses that are kept with each `$e`
-pub essentials-kept : (k : Stock) → AreStored k → (i : ℕ) (x : Entry) → slice_get k.entries i ≡ Some x → is_essential (stmt_of (names_in k) (labels_in k) x) ≡ true
+pub essentials-kept : (k : Storage) → AreStored k → (i : ℕ) (x : Entry) → slice_get k.entries i ≡ Some x → is_essential (stmt_of (names_in k) (labels_in k) x) ≡ true
     → x.assertion.hypotheses ≡ floats_in (take i (statements_of k)) (expr_of (stmt_of (names_in k) (labels_in k) x))
 essentials-kept k stored i x h e =
     let kept = stored.kept.parts_kept i x h (by x.kind e) in
@@ -117,21 +117,21 @@ variable-numbers names (stmt.Float label constant variable) codes n = n
 variable-numbers names s codes n = tt
 
 -- the parts of the storage after the call
-pub record IsExtended (old new : Stock) (s : Stmt) (h : Head) (a : Assertion) (codes : List ℕ) (kind : Kind) (at : ℕ) (symbols : List Symbol) (replaced : List ℕ) (entries : List Entry) (links : Links) : Type 0 where
+pub record IsExtended (old new : Storage) (s : Stmt) (h : EntryHeader) (a : Assertion) (codes : List ℕ) (kind : Kind) (at : ℕ) (symbols : List Symbol) (replaced : List ℕ) (entries : List Entry) (last_active : LastActive) : Type 0 where
   pub grown : Grown old new
   pub room : HasRoom new
   pub positions : new.positions.items ≡ old.positions.items ++ option_position (label_of s) (length old.entries + 1) []
   pub kept : has_parts h.kind ≡ true → IsKeptOf old (bare s) a
   pub of_kind : kind ≡ h.kind
   pub place : at ≡ length old.entries + 1
-  pub noted : (x : ℕ → Symbol) → ReadsAs new.symbols.items x → replaced ≡ new.replaced.items ++ replaced_by x kind codes
+  pub recorded : (x : ℕ → Symbol) → ReadsAs new.symbols.items x → replaced ≡ new.replaced.items ++ replaced_by x kind codes
   pub each : (c : ℕ) (x : Symbol) → slice_get new.symbols.items c ≡ Some x → slice_get symbols c ≡ Some (with_declared kind codes at c x)
   pub count : length symbols ≡ length new.symbols.items
   pub pushed : entries ≡ new.entries ++ made h codes a ∷ []
-  pub linked : links ≡ links_of (statements_of old ++ bare s ∷ [])
+  pub linked : last_active ≡ last_active_of (statements_of old ++ bare s ∷ [])
 
-module _ {old new : Stock} {s : Stmt} {h : Head} {a : Assertion} {codes : List ℕ} {before after : Option (List ℕ)} {kind : Kind} {at : ℕ} {symbols : List Symbol} {replaced : List ℕ} {entries : List Entry} {links : Links}
-    (x : IsEntered old new s h before after) (are : after ≡ Some codes) (p : IsExtended old new s h a codes kind at symbols replaced entries links) where
+module _ {old new : Storage} {s : Stmt} {h : EntryHeader} {a : Assertion} {codes : List ℕ} {before after : Option (List ℕ)} {kind : Kind} {at : ℕ} {symbols : List Symbol} {replaced : List ℕ} {entries : List Entry} {last_active : LastActive}
+    (x : IsEntered old new s h before after) (are : after ≡ Some codes) (p : IsExtended old new s h a codes kind at symbols replaced entries last_active) where
   abbrev e : Entry
   e = made h codes a
 
@@ -174,17 +174,17 @@ module _ {old new : Stock} {s : Stmt} {h : Head} {a : Assertion} {codes : List �
   found : (i : ℕ) (d : Entry) → slice_get entries i ≡ Some d → ((i < length old.entries) × (slice_get old.entries i ≡ Some d)) ⊎ ((i ≡ length old.entries) × (e ≡ d))
   found i d h = get-push old.entries e d i (ap (λ r. slice_get r i) (sym entries-more) ∙ h)
 
-  -- each entry has the links of the statements before it
-  linked' : (i : ℕ) (d : Entry) → slice_get entries i ≡ Some d → d.links ≡ links_of (take i (map (stmt_of (names_in new) (labels_in new)) entries))
+  -- each entry has the `LastActive` of the statements before it
+  linked' : (i : ℕ) (d : Entry) → slice_get entries i ≡ Some d → d.last_active ≡ last_active_of (take i (map (stmt_of (names_in new) (labels_in new)) entries))
   linked' i d h = by (found i d h)
     where
-      by : ((i < length old.entries) × (slice_get old.entries i ≡ Some d)) ⊎ ((i ≡ length old.entries) × (e ≡ d)) → d.links ≡ links_of (take i (map (stmt_of (names_in new) (labels_in new)) entries))
-      by (inl q) = x.stored.kept.linked i d q.1 ∙ ap links_of (sym (early i q.0))
-      by (inr q) = ap (λ w. w.links) (sym q.1) ∙ (x.head.links ∙ (x.stored.kept.last ∙ ap links_of (sym (late i q.0))))
+      by : ((i < length old.entries) × (slice_get old.entries i ≡ Some d)) ⊎ ((i ≡ length old.entries) × (e ≡ d)) → d.last_active ≡ last_active_of (take i (map (stmt_of (names_in new) (labels_in new)) entries))
+      by (inl q) = x.stored.kept.linked i d q.1 ∙ ap last_active_of (sym (early i q.0))
+      by (inr q) = ap (λ w. w.last_active) (sym q.1) ∙ (x.header.last_active ∙ (x.stored.kept.last ∙ ap last_active_of (sym (late i q.0))))
 
   -- the symbols that were there, and those that nothing declares yet
   between : ReadsAs new.symbols.items (symbol_of old.entries)
-  between = still-reads (names_in old) (labels_in old) old.positions.items old.symbols.items old.replaced.items old.entries old.links new.symbols.items x.stored.kept p.grown.symbols
+  between = still-reads (names_in old) (labels_in old) old.positions.items old.symbols.items old.replaced.items old.entries old.last_active new.symbols.items x.stored.kept p.grown.symbols
 
   -- each symbol tells its declarations, the new statement's with them
   symbols' : (c : ℕ) → c < length (names_in new) → slice_get symbols c ≡ Some (symbol_of entries c)
@@ -219,8 +219,8 @@ module _ {old new : Stock} {s : Stmt} {h : Head} {a : Assertion} {codes : List �
             name_count = c.name_count ∙ ap (λ S. length (symbols_of S)) (sym (early i q.0));
           }
       by (inr q) =
-          let n : d.names ≡ length (names_in old) = ap (λ w. w.names) (sym q.1) ∙ x.head.names in
-          let m : d.label ≡ length (labels_in old) = ap (λ w. w.label) (sym q.1) ∙ x.head.label in
+          let n : d.names ≡ length (names_in old) = ap (λ w. w.names) (sym q.1) ∙ x.header.names in
+          let m : d.label ≡ length (labels_in old) = ap (λ w. w.label) (sym q.1) ∙ x.header.label in
           let front : take i entries ≡ old.entries = ap (take i) entries-more ∙ (ap (λ j. take j (old.entries ++ e ∷ [])) q.0 ∙ take-append_seam old.entries (e ∷ [])) in
           record {
             numbered = rw (n, m, front) x.stored.kept.coded;
@@ -234,11 +234,11 @@ module _ {old new : Stock} {s : Stmt} {h : Head} {a : Assertion} {codes : List �
       let same : e ≡ d = same_Some e d (sym (ap (λ r. slice_get r (length old.entries)) entries-more ∙ get-last old.entries e) ∙ g) in
       subst (λ (w : Entry). AreVariableNumbers (symbols_after (statements_of old) s) s w.symbols) same (variable-numbers (symbols_after (statements_of old) s) s codes (numbers-after old new s h before after codes x are))
 
-  pub kept-pushed : AreKept (names_in new) (labels_in new) new.positions.items symbols replaced entries links
+  pub kept-pushed : AreKept (names_in new) (labels_in new) new.positions.items symbols replaced entries last_active
   kept-pushed =
       let k = x.stored.kept in
       record {
-        last = p.linked ∙ ap links_of (sym pushed-statements);
+        last = p.linked ∙ ap last_active_of (sym pushed-statements);
         linked = linked';
         stays = ap (stays_open 0) pushed-statements ∙ stays-push (statements_of old) (bare s) k.stays legal;
         legal = subst AreAllLegal (sym pushed-statements) (legal-push (statements_of old) (bare s) k.legal legal);
@@ -249,7 +249,7 @@ module _ {old new : Stock} {s : Stmt} {h : Head} {a : Assertion} {codes : List �
             (numbered-push (length (names_in old)) (length (names_in new)) (length (labels_in old)) (length (labels_in new)) old.entries e (extends-length (names_in old) (names_in new) names-extend) (extends-length (labels_in old) (labels_in new) labels-extend) k.coded
             (entered-below old new s h before after codes x are) (entered-label old new s h before after codes x are) (entered-two old new s h before after codes x are));
         symbols_kept = symbols';
-        replaced_kept = p.noted (symbol_of old.entries) between ∙ rw (p.grown.replaced, p.of_kind, k.replaced_kept, entries-more) (sym (replaced_of-push old.entries e));
+        replaced_kept = p.recorded (symbol_of old.entries) between ∙ rw (p.grown.replaced, p.of_kind, k.replaced_kept, entries-more) (sym (replaced_of-push old.entries e));
         counts_kept = counts';
         count = p.count ∙ p.room.count;
         few = p.room.few;
@@ -257,6 +257,6 @@ module _ {old new : Stock} {s : Stmt} {h : Head} {a : Assertion} {codes : List �
       }
 
 -- the numbering is that of the statements, with one more
-pub numbered-pushed : (old new : Stock) (s : Stmt) (T : Database) → AreStored old → new.numbering ≡ declared_with old.numbering s → T ≡ statements_of old ++ bare s ∷ [] → new.numbering ≡ naming_of T
+pub numbered-pushed : (old new : Storage) (s : Stmt) (T : Database) → AreStored old → new.numbering ≡ declared_with old.numbering s → T ≡ statements_of old ++ bare s ∷ [] → new.numbering ≡ naming_of T
 numbered-pushed old new s T stored own same =
     own ∙ (sym (declared_with-bare old.numbering s) ∙ (ap (λ N. declared_with N (bare s)) stored.numbered ∙ (sym (naming_of-append (statements_of old) (bare s)) ∙ ap naming_of (sym same))))

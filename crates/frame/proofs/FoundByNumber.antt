@@ -1,6 +1,6 @@
 -- Distinct names, and statements by their kinds.
 use Rattle.frame.proofs.Words.{◌&&◌, is_float_kind, second_is, sym, ◌∙◌, ap, subst, arith, take-take, ◌≡◌, ℕ, zero, suc, ◌-◌, ◌<◌, true, List, [], ◌∷◌, length, map, take, slice_get, Option, Some, option_map, refl, same_Some, slice_get-map}
-use Rattle.frame.proofs.Words.{Name, Stmt, Database, expr_of, is_assertion, IsLegal, name_at, decode, AreDistinct, is_hypothesis, AreBelow, head_of, IsHead, IsOf, Kind, Float, Ess, Axiom, Prove, Entry, stmt_by, AreNumbered, HasTwo, is_typed_by, asked_by, take-get, code-at}
+use Rattle.frame.proofs.Words.{Name, Stmt, Database, expr_of, is_assertion, IsLegal, name_at, decode, AreDistinct, is_hypothesis, AreBelow, typecode_of, IsTypecode, IsOf, Kind, Float, Ess, Axiom, Prove, Entry, stmt_by, AreNumbered, HasTwo, is_typed_by, required_by, take-get, code-at}
 use Rattle.frame.proofs.LegalLabels.{AllKept}
 
 -- ---- lists
@@ -36,14 +36,14 @@ decode-injective names [] [] d p q e = refl
 decode-injective names [] (y ∷ b) d p q e = cc
 decode-injective names (x ∷ a) [] d p q e = cc
 decode-injective names (x ∷ a) (y ∷ b) d p q e =
-    let heads : name_at names x ≡ name_at names y = cc in
+    let typecodes : name_at names x ≡ name_at names y = cc in
     let tails : decode names a ≡ decode names b = cc in
-    ap (λ z. z ∷ a) (name_at-injective names x y d p.0 q.0 heads) ∙ ap (λ r. y ∷ r) (decode-injective names a b d p.1 q.1 tails)
+    ap (λ z. z ∷ a) (name_at-injective names x y d p.0 q.0 typecodes) ∙ ap (λ r. y ∷ r) (decode-injective names a b d p.1 q.1 tails)
 
 -- ---- statements by their kinds
 
 -- the variable of a `$f` is the symbol that it types
-pub code-floats : (c p : ℕ) (kind : Kind) (codes : List ℕ) → HasTwo kind codes → is_typed_by c (asked_by p kind codes) ≡ (is_float_kind kind && second_is c codes)
+pub code-floats : (c p : ℕ) (kind : Kind) (codes : List ℕ) → HasTwo kind codes → is_typed_by c (required_by p kind codes) ≡ (is_float_kind kind && second_is c codes)
 code-floats c p Float [] two = absurd (omega (arith, two))
 code-floats c p Float (x ∷ []) two = absurd (omega (arith, two))
 code-floats c p Float (x ∷ y ∷ codes) two = refl
@@ -60,12 +60,12 @@ own-expr names Prove label codes h = refl
 own-expr names kind label codes h = cc
 
 -- a hypothesis by its kind
-pub asked-kind : (names : List Name) (kind : Kind) (label : Name) (codes : List ℕ) (p : ℕ) (S : Database) (s : Stmt) → AreBelow (length names) codes → HasTwo kind codes
+pub required-kind : (names : List Name) (kind : Kind) (label : Name) (codes : List ℕ) (p : ℕ) (S : Database) (s : Stmt) → AreBelow (length names) codes → HasTwo kind codes
     → is_hypothesis S s (stmt_by kind label (decode names codes)) ≡ true
-    → IsHead names (head_of codes) (expr_of (stmt_by kind label (decode names codes))) × IsOf names p (stmt_by kind label (decode names codes)) (asked_by p kind codes)
-asked-kind names Float label [] p S s b two h = absurd (omega (arith, two))
-asked-kind names Float label (x ∷ []) p S s b two h = absurd (omega (arith, two))
-asked-kind names Float label (x ∷ y ∷ codes) p S s b two h = ((b.0, refl), (b.1.0, refl))
-asked-kind names Ess label [] p S s b two h = (refl, refl)
-asked-kind names Ess label (x ∷ codes) p S s b two h = ((b.0, refl), refl)
-asked-kind names kind label codes p S s b two h = cc
+    → IsTypecode names (typecode_of codes) (expr_of (stmt_by kind label (decode names codes))) × IsOf names p (stmt_by kind label (decode names codes)) (required_by p kind codes)
+required-kind names Float label [] p S s b two h = absurd (omega (arith, two))
+required-kind names Float label (x ∷ []) p S s b two h = absurd (omega (arith, two))
+required-kind names Float label (x ∷ y ∷ codes) p S s b two h = ((b.0, refl), (b.1.0, refl))
+required-kind names Ess label [] p S s b two h = (refl, refl)
+required-kind names Ess label (x ∷ codes) p S s b two h = ((b.0, refl), refl)
+required-kind names kind label codes p S s b two h = cc

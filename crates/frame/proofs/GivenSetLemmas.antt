@@ -1,6 +1,6 @@
 -- The sets of the hypotheses that the active `$e` bring along: read at a position, with one statement more, and cut.
 use Rattle.frame.proofs.Words.{◌≡◌, ◌∙◌, ap, sym, subst, arith, refl, inl, inr, ⊎_elim, ⊎_map, ℕ, zero, suc, ◌+◌, ◌-◌, ◌<◌, ◌≤◌, ◌⊎◌, true, false, cond, List, [], ◌∷◌, ◌++◌, length, length-append, length-take, length-take-le, map, map-append, take, take-take, take_all, take-append-le, nat_lt, slice_get, Option, Some, None, take-get, get-push, slice_get_within}
-use Rattle.frame.proofs.Words.{Database, Entry, Stmt, Links, Ess, actives, links_of, is_essential, is_close, stmt_of, names_in, labels_in, statements_of, AreStored, Stock, Extends, extends-length, extends-take, In, Ascends, AreThose, HasMore, OfSome, IsGiven, IsWith, kept_at, option_kept, set_at, with_position}
+use Rattle.frame.proofs.Words.{Database, Entry, Stmt, LastActive, Ess, actives, last_active_of, is_essential, is_close, stmt_of, names_in, labels_in, statements_of, AreStored, Storage, Extends, extends-length, extends-take, In, Ascends, AreThose, HasMore, OfSome, IsGiven, IsWith, kept_at, option_kept, set_at, with_position}
 use Rattle.std.proofs.lemmas.Bool.{cond_both}
 use Rattle.std.specs.Prelude.{max}
 use Rattle.std.proofs.lemmas.Bool.Decides.{nat_tests}
@@ -12,7 +12,7 @@ use Rattle.frame.specs.Stored.GivenSets.{option_set, kept_set, IsGivenBy, IsKept
 use Rattle.frame.proofs.BlockWalkLemmas.{get-take, take-one}
 use Rattle.frame.proofs.CollectLemmas.{last-in, last-out, those-by}
 use Rattle.frame.proofs.KindWalk.{walk-from, essential_chain, as-many}
-use Rattle.frame.proofs.LinksLemmas.{actives-push}
+use Rattle.frame.proofs.LastActiveLemmas.{actives-push}
 use Rattle.frame.proofs.StackLemmas.{AreIn, actives-in}
 use Rattle.frame.proofs.StoredReading.{get-stmt}
 
@@ -62,17 +62,17 @@ module _ (es : List Entry) (n m : ℕ) (S : Database) (le : m ≤ n) where
 
 -- ---- the set that is kept by the last active `$e`
 
-pub given-at : (k : Stock) (g : GivenSets) (at q : ℕ) (l : Links) → AreStored k → AreGivenSets g k.entries (statements_of k) → 1 ≤ at → at ≤ length (statements_of k) + 1 → l ≡ links_of (take (at - 1) (statements_of k)) → q ≡ l.essential
+pub given-at : (k : Storage) (g : GivenSets) (at q : ℕ) (l : LastActive) → AreStored k → AreGivenSets g k.entries (statements_of k) → 1 ≤ at → at ≤ length (statements_of k) + 1 → l ≡ last_active_of (take (at - 1) (statements_of k)) → q ≡ l.essential
     → IsGivenBy k.entries (take (at - 1) (statements_of k)) g.sets (kept_set g.kept.items q)
-given-at k g at zero l stored sets low high links is some = absurd (some refl)
-given-at k g at (suc i) l stored sets low high links is some = by (slice_get g.kept.items i) refl some
+given-at k g at zero l stored sets low high last_active is some = absurd (some refl)
+given-at k g at (suc i) l stored sets low high last_active is some = by (slice_get g.kept.items i) refl some
   where
     by : (o : Option KeptSet) → slice_get g.kept.items i ≡ o → (kept_set g.kept.items (suc i) ≡ 0 → ⊥) → AreThose (IsGiven k.entries (take (at - 1) (statements_of k))) (set_at g.sets (kept_set g.kept.items (suc i)))
     by None e some = absurd (some (ap option_set e))
     by (Some x) e some =
         let S = statements_of k in
         let same : kept_set g.kept.items (suc i) ≡ x.set = ap option_set e in
-        let f = walk-from k (at - 1) l essential_chain (omega arith) links in
+        let f = walk-from k (at - 1) l essential_chain (omega arith) last_active in
         let list : actives is_essential (take (suc i) S) ≡ actives is_essential (take (at - 1) S) = ap (λ n. actives is_essential (take n S)) is ∙ f.same in
         let those = (sets.each i x e).given (λ z. some (same ∙ z)) in
         let there : (p : ℕ) → IsGiven (take (suc i) k.entries) (take (suc i) S) p → IsGiven k.entries (take (at - 1) S) p
@@ -83,7 +83,7 @@ given-at k g at (suc i) l stored sets low high links is some = by (slice_get g.k
 
 -- ---- the next `$e`: what is given before it, it itself, and its own
 
-pub given-next : (k : Stock) (last : ℕ) (e : Entry) (xs new : List ℕ) → length k.entries ≡ suc last → slice_get k.entries last ≡ Some e → e.kind ≡ Ess
+pub given-next : (k : Storage) (last : ℕ) (e : Entry) (xs new : List ℕ) → length k.entries ≡ suc last → slice_get k.entries last ≡ Some e → e.kind ≡ Ess
     → AreThose (IsGiven k.entries (take last (statements_of k))) xs → Ascends new → HasMore (λ p. (p ≡ suc last) ⊎ In p e.assertion.hypotheses) xs new → AreThose (IsGiven k.entries (statements_of k)) new
 given-next k last e xs new size got kind those ascends more =
     let S = statements_of k in
@@ -130,21 +130,21 @@ kept-ascends g es S (suc i) are some = by (slice_get g.kept.items i) refl some
     by (Some x) e some = subst (λ o. Ascends (set_at g.sets (option_set o))) (sym e) ((are.each i x e).given (λ z. some (ap option_set e ∙ z))).ascends
 
 -- the set of the next `$e`: its own are put into the set of the one before, and it itself
-pub set-next : (k : Stock) (g : GivenSets) (n : ℕ) (e : Entry) (mid new : List (List ℕ)) (set made : ℕ) → AreStored k → AreGivenSets g k.entries (statements_of k) → n ≡ length k.entries → slice_get k.entries (n - 1) ≡ Some e → e.kind ≡ Ess
-    → (kept_set g.kept.items e.links.essential ≡ 0 → ⊥) → Ascends (set_at mid set) → HasMore (λ p. In p e.assertion.hypotheses) (set_at g.sets (kept_set g.kept.items e.links.essential)) (set_at mid set) → set_at new made ≡ with_position (n - 1 + 1) (set_at mid set)
+pub set-next : (k : Storage) (g : GivenSets) (n : ℕ) (e : Entry) (mid new : List (List ℕ)) (set made : ℕ) → AreStored k → AreGivenSets g k.entries (statements_of k) → n ≡ length k.entries → slice_get k.entries (n - 1) ≡ Some e → e.kind ≡ Ess
+    → (kept_set g.kept.items e.last_active.essential ≡ 0 → ⊥) → Ascends (set_at mid set) → HasMore (λ p. In p e.assertion.hypotheses) (set_at g.sets (kept_set g.kept.items e.last_active.essential)) (set_at mid set) → set_at new made ≡ with_position (n - 1 + 1) (set_at mid set)
     → AreThose (IsGiven k.entries (statements_of k)) (set_at new made)
 set-next k g n e mid new set made stored sets size got kind some ascends more is =
     let S = statements_of k in
     let low = slice_get_within k.entries (n - 1) e got in
     let last = n - 1 in
     let long : length k.entries ≡ suc last = omega arith in
-    let before = given-at k g (suc last) e.links.essential e.links stored sets (omega arith) (omega (arith, as-many k)) (stored.kept.linked last e got ∙ ap (λ m. links_of (take m S)) (omega arith)) refl some in
-    let those : AreThose (IsGiven k.entries (take last S)) (set_at g.sets (kept_set g.kept.items e.links.essential)) =
-    subst (λ m. AreThose (IsGiven k.entries (take m S)) (set_at g.sets (kept_set g.kept.items e.links.essential))) (omega arith) before in
+    let before = given-at k g (suc last) e.last_active.essential e.last_active stored sets (omega arith) (omega (arith, as-many k)) (stored.kept.linked last e got ∙ ap (λ m. last_active_of (take m S)) (omega arith)) refl some in
+    let those : AreThose (IsGiven k.entries (take last S)) (set_at g.sets (kept_set g.kept.items e.last_active.essential)) =
+    subst (λ m. AreThose (IsGiven k.entries (take m S)) (set_at g.sets (kept_set g.kept.items e.last_active.essential))) (omega arith) before in
     let q = last + 1 in
     let same : q ≡ suc last = omega arith in
     subst (AreThose (IsGiven k.entries S)) (sym is)
-    (given-next k last e (set_at g.sets (kept_set g.kept.items e.links.essential)) (with_position q (set_at mid set)) long got kind those (ascends-with q (set_at mid set) ascends)
+    (given-next k last e (set_at g.sets (kept_set g.kept.items e.last_active.essential)) (with_position q (set_at mid set)) long got kind those (ascends-with q (set_at mid set) ascends)
     (record {
       stays = λ p i. with-in p q (set_at mid set) (inr (more.stays p i));
       all = λ p. ⊎_elim (λ h. with-in p q (set_at mid set) (inl (h ∙ sym same))) (λ i. with-in p q (set_at mid set) (inr (more.all p i)));

@@ -1,6 +1,6 @@
 -- A statement that is kept by numbers says what the statement says.
 use Rattle.frame.proofs.Words.{In, floats, is_typed_by, list_any, list_any-map, sym, ◌∙◌, ap, subst, arith, append_assoc, length-append, ◌≡◌, ℕ, suc, ◌+◌, ◌-◌, ◌<◌, ◌≤◌, Bool, true, false, cond, List, [], ◌∷◌, ◌++◌, length, map, filter, slice_get, Option, Some, None, refl}
-use Rattle.frame.proofs.Words.{Name, Stmt, Database, stmt_at, before, stays_open, active_from, expr_of, separated, is_assertion, IsLegal, name_at, decode, AreDistinct, is_mandatory, is_hypothesis, hypotheses, separates, AreBelow, AllBelow, head_of, IsHead, IsOf, IsAsked, AreAsked, AreListsOf, IsCited, Cited, Kind, Disj, Entry, Assertion, actives, actives_from, is_disj, stmt_by, stmt_of, AreAllLegal, AreNumbered, HasTwo, is_typed, typed, symbols_at, option_symbols, has_two, groups_by, head_at, asked_by, option_asked, asked_at, kept_with, IsKeptAs, take-get}
+use Rattle.frame.proofs.Words.{Name, Stmt, Database, stmt_at, before, stays_open, active_from, expr_of, separated, is_assertion, IsLegal, name_at, decode, AreDistinct, is_mandatory, is_hypothesis, hypotheses, separates, AreBelow, AllBelow, typecode_of, IsTypecode, IsOf, IsRequired, AreRequired, AreListsOf, IsViewOf, AssertionView, Kind, Disj, Entry, Assertion, actives, actives_from, is_disj, stmt_by, stmt_of, AreAllLegal, AreNumbered, HasTwo, is_typed, typed, symbols_at, option_symbols, has_two, groups_by, typecode_at, required_by, option_required, required_at, kept_with, IsKeptAs, take-get}
 use Rattle.frame.proofs.LegalBehind.{stands-at}
 use Rattle.frame.proofs.LegalLabels.{AllKept}
 use Rattle.frame.proofs.VariablePlaceLemmas.{any-in, in-any, mandatory-float}
@@ -8,8 +8,8 @@ use Rattle.frame.proofs.ActivePositions.{active-members}
 use Rattle.frame.proofs.NamedCodes.{floats-is, is-floats}
 use Rattle.mm_read.specs.declared.stmt.Stmt.TheVariants.{Float}
 use Rattle.std.specs.Cmp.{both_ways}
-use Rattle.entries.specs.declared.cited_parts.Hypothesis.{Hypothesis}
-use Rattle.frame.proofs.FoundByNumber.{map-back, map-at, kept-front, code-floats, numbered-at, asked-kind}
+use Rattle.entries.specs.declared.assertion_view.Hypothesis.{Hypothesis}
+use Rattle.frame.proofs.FoundByNumber.{map-back, map-at, kept-front, code-floats, numbered-at, required-kind}
 use Rattle.frame.proofs.PlacedHypotheses.{IsHyp, AreHyps, hyps}
 
 -- ---- the assertion
@@ -28,7 +28,7 @@ module _ (es : List Entry) (names labels : List Name) (m a : ℕ) (e : Entry) (d
   own = stmt_of names labels e
 
   abbrev places : List Hypothesis
-  places = d.asked
+  places = d.required
 
   front-legal : AllKept front_of
   front-legal = kept-front all (a - 1) legal
@@ -68,50 +68,50 @@ module _ (es : List Entry) (names labels : List Name) (m a : ℕ) (e : Entry) (d
 
   -- ---- the results that are required
 
-  one-asked : (p : ℕ) → IsHyp front_of own p → IsAsked all names p (head_at es p) (asked_at es p)
-  one-asked p h =
+  one-required : (p : ℕ) → IsHyp front_of own p → IsRequired all names p (typecode_at es p) (required_at es p)
+  one-required p h =
       let x = hyp-at p h in
-      let k = asked-kind names x.entry.kind (name_at labels x.entry.label) x.entry.symbols p front_of own x.codes x.two (sym (ap (is_hypothesis front_of own) x.same) ∙ h.passes) in
+      let k = required-kind names x.entry.kind (name_at labels x.entry.label) x.entry.symbols p front_of own x.codes x.two (sym (ap (is_hypothesis front_of own) x.same) ∙ h.passes) in
       record {
         stmt = h.stmt;
         stands = ap (stmt_at all) h.at ∙ x.stands_at;
-        first = subst (λ o. IsHead names (head_of (option_symbols o)) (expr_of h.stmt)) (sym x.found) (subst (λ t. IsHead names (head_of x.entry.symbols) (expr_of t)) (sym x.same) k.0);
-        is = subst (λ o. IsOf names p h.stmt (option_asked p o)) (sym x.found) (subst (λ t. IsOf names p t (asked_by p x.entry.kind x.entry.symbols)) (sym x.same) k.1);
+        first = subst (λ o. IsTypecode names (typecode_of (option_symbols o)) (expr_of h.stmt)) (sym x.found) (subst (λ t. IsTypecode names (typecode_of x.entry.symbols) (expr_of t)) (sym x.same) k.0);
+        is = subst (λ o. IsOf names p h.stmt (option_required p o)) (sym x.found) (subst (λ t. IsOf names p t (required_by p x.entry.kind x.entry.symbols)) (sym x.same) k.1);
       }
 
-  all-asked : (ps : List ℕ) → AreHyps front_of own ps → AreAsked all names ps (map (head_at es) ps) (map (asked_at es) ps)
-  all-asked [] h = tt
-  all-asked (p ∷ ps) h = (one-asked p h.0, all-asked ps h.1)
+  all-required : (ps : List ℕ) → AreHyps front_of own ps → AreRequired all names ps (map (typecode_at es) ps) (map (required_at es) ps)
+  all-required [] h = tt
+  all-required (p ∷ ps) h = (one-required p h.0, all-required ps h.1)
 
-  kept-asked : AreAsked all names (hypotheses front_of own) d.heads d.asked
-  kept-asked =
-      subst (λ ps. AreAsked all names ps d.heads d.asked) hyps-are
-      (subst (λ hs. AreAsked all names d.hypotheses hs d.asked) (sym kept.heads_kept)
-      (subst (AreAsked all names d.hypotheses (map (head_at es) d.hypotheses)) (sym kept.asked_kept) (all-asked d.hypotheses own-hyps)))
+  kept-required : AreRequired all names (hypotheses front_of own) d.typecodes d.required
+  kept-required =
+      subst (λ ps. AreRequired all names ps d.typecodes d.required) hyps-are
+      (subst (λ hs. AreRequired all names d.hypotheses hs d.required) (sym kept.typecodes_kept)
+      (subst (AreRequired all names d.hypotheses (map (typecode_at es) d.hypotheses)) (sym kept.required_kept) (all-required d.hypotheses own-hyps)))
 
   -- ---- groups
 
   -- a number is that of a `$f` just where its name is mandatory
   mandatory-is : (c : ℕ) → c < length names → is_typed places c ≡ is_mandatory front_of own (name_at names c)
   mandatory-is c low =
-      ap (list_any (is_typed_by c)) kept.asked_kept ∙ (sym (list_any-map (asked_at es) (is_typed_by c) d.hypotheses)
-      ∙ both_ways (list_any (λ p. is_typed_by c (asked_at es p)) d.hypotheses) (is_mandatory front_of own (name_at names c)) there back)
+      ap (list_any (is_typed_by c)) kept.required_kept ∙ (sym (list_any-map (required_at es) (is_typed_by c) d.hypotheses)
+      ∙ both_ways (list_any (λ p. is_typed_by c (required_at es p)) d.hypotheses) (is_mandatory front_of own (name_at names c)) there back)
     where
-      there : list_any (λ p. is_typed_by c (asked_at es p)) d.hypotheses ≡ true → is_mandatory front_of own (name_at names c) ≡ true
+      there : list_any (λ p. is_typed_by c (required_at es p)) d.hypotheses ≡ true → is_mandatory front_of own (name_at names c) ≡ true
       there h =
-          let r = any-in (λ p. is_typed_by c (asked_at es p)) d.hypotheses h in
+          let r = any-in (λ p. is_typed_by c (required_at es p)) d.hypotheses h in
           let a = active-members front_of (is_hypothesis front_of own) r.0 [] front_of 1 refl refl (subst (In r.0) hyps-are r.1) in
           let x = entry-at r.0 a.front a.stmt a.rest a.whole a.at in
-          let passes : floats c x.entry ≡ true = sym (code-floats c r.0 x.entry.kind x.entry.symbols x.two) ∙ (ap (λ o. is_typed_by c (option_asked r.0 o)) (sym x.found) ∙ r.2) in
+          let passes : floats c x.entry ≡ true = sym (code-floats c r.0 x.entry.kind x.entry.symbols x.two) ∙ (ap (λ o. is_typed_by c (option_required r.0 o)) (sym x.found) ∙ r.2) in
           let y = floats-is names c x.entry (name_at labels x.entry.label) passes in
           ap (is_hypothesis front_of own) (sym (x.same ∙ y.1)) ∙ a.passes
 
-      back : is_mandatory front_of own (name_at names c) ≡ true → list_any (λ p. is_typed_by c (asked_at es p)) d.hypotheses ≡ true
+      back : is_mandatory front_of own (name_at names c) ≡ true → list_any (λ p. is_typed_by c (required_at es p)) d.hypotheses ≡ true
       back m =
           let f = mandatory-float front_of own (name_at names c) front-legal own-legal asserts m in
           let x = entry-at (suc (length f.front)) f.front (Float f.label f.constant (name_at names c)) f.rest f.whole refl in
-          in-any (λ p. is_typed_by c (asked_at es p)) d.hypotheses (suc (length f.front)) (subst (In (suc (length f.front))) (sym hyps-are) f.listed)
-          (ap (λ o. is_typed_by c (option_asked (suc (length f.front)) o)) x.found ∙ (code-floats c (suc (length f.front)) x.entry.kind x.entry.symbols x.two
+          in-any (λ p. is_typed_by c (required_at es p)) d.hypotheses (suc (length f.front)) (subst (In (suc (length f.front))) (sym hyps-are) f.listed)
+          (ap (λ o. is_typed_by c (option_required (suc (length f.front)) o)) x.found ∙ (code-floats c (suc (length f.front)) x.entry.kind x.entry.symbols x.two
           ∙ is-floats names c x.entry (name_at labels x.entry.label) f.constant f.label distinct x.codes x.two low (sym x.same)))
 
   typed-stands : (codes : List ℕ) → AreBelow (length names) codes → decode names (typed places codes) ≡ filter (is_mandatory front_of own) (decode names codes)
@@ -184,16 +184,16 @@ module _ (es : List Entry) (names labels : List Name) (m a : ℕ) (e : Entry) (d
 
   pub kept-lists : AreListsOf all names a d own
   kept-lists = record {
-    asked = kept-asked;
+    required = kept-required;
     groups = ap (map (decode names)) (kept.groups_kept whole) ∙ groups-from [] front_of 1 refl refl;
     groups_below = subst (AllBelow (length names)) (sym (kept.groups_kept whole)) (groups-low (actives is_disj front_of));
   }
 
 -- the lists, and the expression, are what is cited
 pub lists-cited : (S : Database) (names : List Name) (a : ℕ) (s : Stmt) (d : Assertion) (codes : List ℕ) → AreListsOf S names a d s → decode names codes ≡ expr_of s → AreBelow (length names) codes
-    → (c : Cited) → c.heads.now ≡ d.heads → c.hypotheses ≡ d.asked → c.conclusion.now ≡ codes → c.groups ≡ d.groups → IsCited S names a s c
+    → (c : AssertionView) → c.typecodes.now ≡ d.typecodes → c.hypotheses ≡ d.required → c.conclusion.now ≡ codes → c.groups ≡ d.groups → IsViewOf S names a s c
 lists-cited S names a s d codes l stand low c p q k g = record {
-  asked = subst (λ hs. AreAsked S names (hypotheses (before S a) s) hs c.hypotheses) (sym p) (subst (AreAsked S names (hypotheses (before S a) s) d.heads) (sym q) l.asked);
+  required = subst (λ hs. AreRequired S names (hypotheses (before S a) s) hs c.hypotheses) (sym p) (subst (AreRequired S names (hypotheses (before S a) s) d.typecodes) (sym q) l.required);
   conclusion = ap (decode names) k ∙ stand;
   conclusion_below = subst (AreBelow (length names)) (sym k) low;
   groups = ap (map (decode names)) g ∙ l.groups;

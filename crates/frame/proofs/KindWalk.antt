@@ -1,6 +1,6 @@
 -- Going through the active statements of a kind, from the last one back.
 use Rattle.frame.proofs.Words.{list_any, sym, ◌∙◌, ap, arith, true≢false, ◌≡◌, ℕ, zero, suc, ◌-◌, ◌<◌, ◌≤◌, Bool, true, false, cond, ◌||◌, ◌==◌, nat_eq, List, [], ◌∷◌, ◌++◌, length, take, filter, slice_get, Some, refl, or-false, length-map, list_any-append, or_right, false_from_ne_true, same_Some}
-use Rattle.frame.proofs.Words.{has-at, name_same, same_name, Name, name_eq, has_name, Stmt, Database, active, separated, variables, is_essential, name_at, decode, AreDistinct, AreBelow, actives, last_position, last_active, links_of, is_var, is_disj, Kind, Var, Disj, Entry, Links, Stock, stmt_by, stmt_of, names_in, labels_in, statements_of, AreStored}
+use Rattle.frame.proofs.Words.{has-at, name_same, same_name, Name, name_eq, has_name, Stmt, Database, active, separated, variables, is_essential, name_at, decode, AreDistinct, AreBelow, actives, last_position, last_active_of_kind, last_active_of, is_var, is_disj, Kind, Var, Disj, Entry, LastActive, Storage, stmt_by, stmt_of, names_in, labels_in, statements_of, AreStored}
 use Rattle.std.specs.Cmp.{both_ways}
 use Rattle.frame.proofs.FoundByNumber.{name_at-injective}
 use Rattle.mm_read.specs.declared.stmt.Stmt.TheVariants as stmt
@@ -38,10 +38,10 @@ any-kind kind g no_other (p ∷ ps) = by (kind p.1) refl (any-kind kind g no_oth
 
 -- ---- the walk from one active statement of a kind to the one before it
 
--- the links tell of the last active statement of a kind that no `$}` has
-pub record IsChain (kind : Stmt → Bool) (link : Links → ℕ) : Type 0 where
+-- `LastActive` tells of the last active statement of a kind that no `$}` has
+pub record IsChain (kind : Stmt → Bool) (last_of_kind : LastActive → ℕ) : Type 0 where
   pub no_close : IsNoClose kind
-  pub tells : (S : Database) → link (links_of S) ≡ last_active kind S
+  pub tells : (S : Database) → last_of_kind (last_active_of S) ≡ last_active_of_kind kind S
 
 pub disjoint_chain : IsChain is_disj (λ l. l.disjoint)
 disjoint_chain = record { no_close = refl; tells = λ S. refl }
@@ -53,24 +53,24 @@ pub essential_chain : IsChain is_essential (λ l. l.essential)
 essential_chain = record { no_close = refl; tells = λ S. refl }
 
 -- those of the kind that are active after the first p statements
-abbrev pub walked : (Stmt → Bool) → Stock → ℕ → List (ℕ × Stmt)
+abbrev pub walked : (Stmt → Bool) → Storage → ℕ → List (ℕ × Stmt)
 walked kind k p = actives kind (take p (statements_of k))
 
 -- the last of them stands at p, or there is none and p is 0
-pub record IsAt (kind : Stmt → Bool) (k : Stock) (p : ℕ) : Type 0 where
+pub record IsAt (kind : Stmt → Bool) (k : Storage) (p : ℕ) : Type 0 where
   pub within : p ≤ length k.entries
-  pub last : p ≡ last_active kind (take p (statements_of k))
+  pub last : p ≡ last_active_of_kind kind (take p (statements_of k))
 
 -- the last one of those after the first m stands at p
-pub record IsFrom (kind : Stmt → Bool) (k : Stock) (m p : ℕ) : Type 0 where
+pub record IsFrom (kind : Stmt → Bool) (k : Storage) (m p : ℕ) : Type 0 where
   pub at : IsAt kind k p
   pub low : p ≤ m
   pub same : walked kind k p ≡ walked kind k m
 
-pub as-many : (k : Stock) → length (statements_of k) ≡ length k.entries
+pub as-many : (k : Storage) → length (statements_of k) ≡ length k.entries
 as-many k = length-map k.entries (stmt_of (names_in k) (labels_in k))
 
-from : (kind : Stmt → Bool) → IsNoClose kind → (k : Stock) (m p : ℕ) → m ≤ length k.entries → p ≡ last_active kind (take m (statements_of k)) → IsFrom kind k m p
+from : (kind : Stmt → Bool) → IsNoClose kind → (k : Storage) (m p : ℕ) → m ≤ length k.entries → p ≡ last_active_of_kind kind (take m (statements_of k)) → IsFrom kind k m p
 from kind n k m zero high h = record { at = record { within = omega arith; last = refl }; low = omega arith; same = sym (walk-over kind (take m (statements_of k)) n (sym h)) }
 from kind n k m (suc i) high h =
     let b = walk-back kind (statements_of k) m (suc i) n h (λ z. cc) in
@@ -82,31 +82,31 @@ from kind n k m (suc i) high h =
       same = own ∙ sym b.1.list;
     }
 
-pub walk-from : {kind : Stmt → Bool} {link : Links → ℕ} (k : Stock) (m : ℕ) (l : Links) → IsChain kind link → m ≤ length (statements_of k) → l ≡ links_of (take m (statements_of k)) → IsFrom kind k m (link l)
-walk-from {kind = kind} {link = link} k m l chain high h =
-    from kind chain.no_close k m (link l) (omega (arith, high, as-many k)) (ap link h ∙ chain.tells (take m (statements_of k)))
+pub walk-from : {kind : Stmt → Bool} {last_of_kind : LastActive → ℕ} (k : Storage) (m : ℕ) (l : LastActive) → IsChain kind last_of_kind → m ≤ length (statements_of k) → l ≡ last_active_of (take m (statements_of k)) → IsFrom kind k m (last_of_kind l)
+walk-from {kind = kind} {last_of_kind = last_of_kind} k m l chain high h =
+    from kind chain.no_close k m (last_of_kind l) (omega (arith, high, as-many k)) (ap last_of_kind h ∙ chain.tells (take m (statements_of k)))
 
 -- the statement at p is read, and q is where the one before it stands
-pub record IsStep (kind : Stmt → Bool) (k : Stock) (p : ℕ) (e : Entry) (q : ℕ) : Type 0 where
+pub record IsStep (kind : Stmt → Bool) (k : Storage) (p : ℕ) (e : Entry) (q : ℕ) : Type 0 where
   pub smaller : q < p
   pub at : IsAt kind k q
   pub list : walked kind k p ≡ walked kind k q ++ (p, stmt_of (names_in k) (labels_in k) e) ∷ []
   pub of_kind : kind (stmt_of (names_in k) (labels_in k) e) ≡ true
   pub below : AreBelow (length (names_in k)) e.symbols
 
-pub walk-step : {kind : Stmt → Bool} {link : Links → ℕ} {k : Stock} {p : ℕ} (e : Entry) → IsChain kind link → AreStored k → IsAt kind k p → (p ≡ 0 → ⊥) → slice_get k.entries (p - 1) ≡ Some e → IsStep kind k p e (link e.links)
-walk-step {kind = kind} {link = link} {k = k} {p = p} e chain stored at some got =
+pub walk-step : {kind : Stmt → Bool} {last_of_kind : LastActive → ℕ} {k : Storage} {p : ℕ} (e : Entry) → IsChain kind last_of_kind → AreStored k → IsAt kind k p → (p ≡ 0 → ⊥) → slice_get k.entries (p - 1) ≡ Some e → IsStep kind k p e (last_of_kind e.last_active)
+walk-step {kind = kind} {last_of_kind = last_of_kind} {k = k} {p = p} e chain stored at some got =
     let S = statements_of k in
     let high = at.within in
     let b = walk-back kind S p p chain.no_close at.last some in
     let one = b.1.above in
-    let f = from kind chain.no_close k (p - 1) (link e.links) (omega (arith, high)) (ap link (stored.kept.linked (p - 1) e got) ∙ chain.tells (take (p - 1) S)) in
+    let f = from kind chain.no_close k (p - 1) (last_of_kind e.last_active) (omega (arith, high)) (ap last_of_kind (stored.kept.linked (p - 1) e got) ∙ chain.tells (take (p - 1) S)) in
     let low = f.low in
     let is : b.0 ≡ stmt_of (names_in k) (labels_in k) e = same_Some _ _ (sym b.1.stands ∙ get-stmt (names_in k) (labels_in k) k.entries (p - 1) e got) in
     record {
       smaller = omega (arith, low, one);
       at = f.at;
-      list = b.1.list ∙ (ap (λ r. r ++ (p, b.0) ∷ []) (sym f.same) ∙ ap (λ s. walked kind k (link e.links) ++ (p, s) ∷ []) is);
+      list = b.1.list ∙ (ap (λ r. r ++ (p, b.0) ∷ []) (sym f.same) ∙ ap (λ s. walked kind k (last_of_kind e.last_active) ++ (p, s) ∷ []) is);
       of_kind = ap kind (sym is) ∙ b.1.of_kind;
       below = numbered-at (length (names_in k)) (length (labels_in k)) k.entries stored.kept.coded (p - 1) e got;
     }
@@ -118,12 +118,12 @@ pub record AreLists (kind : Stmt → Bool) (lists : Stmt → List Name) : Type 0
   pub stand : (names labels : List Name) (e : Entry) → kind (stmt_of names labels e) ≡ true → lists (stmt_of names labels e) ≡ decode names e.symbols
   pub other : (s : Stmt) → kind s ≡ false → lists s ≡ []
 
-pub record IsSought (kind : Stmt → Bool) (lists : Stmt → List Name) (test : List Name → Bool) (k : Stock) (p : ℕ) (answer : Bool) : Type 0 where
+pub record IsSought (kind : Stmt → Bool) (lists : Stmt → List Name) (test : List Name → Bool) (k : Storage) (p : ℕ) (answer : Bool) : Type 0 where
   pub at : IsAt kind k p
   pub same : list_any (λ q. test (lists q.1)) (walked kind k p) ≡ answer
 
-pub sought-start : {kind : Stmt → Bool} {link : Links → ℕ} {lists : Stmt → List Name} {test : List Name → Bool} {answer : Bool} (k : Stock) (m : ℕ) (l : Links) → IsChain kind link
-    → m ≤ length (statements_of k) → l ≡ links_of (take m (statements_of k)) → list_any (λ q. test (lists q.1)) (walked kind k m) ≡ answer → IsSought kind lists test k (link l) answer
+pub sought-start : {kind : Stmt → Bool} {last_of_kind : LastActive → ℕ} {lists : Stmt → List Name} {test : List Name → Bool} {answer : Bool} (k : Storage) (m : ℕ) (l : LastActive) → IsChain kind last_of_kind
+    → m ≤ length (statements_of k) → l ≡ last_active_of (take m (statements_of k)) → list_any (λ q. test (lists q.1)) (walked kind k m) ≡ answer → IsSought kind lists test k (last_of_kind l) answer
 sought-start {lists = lists} {test = test} k m l chain high h is =
     let f = walk-from k m l chain high h in
     record { at = f.at; same = ap (list_any (λ q. test (lists q.1))) f.same ∙ is }
@@ -133,7 +133,7 @@ pub any-active : {kind : Stmt → Bool} {lists : Stmt → List Name} (test : Lis
     → list_any (λ q. test (lists q.1)) (actives kind S) ≡ list_any (λ q. test (lists q.1)) (active S)
 any-active {kind = kind} {lists = lists} test S are none = sym (any-kind kind (λ q. test (lists q.1)) (λ q o. ap test (are.other q.1 o) ∙ none) (active S))
 
-module _ {kind : Stmt → Bool} {lists : Stmt → List Name} {test : List Name → Bool} {k : Stock} {p q : ℕ} {answer : Bool} (e : Entry) (are : AreLists kind lists) (step : IsStep kind k p e q) (w : IsSought kind lists test k p answer) where
+module _ {kind : Stmt → Bool} {lists : Stmt → List Name} {test : List Name → Bool} {k : Storage} {p q : ℕ} {answer : Bool} (e : Entry) (are : AreLists kind lists) (step : IsStep kind k p e q) (w : IsSought kind lists test k p answer) where
   joined : (list_any (λ r. test (lists r.1)) (walked kind k q) || (test (decode (names_in k) e.symbols) || false)) ≡ answer
   joined =
       ap (λ l. list_any (λ r. test (lists r.1)) (walked kind k q) || (test l || false)) (sym (are.stand (names_in k) (labels_in k) e step.of_kind))

@@ -1,5 +1,5 @@
 -- A legal statement and the statements before it; a constant is never a variable.
-use Rattle.frame.proofs.Words.{sym, ◌∙◌, ap, subst, arith, ◌≡◌, suc, ◌-◌, true, false, not, List, [], ◌∷◌, ◌++◌, length, take, Option, Some, slice_get, refl, take-append_seam, not-false, false_from_ne_true, Name, Stmt, Database, G1, G2, G3, G4, G5, G6, G7, G8, G9, G10, stmt_at, before, is_variable, is_constant, Tells, kind_in, is_constant_kind, is_variable_kind, IsLegal, keeps, active-was, is_variable-active, naming_of}
+use Rattle.frame.proofs.Words.{sym, ◌∙◌, ap, subst, arith, ◌≡◌, suc, ◌-◌, true, false, not, List, [], ◌∷◌, ◌++◌, length, take, Option, Some, slice_get, refl, take-append_seam, not-false, false_from_ne_true, Name, Stmt, Database, G1, G2, G3, G4, G5, G6, G7, G8, G9, G10, stmt_at, before, is_variable, is_constant, MatchesKind, kind_in, is_constant_kind, is_variable_kind, IsLegal, keeps, active-was, is_variable-active, naming_of}
 use Rattle.scope.specs.declared.numbering.NameKind.{NameKind}
 use Rattle.scope.specs.declared.numbering.NameKind.TheVariants.{Constant}
 use Rattle.frame.proofs.LegalLabels.{AllKept, all-fail}
@@ -38,7 +38,7 @@ kept-legal S A t B all whole =
 pub constant-no_variable : (S : Database) (x : Name) → AllKept S → is_constant S x ≡ true → is_variable S x ≡ false
 constant-no_variable S x all h = false_from_ne_true (is_variable S x) (λ e. apart (kind_in (naming_of S) x) (sym told.constant ∙ h) (sym told.variable ∙ active-was 1 S x (sym (is_variable-active S x) ∙ e)))
   where
-    told : Tells S x (kind_in (naming_of S) x)
+    told : MatchesKind S x (kind_in (naming_of S) x)
     told = (naming-all S all).told x
 
     apart : (kind : Option NameKind) → is_constant_kind kind ≡ true → is_variable_kind kind ≡ true → ⊥

@@ -1,7 +1,7 @@
 pub mod Words
 pub mod SymbolNumberLemmas
 pub mod OpenLemmas
-pub mod LinksLemmas
+pub mod LastActiveLemmas
 pub mod DeclareLemmas
 pub mod DeclaredSymbolLemmas
 pub mod EnterLemmas
@@ -15,10 +15,10 @@ pub mod StackLemmas
 pub mod BackLemmas
 pub mod PairStackLemmas
 pub mod PairsLemmas
-pub mod ApartLemmas
+pub mod ActiveDisjointLemmas
 pub mod MakeLemmas
 pub mod AssertionLemmas
-pub mod CitedLemmas
+pub mod AssertionViewLemmas
 pub mod GroupsLemmas
 pub mod BlockWalkLemmas
 pub mod EndLemmas
@@ -30,7 +30,7 @@ pub mod FoundByNumber
 pub mod PlacedHypotheses
 pub mod KeptStatementLemmas
 pub mod BoundLemmas
-pub mod GatheredHypotheses
+pub mod BufferedHypotheses
 pub mod GivenSetLemmas
 pub mod MergedLemmas
 pub mod MandatoryViewLemmas

@@ -1,8 +1,8 @@
 -- Making the parts of an assertion: the loops' steps.
-use Rattle.frame.proofs.Words.{sym, ◌∙◌, ap, subst, arith, append_assoc, append-nil, ◌≡◌, ℕ, zero, suc, ◌+◌, ◌-◌, ◌<◌, ◌≤◌, Bool, true, false, cond, List, [], ◌∷◌, ◌++◌, length, map, filter, reverse, get_or, slice_range, refl, is_typed, noted_in, list_any, ◌==◌, filter-append, length-append, map-append, reverse-append, slice_get_within, Stmt, cut, AreSpansIn, range-behind, extends-refl, cut-more, cut-push, spans-push, Entry, typed, symbols_at, has_two, groups_by, AreHypotheses}
+use Rattle.frame.proofs.Words.{sym, ◌∙◌, ap, subst, arith, append_assoc, append-nil, ◌≡◌, ℕ, zero, suc, ◌+◌, ◌-◌, ◌<◌, ◌≤◌, Bool, true, false, cond, List, [], ◌∷◌, ◌++◌, length, map, filter, reverse, get_or, slice_range, refl, is_typed, recorded_in, list_any, ◌==◌, filter-append, length-append, map-append, reverse-append, slice_get_within, Stmt, cut, AreSpansIn, range-behind, extends-refl, cut-more, cut-push, spans-push, Entry, typed, symbols_at, has_two, groups_by, AreHypotheses}
 use Rattle.std.proofs.lemmas.List.{map_push}
 use Rattle.entries.specs.declared.buffer_part.BufferPart.{BufferPart}
-use Rattle.entries.specs.declared.cited_parts.Hypothesis.{Hypothesis}
+use Rattle.entries.specs.declared.assertion_view.Hypothesis.{Hypothesis}
 
 -- ---- the hypotheses, one by one
 
@@ -20,9 +20,9 @@ map-reverse f (x ∷ xs) =
     ∙ sym (reverse-append (f x ∷ []) (map f xs))
 
 -- those recorded are those of the `$f`
-pub noted-typed : (ns : List ℕ) (hs : List Hypothesis) → ((c : ℕ) → list_any (λ n. n == c) ns ≡ is_typed hs c) → (codes : List ℕ) → noted_in ns codes ≡ typed hs codes
-noted-typed ns hs h [] = refl
-noted-typed ns hs h (c ∷ codes) = rw (h c, noted-typed ns hs h codes) refl
+pub recorded-typed : (ns : List ℕ) (hs : List Hypothesis) → ((c : ℕ) → list_any (λ n. n == c) ns ≡ is_typed hs c) → (codes : List ℕ) → recorded_in ns codes ≡ typed hs codes
+recorded-typed ns hs h [] = refl
+recorded-typed ns hs h (c ∷ codes) = rw (h c, recorded-typed ns hs h codes) refl
 
 has_two-len : {A : Type 0} (xs : List A) → 1 < length xs → has_two xs ≡ true
 has_two-len [] h = absurd (omega (arith, h))

@@ -1,14 +1,14 @@
 -- The mandatory hypotheses of an assertion, of which the active `$e` bring along a set: this, with its own `$f` that the set has not.
-use Rattle.frame.proofs.Words.{◌≡◌, ◌∙◌, ap, sym, subst, arith, refl, ⊎_map, ℕ, ◌-◌, ◌<◌, ◌≤◌, true, false, not, List, [], ◌∷◌, length, length-append, length-take, filter, take, Stmt, Entry, Links, Stock, hypotheses, is_hypothesis, is_assertion, is_float_in, expr_of, links_of, statements_of, Ascends, AreThose, IsGiven, In, set_at}
+use Rattle.frame.proofs.Words.{◌≡◌, ◌∙◌, ap, sym, subst, arith, refl, ⊎_map, ℕ, ◌-◌, ◌<◌, ◌≤◌, true, false, not, List, [], ◌∷◌, length, length-append, length-take, filter, take, Stmt, Entry, LastActive, Storage, hypotheses, is_hypothesis, is_assertion, is_float_in, expr_of, last_active_of, statements_of, Ascends, AreThose, IsGiven, In, set_at}
 use Rattle.std.specs.Prelude.{◌^◌}
 use Rattle.entries.specs.PositionSets.{has_position}
 use Rattle.frame.specs.declared.given_sets.GivenSets.{GivenSets}
 use Rattle.frame.specs.Stored.GivenSets.{AreFrames, kept_set}
 use Rattle.frame.specs.Stored.Merged.{AreMerged, with_each}
 use Rattle.frame.proofs.ActivePositions.{active-members, ascends-active}
-use Rattle.frame.proofs.CitedLemmas.{IsThere}
+use Rattle.frame.proofs.AssertionViewLemmas.{IsThere}
 use Rattle.frame.proofs.CollectLemmas.{those-by}
-use Rattle.frame.proofs.GatheredHypotheses.{kept-by, mandatory-own}
+use Rattle.frame.proofs.BufferedHypotheses.{kept-by, mandatory-own}
 use Rattle.frame.proofs.GivenSetLemmas.{given-at}
 use Rattle.frame.proofs.KindWalk.{as-many}
 use Rattle.frame.proofs.MergedLemmas.{has-in, merged-are, missing-of}
@@ -20,8 +20,8 @@ within S s p i =
     let at = h.at in
     let all = ap length h.whole ∙ length-append h.front (h.stmt ∷ h.rest) in omega arith
 
-module _ (k : Stock) (g : GivenSets) (a i : ℕ) (s : Stmt) (e : Entry) (l : Links) (held : AreFrames k g) (asserts : is_assertion s ≡ true) (t : IsThere k a i s e) (own : e.assertion.whole ≡ false)
-    (is : l ≡ links_of (take (a - 1) (statements_of k))) (some : kept_set g.kept.items l.essential ≡ 0 → ⊥) (low : 1 ≤ a) (high : a ≤ length (statements_of k)) where
+module _ (k : Storage) (g : GivenSets) (a i : ℕ) (s : Stmt) (e : Entry) (l : LastActive) (held : AreFrames k g) (asserts : is_assertion s ≡ true) (t : IsThere k a i s e) (own : e.assertion.whole ≡ false)
+    (is : l ≡ last_active_of (take (a - 1) (statements_of k))) (some : kept_set g.kept.items l.essential ≡ 0 → ⊥) (low : 1 ≤ a) (high : a ≤ length (statements_of k)) where
   abbrev set : List ℕ
   set = set_at g.sets (kept_set g.kept.items l.essential)
 

@@ -1,6 +1,6 @@
 -- The kinds of the names that statements declare.
 use Rattle.frame.proofs.Words.{sym, ◌∙◌, ap, subst, arith, append-nil, append_assoc, take-append-drop, ◌≡◌, ℕ, suc, ◌+◌, List, [], ◌∷◌, ◌++◌, length, take, drop, ◌-◌, Result, Ok, Err, OnOk, OnErr, slice_get, refl, take-append_seam}
-use Rattle.frame.proofs.Words.{Name, Stmt, Database, declared_with, IsLegal, symbols_of, labels_of, Declared, declared_symbols, declared_labels, is_symbol_kind, IsNumberingOf, declared_with-more, numbering-after, symbols_of-later, names_that-append, Extends, statements_of, AreAllLegal, naming_from, naming_of, Stock, AreStored, get-more, get-last}
+use Rattle.frame.proofs.Words.{Name, Stmt, Database, declared_with, IsLegal, symbols_of, labels_of, Declared, declared_symbols, declared_labels, is_symbol_kind, IsNumberingOf, declared_with-more, numbering-after, symbols_of-later, names_that-append, Extends, statements_of, AreAllLegal, naming_from, naming_of, Storage, AreStored, get-more, get-last}
 use Rattle.scope.proofs.KindCountLemmas.{both-counts}
 
 -- ---- names are only added at the end
@@ -47,7 +47,7 @@ naming-later S (s ∷ T) names all n =
 pub naming-all : (S : Database) → AreAllLegal S → IsNumberingOf S (naming_of S)
 naming-all S all = naming-later [] S [] all (record { told = λ x. record { label = refl; constant = refl; variable = refl }; symbols = refl; labels = refl })
 
-pub stored-naming : (k : Stock) → AreStored k → IsNumberingOf (statements_of k) k.numbering
+pub stored-naming : (k : Storage) → AreStored k → IsNumberingOf (statements_of k) k.numbering
 stored-naming k stored = subst (IsNumberingOf (statements_of k)) (sym stored.numbered) (naming-all (statements_of k) stored.kept.legal)
 
 -- each name is a symbol or a label

@@ -1,6 +1,6 @@
--- The frame gathered from the active statements is the frame of the definition.
+-- The frame collected from the active statements is the frame of the definition.
 use Rattle.frame.proofs.Words.{list_any, flat_map, position_or_len, ◌∙◌, ap, sym, arith, inl, inr, ◌≡◌, ℕ, ◌<◌, ◌≤◌, Bool, true, false, cond, ◌&&◌, ◌||◌, List, [], ◌∷◌, ◌++◌, map, filter, length, refl, Some, None, is_some, nat_lt, or-false, cases_lt}
-use Rattle.frame.proofs.Words.{Name, name_eq, has_name, Stmt, Database, Expr, active, separated, expr_of, is_essential, is_variable, name_at, code_of, has-at, same_name, lt-list_any, has_name-append, FrameParts, is_mandatory, is_hypothesis, hypotheses, groups, mandatory_groups, separates, AreMandatory, is_in_essential, asks, asked, among, groups_among}
+use Rattle.frame.proofs.Words.{Name, name_eq, has_name, Stmt, Database, Expr, active, separated, expr_of, is_essential, is_variable, name_at, code_of, has-at, same_name, lt-list_any, has_name-append, FrameParts, is_mandatory, is_hypothesis, hypotheses, groups, mandatory_groups, separates, AreMandatory, is_in_essential, asks, required, among, groups_among}
 use mathlib.Core.Path.{fun_ext}
 use Rattle.mm_read.specs.declared.stmt.Stmt.TheVariants.{Disj, Float, Ess}
 use Rattle.scope.specs.Standing.{stands_at, standing_of}
@@ -12,16 +12,16 @@ known names x y false e h = sym (or-false (has_name x names))
 known names x y true e h = rw (ap (λ z. has_name z names) (same_name x y e) ∙ h)
 
 -- a name that is given a number where it has none
-pub noted : (old new : List Name) (x name : Name) (n : ℕ) → name_at new n ≡ name → (n < length old → new ≡ old) → (length old ≤ n → new ≡ old ++ name ∷ [])
+pub recorded : (old new : List Name) (x name : Name) (n : ℕ) → name_at new n ≡ name → (n < length old → new ≡ old) → (length old ≤ n → new ≡ old ++ name ∷ [])
     → has_name x new ≡ (has_name x old || name_eq x name)
-noted old new x name n at same more = elim (cases_lt n (length old)) [
+recorded old new x name n at same more = elim (cases_lt n (length old)) [
   | inl h ↦ ap (has_name x) (same h) ∙ known old x name (name_eq x name) refl (has-at old name n h (ap (λ z. name_at z n) (sym (same h)) ∙ at))
   | inr h ↦ ap (has_name x) (more h) ∙ (has_name-append x old (name ∷ []) ∙ ap (λ b. has_name x old || b) (or-false (name_eq x name)))
 ]
 
 -- an `$e` more
-pub noted-more : (u v a r : Bool) → ((u || (v && a)) || (v && r)) ≡ (u || (v && (a || r)))
-noted-more u v a r = grind arith
+pub recorded-more : (u v a r : Bool) → ((u || (v && a)) || (v && r)) ≡ (u || (v && (a || r)))
+recorded-more u v a r = grind arith
 
 any-standing : (x : Name) (es : List (ℕ × Stmt))
     → list_any (is_in_essential x) (flat_map (λ p. stands_at p.0 p.1) es) ≡ list_any (λ p. is_essential p.1 && has_name x (expr_of p.1)) es
@@ -30,30 +30,30 @@ any-standing x ((at, Ess label expr) ∷ es) = ap (λ b. has_name x expr || b) (
 any-standing x ((at, t) ∷ es) = any-standing x es
 
 -- the assertion's own variables are recorded, and the `$e` are left
-pub noted-start : (S : Database) (s : Stmt) (x : Name)
+pub recorded-start : (S : Database) (s : Stmt) (x : Name)
     → ((false || (is_variable S x && has_name x (expr_of s))) || (is_variable S x && list_any (is_in_essential x) (standing_of S))) ≡ is_mandatory S s x
-noted-start S s x =
-    noted-more false (is_variable S x) (has_name x (expr_of s)) (list_any (is_in_essential x) (standing_of S))
+recorded-start S s x =
+    recorded-more false (is_variable S x) (has_name x (expr_of s)) (list_any (is_in_essential x) (standing_of S))
     ∙ ap (λ b. is_variable S x && (has_name x (expr_of s) || b)) (any-standing x (active S))
 
 -- ---- the parts
 
-asked-all : (S : Database) (s : Stmt) (used : List Name) → AreMandatory S s used → (es : List (ℕ × Stmt))
-    → asked used (flat_map (λ p. stands_at p.0 p.1) es) ≡ map (λ p. p.0) (filter (λ p. is_hypothesis S s p.1) es)
-asked-all S s used m [] = refl
-asked-all S s used m ((at, Float label constant variable) ∷ es) =
-    rw (m variable) (by (is_mandatory S s variable) (filter (λ (e : Standing). asks used e.stmt) (flat_map (λ p. stands_at p.0 p.1) es)) (filter (λ (p : ℕ × Stmt). is_hypothesis S s p.1) es) (asked-all S s used m es))
+required-all : (S : Database) (s : Stmt) (used : List Name) → AreMandatory S s used → (es : List (ℕ × Stmt))
+    → required used (flat_map (λ p. stands_at p.0 p.1) es) ≡ map (λ p. p.0) (filter (λ p. is_hypothesis S s p.1) es)
+required-all S s used m [] = refl
+required-all S s used m ((at, Float label constant variable) ∷ es) =
+    rw (m variable) (by (is_mandatory S s variable) (filter (λ (e : Standing). asks used e.stmt) (flat_map (λ p. stands_at p.0 p.1) es)) (filter (λ (p : ℕ × Stmt). is_hypothesis S s p.1) es) (required-all S s used m es))
   where
     by : (b : Bool) (xs : List Standing) (ps : List (ℕ × Stmt)) → map (λ (e : Standing). e.at) xs ≡ map (λ (p : ℕ × Stmt). p.0) ps
         → map (λ (e : Standing). e.at) (cond b (record { at = at; stmt = Float label constant variable } ∷ xs) xs)
         ≡ map (λ (p : ℕ × Stmt). p.0) (cond b ((at, Float label constant variable) ∷ ps) ps)
     by true xs ps h = ap (λ qs. at ∷ qs) h
     by false xs ps h = h
-asked-all S s used m ((at, Ess label expr) ∷ es) = ap (λ ps. at ∷ ps) (asked-all S s used m es)
-asked-all S s used m ((at, t) ∷ es) = asked-all S s used m es
+required-all S s used m ((at, Ess label expr) ∷ es) = ap (λ ps. at ∷ ps) (required-all S s used m es)
+required-all S s used m ((at, t) ∷ es) = required-all S s used m es
 
-pub asked-hypotheses : (S : Database) (s : Stmt) (used : List Name) → AreMandatory S s used → asked used (standing_of S) ≡ hypotheses S s
-asked-hypotheses S s used m = asked-all S s used m (active S)
+pub required-hypotheses : (S : Database) (s : Stmt) (used : List Name) → AreMandatory S s used → required used (standing_of S) ≡ hypotheses S s
+required-hypotheses S s used m = required-all S s used m (active S)
 
 pub groups-mandatory : (S : Database) (s : Stmt) (used : List Name) → AreMandatory S s used → groups_among used (standing_of S) ≡ mandatory_groups S s
 groups-mandatory S s used m = all (active S) ∙ ap (λ p. filter separates (map (filter p) (groups S))) (fun_ext m)

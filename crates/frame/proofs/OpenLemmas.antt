@@ -1,5 +1,5 @@
 -- Blocks that stay open when statements are appended, and the last active statement of a kind.
-use Rattle.frame.proofs.Words.{sym, ◌∙◌, ap, arith, inl, inr, append-nil, ◌≡◌, ℕ, suc, ◌+◌, ◌-◌, Bool, true, false, cond, ◌⊎◌, List, [], ◌∷◌, ◌++◌, length, filter, refl, or-true, filter-append, list_any-append, Stmt, Open, Close, Database, stays_open, active, active_from, is_open, is_close, actives_from, actives, last_position, last_active, deficit, deficit-below, below-deficit, no_deficit, some_deficit, left_open, active_from-later, active_from-close, before_open-none}
+use Rattle.frame.proofs.Words.{sym, ◌∙◌, ap, arith, inl, inr, append-nil, ◌≡◌, ℕ, suc, ◌+◌, ◌-◌, Bool, true, false, cond, ◌⊎◌, List, [], ◌∷◌, ◌++◌, length, filter, refl, or-true, filter-append, list_any-append, Stmt, Open, Close, Database, stays_open, active, active_from, is_open, is_close, actives_from, actives, last_position, last_active_of_kind, deficit, deficit-below, below-deficit, no_deficit, some_deficit, left_open, active_from-later, active_from-close, before_open-none}
 use Rattle.scope.specs.Laws.{has_open, before_open}
 
 -- later statements close first the blocks that the earlier ones leave open
@@ -85,7 +85,7 @@ pub last_position-push : (ps : List (ℕ × Stmt)) (p : ℕ × Stmt) → last_po
 last_position-push (q ∷ r ∷ ps) p = last_position-push (r ∷ ps) p
 last_position-push ps p = refl
 
-pub last-position : (kind : Stmt → Bool) (S A : Database) (s : Stmt) (B : Database) → IsNoClose kind → IsLast kind S A s B → last_active kind S ≡ 1 + length A
+pub last-position : (kind : Stmt → Bool) (S A : Database) (s : Stmt) (B : Database) → IsNoClose kind → IsLast kind S A s B → last_active_of_kind kind S ≡ 1 + length A
 last-position kind S A s B n l = ap last_position (last-actives kind S A s B n l) ∙ last_position-push (actives kind A) (1 + length A, s)
 
 pub is-open : (s : Stmt) → is_open s ≡ true → s ≡ Open

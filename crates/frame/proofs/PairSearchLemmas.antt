@@ -1,6 +1,6 @@
 -- The search for an active `$d` that has two variables, and one that is known to have both.
 use Rattle.frame.proofs.Words.{◌≡◌, ◌∙◌, ap, sym, subst, arith, refl, ℕ, suc, ◌+◌, ◌-◌, ◌<◌, ◌≤◌, Bool, true, false, cond, not, ◌||◌, ◌&&◌, List, [], ◌∷◌, length, map, filter, take, drop, slice_get, Some, list_any, list_any-map}
-use Rattle.frame.proofs.Words.{has_name, name_at, is_active, active, separated, stays_open, stmt_of, names_in, labels_in, statements_of, is_disj, Stmt, Stock, Entry, Kind, Disj, In, IsPlain, Name, name_eq, Expr, stmt_by}
+use Rattle.frame.proofs.Words.{has_name, name_at, is_active, active, separated, stays_open, stmt_of, names_in, labels_in, statements_of, is_disj, Stmt, Storage, Entry, Kind, Disj, In, IsPlain, Name, name_eq, Expr, stmt_by}
 use Rattle.mm_read.specs.declared.stmt.Stmt.TheVariants as stmt
 use Rattle.entries.specs.Histories.{history, stack_at}
 use Rattle.frame.specs.Stored.PairSearch.{AreSought, IsLeft, are_pair}
@@ -8,13 +8,13 @@ use Rattle.frame.specs.Stored.Stacks.{AreOfKind, IsOfKind, has_code}
 use Rattle.frame.proofs.ActivePositions.{members-active}
 use Rattle.frame.proofs.BlockWalkLemmas.{active-stays, get-take}
 use Rattle.frame.proofs.KindWalk.{same-number, disjoint_lists}
-use Rattle.frame.proofs.LinksLemmas.{cut-here}
+use Rattle.frame.proofs.LastActiveLemmas.{cut-here}
 use Rattle.frame.proofs.PairStackLemmas.{code-name, pair-is, pair-swapped, stack-of-kind}
 use Rattle.frame.proofs.StoredReading.{get-stmt}
 
 -- ---- the search
 
-pub left-start : (k : Stock) (at x y : ℕ) (st : List ℕ) → AreSought k at x y → st ≡ stack_at (history k.disjoints x) at → IsLeft k at x y st
+pub left-start : (k : Storage) (at x y : ℕ) (st : List ℕ) → AreSought k at x y → st ≡ stack_at (history k.disjoints x) at → IsLeft k at x y st
 left-start k at x y st s is =
     let one = s.above in
     let le = s.within in
@@ -26,12 +26,12 @@ left-start k at x y st s is =
     }
 
 -- pairs have no order
-pub sought-turn : (k : Stock) (at x y : ℕ) → AreSought k at x y → AreSought k at y x
+pub sought-turn : (k : Storage) (at x y : ℕ) → AreSought k at x y → AreSought k at y x
 sought-turn k at x y s =
     let d = s.differ in
     record { stored = s.stored; distinct = s.distinct; above = s.above; within = s.within; first = s.second; second = s.first; differ = grind (arith, d) }
 
-pub pair-turn : (k : Stock) (at x y : ℕ) → AreSought k at x y → are_pair k at y x ≡ are_pair k at x y
+pub pair-turn : (k : Storage) (at x y : ℕ) → AreSought k at x y → are_pair k at y x ≡ are_pair k at x y
 pair-turn k at x y s =
     let le = s.within in
     let t = sought-turn k at x y s in
@@ -40,20 +40,20 @@ pair-turn k at x y s =
     ∙ (ap (λ b. not b && list_any (has_code k.entries x) st) (t.differ ∙ sym s.differ)
     ∙ sym (pair-swapped k s.stored s.distinct (at - 1) x y st s.first s.second (omega (arith, le)) refl))
 
-pub left-none : (k : Stock) (at x y : ℕ) (left : List ℕ) → IsLeft k at x y left → left ≡ [] → false ≡ are_pair k at x y
+pub left-none : (k : Storage) (at x y : ℕ) (left : List ℕ) → IsLeft k at x y left → left ≡ [] → false ≡ are_pair k at x y
 left-none k at x y left l none = sym (l.rest ∙ ap (list_any (has_code k.entries y)) none)
 
-pub left-found : (k : Stock) (at x y p : ℕ) (left rest : List ℕ) → IsLeft k at x y left → left ≡ p ∷ rest → true ≡ has_code k.entries y p → true ≡ are_pair k at x y
+pub left-found : (k : Storage) (at x y p : ℕ) (left rest : List ℕ) → IsLeft k at x y left → left ≡ p ∷ rest → true ≡ has_code k.entries y p → true ≡ are_pair k at x y
 left-found k at x y p left rest l is has = sym (l.rest ∙ (ap (list_any (has_code k.entries y)) is ∙ ap (λ b. b || list_any (has_code k.entries y) rest) (sym has)))
 
-pub left-next : (k : Stock) (at x y p : ℕ) (left rest : List ℕ) → IsLeft k at x y left → left ≡ p ∷ rest → has_code k.entries y p ≡ false → IsLeft k at x y rest
+pub left-next : (k : Storage) (at x y p : ℕ) (left rest : List ℕ) → IsLeft k at x y left → left ≡ p ∷ rest → has_code k.entries y p ≡ false → IsLeft k at x y rest
 left-next k at x y p left rest l is none = record {
   sought = l.sought;
   of_kind = (subst (AreOfKind is_disj (statements_of k)) is l.of_kind).1;
   rest = l.rest ∙ (ap (list_any (has_code k.entries y)) is ∙ ap (λ b. b || list_any (has_code k.entries y) rest) none);
 }
 
-pub left-first : (k : Stock) (at x y p : ℕ) (left rest : List ℕ) → IsLeft k at x y left → left ≡ p ∷ rest → IsOfKind is_disj (statements_of k) p
+pub left-first : (k : Storage) (at x y p : ℕ) (left rest : List ℕ) → IsLeft k at x y left → left ≡ p ∷ rest → IsOfKind is_disj (statements_of k) p
 left-first k at x y p left rest l is = (subst (AreOfKind is_disj (statements_of k)) is l.of_kind).0
 
 -- ---- a `$d` that is known to have both
@@ -61,7 +61,7 @@ left-first k at x y p left rest l is = (subst (AreOfKind is_disj (statements_of 
 disj-stmt : (kind : Kind) (label : Name) (names : Expr) → kind ≡ Disj → is_disj (stmt_by kind label names) ≡ true
 disj-stmt kind label names is = rw is refl
 
-pub known-kind : (k : Stock) (p : ℕ) (e : Entry) → 1 ≤ p → slice_get k.entries (p - 1) ≡ Some e → e.kind ≡ Disj → IsOfKind is_disj (statements_of k) p
+pub known-kind : (k : Storage) (p : ℕ) (e : Entry) → 1 ≤ p → slice_get k.entries (p - 1) ≡ Some e → e.kind ≡ Disj → IsOfKind is_disj (statements_of k) p
 known-kind k p e one g is = record {
   one = one;
   statement = stmt_of (names_in k) (labels_in k) e;
@@ -73,7 +73,7 @@ disj-plain : (s : Stmt) → is_disj s ≡ true → IsPlain (Some s)
 disj-plain (stmt.Disj names) h = (refl, refl)
 disj-plain s h = absurd (cc)
 
-pub known-plain : (k : Stock) (p : ℕ) → IsOfKind is_disj (statements_of k) p → IsPlain (slice_get (statements_of k) (p - 1))
+pub known-plain : (k : Storage) (p : ℕ) → IsOfKind is_disj (statements_of k) p → IsPlain (slice_get (statements_of k) (p - 1))
 known-plain k p o = subst IsPlain (sym o.stands) (disj-plain o.statement o.of_kind)
 
 in-any : (q : Stmt → Bool) (p : ℕ) (xs : List (ℕ × Stmt)) → In p (map (λ x. x.0) (filter (λ x. q x.1) xs)) → list_any (λ x. q x.1) xs ≡ true
@@ -84,7 +84,7 @@ in-any q p (x ∷ xs) i = by (q x.1) (in-any q p xs) i
     by true more j = refl
     by false more j = more j
 
-pub known-pair : (k : Stock) (at x y p : ℕ) → AreSought k at x y → IsOfKind is_disj (statements_of k) p → p < at → is_active (statements_of k) p at ≡ true → has_code k.entries x p ≡ true → has_code k.entries y p ≡ true → are_pair k at x y ≡ true
+pub known-pair : (k : Storage) (at x y p : ℕ) → AreSought k at x y → IsOfKind is_disj (statements_of k) p → p < at → is_active (statements_of k) p at ≡ true → has_code k.entries x p ≡ true → has_code k.entries y p ≡ true → are_pair k at x y ≡ true
 known-pair k at x y p s o lt stands has_x has_y =
     let one = o.one in
     let m = at - 1 in

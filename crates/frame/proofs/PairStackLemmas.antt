@@ -1,6 +1,6 @@
 -- Two variables that stand together in an active `$d`, and the variables that are active, by the stacks.
 use Rattle.frame.proofs.Words.{◌≡◌, ◌∙◌, ap, sym, subst, arith, refl, ℕ, suc, ◌+◌, ◌-◌, ◌<◌, ◌≤◌, Bool, true, false, cond, not, ◌||◌, ◌&&◌, ◌==◌, nat_eq, List, [], ◌∷◌, ◌++◌, length, map, filter, take, slice_get, slice_get_within, Option, Some, None, length-take, same_Some, list_any, or-false, append_assoc, length-append, take-get, and_comm, list_any-map, AllBelow, AreBelow}
-use Rattle.frame.proofs.Words.{Name, name_eq, has_name, name_at, decode, AreDistinct, Stmt, Database, Entry, Stock, stays_open, active_from, actives, actives_from, is_disj, is_var, is_variable, separated, variables, is_pair, groups, names_in, labels_in, statements_of, stmt_of, AreStored}
+use Rattle.frame.proofs.Words.{Name, name_eq, has_name, name_at, decode, AreDistinct, Stmt, Database, Entry, Storage, stays_open, active_from, actives, actives_from, is_disj, is_var, is_variable, separated, variables, is_pair, groups, names_in, labels_in, statements_of, stmt_of, AreStored}
 use Rattle.entries.specs.Histories.{history, stack_at}
 use Rattle.frame.specs.Stored.AssertionParts.{symbols_at, option_symbols}
 use Rattle.frame.specs.Stored.Stacks.{has_code, having_behind, having, IsOfKind, AreOfKind}
@@ -9,7 +9,7 @@ use Rattle.frame.proofs.LegalBehind.{stands-at}
 use Rattle.frame.proofs.StoredOneMore.{numbered-at}
 use Rattle.frame.proofs.KindWalk.{AreLists, any-active, has-decode, same-number, disjoint_lists, variable_lists, as-many}
 use Rattle.frame.proofs.StackLemmas.{AreIn, actives-in, having-push}
-use Rattle.frame.proofs.LinksLemmas.{actives-push, length-cut}
+use Rattle.frame.proofs.LastActiveLemmas.{actives-push, length-cut}
 use Rattle.frame.proofs.OpenLemmas.{no_close}
 use Rattle.frame.proofs.BlockWalkLemmas.{take-one}
 use Rattle.frame.proofs.PairsLemmas.{groups-any}
@@ -66,7 +66,7 @@ same-any kind S f g (p ∷ ps) are same = ap (λ b. b || list_any f ps) (same p 
 
 -- ---- by the storage
 
-module _ (k : Stock) (stored : AreStored k) (d : AreDistinct (names_in k)) (m : ℕ) where
+module _ (k : Storage) (stored : AreStored k) (d : AreDistinct (names_in k)) (m : ℕ) where
   abbrev N : List Name
   N = names_in k
 
@@ -181,7 +181,7 @@ having-less n m found es c (p ∷ ps) lt all within =
     by false with without = without
 
 -- after a `$d` its symbols are those that have it on top
-module _ (k : Stock) (stored : AreStored k) (p c : ℕ) (of_kind : IsOfKind is_disj (statements_of k) p) (st : List ℕ) (is : st ≡ stack_at (history k.disjoints c) (p + 1)) where
+module _ (k : Storage) (stored : AreStored k) (p c : ℕ) (of_kind : IsOfKind is_disj (statements_of k) p) (st : List ℕ) (is : st ≡ stack_at (history k.disjoints c) (p + 1)) where
   within : p ≤ length k.entries
   within = let one = of_kind.one in omega (arith, slice_get_within (statements_of k) (p - 1) of_kind.statement of_kind.stands, as-many k, one)
 

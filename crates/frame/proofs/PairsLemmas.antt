@@ -1,5 +1,5 @@
 -- Names that no `$v` declares, and the last active `$d`.
-use Rattle.frame.proofs.Words.{list_any, sym, ◌∙◌, ap, ◌≡◌, ℕ, ◌-◌, ◌<◌, Bool, true, false, cond, ◌&&◌, ◌==◌, List, [], ◌∷◌, length, map, take, slice_get, Some, refl, or_from, both_ways, false_from_ne_true, Name, name_eq, has_name, active, variables, name_at, decode, AreDistinct, AreBelow, take-get, Kind, Var, Entry, stmt_by, stmt_of, is_var_kind, AreNumbered, ◌||◌, not, and_right, same_Some, Stmt, separated, names_in, labels_in, statements_of, Stock, AreStored, list_any-map, list_any-append, or-false, is_pair, groups, actives, links_of, Links, Database, is_disj}
+use Rattle.frame.proofs.Words.{list_any, sym, ◌∙◌, ap, ◌≡◌, ℕ, ◌-◌, ◌<◌, Bool, true, false, cond, ◌&&◌, ◌==◌, List, [], ◌∷◌, length, map, take, slice_get, Some, refl, or_from, both_ways, false_from_ne_true, Name, name_eq, has_name, active, variables, name_at, decode, AreDistinct, AreBelow, take-get, Kind, Var, Entry, stmt_by, stmt_of, is_var_kind, AreNumbered, ◌||◌, not, and_right, same_Some, Stmt, separated, names_in, labels_in, statements_of, Storage, AreStored, list_any-map, list_any-append, or-false, is_pair, groups, actives, last_active_of, LastActive, Database, is_disj}
 use Rattle.frame.proofs.BlockWalkLemmas.{walk-over, IsBack, walk-back}
 use Rattle.frame.proofs.ActiveBehind.{active-stands}
 use Rattle.frame.proofs.LegalBehind.{stands-at}
@@ -41,10 +41,10 @@ unnamed-none names labels m n x es none a =
 pub groups-any : (test : List Name → Bool) (T : Database) → test [] ≡ false → list_any test (groups T) ≡ list_any (λ q. test (separated q.1)) (actives is_disj T)
 groups-any test T none = sym (any-active test T disjoint_lists none ∙ list_any-map (λ (q : ℕ × Stmt). separated q.1) test (active T))
 
-pub pairs-none : (T : Database) (l : Links) (x y : Name) → l ≡ links_of T → l.disjoint ≡ 0 → is_pair T x y ≡ false
+pub pairs-none : (T : Database) (l : LastActive) (x y : Name) → l ≡ last_active_of T → l.disjoint ≡ 0 → is_pair T x y ≡ false
 pairs-none T l x y h z = and_right (not (name_eq x y)) _ (groups-any (λ names. has_name x names && has_name y names) T refl ∙ ap (list_any (λ q. has_name x (separated q.1) && has_name y (separated q.1))) (walk-over is_disj T refl (sym (ap (λ r. r.disjoint) h) ∙ z)))
 
-module _ (k : Stock) (m : ℕ) (l : Links) (h : l ≡ links_of (take m (statements_of k))) (some : l.disjoint ≡ 0 → ⊥) where
+module _ (k : Storage) (m : ℕ) (l : LastActive) (h : l ≡ last_active_of (take m (statements_of k))) (some : l.disjoint ≡ 0 → ⊥) where
   pub back : (s : Stmt) × IsBack is_disj (statements_of k) m l.disjoint s
   back = walk-back is_disj (statements_of k) m l.disjoint refl (ap (λ r. r.disjoint) h) some
 

@@ -1,12 +1,12 @@
 -- The storage after room was given back: its lists are as before.
-use Rattle.frame.proofs.Words.{◌≡◌, ◌∙◌, ap, sym, subst, refl, Bool, List, length, Stmt, Database, Entry, Stock, AreStored, statements_of, is_disj, is_var}
+use Rattle.frame.proofs.Words.{◌≡◌, ◌∙◌, ap, sym, subst, refl, Bool, List, length, Stmt, Database, Entry, Storage, AreStored, statements_of, is_disj, is_var}
 use Rattle.entries.specs.Histories.{StackVersion, IsUntil, AreSame, stack_at}
 use Rattle.frame.specs.Stored.GivenSets.{AreFrames}
 use Rattle.frame.specs.Stored.Stacks.{AreStacks}
 use Rattle.frame.specs.declared.given_sets.GivenSets.{GivenSets}
 use Rattle.frame.proofs.GivenSetLemmas.{sets-moved}
 
-pub record IsShrunk (k new : Stock) : Type 0 where
+pub record IsShrunk (k new : Storage) : Type 0 where
   pub numbering : new.numbering ≡ k.numbering
   pub positions : new.positions.items ≡ k.positions.items
   pub symbols : new.symbols.items ≡ k.symbols.items
@@ -15,7 +15,7 @@ pub record IsShrunk (k new : Stock) : Type 0 where
   pub entries : new.entries ≡ k.entries
   pub disjoints : AreSame k.disjoints new.disjoints
   pub variables : AreSame k.variables new.variables
-  pub links : new.links ≡ k.links
+  pub last_active : new.last_active ≡ k.last_active
 
 stacks-same : (kind : Stmt → Bool) (hs new : List (List StackVersion)) (es : List Entry) (S : Database) → AreStacks kind hs es S → AreSame hs new → AreStacks kind new es S
 stacks-same kind hs new es S are same = record {
@@ -23,16 +23,16 @@ stacks-same kind hs new es S are same = record {
   each = λ c at one low. ap (λ vs. stack_at vs at) (same c) ∙ are.each c at one low;
 }
 
-stored-shrunk : (k new : Stock) → AreStored k → IsShrunk k new → AreStored new
+stored-shrunk : (k new : Storage) → AreStored k → IsShrunk k new → AreStored new
 stored-shrunk k new are s = record {
-  kept = rw (s.numbering, s.positions, s.symbols, s.replaced, s.entries, s.links) are.kept;
+  kept = rw (s.numbering, s.positions, s.symbols, s.replaced, s.entries, s.last_active) are.kept;
   numbered = rw (s.numbering, s.entries) are.numbered;
   ended = rw (s.numbering, s.entries, s.ends) are.ended;
   disjoints = rw (s.numbering, s.entries) (stacks-same is_disj k.disjoints new.disjoints k.entries (statements_of k) are.disjoints s.disjoints);
   variables = rw (s.numbering, s.entries) (stacks-same is_var k.variables new.variables k.entries (statements_of k) are.variables s.variables);
 }
 
-pub frames-shrunk : (k new : Stock) (g h : GivenSets) → AreFrames k g → IsShrunk k new → h.sets ≡ g.sets → h.kept.items ≡ g.kept.items → AreFrames new h
+pub frames-shrunk : (k new : Storage) (g h : GivenSets) → AreFrames k g → IsShrunk k new → h.sets ≡ g.sets → h.kept.items ≡ g.kept.items → AreFrames new h
 frames-shrunk k new g h are s sets kept = record {
   stored = stored-shrunk k new are.stored s;
   sets = rw (s.numbering, s.entries) (sets-moved g h k.entries k.entries (statements_of k) (statements_of k) are.sets sets kept are.sets.within (λ i lt. (refl, refl)));

@@ -1,6 +1,6 @@
 -- The stacks by number: what one more statement changes, the first statements alone, and a `$}`.
 use Rattle.frame.proofs.Words.{◌≡◌, ◌∙◌, ap, sym, subst, arith, refl, inl, inr, ℕ, zero, suc, ◌+◌, ◌-◌, ◌<◌, ◌≤◌, ◌⊎◌, Bool, true, false, cond, ◌||◌, nat_eq, List, [], ◌∷◌, ◌++◌, length, filter, take, take_all, take-take, take-append-le, take-append_seam, length-append, length-take, length-take-le, get_or, slice_get, cases_lt, nat_le, list_any, list_any_more, append-nil, get-last}
-use Rattle.frame.proofs.Words.{Stmt, Database, Entry, stays_open, active_from, is_open, is_close, actives, actives_from, is_disj, is_var, last_active, kind_of, Stock, AreStored, names_in, labels_in, statements_of, stmt_of, length-map}
+use Rattle.frame.proofs.Words.{Stmt, Database, Entry, stays_open, active_from, is_open, is_close, actives, actives_from, is_disj, is_var, last_active_of_kind, kind_of, Storage, AreStored, names_in, labels_in, statements_of, stmt_of, length-map}
 use Rattle.mm_read.specs.declared.stmt.Stmt.TheVariants as stmt
 use Rattle.entries.specs.declared.kind.Kind.TheVariants.{Disj, Var}
 use Rattle.entries.specs.Histories.{StackVersion, IsUntil, AreUntil, AreWith, AreSame, AreKeptUntil, history, kept_until, pushed, gone_back, stack_at}
@@ -10,7 +10,7 @@ use Rattle.frame.specs.declared.stacks.NextStatement.{NextStatement}
 use Rattle.frame.specs.Stored.AssertionParts.{option_symbols}
 use Rattle.frame.specs.Stored.Stacks.{has_code, having_behind, having, AreStacks, opening, with_top, latest_of, KeepsUntil, AreChangedBy, IsNext}
 use Rattle.frame.proofs.OpenLemmas.{IsNoClose}
-use Rattle.frame.proofs.LinksLemmas.{actives-push, actives-close}
+use Rattle.frame.proofs.LastActiveLemmas.{actives-push, actives-close}
 use Rattle.frame.proofs.BlockWalkLemmas.{get-take, last-within}
 use Rattle.std.proofs.lemmas.Bool.{leb-true}
 
@@ -202,7 +202,7 @@ module _ (kind : Stmt → Bool) (hs : List (List StackVersion)) (es : List Entry
       ∙ ap (having more c) (sym (actives-push kind S s close ∙ (ap (λ b. actives kind S ++ cond b ((1 + length S, s) ∷ []) []) own ∙ ap (λ n. actives kind S ++ (n, s) ∷ []) place)))))
 
   -- a `$}`
-  pub latest-close : IsNoClose kind → (block : ℕ) → block ≡ last_active is_open S → s ≡ stmt.Close → (c : ℕ) → stack_at (history hs c) (opening block) ≡ having more c (actives kind (S ++ s ∷ []))
+  pub latest-close : IsNoClose kind → (block : ℕ) → block ≡ last_active_of_kind is_open S → s ≡ stmt.Close → (c : ℕ) → stack_at (history hs c) (opening block) ≡ having more c (actives kind (S ++ s ∷ []))
   latest-close no_close block is closes c =
       let within = last-within is_open S refl in
       here c (opening block) (opening-some block) (omega (arith, opening-low block, is, within, size))
@@ -210,12 +210,12 @@ module _ (kind : Stmt → Bool) (hs : List (List StackVersion)) (es : List Entry
 
 -- ---- the stacks of both kinds after the next statement
 
-module _ (hs : List (List StackVersion)) (es : List Entry) (S : Database) (e : Entry) (s : Stmt) (x : NextStatement) (size : length es ≡ length S) (place : x.at ≡ length es + 1) (codes : x.codes.now ≡ e.symbols) (of_kind : x.kind ≡ kind_of s) (block : x.links.block ≡ last_active is_open S) where
+module _ (hs : List (List StackVersion)) (es : List Entry) (S : Database) (e : Entry) (s : Stmt) (x : NextStatement) (size : length es ≡ length S) (place : x.at ≡ length es + 1) (codes : x.codes.now ≡ e.symbols) (of_kind : x.kind ≡ kind_of s) (block : x.last_active.block ≡ last_active_of_kind is_open S) where
   pub latest-disj : AreStacks is_disj hs es S → (c : ℕ) → latest_of Disj x.kind x hs c ≡ having (es ++ e ∷ []) c (actives is_disj (S ++ s ∷ []))
   latest-disj are c = subst (λ k. latest_of Disj k x hs c ≡ having (es ++ e ∷ []) c (actives is_disj (S ++ s ∷ []))) (sym of_kind) (by s refl)
     where
       by : (t : Stmt) → s ≡ t → latest_of Disj (kind_of t) x hs c ≡ having (es ++ e ∷ []) c (actives is_disj (S ++ s ∷ []))
-      by stmt.Close is = latest-close is_disj hs es S e s are size refl x.links.block block is c
+      by stmt.Close is = latest-close is_disj hs es S e s are size refl x.last_active.block block is c
       by (stmt.Disj n) is = ap (λ l. with_top l x.at hs c) codes ∙ latest-own is_disj hs es S e s are size x.at place (ap is_close is) (ap is_disj is) c
       by t is = latest-other is_disj hs es S e s are size x.at place (ap is_close is) (ap is_disj is) c
 
@@ -223,7 +223,7 @@ module _ (hs : List (List StackVersion)) (es : List Entry) (S : Database) (e : E
   latest-var are c = subst (λ k. latest_of Var k x hs c ≡ having (es ++ e ∷ []) c (actives is_var (S ++ s ∷ []))) (sym of_kind) (by s refl)
     where
       by : (t : Stmt) → s ≡ t → latest_of Var (kind_of t) x hs c ≡ having (es ++ e ∷ []) c (actives is_var (S ++ s ∷ []))
-      by stmt.Close is = latest-close is_var hs es S e s are size refl x.links.block block is c
+      by stmt.Close is = latest-close is_var hs es S e s are size refl x.last_active.block block is c
       by (stmt.Var n) is = ap (λ l. with_top l x.at hs c) codes ∙ latest-own is_var hs es S e s are size x.at place (ap is_close is) (ap is_var is) c
       by t is = latest-other is_var hs es S e s are size x.at place (ap is_close is) (ap is_var is) c
 
@@ -254,13 +254,13 @@ pub stacks-back : (kind : Stmt → Bool) (old mid new : List (List StackVersion)
 stacks-back kind old mid new es S are keeps kept = stacks-same kind old new es S are (λ c. kept c ∙ (keeps c ∙ until-kept (length es) (history old c) (are.until c)))
 
 -- the stacks of a storage, with one statement more
-module _ (old : Stock) (s : Stmt) (e : Entry) (x : NextStatement) (stored : AreStored old) (place : x.at ≡ length old.entries + 1) (codes : x.codes.now ≡ e.symbols) (of_kind : x.kind ≡ kind_of s) (links : x.links ≡ old.links)
+module _ (old : Storage) (s : Stmt) (e : Entry) (x : NextStatement) (stored : AreStored old) (place : x.at ≡ length old.entries + 1) (codes : x.codes.now ≡ e.symbols) (of_kind : x.kind ≡ kind_of s) (last_active : x.last_active ≡ old.last_active)
     (hs new : List (List StackVersion)) (es : List Entry) (T : Database) (entries : es ≡ old.entries ++ e ∷ []) (statements : T ≡ statements_of old ++ s ∷ []) where
   size : length old.entries ≡ length (statements_of old)
   size = sym (length-map old.entries (stmt_of (names_in old) (labels_in old)))
 
-  block : x.links.block ≡ last_active is_open (statements_of old)
-  block = ap (λ l. l.block) (links ∙ stored.kept.last)
+  block : x.last_active.block ≡ last_active_of_kind is_open (statements_of old)
+  block = ap (λ l. l.block) (last_active ∙ stored.kept.last)
 
   pub disjoints-next : hs ≡ old.disjoints → IsNext x.at (latest_of Disj x.kind x hs) hs new → AreStacks is_disj new es T
   disjoints-next same next =

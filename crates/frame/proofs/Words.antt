@@ -7,29 +7,29 @@ pub use Rattle.entries.specs.Entries.{AreWhole, Assertion, Entry, made, partless
 pub use Rattle.entries.specs.Hypotheses.{told}
 pub use Rattle.entries.specs.PositionSets.{AreAbove, Ascends, IsSet, set_at, with_position}
 pub use Rattle.entries.specs.Stored.Spans.{AreSpansIn, Extends, cut}
-pub use Rattle.entries.specs.declared.cited_parts.Cited.{Cited}
+pub use Rattle.entries.specs.declared.assertion_view.AssertionView.{AssertionView}
 pub use Rattle.entries.specs.declared.kind.Kind.{Kind}
 pub use Rattle.entries.specs.declared.kind.Kind.TheVariants.{Axiom, Disj, Ess, Float, Prove, Var}
-pub use Rattle.entries.specs.declared.links.Links.{Links}
+pub use Rattle.entries.specs.declared.last_active.LastActive.{LastActive}
 pub use Rattle.frame.specs.AtPosition.{AreLegal, ArePositions, HasLabelsOnce, IsPosition, IsSingle}
 pub use Rattle.frame.specs.Below.{AllBelow, AreBelow}
 pub use Rattle.frame.specs.Bound.{HasFloat, IsBound, IsFirstFixed}
 pub use Rattle.frame.specs.Citations.{Carries, OfVariables, expr_at, is_hypothesis_kind, premises}
-pub use Rattle.frame.specs.Cited.{AreAsked, AreListsOf, IsAsked, IsCited, IsHead, IsOf, head_of}
-pub use Rattle.frame.specs.Disjoint.{are_apart, is_pair_apart, is_symbol_apart, is_variable_apart}
+pub use Rattle.frame.specs.AssertionView.{AreRequired, AreListsOf, IsRequired, IsViewOf, IsTypecode, IsOf, typecode_of}
+pub use Rattle.frame.specs.Disjoint.{are_disjoint, is_pair_disjoint, is_symbol_disjoint, is_variable_disjoint}
 pub use Rattle.frame.specs.FrameOf.{HasAssertion, frame_of, groups, hypotheses, is_hypothesis, is_mandatory, is_pair, is_used, mandatory_groups, separates}
-pub use Rattle.frame.specs.Links.{actives, actives_from, is_disj, is_var, last_active, last_position, links_of}
+pub use Rattle.frame.specs.LastActive.{actives, actives_from, is_disj, is_var, last_active_of_kind, last_position, last_active_of}
 pub use Rattle.frame.specs.Parts.{FrameParts, Numbered}
-pub use Rattle.frame.specs.Stored.AssertionParts.{IsKeptAs, asked_at, asked_by, floats_in, groups_by, has_parts, has_two, head_at, is_float_in, is_typed, is_typed_by, kept_with, noted_in, option_asked, option_symbols, symbols_at, typed}
-pub use Rattle.frame.specs.Stored.Counts.{AreNumbered, AreZero, AreZeroBehind, Grown, HasRoom, HasTwo, IsBehind, IsLabelBelow, IsPlain, KeepsCounts, kind_of, next_links, with_declared, with_entry, zero_symbol}
+pub use Rattle.frame.specs.Stored.AssertionParts.{IsKeptAs, required_at, required_by, floats_in, groups_by, has_parts, has_two, typecode_at, is_float_in, is_typed, is_typed_by, kept_with, recorded_in, option_required, option_symbols, symbols_at, typed}
+pub use Rattle.frame.specs.Stored.Counts.{AreNumbered, AreZero, AreZeroBehind, Grown, HasRoom, HasTwo, IsBehind, IsLabelBelow, IsPlain, KeepsCounts, kind_of, next_last_active, with_declared, with_entry, zero_symbol}
 pub use Rattle.frame.specs.Stored.Ends.{AreBlocks, AreEnds, TellEnds, end_from, end_of, with_end}
 pub use Rattle.frame.specs.Stored.EntryMeanings.{AreAllLegal, ReadsAs, declared_by, declares, floats, is_float_kind, is_var_kind, labels_in, last_from, last_of, last_where, names_in, option_position, positions_from, replaced_behind, replaced_by, replaced_of, second_is, statements_of, stmt_by, stmt_of, symbol_of, with_last}
-pub use Rattle.frame.specs.Stored.Hypotheses.{AreCollected, AreDescribed, AreFloats, AreHypotheses, AreLooked, AreThose, AreWith, HasMore, In, IsFloatOf, IsGiven, IsSpread, IsWith, OfSome, SomeFloat, is_hypothesis_entry, kept_at, option_kept}
+pub use Rattle.frame.specs.Stored.Hypotheses.{AreCollected, AreDescribed, AreFloats, AreHypotheses, AreLooked, AreThose, AreWith, HasMore, In, IsFloatOf, IsGiven, IsFilledFrom, IsWith, OfSome, SomeFloat, is_hypothesis_entry, kept_at, option_kept}
 pub use Rattle.frame.specs.Stored.Labels.{is_label_kind}
 pub use Rattle.frame.specs.Stored.Naming.{is_declared, naming_from, naming_of}
-pub use Rattle.frame.specs.Stored.OneFrame.{AreMandatory, among, asked, asks, groups_among, is_in_essential}
-pub use Rattle.frame.specs.Stored.Whole.{AreKept, AreStored, IsDraftOf, IsKeptOf}
-pub use Rattle.frame.specs.declared.storage.Stock.{Stock}
+pub use Rattle.frame.specs.Stored.OneFrame.{AreMandatory, among, required, asks, groups_among, is_in_essential}
+pub use Rattle.frame.specs.Stored.Whole.{AreKept, AreStored, ArePartsFor, IsKeptOf}
+pub use Rattle.frame.specs.declared.storage.Storage.{Storage}
 pub use Rattle.frame.specs.declared.storage.Symbol.{Symbol}
 pub use Rattle.mm_lex.specs.Alphabet.{Name, has_name, name_eq}
 pub use Rattle.mm_read.specs.Statements.{Database, Expr}
@@ -39,16 +39,16 @@ pub use Rattle.names.proofs.AddedNames.{has_name-append}
 pub use Rattle.names.proofs.CodesLemmas.{code-absent, code-at, has-at, list_any-map, lt-list_any, name_at-get_or, name_at-last, name_same, same_name}
 pub use Rattle.names.specs.Codes.{AreCodes, AreDistinct, code_of, decode, name_at, with_name, with_names}
 pub use Rattle.scope.proofs.ActiveLemmas.{active_from-close, active_from-later, before_open-none, below-deficit, count-left_open, deficit, deficit-below, deficit-close, left_open, no_deficit, place, some_deficit, stays_open-append, stays_open-same}
-pub use Rattle.scope.proofs.DeclaredLemmas.{declared_with-more, may-declare, noted-after, numbering-after}
+pub use Rattle.scope.proofs.DeclaredLemmas.{declared_with-more, may-declare, recorded-after, numbering-after}
 pub use Rattle.scope.proofs.GoingBackLemmas.{all-has}
 pub use Rattle.scope.proofs.NamesLemmas.{active-was, labels_of-append, symbols-distinct, symbols_of-append, symbols_of-later}
 pub use Rattle.scope.proofs.SortsLemmas.{is_variable-active, was_symbol-either}
 pub use Rattle.scope.proofs.SymbolNameLemmas.{AreDone, names_that-append}
 pub use Rattle.scope.specs.Active.{active, active_from, bare, before, constants, count, expr_of, has_float, has_label, is_active, is_assertion, is_close, is_constant, is_essential, is_float_of, is_open, is_variable, label_of, separated, stays_open, stmt_at, variables, was_label, was_symbol, was_variable}
-pub use Rattle.scope.specs.Declares.{IsNotedBy, declared_with}
-pub use Rattle.scope.specs.Kinds.{Declared, IsNumberOf, IsNumberingOf, Tells, TellsAll, declared_labels, declared_symbols, is_constant_kind, is_symbol_kind, is_variable_kind, kind_in}
+pub use Rattle.scope.specs.Declares.{IsRecordedBy, declared_with}
+pub use Rattle.scope.specs.Kinds.{Declared, IsNumberOf, IsNumberingOf, MatchesKind, MatchesKinds, declared_labels, declared_symbols, is_constant_kind, is_symbol_kind, is_variable_kind, kind_in}
 pub use Rattle.scope.specs.Legal.{IsLegal, is_fresh_label, keeps, starts_with_constant}
-pub use Rattle.scope.specs.Stored.Noted.{AreNoted}
+pub use Rattle.scope.specs.Stored.SymbolNumbers.{AreRecorded}
 pub use Rattle.scope.specs.Symbols.{AreNumbers, AreVariableNumbers, labels_of, option_list, symbols_after, symbols_by, symbols_from, symbols_in, symbols_of}
 pub use Rattle.scope.specs.declared.rule.Rule.TheVariants.{G1, G10, G2, G3, G4, G5, G6, G7, G8, G9}
 pub use Rattle.std.proofs.Common.{Bool, Bor, Err, IfNone, IfSome, IsTrue, List, None, Ok, OnErr, OnOk, Option, Result, Some, [], add-zero, ap, append-nil, append_assoc, arith, cond, drop, eqb, false, filter, get_or, get_or-set_same, get_or-take, if◌then◌else◌, inl, inr, is_some, le-leb, length, length-append, length-drop, length-set, length-take, length-take-le, lt-ltb, map, nat_cmp, nat_eq, nat_le, nat_lt, not, option_map, refl, replicate, reverse, slice_get, slice_index_or, slice_range, slice_set, subst, suc, sym, take, take-append-drop, take-take, take_all, true, true≢false, zero, ℕ, ⊎_elim, ◌%◌, ◌&&◌, ◌++◌, ◌+◌, ◌-◌, ◌<◌, ◌==◌, ◌||◌, ◌∙◌, ◌∷◌, ◌≡◌, ◌≢◌, ◌≤◌, ◌⊎◌}

@@ -7,7 +7,7 @@ use Rattle.frame.specs.Words.{Name, Stmt, Expr, Database, stmt_at, before, is_ac
 use Rattle.mm_read.specs.declared.stmt.Stmt.TheVariants.{Float, Ess}
 use Rattle.frame.specs.FrameOf.{hypotheses, mandatory_groups}
 use Rattle.frame.specs.Substitution.{Images, apply as applied}
-use Rattle.frame.specs.Disjoint.{are_groups_apart}
+use Rattle.frame.specs.Disjoint.{are_groups_disjoint}
 
 -- the statement at i carries the label
 pub record Carries (S : Database) (i : ℕ) (s : Stmt) (label : Name) : Type 0 where
@@ -36,7 +36,7 @@ pub record IsInstance (S : Database) (at a : ℕ) (s : Stmt) (σ : Images) : Typ
   pub stands : stmt_at S a ≡ Some s
   pub assertion : IsTrue (is_assertion s)
   pub of_variables : OfVariables S a σ
-  pub apart : IsTrue (are_groups_apart (before S at) σ (mandatory_groups (before S a) s))
+  pub disjoint : IsTrue (are_groups_disjoint (before S at) σ (mandatory_groups (before S a) s))
 
 -- the expression of the statement at i
 abbrev pub option_expr : Option Stmt → Expr

@@ -5,10 +5,10 @@ pub mod Substitution
 pub mod Disjoint
 pub mod Citations
 pub mod Below
-pub mod Cited
+pub mod AssertionView
 pub mod ExprPlaces
 pub mod Bound
 pub mod AtPosition
-pub mod Links
+pub mod LastActive
 pub mod Laws
 pub mod Stored

@@ -1,10 +1,10 @@
 -- The words of the layers below in which this crate is specified, passed on from one place.
 pub use Rattle.entries.specs.Entries.{Assertion, Entry, partless}
 pub use Rattle.entries.specs.Stored.Spans.{AreSpansIn, Extends, cut}
-pub use Rattle.entries.specs.declared.cited_parts.Hypothesis.{Hypothesis}
+pub use Rattle.entries.specs.declared.assertion_view.Hypothesis.{Hypothesis}
 pub use Rattle.entries.specs.declared.kind.Kind.{Kind}
 pub use Rattle.entries.specs.declared.kind.Kind.TheVariants.{Axiom, Close, Const, Disj, Ess, Float, Open, Prove, Var}
-pub use Rattle.entries.specs.declared.links.Links.{Links}
+pub use Rattle.entries.specs.declared.last_active.LastActive.{LastActive}
 pub use Rattle.mm_lex.specs.Alphabet.{Name, has_name, name_eq}
 pub use Rattle.mm_read.specs.Statements.{Database, Expr}
 pub use Rattle.mm_read.specs.declared.stmt.Stmt.{Stmt}

@@ -1,14 +1,14 @@
 //! The changes that one more statement makes, and how they are undone: the names and the last declarations of symbols, where
 //! blocks end, and what is active after it.
 ghost use Rattle.std.specs.Prelude.{◌≡◌, ℕ, ◌+◌, ◌≤◌, ◌==◌, ◌++◌, ◌∷◌, [], Some, length, slice_get, OnOk, if◌then◌else◌, map, take};
-ghost use Rattle.{std.specs.List.list_any, mm_read.specs.declared.stmt.Stmt.Stmt as Statement, scope.specs.Active.label_of, scope.specs.Declares.IsNotedBy, scope.specs.Declares.MayDeclare, scope.specs.Declares.declared_with, entries.specs.Stored.Spans.Extends, frame.specs.Below.AreBelow, frame.specs.Links.links_of, frame.specs.declared.storage.Symbol.Symbol as Declared, frame.specs.Stored.Whole.AreStored, frame.specs.Stored.EntryMeanings.option_position, frame.specs.Stored.EntryMeanings.statements_of, frame.specs.Stored.EntryMeanings.declared_by, frame.specs.Stored.EntryMeanings.last_of, frame.specs.Stored.EntryMeanings.with_last, frame.specs.Stored.EntryMeanings.ReadsAs, frame.specs.Stored.EntryMeanings.replaced_of, frame.specs.Stored.EntryMeanings.symbol_of, frame.specs.Stored.Counts.Grown, frame.specs.Stored.Counts.HasRoom, frame.specs.Stored.Counts.kind_of, frame.specs.Stored.Counts.next_links, frame.specs.Stored.Counts.HasTwo, frame.specs.Stored.Ends.with_end, frame.specs.Stored.Ends.TellEnds};
+ghost use Rattle.{std.specs.List.list_any, mm_read.specs.declared.stmt.Stmt.Stmt as Statement, scope.specs.Active.label_of, scope.specs.Declares.IsRecordedBy, scope.specs.Declares.MayDeclare, scope.specs.Declares.declared_with, entries.specs.Stored.Spans.Extends, frame.specs.Below.AreBelow, frame.specs.LastActive.last_active_of, frame.specs.declared.storage.Symbol.Symbol as Declared, frame.specs.Stored.Whole.AreStored, frame.specs.Stored.EntryMeanings.option_position, frame.specs.Stored.EntryMeanings.statements_of, frame.specs.Stored.EntryMeanings.declared_by, frame.specs.Stored.EntryMeanings.last_of, frame.specs.Stored.EntryMeanings.with_last, frame.specs.Stored.EntryMeanings.ReadsAs, frame.specs.Stored.EntryMeanings.replaced_of, frame.specs.Stored.EntryMeanings.symbol_of, frame.specs.Stored.Counts.Grown, frame.specs.Stored.Counts.HasRoom, frame.specs.Stored.Counts.kind_of, frame.specs.Stored.Counts.next_last_active, frame.specs.Stored.Counts.HasTwo, frame.specs.Stored.Ends.with_end, frame.specs.Stored.Ends.TellEnds};
 
-use crate::at_position::links_at;
+use crate::at_position::last_active_at;
 use crate::shape::{has_label, kind};
-use crate::storage::{Stock, Symbol};
-use entries::{Kind, Links};
+use crate::storage::{Storage, Symbol};
+use entries::{Kind, LastActive};
 use mm_read::Stmt;
-use scope::{Noted, declare_names};
+use scope::{SymbolNumbers, declare_names};
 use std::alloc::{AllocError, Global};
 
 /// There are fewer symbols than this, so numbers fit in 32 bits.
@@ -18,20 +18,20 @@ const NAMES_LIMIT: usize = 2147483648;
 /// `$c` and a `$v` are recorded.
 pub fn declare_next(
     alloc: Global,
-    stock: &mut Stock,
+    storage: &mut Storage,
     stmt: &Stmt,
-    noted: &mut Noted,
+    recorded: &mut SymbolNumbers,
 ) -> Result<(), AllocError>
-    requires free { MayDeclare stock.old.numbering stmt.now }
-    requires room { HasRoom stock.old }
-    ensures grown { Grown stock.old stock.new }
-    ensures room { OnOk result (HasRoom stock.new) }
-    ensures numbering { OnOk result (stock.new.numbering ≡ declared_with stock.old.numbering stmt.now) }
-    ensures positions { OnOk result (stock.new.positions.items ≡ stock.old.positions.items ++ option_position (label_of stmt.now) (length stock.old.entries + 1) []) }
-    ensures noted { OnOk result (IsNotedBy stock.new.numbering stmt.now noted.old noted.new) }
+    requires free { MayDeclare storage.old.numbering stmt.now }
+    requires room { HasRoom storage.old }
+    ensures grown { Grown storage.old storage.new }
+    ensures room { OnOk result (HasRoom storage.new) }
+    ensures numbering { OnOk result (storage.new.numbering ≡ declared_with storage.old.numbering stmt.now) }
+    ensures positions { OnOk result (storage.new.positions.items ≡ storage.old.positions.items ++ option_position (label_of stmt.now) (length storage.old.entries + 1) []) }
+    ensures recorded { OnOk result (IsRecordedBy storage.new.numbering stmt.now recorded.old recorded.new) }
 {
-    declare_names(&mut stock.numbering, alloc, stmt, noted)?;
-    let count = stock.numbering.symbol_count();
+    declare_names(&mut storage.numbering, alloc, stmt, recorded)?;
+    let count = storage.numbering.symbol_count();
     if count >= NAMES_LIMIT {
         return Err(AllocError);
     }
@@ -39,49 +39,49 @@ pub fn declare_next(
         float: 0,
         variable: 0,
     };
-    stock.symbols.resize(count, undeclared)?;
+    storage.symbols.resize(count, undeclared)?;
     if has_label(kind(stmt)) {
-        stock.positions.push(stock.entries.len() as u32 + 1)?;
+        storage.positions.push(storage.entries.len() as u32 + 1)?;
     }
     Ok(())
 }
 
 /// Returns what is active after one more statement of a kind.
-pub fn links_after(stock: &Stock, kind: Kind) -> Links
-    requires { AreStored stock.now }
-    ensures { (s : Statement) → kind_of s ≡ kind → result ≡ links_of (statements_of stock.now ++ s ∷ []) }
+pub fn last_active_after(storage: &Storage, kind: Kind) -> LastActive
+    requires { AreStored storage.now }
+    ensures { (s : Statement) → kind_of s ≡ kind → result ≡ last_active_of (statements_of storage.now ++ s ∷ []) }
 {
-    let links = stock.links;
+    let last_active = storage.last_active;
     match kind {
         Kind::Close => {
-            if links.block == 0 {
-                Links {
+            if last_active.block == 0 {
+                LastActive {
                     block: 0,
                     essential: 0,
                     variable: 0,
                     disjoint: 0,
                 }
             } else {
-                links_at(stock, links.block as usize)
+                last_active_at(storage, last_active.block as usize)
             }
         }
-        _ => links_with(links, kind, stock.entries.len() as u32 + 1),
+        _ => last_active_with(last_active, kind, storage.entries.len() as u32 + 1),
     }
 }
 
 /// Returns what is active after a statement of a kind at `at`, if it is no `$}`.
-fn links_with(links: Links, kind: Kind, at: u32) -> Links
-    ensures { result ≡ next_links links at kind }
+fn last_active_with(last_active: LastActive, kind: Kind, at: u32) -> LastActive
+    ensures { result ≡ next_last_active last_active at kind }
 {
-    let mut links = links;
+    let mut last_active = last_active;
     match kind {
-        Kind::Open => links.block = at,
-        Kind::Var => links.variable = at,
-        Kind::Disj => links.disjoint = at,
-        Kind::Ess => links.essential = at,
+        Kind::Open => last_active.block = at,
+        Kind::Var => last_active.variable = at,
+        Kind::Disj => last_active.disjoint = at,
+        Kind::Ess => last_active.essential = at,
         _ => {}
     }
-    links
+    last_active
 }
 
 /// Returns the symbols that a statement of this kind with these symbols declares.
@@ -108,14 +108,14 @@ fn last(symbol: Symbol, kind: Kind) -> usize
 }
 
 /// Records the last declarations that a statement of this kind with these symbols replaces.
-pub fn note_replaced(
+pub fn record_replaced(
     symbols: &[Symbol],
     kind: Kind,
     declared: &[u32],
     replaced: &mut Vec<usize>,
 ) -> Result<(), AllocError>
     requires { AreBelow (length symbols.now) declared.now }
-    ensures noted { OnOk result ((x : ℕ → Declared) → ReadsAs symbols.now x → replaced.new.items ≡ replaced.old.items ++ map (λ c. last_of kind (x c)) declared.now) }
+    ensures recorded { OnOk result ((x : ℕ → Declared) → ReadsAs symbols.now x → replaced.new.items ≡ replaced.old.items ++ map (λ c. last_of kind (x c)) declared.now) }
     ensures behind { Extends replaced.old.items replaced.new.items }
 {
     for code in declared {
@@ -146,7 +146,7 @@ fn set_last(symbol: &mut Symbol, kind: Kind, at: usize)
 }
 
 /// Records `at` as the end of the block that opened at `block`, where a statement of this kind ends it.
-pub fn note_end(ends: &mut Vec<u32>, kind: Kind, block: u32, at: u32)
+pub fn record_end(ends: &mut Vec<u32>, kind: Kind, block: u32, at: u32)
     requires { block ≤ length ends.old.items }
     ensures { ends.new.items ≡ with_end kind block at ends.old.items }
 {
@@ -157,33 +157,38 @@ pub fn note_end(ends: &mut Vec<u32>, kind: Kind, block: u32, at: u32)
 
 /// Removes the entries after the first `len`, the last one first, and with them their declarations and the ends of
 /// blocks that they are.
-pub fn take_away(stock: &mut Stock, len: usize)
-    requires stored { AreStored stock.old }
-    requires within { len ≤ length stock.old.entries }
-    ensures entries { stock.new.entries ≡ take len stock.old.entries }
-    ensures declared { ReadsAs stock.new.symbols.items (symbol_of stock.new.entries) }
-    ensures noted { stock.new.replaced.items ≡ replaced_of stock.new.entries }
-    ensures ends { TellEnds stock.new.ends.items (take len (statements_of stock.old)) }
-    ensures count { length stock.new.symbols.items ≡ length stock.old.symbols.items }
-    ensures count_ends { length stock.new.ends.items ≡ length stock.old.ends.items }
-    ensures names { (stock.new.numbering ≡ stock.old.numbering) × (stock.new.positions ≡ stock.old.positions) }
-    ensures stacks { (stock.new.disjoints ≡ stock.old.disjoints) × (stock.new.variables ≡ stock.old.variables) }
-    ensures links { stock.new.links ≡ stock.old.links }
+pub fn remove_entries(storage: &mut Storage, len: usize)
+    requires stored { AreStored storage.old }
+    requires within { len ≤ length storage.old.entries }
+    ensures entries { storage.new.entries ≡ take len storage.old.entries }
+    ensures declared { ReadsAs storage.new.symbols.items (symbol_of storage.new.entries) }
+    ensures recorded { storage.new.replaced.items ≡ replaced_of storage.new.entries }
+    ensures ends { TellEnds storage.new.ends.items (take len (statements_of storage.old)) }
+    ensures count { length storage.new.symbols.items ≡ length storage.old.symbols.items }
+    ensures count_ends { length storage.new.ends.items ≡ length storage.old.ends.items }
+    ensures names { (storage.new.numbering ≡ storage.old.numbering) × (storage.new.positions ≡ storage.old.positions) }
+    ensures stacks { (storage.new.disjoints ≡ storage.old.disjoints) × (storage.new.variables ≡ storage.old.variables) }
+    ensures last_active { storage.new.last_active ≡ storage.old.last_active }
 {
-    while stock.entries.len() > len {
-        let last = stock.entries.len() - 1;
-        let entry = stock.entries.entry(last);
+    while storage.entries.len() > len {
+        let last = storage.entries.len() - 1;
+        let entry = storage.entries.entry(last);
         let declared = declared(entry.kind, entry.symbols);
-        let from = stock.replaced.len() - declared.len();
+        let from = storage.replaced.len() - declared.len();
         restore(
-            &mut stock.symbols,
+            &mut storage.symbols,
             entry.kind,
             declared,
-            &stock.replaced[from..],
+            &storage.replaced[from..],
         );
-        stock.replaced.truncate(from);
-        note_end(&mut stock.ends, entry.kind, entry.before.links.block, 0);
-        stock.entries.truncate(last);
+        storage.replaced.truncate(from);
+        record_end(
+            &mut storage.ends,
+            entry.kind,
+            entry.before.last_active.block,
+            0,
+        );
+        storage.entries.truncate(last);
     }
 }
 

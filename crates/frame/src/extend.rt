@@ -1,80 +1,81 @@
 //! Appends a statement to the storage, or nothing, or truncates it to the first statements.
 ghost use Rattle.std.specs.Prelude.{true, ◌≡◌, ◌++◌, ◌∷◌, [], Some, OnOk, OnErr, take, length, slice_get, ◌+◌, IfSome, IfErr};
 ghost use Rattle.frame.specs.Stored.GivenSets.{AreFrames};
-ghost use Rattle.{names.specs.Codes.with_names, scope.specs.Active.bare, scope.specs.Legal.IsLegal, scope.specs.Legal.broken_rule, scope.specs.Stored.Noted.AreNoted, scope.specs.Symbols.AreVariableNumbers, scope.specs.Symbols.symbols_after, scope.specs.Symbols.symbols_by, scope.specs.Symbols.symbols_in, scope.specs.Symbols.symbols_of, entries.specs.Entries.Entry, entries.specs.Histories.AreKeptUntil, entries.specs.Histories.AreSame, entries.specs.Stored.Spans.Extends, frame.specs.Stored.Whole.AreStored, frame.specs.Stored.Counts.IsBehind, frame.specs.Stored.EntryMeanings.labels_in, frame.specs.Stored.EntryMeanings.names_in, frame.specs.Stored.EntryMeanings.statements_of};
+ghost use Rattle.{names.specs.Codes.with_names, scope.specs.Active.bare, scope.specs.Legal.IsLegal, scope.specs.Legal.broken_rule, scope.specs.Stored.SymbolNumbers.AreRecorded, scope.specs.Symbols.AreVariableNumbers, scope.specs.Symbols.symbols_after, scope.specs.Symbols.symbols_by, scope.specs.Symbols.symbols_in, scope.specs.Symbols.symbols_of, entries.specs.Entries.Entry, entries.specs.Histories.AreKeptUntil, entries.specs.Histories.AreSame, entries.specs.Stored.Spans.Extends, frame.specs.Stored.Whole.AreStored, frame.specs.Stored.Counts.IsBehind, frame.specs.Stored.EntryMeanings.labels_in, frame.specs.Stored.EntryMeanings.names_in, frame.specs.Stored.EntryMeanings.statements_of};
 
 use crate::declare::{
-    declare, declare_next, declared, links_after, note_end, note_replaced, take_away,
+    declare, declare_next, declared, last_active_after, record_end, record_replaced, remove_entries,
 };
+use crate::frame_buffers::FrameBuffers;
 use crate::frames::Frames;
-use crate::gathered::Gathered;
 use crate::given_sets::GivenSets;
-use crate::make::enter_parts;
+use crate::make::fill_parts;
 use crate::shape::kind;
-use crate::stacks::{NextStatement, note_active};
-use crate::storage::Stock;
+use crate::stacks::{NextStatement, record_active};
+use crate::storage::Storage;
 use crate::symbol_numbers::find_numbers;
 use entries::buffer_part::place;
-use entries::{Background, Head, give_back};
+use entries::{EntryHeader, StateBefore, give_back};
 use mm_read::Stmt;
-use scope::{Noted, Rule, Rules, Scope, Steps};
+use scope::{Rule, Rules, Scope, Steps, SymbolNumbers};
 use std::alloc::{AllocError, Global};
 
 /// Appends the statement, with the numbers of its symbols where they were recorded. If an allocation fails,
 /// some of it may remain after the earlier contents.
 fn extend(
     alloc: Global,
-    stock: &mut Stock,
+    storage: &mut Storage,
     given: &GivenSets,
-    draft: &mut Gathered,
+    buffers: &mut FrameBuffers,
     stmt: &Stmt,
-    noted: &mut Noted,
+    recorded: &mut SymbolNumbers,
 ) -> Result<(), AllocError>
-    requires stored { AreStored stock.old }
-    requires legal { IsLegal (statements_of stock.old) stmt.now }
-    requires noted { AreNoted (with_names (names_in stock.old) (symbols_by stmt.now)) (symbols_in stmt.now) noted.old }
-    ensures stored { OnOk result (AreStored stock.new) }
-    ensures added { OnOk result (statements_of stock.new ≡ statements_of stock.old ++ bare stmt.now ∷ []) }
-    ensures numbers { OnOk result ((e : Entry) → slice_get stock.new.entries (length stock.old.entries) ≡ Some e → AreVariableNumbers (symbols_after (statements_of stock.old) stmt.now) stmt.now e.symbols) }
-    ensures more { OnOk result (Extends stock.old.entries stock.new.entries) }
-    ensures behind { OnErr result (IsBehind stock.old stock.new) }
+    requires stored { AreStored storage.old }
+    requires legal { IsLegal (statements_of storage.old) stmt.now }
+    requires recorded { AreRecorded (with_names (names_in storage.old) (symbols_by stmt.now)) (symbols_in stmt.now) recorded.old }
+    ensures stored { OnOk result (AreStored storage.new) }
+    ensures added { OnOk result (statements_of storage.new ≡ statements_of storage.old ++ bare stmt.now ∷ []) }
+    ensures numbers { OnOk result ((e : Entry) → slice_get storage.new.entries (length storage.old.entries) ≡ Some e → AreVariableNumbers (symbols_after (statements_of storage.old) stmt.now) stmt.now e.symbols) }
+    ensures more { OnOk result (Extends storage.old.entries storage.new.entries) }
+    ensures behind { OnErr result (IsBehind storage.old storage.new) }
 {
-    let at = stock.entries.len() + 1;
+    let at = storage.entries.len() + 1;
     let kind = kind(stmt);
-    let links = links_after(stock, kind);
-    let head = Head {
+    let last_active = last_active_after(storage, kind);
+    let header = EntryHeader {
         kind,
-        before: Background {
-            label: place(stock.numbering.label_count())?,
-            names: stock.numbering.symbol_count() as u32,
-            links: stock.links,
+        before: StateBefore {
+            label: place(storage.numbering.label_count())?,
+            names: storage.numbering.symbol_count() as u32,
+            last_active: storage.last_active,
         },
     };
-    find_numbers(&stock.numbering, stmt, noted);
-    enter_parts(stock, given, draft, stmt, noted)?;
-    declare_next(alloc, stock, stmt, noted)?;
-    let Some(codes) = noted.numbers() else {
+    find_numbers(&storage.numbering, stmt, recorded);
+    fill_parts(storage, given, buffers, stmt, recorded)?;
+    declare_next(alloc, storage, stmt, recorded)?;
+    let Some(codes) = recorded.numbers() else {
         return Err(AllocError);
     };
     let declared = declared(kind, codes);
-    note_replaced(&stock.symbols, kind, declared, &mut stock.replaced)?;
-    stock.ends.push(0)?;
+    record_replaced(&storage.symbols, kind, declared, &mut storage.replaced)?;
+    storage.ends.push(0)?;
     let next = NextStatement {
         kind,
         codes,
         at: place(at)?,
-        links: stock.links,
+        last_active: storage.last_active,
     };
-    note_active(
-        &mut stock.disjoints,
-        &mut stock.variables,
-        stock.entries.list(),
+    record_active(
+        &mut storage.disjoints,
+        &mut storage.variables,
+        storage.entries.list(),
         &next,
     )?;
-    stock.entries.push(head, &draft.parts(codes))?;
-    declare(&mut stock.symbols, kind, declared, at);
-    note_end(&mut stock.ends, kind, stock.links.block, at as u32);
-    stock.links = links;
+    storage.entries.push(header, &buffers.parts(codes))?;
+    declare(&mut storage.symbols, kind, declared, at);
+    let block = storage.last_active.block;
+    record_end(&mut storage.ends, kind, block, at as u32);
+    storage.last_active = last_active;
     Ok(())
 }
 
@@ -83,27 +84,27 @@ fn extend(
 /// If an allocation fails, everything is as before.
 fn extend_whole(
     alloc: Global,
-    stock: &mut Stock,
+    storage: &mut Storage,
     given: &GivenSets,
-    draft: &mut Gathered,
+    buffers: &mut FrameBuffers,
     stmt: &Stmt,
-    noted: &mut Noted,
+    recorded: &mut SymbolNumbers,
 ) -> Result<(), AllocError>
-    requires stored { AreStored stock.old }
-    requires legal { IsLegal (statements_of stock.old) stmt.now }
-    requires noted { AreNoted (with_names (names_in stock.old) (symbols_by stmt.now)) (symbols_in stmt.now) noted.old }
-    ensures stored { AreStored stock.new }
-    ensures added { OnOk result (statements_of stock.new ≡ statements_of stock.old ++ bare stmt.now ∷ []) }
-    ensures numbers { OnOk result ((e : Entry) → slice_get stock.new.entries (length stock.old.entries) ≡ Some e → AreVariableNumbers (symbols_after (statements_of stock.old) stmt.now) stmt.now e.symbols) }
-    ensures same { OnErr result (statements_of stock.new ≡ statements_of stock.old) }
-    ensures more { OnOk result (Extends stock.old.entries stock.new.entries) }
-    ensures same_entries { OnErr result (stock.new.entries ≡ stock.old.entries) }
+    requires stored { AreStored storage.old }
+    requires legal { IsLegal (statements_of storage.old) stmt.now }
+    requires recorded { AreRecorded (with_names (names_in storage.old) (symbols_by stmt.now)) (symbols_in stmt.now) recorded.old }
+    ensures stored { AreStored storage.new }
+    ensures added { OnOk result (statements_of storage.new ≡ statements_of storage.old ++ bare stmt.now ∷ []) }
+    ensures numbers { OnOk result ((e : Entry) → slice_get storage.new.entries (length storage.old.entries) ≡ Some e → AreVariableNumbers (symbols_after (statements_of storage.old) stmt.now) stmt.now e.symbols) }
+    ensures same { OnErr result (statements_of storage.new ≡ statements_of storage.old) }
+    ensures more { OnOk result (Extends storage.old.entries storage.new.entries) }
+    ensures same_entries { OnErr result (storage.new.entries ≡ storage.old.entries) }
 {
-    let names = stock.numbering.len();
-    let replaced = stock.replaced.len();
-    let result = extend(alloc, stock, given, draft, stmt, noted);
+    let names = storage.numbering.len();
+    let replaced = storage.replaced.len();
+    let result = extend(alloc, storage, given, buffers, stmt, recorded);
     if result.is_err() {
-        roll_back(stock, names, replaced);
+        roll_back(storage, names, replaced);
     }
     result
 }
@@ -113,93 +114,93 @@ fn extend_whole(
 /// If an allocation fails, the storage is as before.
 fn grow(
     alloc: Global,
-    stock: &mut Stock,
+    storage: &mut Storage,
     given: &mut GivenSets,
-    draft: &mut Gathered,
+    buffers: &mut FrameBuffers,
     stmt: &Stmt,
-    noted: &mut Noted,
+    recorded: &mut SymbolNumbers,
 ) -> Result<(), AllocError>
-    requires kept { AreFrames stock.old given.old }
-    requires legal { IsLegal (statements_of stock.old) stmt.now }
-    requires noted { AreNoted (with_names (names_in stock.old) (symbols_by stmt.now)) (symbols_in stmt.now) noted.old }
-    ensures kept { AreFrames stock.new given.new }
-    ensures added { OnOk result (statements_of stock.new ≡ statements_of stock.old ++ bare stmt.now ∷ []) }
-    ensures numbers { OnOk result ((e : Entry) → slice_get stock.new.entries (length stock.old.entries) ≡ Some e → AreVariableNumbers (symbols_after (statements_of stock.old) stmt.now) stmt.now e.symbols) }
-    ensures same { OnErr result (statements_of stock.new ≡ statements_of stock.old) }
+    requires kept { AreFrames storage.old given.old }
+    requires legal { IsLegal (statements_of storage.old) stmt.now }
+    requires recorded { AreRecorded (with_names (names_in storage.old) (symbols_by stmt.now)) (symbols_in stmt.now) recorded.old }
+    ensures kept { AreFrames storage.new given.new }
+    ensures added { OnOk result (statements_of storage.new ≡ statements_of storage.old ++ bare stmt.now ∷ []) }
+    ensures numbers { OnOk result ((e : Entry) → slice_get storage.new.entries (length storage.old.entries) ≡ Some e → AreVariableNumbers (symbols_after (statements_of storage.old) stmt.now) stmt.now e.symbols) }
+    ensures same { OnErr result (statements_of storage.new ≡ statements_of storage.old) }
 {
-    let front = stock.entries.len();
-    extend_whole(alloc, stock, given, draft, stmt, noted)?;
-    let kept = given.note(stock);
+    let front = storage.entries.len();
+    extend_whole(alloc, storage, given, buffers, stmt, recorded)?;
+    let kept = given.record_set(storage);
     if kept.is_err() {
-        cut(stock, front);
+        cut(storage, front);
     }
     kept
 }
 
 /// Truncates the storage to its first `len` statements.
-fn cut(stock: &mut Stock, len: usize)
-    requires stored { AreStored stock.old }
-    ensures stored { AreStored stock.new }
-    ensures statements { statements_of stock.new ≡ take len (statements_of stock.old) }
-    ensures entries { stock.new.entries ≡ take len stock.old.entries }
-    ensures names { Extends (names_in stock.new) (names_in stock.old) }
+fn cut(storage: &mut Storage, len: usize)
+    requires stored { AreStored storage.old }
+    ensures stored { AreStored storage.new }
+    ensures statements { statements_of storage.new ≡ take len (statements_of storage.old) }
+    ensures entries { storage.new.entries ≡ take len storage.old.entries }
+    ensures names { Extends (names_in storage.new) (names_in storage.old) }
 {
-    if len < stock.entries.len() {
-        let first = stock.entries.entry(len);
+    if len < storage.entries.len() {
+        let first = storage.entries.entry(len);
         let names = first.before.names as usize + first.before.label as usize;
-        let links = first.before.links;
-        take_away(stock, len);
-        stock.links = links;
-        let replaced = stock.replaced.len();
-        roll_back(stock, names, replaced);
+        let last_active = first.before.last_active;
+        remove_entries(storage, len);
+        storage.last_active = last_active;
+        let replaced = storage.replaced.len();
+        roll_back(storage, names, replaced);
     }
 }
 
 /// Truncates the storage to the first names and replaced declarations, and to its statements.
-fn roll_back(stock: &mut Stock, names: usize, replaced: usize)
-    ensures names { stock.new.numbering ≡ take names stock.old.numbering }
-    ensures symbols { stock.new.symbols.items ≡ take (length (names_in stock.new)) stock.old.symbols.items }
-    ensures positions { stock.new.positions.items ≡ take (length (labels_in stock.new)) stock.old.positions.items }
-    ensures replaced { stock.new.replaced.items ≡ take replaced stock.old.replaced.items }
-    ensures ends { stock.new.ends.items ≡ take (length stock.old.entries) stock.old.ends.items }
-    ensures entries { stock.new.entries ≡ stock.old.entries }
-    ensures disjoints { AreKeptUntil (length stock.old.entries) stock.old.disjoints stock.new.disjoints }
-    ensures variables { AreKeptUntil (length stock.old.entries) stock.old.variables stock.new.variables }
-    ensures links { stock.new.links ≡ stock.old.links }
+fn roll_back(storage: &mut Storage, names: usize, replaced: usize)
+    ensures names { storage.new.numbering ≡ take names storage.old.numbering }
+    ensures symbols { storage.new.symbols.items ≡ take (length (names_in storage.new)) storage.old.symbols.items }
+    ensures positions { storage.new.positions.items ≡ take (length (labels_in storage.new)) storage.old.positions.items }
+    ensures replaced { storage.new.replaced.items ≡ take replaced storage.old.replaced.items }
+    ensures ends { storage.new.ends.items ≡ take (length storage.old.entries) storage.old.ends.items }
+    ensures entries { storage.new.entries ≡ storage.old.entries }
+    ensures disjoints { AreKeptUntil (length storage.old.entries) storage.old.disjoints storage.new.disjoints }
+    ensures variables { AreKeptUntil (length storage.old.entries) storage.old.variables storage.new.variables }
+    ensures last_active { storage.new.last_active ≡ storage.old.last_active }
 {
-    stock.numbering.truncate(names);
-    stock.symbols.truncate(stock.numbering.symbol_count());
-    stock.positions.truncate(stock.numbering.label_count());
-    stock.replaced.truncate(replaced);
-    stock.ends.truncate(stock.entries.len());
-    let last = stock.entries.len() as u32;
-    stock.disjoints.truncate(last);
-    stock.variables.truncate(last);
+    storage.numbering.truncate(names);
+    storage.symbols.truncate(storage.numbering.symbol_count());
+    storage.positions.truncate(storage.numbering.label_count());
+    storage.replaced.truncate(replaced);
+    storage.ends.truncate(storage.entries.len());
+    let last = storage.entries.len() as u32;
+    storage.disjoints.truncate(last);
+    storage.variables.truncate(last);
 }
 
 /// Gives back the room of what was removed from the storage, where it is more than that of what is there.
 ///
 /// Cost: that of `Numbering::shrink`, and the symbols that were removed.
-fn shrink_lists(alloc: Global, stock: &mut Stock)
-    ensures numbering { stock.new.numbering ≡ stock.old.numbering }
-    ensures positions { stock.new.positions.items ≡ stock.old.positions.items }
-    ensures symbols { stock.new.symbols.items ≡ stock.old.symbols.items }
-    ensures replaced { stock.new.replaced.items ≡ stock.old.replaced.items }
-    ensures ends { stock.new.ends.items ≡ stock.old.ends.items }
-    ensures entries { stock.new.entries ≡ stock.old.entries }
-    ensures disjoints { AreSame stock.old.disjoints stock.new.disjoints }
-    ensures variables { AreSame stock.old.variables stock.new.variables }
-    ensures links { stock.new.links ≡ stock.old.links }
+fn shrink_lists(alloc: Global, storage: &mut Storage)
+    ensures numbering { storage.new.numbering ≡ storage.old.numbering }
+    ensures positions { storage.new.positions.items ≡ storage.old.positions.items }
+    ensures symbols { storage.new.symbols.items ≡ storage.old.symbols.items }
+    ensures replaced { storage.new.replaced.items ≡ storage.old.replaced.items }
+    ensures ends { storage.new.ends.items ≡ storage.old.ends.items }
+    ensures entries { storage.new.entries ≡ storage.old.entries }
+    ensures disjoints { AreSame storage.old.disjoints storage.new.disjoints }
+    ensures variables { AreSame storage.old.variables storage.new.variables }
+    ensures last_active { storage.new.last_active ≡ storage.old.last_active }
 {
-    stock.numbering.shrink(alloc);
-    give_back(&mut stock.positions);
-    give_back(&mut stock.symbols);
-    give_back(&mut stock.replaced);
-    give_back(&mut stock.ends);
-    stock.entries.shrink();
-    let symbols = stock.numbering.symbol_count();
-    stock.disjoints.shrink(symbols);
-    stock.variables.shrink(symbols);
+    storage.numbering.shrink(alloc);
+    give_back(&mut storage.positions);
+    give_back(&mut storage.symbols);
+    give_back(&mut storage.replaced);
+    give_back(&mut storage.ends);
+    storage.entries.shrink();
+    let symbols = storage.numbering.symbol_count();
+    storage.disjoints.shrink(symbols);
+    storage.variables.shrink(symbols);
 }
 
 impl Frames {
@@ -217,15 +218,15 @@ impl Frames {
         ensures counted { steps.new.count ≡ steps.old.count + 1 }
     {
         let _scope = scope;
-        self.noted.forget();
+        self.recorded.forget();
         steps.tick();
         grow(
             self.alloc,
-            &mut self.stock,
+            &mut self.storage,
             &mut self.given,
-            &mut self.draft,
+            &mut self.buffers,
             stmt,
-            &mut self.noted,
+            &mut self.recorded,
         )
     }
 
@@ -249,22 +250,27 @@ impl Frames {
         ensures counted { steps.new.count ≡ steps.old.count + 1 }
     {
         steps.tick();
-        self.noted.begin();
-        let broken = rules.broken_rule(&self.stock.numbering, self.alloc, stmt, &mut self.noted);
+        self.recorded.begin();
+        let broken = rules.broken_rule(
+            &self.storage.numbering,
+            self.alloc,
+            stmt,
+            &mut self.recorded,
+        );
         if let Some(rule) = broken {
             return Err(rule);
         }
-        let front = self.stock.entries.len();
+        let front = self.storage.entries.len();
         grow(
             self.alloc,
-            &mut self.stock,
+            &mut self.storage,
             &mut self.given,
-            &mut self.draft,
+            &mut self.buffers,
             stmt,
-            &mut self.noted,
+            &mut self.recorded,
         )
         .map_err(|_| Rule::Memory)?;
-        let entry = self.stock.entries.entry(front);
+        let entry = self.storage.entries.entry(front);
         let accepted = rules.accept(stmt, entry.symbols);
         if accepted.is_err() {
             self.shorten(front);
@@ -280,7 +286,7 @@ impl Frames {
         ensures names { Extends self.new.names self.old.names }
         ensures symbols { self.new.names ≡ symbols_of self.new.statements }
     {
-        cut(&mut self.stock, len);
+        cut(&mut self.storage, len);
         self.given.truncate(len);
     }
 
@@ -290,9 +296,9 @@ impl Frames {
     pub fn shrink(&mut self)
         ensures { self.new ≡ self.old }
     {
-        shrink_lists(self.alloc, &mut self.stock);
+        shrink_lists(self.alloc, &mut self.storage);
         self.given.shrink();
-        self.draft = Gathered::new(self.alloc);
-        self.noted = Noted::new(self.alloc);
+        self.buffers = FrameBuffers::new(self.alloc);
+        self.recorded = SymbolNumbers::new(self.alloc);
     }
 }

@@ -1,21 +1,21 @@
 //! The statements of a database by position.
 ghost use Rattle.std.specs.Prelude.{◌≡◌, ◌≤◌, [], IfOk, length, Some, option_map, OnOk, IfSome};
-ghost use Rattle.{mm_read.specs.declared.stmt.Stmt.Stmt as Statement, names.specs.Codes.name_at, names.specs.Codes.decode, scope.specs.Active.before, scope.specs.Active.stmt_at, scope.specs.Active.label_of, scope.specs.Active.expr_of, frame.specs.AtPosition.IsPosition, frame.specs.AtPosition.ArePositions, frame.specs.AtPosition.AreLegal, frame.specs.AtPosition.IsMeaning, frame.specs.FrameOf.HasAssertion, frame.specs.FrameOf.hypotheses, frame.specs.Cited.IsGathered, frame.specs.Cited.IsCited, frame.specs.ExprPlaces.AreExprPlaces, frame.specs.Below.AreBelow};
+ghost use Rattle.{mm_read.specs.declared.stmt.Stmt.Stmt as Statement, names.specs.Codes.name_at, names.specs.Codes.decode, scope.specs.Active.before, scope.specs.Active.stmt_at, scope.specs.Active.label_of, scope.specs.Active.expr_of, frame.specs.AtPosition.IsPosition, frame.specs.AtPosition.ArePositions, frame.specs.AtPosition.AreLegal, frame.specs.AtPosition.IsMeaning, frame.specs.FrameOf.HasAssertion, frame.specs.FrameOf.hypotheses, frame.specs.AssertionView.AreBuffersOf, frame.specs.AssertionView.IsViewOf, frame.specs.ExprPlaces.AreExprPlaces, frame.specs.Below.AreBelow};
 
-use crate::at_position::{is_active_at, links_at};
-use crate::gathered::Gathered;
+use crate::at_position::{is_active_at, last_active_at};
+use crate::frame_buffers::FrameBuffers;
 use crate::given_sets::GivenSets;
-use crate::make::spread;
+use crate::make::fill_from_hypotheses;
 use crate::mandatory_view::{MandatoryView, missing};
 use crate::meaning::Meaning;
 use crate::pairs::Pairs;
 use crate::shape::has_label;
-use crate::storage::Stock;
+use crate::storage::Storage;
 use crate::stored_entries::StoredEntries;
 use crate::symbol_numbers::label_number;
-use entries::{Cited, Groups, Histories, Hypotheses, Kind, Links, SymbolPlaces};
+use entries::{AssertionView, Groups, Histories, Hypotheses, Kind, LastActive, SymbolPlaces};
 use mm_lex::Words;
-use scope::{Noted, Numbering};
+use scope::{Numbering, SymbolNumbers};
 use std::alloc::{AllocError, Global};
 use std::marker::Model;
 
@@ -29,10 +29,10 @@ const LONG: usize = 64;
 #[derive(Drop)]
 pub struct Frames {
     pub(crate) alloc: Global,
-    pub(crate) stock: Stock,
+    pub(crate) storage: Storage,
     pub(crate) given: GivenSets,
-    pub(crate) draft: Gathered,
-    pub(crate) noted: Noted,
+    pub(crate) buffers: FrameBuffers,
+    pub(crate) recorded: SymbolNumbers,
 }
 
 impl Model for Frames {
@@ -40,9 +40,9 @@ impl Model for Frames {
 
     ghost Value = { Numbered };
 
-    ghost view = { λ a. numbered a.stock };
+    ghost view = { λ a. numbered a.storage };
 
-    ghost invariant = { λ a. AreFrames a.stock a.given };
+    ghost invariant = { λ a. AreFrames a.storage a.given };
 }
 
 impl Frames {
@@ -53,7 +53,7 @@ impl Frames {
     {
         Frames {
             alloc,
-            stock: Stock {
+            storage: Storage {
                 numbering: Numbering::new(alloc),
                 positions: Vec::new(alloc),
                 symbols: Vec::new(alloc),
@@ -62,7 +62,7 @@ impl Frames {
                 entries: StoredEntries::new(alloc),
                 disjoints: Histories::new(alloc),
                 variables: Histories::new(alloc),
-                links: Links {
+                last_active: LastActive {
                     block: 0,
                     essential: 0,
                     variable: 0,
@@ -70,8 +70,8 @@ impl Frames {
                 },
             },
             given: GivenSets::new(alloc),
-            draft: Gathered::new(alloc),
-            noted: Noted::new(alloc),
+            buffers: FrameBuffers::new(alloc),
+            recorded: SymbolNumbers::new(alloc),
         }
     }
 
@@ -79,7 +79,7 @@ impl Frames {
     pub fn len(&self) -> usize
         ensures { result ≡ length self.now.statements }
     {
-        self.stock.entries.len()
+        self.storage.entries.len()
     }
 
     /// Makes room for so many more labels if allocation succeeds: statements that carry them are then added
@@ -87,16 +87,16 @@ impl Frames {
     pub fn reserve(&mut self, labels: usize)
         ensures { self.new ≡ self.old }
     {
-        self.stock.numbering.reserve(self.alloc, labels);
-        let _ = self.stock.positions.reserve(labels);
+        self.storage.numbering.reserve(self.alloc, labels);
+        let _ = self.storage.positions.reserve(labels);
     }
 
     /// Returns the position of the statement with this label.
     pub fn position(&self, label: &[u8]) -> Option<usize>
         ensures { IsPosition self.now.statements label.now result }
     {
-        let number = label_number(&self.stock.numbering, label)?;
-        Some(self.stock.positions[number as usize] as usize)
+        let number = label_number(&self.storage.numbering, label)?;
+        Some(self.storage.positions[number as usize] as usize)
     }
 
     /// Returns the position of the statement with each label.
@@ -119,7 +119,7 @@ impl Frames {
         ensures same { (s : Statement) → stmt_at self.now.statements at ≡ Some s → decode self.now.names result.now ≡ expr_of s }
         ensures codes { AreBelow (length self.now.names) result.now }
     {
-        let entry = self.stock.entries.entry(at - 1);
+        let entry = self.storage.entries.entry(at - 1);
         if has_label(entry.kind) {
             entry.symbols
         } else {
@@ -135,9 +135,9 @@ impl Frames {
         requires { (1 ≤ at) × (at ≤ length self.now.statements) }
         ensures { (s : Statement) → stmt_at self.now.statements at ≡ Some s → IfSome result (λ places. AreExprPlaces self.now.names (expr_of s) places.now) }
     {
-        let entry = self.stock.entries.entry(at - 1);
+        let entry = self.storage.entries.entry(at - 1);
         if has_label(entry.kind) {
-            self.stock.entries.places(at - 1)
+            self.storage.entries.places(at - 1)
         } else {
             None
         }
@@ -151,9 +151,9 @@ impl Frames {
         if i == 0 || i >= at {
             return Meaning::Nothing;
         }
-        match self.stock.entries.entry(i - 1).kind {
+        match self.storage.entries.entry(i - 1).kind {
             Kind::Float | Kind::Ess => {
-                if is_active_at(&self.stock, i, at) {
+                if is_active_at(&self.storage, i, at) {
                     Meaning::Hypothesis(self.expr(i))
                 } else {
                     Meaning::Nothing
@@ -172,42 +172,42 @@ impl Frames {
         ensures legal { AreLegal self.now.statements self.now.names }
     {
         Pairs {
-            stock: &self.stock,
+            storage: &self.storage,
             at,
         }
     }
 
     /// Returns the parts of the assertion at a position, by numbers, if they are kept whole, which they are if they are few.
-    pub fn cited(&self, a: usize) -> Option<Cited<'_>>
+    pub fn cited(&self, a: usize) -> Option<AssertionView<'_>>
         requires { (s : Statement) × HasAssertion self.now.statements a s }
-        ensures { (s : Statement) → stmt_at self.now.statements a ≡ Some s → IfSome result (IsCited self.now.statements self.now.names a s) }
+        ensures { (s : Statement) → stmt_at self.now.statements a ≡ Some s → IfSome result (IsViewOf self.now.statements self.now.names a s) }
     {
-        self.stock.entries.cited(a - 1)
+        self.storage.entries.cited(a - 1)
     }
 
     /// Makes the lists of the assertion at a position, of which only the additions to what is active are kept.
     ///
     /// Cost: the size of its hypotheses, which are sorted, and of the active `$d`.
-    pub fn gather(&self, a: usize, gathered: &mut Gathered) -> Result<(), AllocError>
+    pub fn fill_buffers(&self, a: usize, frame_buffers: &mut FrameBuffers) -> Result<(), AllocError>
         requires { (s : Statement) × HasAssertion self.now.statements a s }
-        ensures { OnOk result (IsGathered self.now.statements self.now.names a gathered.new) }
+        ensures { OnOk result (AreBuffersOf self.now.statements self.now.names a frame_buffers.new) }
     {
-        gathered.clear();
-        self.mandatory(a, &mut gathered.hypotheses)?;
-        spread(&self.stock, a, gathered)
+        frame_buffers.clear();
+        self.mandatory(a, &mut frame_buffers.hypotheses)?;
+        fill_from_hypotheses(&self.storage, a, frame_buffers)
     }
 
     /// Returns the parts of the assertion at a position, by the lists that were made of it.
-    pub fn gathered<'a>(&'a self, a: usize, gathered: &'a Gathered) -> Cited<'a>
+    pub fn cited_from<'a>(&'a self, a: usize, frame_buffers: &'a FrameBuffers) -> AssertionView<'a>
         requires assertion { (s : Statement) × HasAssertion self.now.statements a s }
-        requires gathered { IsGathered self.now.statements self.now.names a gathered.now }
-        ensures { (s : Statement) → stmt_at self.now.statements a ≡ Some s → IsCited self.now.statements self.now.names a s result }
+        requires frame_buffers { AreBuffersOf self.now.statements self.now.names a frame_buffers.now }
+        ensures { (s : Statement) → stmt_at self.now.statements a ≡ Some s → IsViewOf self.now.statements self.now.names a s result }
     {
-        Cited {
-            heads: &gathered.heads,
-            hypotheses: Hypotheses::new(&gathered.asked),
+        AssertionView {
+            typecodes: &frame_buffers.typecodes,
+            hypotheses: Hypotheses::new(&frame_buffers.required),
             conclusion: self.expr(a),
-            groups: Groups::new(&gathered.groups, &gathered.places),
+            groups: Groups::new(&frame_buffers.groups, &frame_buffers.places),
         }
     }
 
@@ -218,11 +218,11 @@ impl Frames {
         ensures listed { (s : Statement) → stmt_at self.now.statements a ≡ Some s → OnOk result (list.new.items ≡ hypotheses (before self.now.statements a) s) }
         ensures legal { AreLegal self.now.statements self.now.names }
     {
-        list.extend_from_slice(self.stock.entries.hypotheses(a - 1))?;
-        if self.stock.entries.is_whole(a - 1) {
+        list.extend_from_slice(self.storage.entries.hypotheses(a - 1))?;
+        if self.storage.entries.is_whole(a - 1) {
             Ok(())
         } else {
-            self.given.add(&self.stock, a, list)
+            self.given.add(&self.storage, a, list)
         }
     }
 
@@ -233,13 +233,18 @@ impl Frames {
         requires { (s : Statement) × HasAssertion self.now.statements a s }
         ensures { (s : Statement) → stmt_at self.now.statements a ≡ Some s → IfOk result (λ view. IfSome view (λ list. list ≡ hypotheses (before self.now.statements a) s)) }
     {
-        let set = self.given.set(links_at(&self.stock, a).essential);
-        if set == 0 || self.given.count(set) <= LONG || self.stock.entries.is_whole(a - 1) {
+        let set = self.given.set(last_active_at(&self.storage, a).essential);
+        if set == 0 || self.given.count(set) <= LONG || self.storage.entries.is_whole(a - 1) {
             return Ok(None);
         }
         let sets = &self.given.sets;
-        let own = missing(self.alloc, sets, set, self.stock.entries.hypotheses(a - 1))?;
-        let _count = self.stock.entries.len();
+        let own = missing(
+            self.alloc,
+            sets,
+            set,
+            self.storage.entries.hypotheses(a - 1),
+        )?;
+        let _count = self.storage.entries.len();
         Ok(Some(MandatoryView { sets, set, own }))
     }
 
@@ -248,9 +253,9 @@ impl Frames {
         requires { (1 ≤ at) × (at ≤ length self.now.statements) }
         ensures { (s : Statement) → stmt_at self.now.statements at ≡ Some s → option_map (λ r. r.now) result ≡ label_of s }
     {
-        let entry = self.stock.entries.entry(at - 1);
+        let entry = self.storage.entries.entry(at - 1);
         if has_label(entry.kind) {
-            Some(self.stock.numbering.label(entry.before.label))
+            Some(self.storage.numbering.label(entry.before.label))
         } else {
             None
         }
@@ -260,8 +265,8 @@ impl Frames {
     pub fn symbol(&self, number: u32) -> &[u8]
         ensures { result.now ≡ name_at self.now.names number }
     {
-        if (number as usize) < self.stock.numbering.symbol_count() {
-            self.stock.numbering.symbol(number)
+        if (number as usize) < self.storage.numbering.symbol_count() {
+            self.storage.numbering.symbol(number)
         } else {
             &[]
         }

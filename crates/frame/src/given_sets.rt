@@ -8,9 +8,9 @@ ghost use Rattle.frame.specs.Stored.GivenSets.{AreGivenSets, IsGivenBy, kept_set
 ghost use Rattle.frame.specs.Stored.Hypotheses.{AreWith, HasMore, In};
 ghost use Rattle.frame.specs.Stored.Whole.{AreStored};
 
-use crate::at_position::links_at;
+use crate::at_position::last_active_at;
 use crate::mandatory::{MANY, add_essentials, given_count, order};
-use crate::storage::Stock;
+use crate::storage::Storage;
 use entries::buffer_part::item;
 use entries::{Kind, PositionSets, give_back};
 use std::alloc::{AllocError, Global};
@@ -68,15 +68,15 @@ impl GivenSets {
     /// Appends the `$e` that are active at `at`, and the `$f` that are kept with them, and sorts the list.
     ///
     /// Cost: n log n for n of them; if they are few, a walk over the `$e`.
-    pub fn add(&self, stock: &Stock, at: usize, list: &mut Vec<u32>) -> Result<(), AllocError>
-        requires stored { AreStored stock.now }
-        requires sets { AreGivenSets self.now stock.now.entries (statements_of stock.now) }
-        requires place { (1 ≤ at) × (at ≤ length (statements_of stock.now) + 1) }
-        ensures { OnOk result (AreWith stock.now.entries (take (at - 1) (statements_of stock.now)) list.old.items list.new.items) }
+    pub fn add(&self, storage: &Storage, at: usize, list: &mut Vec<u32>) -> Result<(), AllocError>
+        requires stored { AreStored storage.now }
+        requires sets { AreGivenSets self.now storage.now.entries (statements_of storage.now) }
+        requires place { (1 ≤ at) × (at ≤ length (statements_of storage.now) + 1) }
+        ensures { OnOk result (AreWith storage.now.entries (take (at - 1) (statements_of storage.now)) list.old.items list.new.items) }
     {
-        let set = self.set(links_at(stock, at).essential);
+        let set = self.set(last_active_at(storage, at).essential);
         if set == 0 {
-            return add_essentials(stock, at, list);
+            return add_essentials(storage, at, list);
         }
         add_set(&self.sets, set, list)?;
         order(list);
@@ -87,76 +87,76 @@ impl GivenSets {
     ///
     /// Errors: an allocation fails; the sets are as before. Cost: for a `$e` its `$f`, times a logarithm, or the size of
     /// the set if it is the first; for another statement a constant.
-    pub fn note(&mut self, stock: &Stock) -> Result<(), AllocError>
-        requires stored { AreStored stock.now }
-        requires sets { AreGivenSets self.old stock.now.entries (statements_of stock.now) }
-        requires next { length self.old.kept.items + 1 ≡ length stock.now.entries }
-        ensures sets { AreGivenSets self.new stock.now.entries (statements_of stock.now) }
-        ensures count { OnOk result (length self.new.kept.items ≡ length stock.now.entries) }
+    pub fn record_set(&mut self, storage: &Storage) -> Result<(), AllocError>
+        requires stored { AreStored storage.now }
+        requires sets { AreGivenSets self.old storage.now.entries (statements_of storage.now) }
+        requires next { length self.old.kept.items + 1 ≡ length storage.now.entries }
+        ensures sets { AreGivenSets self.new storage.now.entries (statements_of storage.now) }
+        ensures count { OnOk result (length self.new.kept.items ≡ length storage.now.entries) }
         ensures same { OnErr result (self.new.kept.items ≡ self.old.kept.items) }
     {
         let size = self.sets.size();
-        let noted = self.note_next(stock, size as u32);
-        if noted.is_err() {
+        let recorded = self.record_next(storage, size as u32);
+        if recorded.is_err() {
             self.sets.truncate(size);
         }
-        noted
+        recorded
     }
 
     /// Records the set of the last statement, and how many sets there were before it.
-    fn note_next(&mut self, stock: &Stock, size: u32) -> Result<(), AllocError>
-        requires stored { AreStored stock.now }
-        requires sets { AreGivenSets self.old stock.now.entries (statements_of stock.now) }
-        requires next { length self.old.kept.items + 1 ≡ length stock.now.entries }
+    fn record_next(&mut self, storage: &Storage, size: u32) -> Result<(), AllocError>
+        requires stored { AreStored storage.now }
+        requires sets { AreGivenSets self.old storage.now.entries (statements_of storage.now) }
+        requires next { length self.old.kept.items + 1 ≡ length storage.now.entries }
         requires size { size ≡ length self.old.sets }
-        ensures noted { OnOk result (AreGivenSets self.new stock.now.entries (statements_of stock.now)) }
-        ensures count { OnOk result (length self.new.kept.items ≡ length stock.now.entries) }
+        ensures recorded { OnOk result (AreGivenSets self.new storage.now.entries (statements_of storage.now)) }
+        ensures count { OnOk result (length self.new.kept.items ≡ length storage.now.entries) }
         ensures more { Extends self.old.sets self.new.sets }
         ensures same { OnErr result (self.new.kept.items ≡ self.old.kept.items) }
     {
-        let set = self.next_set(stock)?;
+        let set = self.next_set(storage)?;
         self.kept.push(KeptSet { set, before: size })?;
         Ok(())
     }
 
     /// Makes the set of the last statement, and returns its number, or 0 if it needs none.
-    fn next_set(&mut self, stock: &Stock) -> Result<u32, AllocError>
-        requires stored { AreStored stock.now }
-        requires sets { AreGivenSets self.old stock.now.entries (statements_of stock.now) }
-        requires next { length self.old.kept.items + 1 ≡ length stock.now.entries }
-        ensures given { IfOk result (IsGivenBy stock.now.entries (statements_of stock.now) self.new.sets) }
+    fn next_set(&mut self, storage: &Storage) -> Result<u32, AllocError>
+        requires stored { AreStored storage.now }
+        requires sets { AreGivenSets self.old storage.now.entries (statements_of storage.now) }
+        requires next { length self.old.kept.items + 1 ≡ length storage.now.entries }
+        ensures given { IfOk result (IsGivenBy storage.now.entries (statements_of storage.now) self.new.sets) }
         ensures within { IfOk result (λ set. set < length self.new.sets) }
         ensures more { Extends self.old.sets self.new.sets }
         ensures kept { self.new.kept.items ≡ self.old.kept.items }
     {
-        let last = stock.entries.len() - 1;
-        let entry = stock.entries.entry(last);
+        let last = storage.entries.len() - 1;
+        let entry = storage.entries.entry(last);
         if !matches!(entry.kind, Kind::Ess) {
             return Ok(0);
         }
-        let base = self.set(entry.before.links.essential);
+        let base = self.set(entry.before.last_active.essential);
         if base == 0 {
-            return self.collect(stock);
+            return self.collect(storage);
         }
-        let set = insert_each(&mut self.sets, base, stock.entries.hypotheses(last))?;
+        let set = insert_each(&mut self.sets, base, storage.entries.hypotheses(last))?;
         self.sets.insert(set, last as u32 + 1)
     }
 
     /// Makes the set of the hypotheses that the active `$e` after all statements bring along, and returns its number, or 0 if
     /// they are few.
-    fn collect(&mut self, stock: &Stock) -> Result<u32, AllocError>
-        requires stored { AreStored stock.now }
+    fn collect(&mut self, storage: &Storage) -> Result<u32, AllocError>
+        requires stored { AreStored storage.now }
         requires some { 1 ≤ length self.old.sets }
-        ensures given { IfOk result (IsGivenBy stock.now.entries (statements_of stock.now) self.new.sets) }
+        ensures given { IfOk result (IsGivenBy storage.now.entries (statements_of storage.now) self.new.sets) }
         ensures within { IfOk result (λ set. set < length self.new.sets) }
         ensures more { Extends self.old.sets self.new.sets }
         ensures kept { self.new.kept.items ≡ self.old.kept.items }
     {
-        if given_count(stock) <= MANY {
+        if given_count(storage) <= MANY {
             return Ok(0);
         }
         let mut list = Vec::new(self.alloc);
-        add_essentials(stock, stock.entries.len() + 1, &mut list)?;
+        add_essentials(storage, storage.entries.len() + 1, &mut list)?;
         self.sets.of_ascending(&list)
     }
 

@@ -1,19 +1,19 @@
 //! The frames of assertions: mandatory hypotheses, disjoint variable conditions and conclusion.
 //!
 //! `Frames` keeps the statements of a database by position, and reads off them what a verifier needs: what a citation means at a
-//! statement, the parts of an assertion, and the disjoint variables. `frame` gathers the `Frame` of one assertion from
-//! what is active. Reading order: `storage`, `shape`, `gathered`; `symbol_numbers`, `at_position`, `stacks`, `declare`, `mandatory`,
-//! `make`, `extend` (appending and truncating); `meaning`, `frames`, `row`, `pair_memo`, `pairs`, `active_apart` (queries); `assertion`,
+//! statement, the parts of an assertion, and the disjoint variables. `frame` collects the `Frame` of one assertion from
+//! what is active. Reading order: `storage`, `shape`, `frame_buffers`; `symbol_numbers`, `at_position`, `stacks`, `declare`, `mandatory`,
+//! `make`, `extend` (appending and truncating); `meaning`, `frames`, `row`, `pair_memo`, `pairs`, `active_disjoint` (queries); `assertion`,
 //! `one_frame`; `laws`.
 #![tactic(auto)]
 
-mod active_apart;
+mod active_disjoint;
 mod assertion;
 mod at_position;
 mod declare;
 mod extend;
+mod frame_buffers;
 mod frames;
-mod gathered;
 mod given_sets;
 mod laws;
 mod make;
@@ -31,8 +31,8 @@ mod stored_entries;
 mod symbol_numbers;
 
 pub use assertion::Frame;
+pub use frame_buffers::FrameBuffers;
 pub use frames::Frames;
-pub use gathered::Gathered;
 pub use laws::groups_are_pairs;
 pub use mandatory_view::MandatoryView;
 pub use meaning::Meaning;

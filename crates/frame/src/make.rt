@@ -1,34 +1,34 @@
 //! The hypotheses that are kept with a statement, each as one number, and its disjoint variables.
 ghost use Rattle.std.specs.Prelude.{◌≡◌, ℕ, List, ◌+◌, ◌-◌, ◌≤◌, ◌==◌, ◌||◌, ◌++◌, ◌∷◌, [], true, false, if◌then◌else◌, length, map, take, OnOk};
 ghost use Rattle.mm_read.specs.declared.stmt.Stmt.{Stmt as Statement};
-ghost use Rattle.{names.specs.Codes.decode, names.specs.Codes.with_names, scope.specs.Active.expr_of, scope.specs.Active.bare, scope.specs.Stored.Noted.AreNoted, scope.specs.Symbols.symbols_by, scope.specs.Symbols.symbols_in, entries.specs.Hypotheses.told, entries.specs.Stored.Spans.cut, entries.specs.Stored.Spans.AreSpansIn, frame.specs.Below.AreBelow, frame.specs.Cited.head_of, frame.specs.Stored.Whole.AreStored, frame.specs.Stored.Whole.IsDraftOf, frame.specs.Stored.Hypotheses.AreHypotheses, frame.specs.Stored.Hypotheses.IsSpread, frame.specs.Stored.Counts.HasTwo, frame.specs.Stored.Counts.kind_of, frame.specs.Stored.AssertionParts.asked_at, frame.specs.Stored.AssertionParts.asked_by, frame.specs.Stored.AssertionParts.head_at, frame.specs.Stored.AssertionParts.has_two, frame.specs.Stored.AssertionParts.is_typed, frame.specs.Stored.AssertionParts.is_typed_by, frame.specs.Stored.AssertionParts.noted_in, std.specs.List.list_any, frame.specs.Stored.AssertionParts.has_parts, frame.specs.Stored.EntryMeanings.names_in, frame.specs.Stored.EntryMeanings.statements_of, frame.specs.FrameOf.hypotheses, frame.specs.Stored.OneFrame.asked};
+ghost use Rattle.{names.specs.Codes.decode, names.specs.Codes.with_names, scope.specs.Active.expr_of, scope.specs.Active.bare, scope.specs.Stored.SymbolNumbers.AreRecorded, scope.specs.Symbols.symbols_by, scope.specs.Symbols.symbols_in, entries.specs.Hypotheses.told, entries.specs.Stored.Spans.cut, entries.specs.Stored.Spans.AreSpansIn, frame.specs.Below.AreBelow, frame.specs.AssertionView.typecode_of, frame.specs.Stored.Whole.AreStored, frame.specs.Stored.Whole.ArePartsFor, frame.specs.Stored.Hypotheses.AreHypotheses, frame.specs.Stored.Hypotheses.IsFilledFrom, frame.specs.Stored.Counts.HasTwo, frame.specs.Stored.Counts.kind_of, frame.specs.Stored.AssertionParts.required_at, frame.specs.Stored.AssertionParts.required_by, frame.specs.Stored.AssertionParts.typecode_at, frame.specs.Stored.AssertionParts.has_two, frame.specs.Stored.AssertionParts.is_typed, frame.specs.Stored.AssertionParts.is_typed_by, frame.specs.Stored.AssertionParts.recorded_in, std.specs.List.list_any, frame.specs.Stored.AssertionParts.has_parts, frame.specs.Stored.EntryMeanings.names_in, frame.specs.Stored.EntryMeanings.statements_of, frame.specs.FrameOf.hypotheses, frame.specs.Stored.OneFrame.required};
 
-use crate::at_position::links_at;
-use crate::gathered::Gathered;
+use crate::at_position::last_active_at;
+use crate::frame_buffers::FrameBuffers;
 use crate::given_sets::GivenSets;
 use crate::mandatory::{add_essentials, are_few, find_floats};
 use crate::shape::{has_parts, is_essential, kind};
-use crate::storage::Stock;
+use crate::storage::Storage;
 use entries::buffer_part::between;
-use entries::{BufferPart, EntryRef, Hypotheses, Hypothesis, Kind, NO_HEAD, number_of};
+use entries::{BufferPart, EntryRef, Hypotheses, Hypothesis, Kind, NO_TYPECODE, number_of};
 use mm_read::Stmt;
-use scope::{Noted, Stack};
+use scope::{Stack, SymbolNumbers};
 use std::alloc::AllocError;
 
 /// Returns the typecode of an expression, its first symbol.
-fn head(codes: &[u32]) -> u32
-    ensures { result ≡ head_of codes.now }
+fn typecode(codes: &[u32]) -> u32
+    ensures { result ≡ typecode_of codes.now }
 {
     match codes {
         [first, ..] => *first,
-        [] => NO_HEAD,
+        [] => NO_TYPECODE,
     }
 }
 
 /// Returns what the hypothesis at a position is.
 fn hypothesis(entry: EntryRef<'_>, position: u32) -> Hypothesis
     requires { HasTwo entry.kind entry.symbols.now }
-    ensures { result ≡ asked_by position entry.entry.kind entry.entry.symbols.now }
+    ensures { result ≡ required_by position entry.entry.kind entry.entry.symbols.now }
 {
     match entry.kind {
         Kind::Float => Hypothesis::Float(entry.symbols[1]),
@@ -38,28 +38,28 @@ fn hypothesis(entry: EntryRef<'_>, position: u32) -> Hypothesis
 
 /// Appends the hypotheses, each as one number, and their typecodes.
 fn describe(
-    stock: &Stock,
+    storage: &Storage,
     hypotheses: &[u32],
-    asked: &mut Vec<u32>,
-    heads: &mut Vec<u32>,
+    required: &mut Vec<u32>,
+    typecodes: &mut Vec<u32>,
 ) -> Result<(), AllocError>
-    requires stored { AreStored stock.now }
-    requires hypotheses { AreHypotheses stock.now.entries hypotheses.now }
-    requires no_asked { map told asked.old.items ≡ [] }
-    requires no_heads { heads.old.items ≡ [] }
-    ensures asked { OnOk result (map told asked.new.items ≡ map (asked_at stock.now.entries) hypotheses.now) }
-    ensures heads { OnOk result (heads.new.items ≡ map (head_at stock.now.entries) hypotheses.now) }
+    requires stored { AreStored storage.now }
+    requires hypotheses { AreHypotheses storage.now.entries hypotheses.now }
+    requires no_required { map told required.old.items ≡ [] }
+    requires no_typecodes { typecodes.old.items ≡ [] }
+    ensures required { OnOk result (map told required.new.items ≡ map (required_at storage.now.entries) hypotheses.now) }
+    ensures typecodes { OnOk result (typecodes.new.items ≡ map (typecode_at storage.now.entries) hypotheses.now) }
 {
     for position in hypotheses {
-        let entry = stock.entries.entry(*position as usize - 1);
-        asked.push(number_of(hypothesis(entry, *position))?)?;
-        heads.push(head(entry.symbols))?;
+        let entry = storage.entries.entry(*position as usize - 1);
+        required.push(number_of(hypothesis(entry, *position))?)?;
+        typecodes.push(typecode(entry.symbols))?;
     }
     Ok(())
 }
 
 /// Records the variable of a `$f`, once.
-fn note_variable(hypothesis: Hypothesis, found: &mut Stack) -> Result<(), AllocError>
+fn record_variable(hypothesis: Hypothesis, found: &mut Stack) -> Result<(), AllocError>
     ensures { OnOk result ((c : ℕ) → list_any (λ n. n == c) found.new ≡ (list_any (λ n. n == c) found.old || is_typed_by c hypothesis)) }
 {
     let Hypothesis::Float(variable) = hypothesis else {
@@ -72,12 +72,12 @@ fn note_variable(hypothesis: Hypothesis, found: &mut Stack) -> Result<(), AllocE
 }
 
 /// Records the variables of the hypotheses.
-fn note_variables(hypotheses: &Hypotheses<'_>, found: &mut Stack) -> Result<(), AllocError>
+fn record_variables(hypotheses: &Hypotheses<'_>, found: &mut Stack) -> Result<(), AllocError>
     ensures { OnOk result ((c : ℕ) → list_any (λ n. n == c) found.new ≡ is_typed hypotheses.now c) }
 {
     found.truncate(0);
     for i in 0..hypotheses.len() {
-        note_variable(hypotheses.get(i), found)?;
+        record_variable(hypotheses.get(i), found)?;
     }
     Ok(())
 }
@@ -90,7 +90,7 @@ fn add_group(
     groups: &mut Vec<BufferPart>,
 ) -> Result<(), AllocError>
     requires within { AreSpansIn (length places.old.items) groups.old.items }
-    ensures added { OnOk result (cut places.new.items groups.new.items ≡ (if has_two (noted_in variables.now codes.now) then cut places.old.items groups.old.items ++ noted_in variables.now codes.now ∷ [] else cut places.old.items groups.old.items)) }
+    ensures added { OnOk result (cut places.new.items groups.new.items ≡ (if has_two (recorded_in variables.now codes.now) then cut places.old.items groups.old.items ++ recorded_in variables.now codes.now ∷ [] else cut places.old.items groups.old.items)) }
     ensures within { AreSpansIn (length places.new.items) groups.new.items }
 {
     let from = places.len();
@@ -110,73 +110,102 @@ fn add_group(
 }
 
 /// Appends the hypotheses of an assertion at `at`, each as one number, and its groups.
-pub fn spread(stock: &Stock, at: usize, draft: &mut Gathered) -> Result<(), AllocError>
-    requires stored { AreStored stock.now }
-    requires place { (1 ≤ at) × (at ≤ length (statements_of stock.now) + 1) }
-    requires hypotheses { AreHypotheses stock.now.entries draft.old.hypotheses }
-    requires undescribed { (draft.old.asked ≡ []) × (draft.old.heads ≡ []) × (draft.old.groups ≡ []) }
-    ensures { OnOk result (IsSpread stock.now.entries (take (at - 1) (statements_of stock.now)) draft.old.hypotheses draft.new) }
+pub fn fill_from_hypotheses(
+    storage: &Storage,
+    at: usize,
+    buffers: &mut FrameBuffers,
+) -> Result<(), AllocError>
+    requires stored { AreStored storage.now }
+    requires place { (1 ≤ at) × (at ≤ length (statements_of storage.now) + 1) }
+    requires hypotheses { AreHypotheses storage.now.entries buffers.old.hypotheses }
+    requires undescribed { (buffers.old.required ≡ []) × (buffers.old.typecodes ≡ []) × (buffers.old.groups ≡ []) }
+    ensures { OnOk result (IsFilledFrom storage.now.entries (take (at - 1) (statements_of storage.now)) buffers.old.hypotheses buffers.new) }
 {
-    describe(stock, &draft.hypotheses, &mut draft.asked, &mut draft.heads)?;
-    note_variables(&Hypotheses::new(&draft.asked), &mut draft.noted)?;
-    let mut last = links_at(stock, at).disjoint;
+    describe(
+        storage,
+        &buffers.hypotheses,
+        &mut buffers.required,
+        &mut buffers.typecodes,
+    )?;
+    record_variables(&Hypotheses::new(&buffers.required), &mut buffers.recorded)?;
+    let mut last = last_active_at(storage, at).disjoint;
     while last != 0 {
-        let entry = stock.entries.entry(last as usize - 1);
+        let entry = storage.entries.entry(last as usize - 1);
         add_group(
-            &draft.noted,
+            &buffers.recorded,
             entry.symbols,
-            &mut draft.places,
-            &mut draft.groups,
+            &mut buffers.places,
+            &mut buffers.groups,
         )?;
-        last = entry.before.links.disjoint;
+        last = entry.before.last_active.disjoint;
     }
-    draft.groups.reverse();
-    draft.whole = true;
+    buffers.groups.reverse();
+    buffers.whole = true;
     Ok(())
 }
 
 /// Finds the parts of an assertion or a `$e` after all statements, by the recorded numbers of its symbols: all mandatory
 /// hypotheses and groups of an assertion if these are few, else the `$f` of its own variables. Another statement has none.
-pub fn enter_parts(
-    stock: &Stock,
+pub fn fill_parts(
+    storage: &Storage,
     given: &GivenSets,
-    draft: &mut Gathered,
+    buffers: &mut FrameBuffers,
     stmt: &Stmt,
-    noted: &Noted,
+    recorded: &SymbolNumbers,
 ) -> Result<(), AllocError>
-    requires stored { AreStored stock.now }
-    requires noted { AreNoted (with_names (names_in stock.now) (symbols_by stmt.now)) (symbols_in stmt.now) noted.now }
-    ensures { OnOk result (IsDraftOf stock.now (bare stmt.now) draft.new) }
+    requires stored { AreStored storage.now }
+    requires recorded { AreRecorded (with_names (names_in storage.now) (symbols_by stmt.now)) (symbols_in stmt.now) recorded.now }
+    ensures { OnOk result (ArePartsFor storage.now (bare stmt.now) buffers.new) }
 {
-    draft.clear();
+    buffers.clear();
     if !has_parts(kind(stmt)) {
         return Ok(());
     }
-    let Some(codes) = noted.numbers() else {
+    let Some(codes) = recorded.numbers() else {
         return Err(AllocError);
     };
-    find_floats(stock, &mut draft.noted, &mut draft.hypotheses, codes)?;
-    if is_essential(stmt) || !are_few(stock, given, draft.hypotheses.len()) {
-        return describe(stock, &draft.hypotheses, &mut draft.asked, &mut draft.heads);
+    find_floats(
+        storage,
+        &mut buffers.recorded,
+        &mut buffers.hypotheses,
+        codes,
+    )?;
+    if is_essential(stmt) || !are_few(storage, given, buffers.hypotheses.len()) {
+        return describe(
+            storage,
+            &buffers.hypotheses,
+            &mut buffers.required,
+            &mut buffers.typecodes,
+        );
     }
-    let at = stock.entries.len() + 1;
-    add_essentials(stock, at, &mut draft.hypotheses)?;
-    spread(stock, at, draft)?;
-    if draft.size() <= MOST_KEPT {
+    let at = storage.entries.len() + 1;
+    add_essentials(storage, at, &mut buffers.hypotheses)?;
+    fill_from_hypotheses(storage, at, buffers)?;
+    if buffers.size() <= MOST_KEPT {
         return Ok(());
     }
-    enter_own(stock, draft, codes)
+    fill_own(storage, buffers, codes)
 }
 
 /// Finds the `$f` of the variables of an assertion after all statements, and no other parts.
-fn enter_own(stock: &Stock, draft: &mut Gathered, codes: &[u32]) -> Result<(), AllocError>
-    requires stored { AreStored stock.now }
-    requires codes { AreBelow (length (names_in stock.now)) codes.now }
-    ensures { (s : Statement) → decode (names_in stock.now) codes.now ≡ expr_of s → OnOk result (IsDraftOf stock.now s draft.new) }
+fn fill_own(storage: &Storage, buffers: &mut FrameBuffers, codes: &[u32]) -> Result<(), AllocError>
+    requires stored { AreStored storage.now }
+    requires codes { AreBelow (length (names_in storage.now)) codes.now }
+    ensures { (s : Statement) → decode (names_in storage.now) codes.now ≡ expr_of s → OnOk result (ArePartsFor storage.now s buffers.new) }
 {
-    draft.clear();
-    find_floats(stock, &mut draft.noted, &mut draft.hypotheses, codes)?;
-    describe(stock, &draft.hypotheses, &mut draft.asked, &mut draft.heads)
+    buffers.clear();
+    find_floats(
+        storage,
+        &mut buffers.recorded,
+        &mut buffers.hypotheses,
+        codes,
+    )?;
+    describe(
+        storage,
+        &buffers.hypotheses,
+        &mut buffers.required,
+        &mut buffers.typecodes,
+    )
 }
 
 /// The parts of an assertion are kept whole if they have at most so many numbers.

@@ -2,9 +2,9 @@
 ghost use Rattle.std.specs.Prelude.{◌≡◌, ◌+◌, ◌-◌, ◌≤◌, ◌<◌, ◌==◌, [], length, take, OnOk};
 ghost use Rattle.{std.specs.List.list_all, std.specs.List.list_any, frame.specs.Below.AreBelow, frame.specs.Stored.Whole.AreStored, frame.specs.Stored.Hypotheses.In, frame.specs.Stored.Hypotheses.AreThose, frame.specs.Stored.Hypotheses.HasMore, frame.specs.Stored.Hypotheses.IsFloatOf, frame.specs.Stored.Hypotheses.AreLooked, frame.specs.Stored.Hypotheses.AreFloats, frame.specs.Stored.Hypotheses.AreWith, frame.specs.Stored.EntryMeanings.names_in, frame.specs.Stored.EntryMeanings.statements_of};
 
-use crate::at_position::{is_active_at, links_at};
+use crate::at_position::{is_active_at, last_active_at};
 use crate::given_sets::GivenSets;
-use crate::storage::Stock;
+use crate::storage::Storage;
 use scope::Stack;
 use std::alloc::AllocError;
 
@@ -18,23 +18,23 @@ pub fn order(list: &mut Vec<u32>)
 
 /// Appends the `$f` of a symbol that is active after all statements, if there is one and it is not listed yet.
 fn add_float(
-    stock: &Stock,
+    storage: &Storage,
     looked: &mut Stack,
     list: &mut Vec<u32>,
     code: u32,
 ) -> Result<(), AllocError>
-    requires stored { AreStored stock.now }
-    requires code { code < length (names_in stock.now) }
-    requires looked { AreLooked stock.now.entries (statements_of stock.now) looked.old list.old.items }
-    ensures more { OnOk result (HasMore (IsFloatOf stock.now.entries (statements_of stock.now) code) list.old.items list.new.items) }
-    ensures looked { OnOk result (AreLooked stock.now.entries (statements_of stock.now) looked.new list.new.items) }
+    requires stored { AreStored storage.now }
+    requires code { code < length (names_in storage.now) }
+    requires looked { AreLooked storage.now.entries (statements_of storage.now) looked.old list.old.items }
+    ensures more { OnOk result (HasMore (IsFloatOf storage.now.entries (statements_of storage.now) code) list.old.items list.new.items) }
+    ensures looked { OnOk result (AreLooked storage.now.entries (statements_of storage.now) looked.new list.new.items) }
 {
-    let float = stock.symbols[code as usize].float;
+    let float = storage.symbols[code as usize].float;
     if float == 0 || looked.place(code).is_some() {
         return Ok(());
     }
     looked.push(code)?;
-    if is_active_at(stock, float, stock.entries.len() + 1) {
+    if is_active_at(storage, float, storage.entries.len() + 1) {
         list.push(float as u32)?;
     }
     Ok(())
@@ -44,19 +44,19 @@ fn add_float(
 ///
 /// Cost: that of the symbols, and of sorting the `$f`.
 pub fn find_floats(
-    stock: &Stock,
+    storage: &Storage,
     looked: &mut Stack,
     list: &mut Vec<u32>,
     codes: &[u32],
 ) -> Result<(), AllocError>
-    requires stored { AreStored stock.now }
-    requires codes { AreBelow (length (names_in stock.now)) codes.now }
+    requires stored { AreStored storage.now }
+    requires codes { AreBelow (length (names_in storage.now)) codes.now }
     requires empty { list.old.items ≡ [] }
-    ensures { OnOk result (AreFloats stock.now.entries (statements_of stock.now) codes.now list.new.items) }
+    ensures { OnOk result (AreFloats storage.now.entries (statements_of storage.now) codes.now list.new.items) }
 {
     looked.truncate(0);
     for code in codes {
-        add_float(stock, looked, list, *code)?;
+        add_float(storage, looked, list, *code)?;
     }
     order(list);
     Ok(())
@@ -83,17 +83,17 @@ fn add_new(list: &mut Vec<u32>, positions: &[u32]) -> Result<(), AllocError>
 /// Appends the `$e` that are active at `at`, and the `$f` that are kept with them, all in order.
 ///
 /// Cost: that of these, and of sorting them.
-pub fn add_essentials(stock: &Stock, at: usize, list: &mut Vec<u32>) -> Result<(), AllocError>
-    requires stored { AreStored stock.now }
-    requires place { (1 ≤ at) × (at ≤ length (statements_of stock.now) + 1) }
-    ensures { OnOk result (AreWith stock.now.entries (take (at - 1) (statements_of stock.now)) list.old.items list.new.items) }
+pub fn add_essentials(storage: &Storage, at: usize, list: &mut Vec<u32>) -> Result<(), AllocError>
+    requires stored { AreStored storage.now }
+    requires place { (1 ≤ at) × (at ≤ length (statements_of storage.now) + 1) }
+    ensures { OnOk result (AreWith storage.now.entries (take (at - 1) (statements_of storage.now)) list.old.items list.new.items) }
 {
-    let mut essential = links_at(stock, at).essential;
+    let mut essential = last_active_at(storage, at).essential;
     while essential != 0 {
         let index = essential as usize - 1;
         list.push(essential)?;
-        add_new(list, stock.entries.hypotheses(index))?;
-        essential = stock.entries.entry(index).before.links.essential;
+        add_new(list, storage.entries.hypotheses(index))?;
+        essential = storage.entries.entry(index).before.last_active.essential;
     }
     order(list);
     Ok(())
@@ -107,16 +107,21 @@ pub const MANY: usize = 32;
 
 /// Returns how many mandatory hypotheses the active `$e` bring along, a `$f` counted for each `$e` that has its variable.
 /// Counting stops above `MANY`.
-pub fn given_count(stock: &Stock) -> usize {
-    let mut essential = stock.links.essential as usize;
+pub fn given_count(storage: &Storage) -> usize {
+    let mut essential = storage.last_active.essential as usize;
     let mut count = 0usize;
     for _ in 0..FEW {
-        if essential == 0 || essential > stock.entries.len() || count > MANY {
+        if essential == 0 || essential > storage.entries.len() || count > MANY {
             break;
         }
-        let floats = stock.entries.hypotheses(essential - 1).len();
+        let floats = storage.entries.hypotheses(essential - 1).len();
         count = count.saturating_add(floats).saturating_add(1);
-        essential = stock.entries.entry(essential - 1).before.links.essential as usize;
+        essential = storage
+            .entries
+            .entry(essential - 1)
+            .before
+            .last_active
+            .essential as usize;
     }
     count
 }
@@ -125,25 +130,25 @@ pub fn given_count(stock: &Stock) -> usize {
 /// The kept parts are right either way.
 ///
 /// Cost: at most a few steps, however much is active.
-pub fn are_few(stock: &Stock, given: &GivenSets, own: usize) -> bool {
-    let set = given.set(stock.links.essential);
+pub fn are_few(storage: &Storage, given: &GivenSets, own: usize) -> bool {
+    let set = given.set(storage.last_active.essential);
     let count = if set == 0 {
-        given_count(stock)
+        given_count(storage)
     } else {
         given.count(set)
     };
     if own > MANY || count > MANY {
         return false;
     }
-    let mut disjoint = stock.links.disjoint as usize;
+    let mut disjoint = storage.last_active.disjoint as usize;
     let mut variables = 0usize;
     for _ in 0..FEW {
-        if disjoint == 0 || disjoint > stock.entries.len() || variables > 2 * FEW {
+        if disjoint == 0 || disjoint > storage.entries.len() || variables > 2 * FEW {
             break;
         }
-        let entry = stock.entries.entry(disjoint - 1);
+        let entry = storage.entries.entry(disjoint - 1);
         variables = variables.saturating_add(entry.symbols.len());
-        disjoint = entry.before.links.disjoint as usize;
+        disjoint = entry.before.last_active.disjoint as usize;
     }
     disjoint == 0 && variables <= 2 * FEW
 }

@@ -1,6 +1,6 @@
 //! The frame of one assertion, from what is active.
 ghost use Rattle.std.specs.Prelude.{◌≡◌, ◌||◌, IsTrue, OnOk, IfOk};
-ghost use Rattle.{mm_lex.specs.Alphabet.Name, mm_lex.specs.Alphabet.name_eq, mm_lex.specs.Alphabet.has_name, scope.specs.Active.is_assertion, scope.specs.Active.expr_of, frame.specs.FrameOf.frame_of, frame.specs.Stored.OneFrame.AreNoted, frame.specs.Stored.OneFrame.AreMandatory, frame.specs.Stored.OneFrame.among, frame.specs.Stored.OneFrame.asked, frame.specs.Stored.OneFrame.asks, frame.specs.Stored.OneFrame.groups_among};
+ghost use Rattle.{mm_lex.specs.Alphabet.Name, mm_lex.specs.Alphabet.name_eq, mm_lex.specs.Alphabet.has_name, scope.specs.Active.is_assertion, scope.specs.Active.expr_of, frame.specs.FrameOf.frame_of, frame.specs.Stored.OneFrame.AreRecorded, frame.specs.Stored.OneFrame.AreMandatory, frame.specs.Stored.OneFrame.among, frame.specs.Stored.OneFrame.required, frame.specs.Stored.OneFrame.asks, frame.specs.Stored.OneFrame.groups_among};
 
 use crate::assertion::Frame;
 use mm_lex::Words;
@@ -45,34 +45,34 @@ fn mandatory_variables(alloc: Global, scope: &Scope, stmt: &Stmt) -> Result<Name
     ensures { IfOk result (λ used. AreMandatory scope.now.statements stmt.now used) }
 {
     let mut used = NameTable::new(alloc);
-    note_variables(alloc, scope, &mut used, expression(stmt))?;
+    record_variables(alloc, scope, &mut used, expression(stmt))?;
     for entry in scope.standing().iter() {
         if let Stmt::Ess { expr, .. } = &entry.stmt {
-            note_variables(alloc, scope, &mut used, expr)?;
+            record_variables(alloc, scope, &mut used, expr)?;
         }
     }
     Ok(used)
 }
 
 /// Records each variable of an expression.
-fn note_variables(
+fn record_variables(
     alloc: Global,
     scope: &Scope,
     used: &mut NameTable,
     expr: &Words,
 ) -> Result<(), AllocError>
-    ensures { OnOk result (AreNoted scope.now.statements used.old used.new expr.now) }
+    ensures { OnOk result (AreRecorded scope.now.statements used.old used.new expr.now) }
 {
     for symbol in expr.iter() {
         if scope.is_variable(symbol) {
-            note(alloc, used, symbol)?;
+            record_name(alloc, used, symbol)?;
         }
     }
     Ok(())
 }
 
 /// Records a name, once.
-fn note(alloc: Global, used: &mut NameTable, name: &[u8]) -> Result<(), AllocError>
+fn record_name(alloc: Global, used: &mut NameTable, name: &[u8]) -> Result<(), AllocError>
     ensures { OnOk result ((x : Name) → has_name x used.new ≡ (has_name x used.old || name_eq x name.now)) }
 {
     used.code(alloc, name)?;
@@ -85,11 +85,11 @@ fn mandatory_hypotheses(
     standing: &[Standing],
     used: &NameTable,
 ) -> Result<SmallVec<usize, 8>, AllocError>
-    ensures { IfOk result (λ list. list.items ≡ asked used.now standing.now) }
+    ensures { IfOk result (λ list. list.items ≡ required used.now standing.now) }
 {
     let mut list = SmallVec::new(alloc);
     for entry in standing.iter() {
-        if is_asked(used, &entry.stmt) {
+        if is_required(used, &entry.stmt) {
             list.push(entry.at)?;
         }
     }
@@ -97,7 +97,7 @@ fn mandatory_hypotheses(
 }
 
 /// Returns whether it is an `$e`, or the `$f` of one of the variables.
-fn is_asked(used: &NameTable, stmt: &Stmt) -> bool
+fn is_required(used: &NameTable, stmt: &Stmt) -> bool
     ensures { result ≡ asks used.now stmt.now }
 {
     match stmt {

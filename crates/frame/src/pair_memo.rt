@@ -4,7 +4,7 @@ ghost use Rattle.frame.specs.Stored.PairSearch.{AreSought, IsLeft, are_pair};
 
 use crate::at_position::is_active_at;
 use crate::pairs::has_symbol;
-use crate::storage::Stock;
+use crate::storage::Storage;
 use entries::{Kind, PositionStack};
 use std::alloc::Global;
 use std::collections::BTreeMap;
@@ -57,47 +57,47 @@ fn key(x: u32, y: u32) -> u64 {
 ///
 /// Cost: their number, times a binary search; if they are many and the pair is in the memo, log n for n pairs there.
 pub fn search(
-    stock: &Stock,
+    storage: &Storage,
     at: usize,
     memo: &mut PairMemo,
     mut left: PositionStack<'_>,
     x: u32,
     y: u32,
 ) -> bool
-    requires { IsLeft stock.now at x y left }
-    ensures { result ≡ are_pair stock.now at x y }
+    requires { IsLeft storage.now at x y left }
+    ensures { result ≡ are_pair storage.now at x y }
 {
     for _ in 0..SHORT {
         let Some(position) = left.pop() else {
             return false;
         };
-        if has_symbol(stock, position, y) {
+        if has_symbol(storage, position, y) {
             return true;
         }
     }
-    search_on(stock, at, memo, left, x, y)
+    search_on(storage, at, memo, left, x, y)
 }
 
 /// Goes on with a search that is long.
 #[cold]
 #[inline(never)]
 fn search_on(
-    stock: &Stock,
+    storage: &Storage,
     at: usize,
     memo: &mut PairMemo,
     mut left: PositionStack<'_>,
     x: u32,
     y: u32,
 ) -> bool
-    requires { IsLeft stock.now at x y left }
-    ensures { result ≡ are_pair stock.now at x y }
+    requires { IsLeft storage.now at x y left }
+    ensures { result ≡ are_pair storage.now at x y }
 {
     let known = memo.position(x, y);
-    if has_both(stock, at, known, x, y) {
+    if has_both(storage, at, known, x, y) {
         return true;
     }
     while let Some(position) = left.pop() {
-        if has_symbol(stock, position, y) {
+        if has_symbol(storage, position, y) {
             memo.record(x, y, position);
             return true;
         }
@@ -108,19 +108,19 @@ fn search_on(
 /// Returns whether a `$d` that is active at `at` stands at a position and has both variables.
 ///
 /// Cost: two look-ups, and a binary search for each variable.
-fn has_both(stock: &Stock, at: usize, position: u32, x: u32, y: u32) -> bool
-    requires { AreSought stock.now at x y }
-    ensures { result ≡ true → are_pair stock.now at x y ≡ true }
+fn has_both(storage: &Storage, at: usize, position: u32, x: u32, y: u32) -> bool
+    requires { AreSought storage.now at x y }
+    ensures { result ≡ true → are_pair storage.now at x y ≡ true }
 {
     let i = position as usize;
     if i == 0 || i >= at {
         return false;
     }
-    match stock.entries.entry(i - 1).kind {
+    match storage.entries.entry(i - 1).kind {
         Kind::Disj => {
-            is_active_at(stock, i, at)
-                && has_symbol(stock, position, x)
-                && has_symbol(stock, position, y)
+            is_active_at(storage, i, at)
+                && has_symbol(storage, position, x)
+                && has_symbol(storage, position, y)
         }
         _ => false,
     }

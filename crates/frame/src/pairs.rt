@@ -1,11 +1,11 @@
 //! The disjoint variables at a position.
 ghost use Rattle.std.specs.Prelude.{◌≡◌, ◌==◌, ◌&&◌, ◌||◌, ◌<◌, ℕ, not, false, length, IfNone, IfSome};
-ghost use Rattle.{std.specs.List.list_any, mm_lex.specs.Alphabet.Name, names.specs.Codes.name_at, names.specs.Codes.code_of, scope.specs.Active.is_variable, frame.specs.Below.AllBelow, frame.specs.Below.AreBelow, frame.specs.FrameOf.is_pair, frame.specs.Links.is_disj, frame.specs.Stored.EntryMeanings.statements_of, frame.specs.Stored.Stacks.AreOfKind, frame.specs.Stored.Stacks.IsOfKind, frame.specs.Stored.Stacks.has_code, frame.specs.Stored.Whole.AreStored};
+ghost use Rattle.{std.specs.List.list_any, mm_lex.specs.Alphabet.Name, names.specs.Codes.name_at, names.specs.Codes.code_of, scope.specs.Active.is_variable, frame.specs.Below.AllBelow, frame.specs.Below.AreBelow, frame.specs.FrameOf.is_pair, frame.specs.LastActive.is_disj, frame.specs.Stored.EntryMeanings.statements_of, frame.specs.Stored.Stacks.AreOfKind, frame.specs.Stored.Stacks.IsOfKind, frame.specs.Stored.Stacks.has_code, frame.specs.Stored.Whole.AreStored};
 
-use crate::at_position::links_at;
+use crate::at_position::last_active_at;
 use crate::pair_memo::{PairMemo, search};
 use crate::row::Row;
-use crate::storage::Stock;
+use crate::storage::Storage;
 use crate::symbol_numbers::symbol_number;
 use entries::PositionStack;
 use std::marker::Model;
@@ -15,7 +15,7 @@ use std::marker::Model;
 /// Contracts see the statements up to the position, and the names that numbers stand for.
 #[derive(Drop)]
 pub struct Pairs<'a> {
-    pub(crate) stock: &'a Stock,
+    pub(crate) storage: &'a Storage,
     pub(crate) at: usize,
 }
 
@@ -25,9 +25,9 @@ impl<'a> Model for Pairs<'a> {
 
     ghost Value = { Numbered };
 
-    ghost view = { λ a. record { statements = before (statements_of a.stock.now) a.at; names = names_in a.stock.now } };
+    ghost view = { λ a. record { statements = before (statements_of a.storage.now) a.at; names = names_in a.storage.now } };
 
-    ghost invariant = { λ a. AreStored a.stock.now × AreDistinct (names_in a.stock.now) × (1 ≤ a.at) × (a.at ≤ length (statements_of a.stock.now)) };
+    ghost invariant = { λ a. AreStored a.storage.now × AreDistinct (names_in a.storage.now) × (1 ≤ a.at) × (a.at ≤ length (statements_of a.storage.now)) };
 }
 
 impl<'a> Pairs<'a> {
@@ -41,12 +41,12 @@ impl<'a> Pairs<'a> {
         if x == y {
             return false;
         }
-        let with_x = self.stock.disjoints.stack(x, self.at);
-        let with_y = self.stock.disjoints.stack(y, self.at);
+        let with_x = self.storage.disjoints.stack(x, self.at);
+        let with_y = self.storage.disjoints.stack(y, self.at);
         if with_x.len() <= with_y.len() {
-            any_has(self.stock, with_x, y)
+            any_has(self.storage, with_x, y)
         } else {
-            any_has(self.stock, with_y, x)
+            any_has(self.storage, with_y, x)
         }
     }
 
@@ -62,12 +62,12 @@ impl<'a> Pairs<'a> {
         if x == y {
             return false;
         }
-        let with_x = self.stock.disjoints.stack(x, self.at);
-        let with_y = self.stock.disjoints.stack(y, self.at);
+        let with_x = self.storage.disjoints.stack(x, self.at);
+        let with_y = self.storage.disjoints.stack(y, self.at);
         if with_x.len() <= with_y.len() {
-            search(self.stock, self.at, memo, with_x, x, y)
+            search(self.storage, self.at, memo, with_x, x, y)
         } else {
-            search(self.stock, self.at, memo, with_y, y, x)
+            search(self.storage, self.at, memo, with_y, y, x)
         }
     }
 
@@ -79,7 +79,7 @@ impl<'a> Pairs<'a> {
         ensures pairs { (y : ℕ) → y < length self.now.names → is_pair self.now.statements (name_at self.now.names x) (name_at self.now.names y) ≡ (not (x == y) && list_any (λ list. list_any (λ c. y == c) list) result) }
         ensures below { AllBelow (length self.now.names) result }
     {
-        Row::new(self.stock, self.stock.disjoints.stack(x, self.at))
+        Row::new(self.storage, self.storage.disjoints.stack(x, self.at))
     }
 
     /// Returns the same `$d`.
@@ -94,19 +94,19 @@ impl<'a> Pairs<'a> {
     ///
     /// Cost: two look-ups.
     #[inline(always)]
-    pub fn take_last(&mut self) -> Option<&'a [u32]>
+    pub fn pop_disjoint(&mut self) -> Option<&'a [u32]>
         ensures names { self.new.names ≡ self.old.names }
         ensures fewer { IfSome result (λ list. length self.new.statements < length self.old.statements) }
         ensures below { IfSome result (λ list. AreBelow (length self.new.names) list.now) }
         ensures pairs { IfSome result (λ list. (x y : ℕ) → x < length self.old.names → y < length self.old.names → is_pair self.old.statements (name_at self.old.names x) (name_at self.old.names y) ≡ (not (x == y) && (list_any (λ c. x == c) list.now && list_any (λ c. y == c) list.now) || is_pair self.new.statements (name_at self.old.names x) (name_at self.old.names y))) }
         ensures none { IfNone result ((x y : Name) → is_pair self.old.statements x y ≡ false) }
     {
-        let last = links_at(self.stock, self.at).disjoint as usize;
+        let last = last_active_at(self.storage, self.at).disjoint as usize;
         if last == 0 {
             return None;
         }
         self.at = last;
-        Some(self.stock.entries.entry(last - 1).symbols)
+        Some(self.storage.entries.entry(last - 1).symbols)
     }
 
     /// Returns the number of a name, where it has one. A name with none is no variable there.
@@ -114,7 +114,7 @@ impl<'a> Pairs<'a> {
         ensures number { result ≡ code_of self.now.names name.now }
         ensures unnamed { IfNone result (is_variable self.now.statements name.now ≡ false) }
     {
-        symbol_number(&self.stock.numbering, name)
+        symbol_number(&self.storage.numbering, name)
     }
 
     /// Returns whether x is a variable there.
@@ -124,7 +124,7 @@ impl<'a> Pairs<'a> {
         requires { x < length self.now.names }
         ensures { result ≡ is_variable self.now.statements (name_at self.now.names x) }
     {
-        !self.stock.variables.stack(x, self.at).is_empty()
+        !self.storage.variables.stack(x, self.at).is_empty()
     }
 }
 
@@ -134,13 +134,13 @@ const FEW: usize = 8;
 /// Returns whether one of the `$d` at these positions has the symbol.
 ///
 /// Cost: their number, times a binary search.
-fn any_has(stock: &Stock, mut stack: PositionStack<'_>, code: u32) -> bool
-    requires stored { AreStored stock.now }
-    requires disjoints { AreOfKind is_disj (statements_of stock.now) stack }
-    ensures { result ≡ list_any (has_code stock.now.entries code) stack.entry }
+fn any_has(storage: &Storage, mut stack: PositionStack<'_>, code: u32) -> bool
+    requires stored { AreStored storage.now }
+    requires disjoints { AreOfKind is_disj (statements_of storage.now) stack }
+    ensures { result ≡ list_any (has_code storage.now.entries code) stack.entry }
 {
     while let Some(at) = stack.pop() {
-        if has_symbol(stock, at, code) {
+        if has_symbol(storage, at, code) {
             return true;
         }
     }
@@ -148,16 +148,16 @@ fn any_has(stock: &Stock, mut stack: PositionStack<'_>, code: u32) -> bool
 }
 
 /// Returns whether the `$d` at a position has the symbol.
-pub(crate) fn has_symbol(stock: &Stock, at: u32, code: u32) -> bool
-    requires stored { AreStored stock.now }
-    requires disjoint { IsOfKind is_disj (statements_of stock.now) at }
-    ensures { result ≡ has_code stock.now.entries code at }
+pub(crate) fn has_symbol(storage: &Storage, at: u32, code: u32) -> bool
+    requires stored { AreStored storage.now }
+    requires disjoint { IsOfKind is_disj (statements_of storage.now) at }
+    ensures { result ≡ has_code storage.now.entries code at }
 {
-    let symbols = stock.entries.entry(at as usize - 1).symbols;
+    let symbols = storage.entries.entry(at as usize - 1).symbols;
     if symbols.len() <= FEW {
         return contains(symbols, code);
     }
-    match stock.disjoints.stack(code, at as usize + 1).last() {
+    match storage.disjoints.stack(code, at as usize + 1).last() {
         Some(last) => last == at,
         None => false,
     }

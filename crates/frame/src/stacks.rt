@@ -2,10 +2,10 @@
 ghost use Rattle.std.specs.Prelude.{◌≡◌, ◌+◌, ◌-◌, ◌<◌, ℕ, length, OnOk};
 ghost use Rattle.entries.specs.Histories.{AreUntil, gone_back, history, pushed, stack_at};
 ghost use Rattle.entries.specs.declared.kind.Kind.TheVariants.{Disj, Var};
-ghost use Rattle.frame.specs.Stored.Stacks.{AreChangedBy, IsNext, KeepsUntil, latest_of, link_by, opening};
+ghost use Rattle.frame.specs.Stored.Stacks.{AreChangedBy, IsNext, KeepsUntil, latest_of, last_by_kind, opening};
 ghost use Rattle.frame.specs.Stored.Whole.{IsWalked};
 
-use entries::{Entries, Histories, Kind, Links};
+use entries::{Entries, Histories, Kind, LastActive};
 use std::alloc::AllocError;
 
 /// The next statement, as far as it changes what is active.
@@ -17,22 +17,22 @@ pub struct NextStatement<'a> {
     /// Its position.
     pub at: u32,
     /// The last statements that are active before it.
-    pub links: Links,
+    pub last_active: LastActive,
 }
 
 /// Records what the next statement makes active, or what is active again after a `$}`.
 ///
 /// Cost: the symbols of a `$d` or `$v`; for a `$}` those of the `$d` and `$v` that it makes inactive, and for each of
 /// these symbols a binary search.
-pub fn note_active(
+pub fn record_active(
     disjoints: &mut Histories,
     variables: &mut Histories,
     entries: &Entries,
     next: &NextStatement<'_>,
 ) -> Result<(), AllocError>
     requires place { next.now.at ≡ length entries.now + 1 }
-    requires disjoints { IsWalked Disj entries.now next.now.links disjoints.old }
-    requires variables { IsWalked Var entries.now next.now.links variables.old }
+    requires disjoints { IsWalked Disj entries.now next.now.last_active disjoints.old }
+    requires variables { IsWalked Var entries.now next.now.last_active variables.old }
     ensures disjoints { OnOk result (IsNext next.now.at (latest_of Disj next.now.kind next.now disjoints.old) disjoints.old disjoints.new) }
     ensures variables { OnOk result (IsNext next.now.at (latest_of Var next.now.kind next.now variables.old) variables.old variables.new) }
     ensures kept_disjoints { KeepsUntil (next.now.at - 1) disjoints.old disjoints.new }
@@ -70,16 +70,16 @@ fn go_back_all(
     of: Kind,
 ) -> Result<(), AllocError>
     requires place { next.now.at ≡ length entries.now + 1 }
-    requires walked { IsWalked of entries.now next.now.links histories.old }
-    ensures next { OnOk result (IsNext next.now.at (λ c. stack_at (history histories.old c) (opening next.now.links.block)) histories.old histories.new) }
+    requires walked { IsWalked of entries.now next.now.last_active histories.old }
+    ensures next { OnOk result (IsNext next.now.at (λ c. stack_at (history histories.old c) (opening next.now.last_active.block)) histories.old histories.new) }
     ensures kept { KeepsUntil (next.now.at - 1) histories.old histories.new }
 {
-    let before = next.links.block.max(1);
-    let mut last = link(next.links, of);
-    while last > next.links.block {
+    let before = next.last_active.block.max(1);
+    let mut last = last_of_kind(next.last_active, of);
+    while last > next.last_active.block {
         let entry = entries.entry(last as usize - 1);
         go_back_each(histories, entry.symbols, next.at, before)?;
-        last = link(entry.before.links, of);
+        last = last_of_kind(entry.before.last_active, of);
     }
     Ok(())
 }
@@ -102,11 +102,11 @@ fn go_back_each(
 }
 
 /// Returns the last active statement of a kind, by position, or 0.
-fn link(links: Links, of: Kind) -> u32
-    ensures { result ≡ link_by of links }
+fn last_of_kind(last_active: LastActive, of: Kind) -> u32
+    ensures { result ≡ last_by_kind of last_active }
 {
     match of {
-        Kind::Disj => links.disjoint,
-        _ => links.variable,
+        Kind::Disj => last_active.disjoint,
+        _ => last_active.variable,
     }
 }

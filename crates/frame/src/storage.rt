@@ -1,6 +1,6 @@
 //! The statements of a database as numbers.
 use crate::stored_entries::StoredEntries;
-use entries::{Histories, Links};
+use entries::{Histories, LastActive};
 use scope::Numbering;
 
 /// The last statements that declare a symbol, by position, or 0.
@@ -15,7 +15,7 @@ pub struct Symbol {
 /// The statements, their symbols and labels by number, the position of each label, the last declarations of each symbol,
 /// those that others replaced, where blocks end, and what is active at the end.
 #[derive(Drop)]
-pub struct Stock {
+pub struct Storage {
     pub numbering: Numbering,
     pub positions: Vec<u32>,
     pub symbols: Vec<Symbol>,
@@ -28,5 +28,5 @@ pub struct Stock {
     pub disjoints: Histories,
     /// The active `$v` that have a symbol, by its number.
     pub variables: Histories,
-    pub links: Links,
+    pub last_active: LastActive,
 }

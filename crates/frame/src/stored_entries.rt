@@ -4,7 +4,8 @@ ghost use Rattle.entries.specs.Entries.{AreShapedParts, AreWhole, Entry, IsEntry
 ghost use Rattle.entries.specs.SymbolPlaces.{ArePlacesOf};
 
 use entries::{
-    AssertionParts, Cited, Entries, EntryRef, Head, Kind, LongExpressions, SymbolPlaces,
+    AssertionParts, AssertionView, Entries, EntryHeader, EntryRef, Kind, LongExpressions,
+    SymbolPlaces,
 };
 use std::alloc::{AllocError, Global};
 use std::marker::Model;
@@ -88,7 +89,7 @@ impl StoredEntries {
 
     /// Returns the parts of the assertion at an index, if they are whole.
     #[inline(always)]
-    pub fn cited(&self, index: usize) -> Option<Cited<'_>>
+    pub fn cited(&self, index: usize) -> Option<AssertionView<'_>>
         requires { index < length self.now }
         ensures { (e : Entry) → slice_get self.now index ≡ Some e → IfSome result (AreWhole e) }
     {
@@ -108,14 +109,18 @@ impl StoredEntries {
     ///
     /// Errors: an allocation fails; the list is as before.
     /// Cost: its size; n log n for n symbols of a long expression.
-    pub fn push(&mut self, head: Head, parts: &AssertionParts<'_>) -> Result<(), AllocError>
+    pub fn push(
+        &mut self,
+        header: EntryHeader,
+        parts: &AssertionParts<'_>,
+    ) -> Result<(), AllocError>
         requires { AreShapedParts parts.now }
-        ensures added { OnOk result (self.new ≡ self.old ++ made head parts.now.symbols.now (assertion_of parts.now) ∷ []) }
+        ensures added { OnOk result (self.new ≡ self.old ++ made header parts.now.symbols.now (assertion_of parts.now) ∷ []) }
         ensures same { OnErr result (self.new ≡ self.old) }
     {
         let index = self.list.len();
-        self.list.push(head, parts)?;
-        if !is_long(head.kind, parts.symbols) {
+        self.list.push(header, parts)?;
+        if !is_long(header.kind, parts.symbols) {
             return Ok(());
         }
         match self.long.push(index, parts.symbols) {

@@ -1,10 +1,10 @@
 //! Numbers of symbols and labels.
 ghost use Rattle.std.specs.Prelude.{◌≡◌, ◌++◌, ◌∷◌, [], IfSome, IfNone, false};
-ghost use Rattle.{mm_read.specs.Statements.Expr, names.specs.Codes.with_names, scope.specs.Kinds.declared_symbols, scope.specs.Kinds.declared_labels, scope.specs.Kinds.is_label_kind, scope.specs.Kinds.kind_in, scope.specs.Kinds.IsNumberOf, scope.specs.Stored.Noted.AreNoted, scope.specs.Symbols.symbols_by, scope.specs.Symbols.symbols_in, frame.specs.Stored.Naming.is_declared};
+ghost use Rattle.{mm_read.specs.Statements.Expr, names.specs.Codes.with_names, scope.specs.Kinds.declared_symbols, scope.specs.Kinds.declared_labels, scope.specs.Kinds.is_label_kind, scope.specs.Kinds.kind_in, scope.specs.Kinds.IsNumberOf, scope.specs.Stored.SymbolNumbers.AreRecorded, scope.specs.Symbols.symbols_by, scope.specs.Symbols.symbols_in, frame.specs.Stored.Naming.is_declared};
 
 use mm_lex::Words;
 use mm_read::Stmt;
-use scope::{NameKind, Noted, Numbering};
+use scope::{NameKind, Numbering, SymbolNumbers};
 
 /// Returns the number of a symbol, or `None` if the word is no symbol.
 pub fn symbol_number(numbering: &Numbering, word: &[u8]) -> Option<u32>
@@ -33,48 +33,48 @@ pub fn label_number(numbering: &Numbering, word: &[u8]) -> Option<u32>
 }
 
 /// Records the number of a symbol.
-fn note_symbol(numbering: &Numbering, word: &[u8], noted: &mut Noted)
-    ensures { (xs : Expr) → AreNoted (declared_symbols numbering.now) xs noted.old → AreNoted (declared_symbols numbering.now) (xs ++ word.now ∷ []) noted.new }
+fn record_symbol(numbering: &Numbering, word: &[u8], recorded: &mut SymbolNumbers)
+    ensures { (xs : Expr) → AreRecorded (declared_symbols numbering.now) xs recorded.old → AreRecorded (declared_symbols numbering.now) (xs ++ word.now ∷ []) recorded.new }
 {
     match symbol_number(numbering, word) {
-        Some(number) => noted.note(number),
-        None => noted.forget(),
+        Some(number) => recorded.record_number(number),
+        None => recorded.forget(),
     }
 }
 
 /// Records the numbers of the symbols of a list, and no others.
-fn note_list(numbering: &Numbering, words: &Words, noted: &mut Noted)
-    ensures { AreNoted (declared_symbols numbering.now) words.now noted.new }
+fn record_list(numbering: &Numbering, words: &Words, recorded: &mut SymbolNumbers)
+    ensures { AreRecorded (declared_symbols numbering.now) words.now recorded.new }
 {
-    noted.begin();
+    recorded.begin();
     for word in words.iter() {
-        note_symbol(numbering, word, noted);
+        record_symbol(numbering, word, recorded);
     }
 }
 
 /// Records the numbers of the symbols of a statement, if they are not recorded. Those that it declares have none yet.
-pub fn find_numbers(numbering: &Numbering, stmt: &Stmt, noted: &mut Noted)
-    requires { AreNoted (with_names (declared_symbols numbering.now) (symbols_by stmt.now)) (symbols_in stmt.now) noted.old }
-    ensures { AreNoted (with_names (declared_symbols numbering.now) (symbols_by stmt.now)) (symbols_in stmt.now) noted.new }
+pub fn find_numbers(numbering: &Numbering, stmt: &Stmt, recorded: &mut SymbolNumbers)
+    requires { AreRecorded (with_names (declared_symbols numbering.now) (symbols_by stmt.now)) (symbols_in stmt.now) recorded.old }
+    ensures { AreRecorded (with_names (declared_symbols numbering.now) (symbols_by stmt.now)) (symbols_in stmt.now) recorded.new }
 {
-    if noted.numbers().is_some() {
+    if recorded.numbers().is_some() {
         return;
     }
     match stmt {
-        Stmt::Open | Stmt::Close => noted.begin(),
+        Stmt::Open | Stmt::Close => recorded.begin(),
         Stmt::Const(_) | Stmt::Var(_) => {}
-        Stmt::Disj(words) => note_list(numbering, words, noted),
+        Stmt::Disj(words) => record_list(numbering, words, recorded),
         Stmt::Float {
             constant,
             variable,
             ..
         } => {
-            noted.begin();
-            note_symbol(numbering, constant.as_bytes(), noted);
-            note_symbol(numbering, variable.as_bytes(), noted);
+            recorded.begin();
+            record_symbol(numbering, constant.as_bytes(), recorded);
+            record_symbol(numbering, variable.as_bytes(), recorded);
         }
         Stmt::Ess { expr, .. } | Stmt::Axiom { expr, .. } | Stmt::Prove { expr, .. } => {
-            note_list(numbering, expr, noted)
+            record_list(numbering, expr, recorded)
         }
     }
 }

@@ -3,7 +3,7 @@
 use Rattle.library.proofs.Words.{◌≡◌, ℕ, ◌-◌, ◌≤◌, IsTrue, List, ◌∷◌, ◌++◌, length, map, zero, suc, ◌+◌, refl, ◌⊎◌, list_all, sym, ◌∙◌, ap, subst, arith, inl, inr, map-append, length-map}
 use Rattle.library.proofs.Words.{Name, Stmt, Expr, Database, before, is_variable, bare, bares, stmt_at, proof_of, stands-within, hypotheses, mandatory_groups, Carries, IsHypothesis, IsInstance, premises, expr_at, option_expr, Item, Derivation, Derivations, hyp, apply, more, Spells, SpellsAll, cites_hypothesis, cites_assertion, recalls, marks, spells_none, spells_more, IsRight, IsProvable, stmt_stays, Writes, mandatory_labels, label_or_none, IsProved}
 use Rattle.frame.specs.Substitution.{Images, apply as applied}
-use Rattle.frame.specs.Disjoint.{are_groups_apart}
+use Rattle.frame.specs.Disjoint.{are_groups_disjoint}
 use Rattle.verify.specs.Concludes.{Concludes, ConcludeAll}
 use Rattle.library.proofs.FrontLemmas.{stmt_at-front, before-front, active-later, map-stand, hypotheses-at, stmt_at-behind}
 
@@ -31,8 +31,8 @@ module _ (S T : Database) where
           stands = stmt_stays S T a s h.stands;
           assertion = h.assertion;
           of_variables = subst (λ U. IsTrue (list_all (λ p. is_variable U p.0) σ)) here h.of_variables;
-          apart = subst (λ U. IsTrue (are_groups_apart U σ (mandatory_groups (before (S ++ T) a) s))) (sym (before-front S T at within))
-              (subst (λ U. IsTrue (are_groups_apart (before S at) σ (mandatory_groups U s))) here h.apart);
+          disjoint = subst (λ U. IsTrue (are_groups_disjoint U σ (mandatory_groups (before (S ++ T) a) s))) (sym (before-front S T at within))
+              (subst (λ U. IsTrue (are_groups_disjoint (before S at) σ (mandatory_groups U s))) here h.disjoint);
         }
 
     mutual

@@ -16,7 +16,7 @@ use Rattle.std.specs.BTreeMap.{BTreeMap, get}
 use Rattle.std.specs.Ordering.{nat_cmp, ordering_then}
 use Rattle.std.specs.declared.cmp.Ordering.{Ordering}
 
-pub record Kept : Type 0 where
+pub record LibraryModel : Type 0 where
   pub replica : Replica
   pub steps : ℕ
 

@@ -42,9 +42,9 @@ pub struct Library {
 
 impl Model for Library {
     ghost use Rattle.library.specs.Added.{count_of};
-    ghost use Rattle.library.specs.LibraryState.{Kept, IsTableOf};
+    ghost use Rattle.library.specs.LibraryState.{LibraryModel, IsTableOf};
 
-    ghost Value = { Kept };
+    ghost Value = { LibraryModel };
 
     ghost view = { λ a. record { replica = record { statements = a.database; decided = a.decided.entries; charter = a.charter }; steps = count_of a.steps } };
 

@@ -9,7 +9,7 @@ use crate::step_lines::label_at;
 use crate::style::{CLASSES, DARK, HEAD, LIGHT, SHAPE};
 use crate::writing::{WriteFault, write_part, write_rest};
 use entries::Groups;
-use frame::{Frames, Gathered};
+use frame::{FrameBuffers, Frames};
 use mm_lex::Word;
 use mm_read::Stmt;
 use std::alloc::{AllocError, Global};
@@ -190,9 +190,9 @@ fn push_apart(
     if let Some(cited) = theorem.frames.cited(theorem.at) {
         return push_groups(page, theorem.frames, colours, &cited.groups);
     }
-    let mut gathered = Gathered::new(alloc);
-    theorem.frames.gather(theorem.at, &mut gathered)?;
-    let cited = theorem.frames.gathered(theorem.at, &gathered);
+    let mut frame_buffers = FrameBuffers::new(alloc);
+    theorem.frames.fill_buffers(theorem.at, &mut frame_buffers)?;
+    let cited = theorem.frames.cited_from(theorem.at, &frame_buffers);
     push_groups(page, theorem.frames, colours, &cited.groups)
 }
 

@@ -9,11 +9,11 @@ use Rattle.mm_read.specs.Statements.{Expr, Database}
 use Rattle.names.specs.Codes.{name_at, decode, AreDistinct}
 use Rattle.names.proofs.CodesLemmas.{name_same}
 use Rattle.frame.specs.Below.{AreBelow}
-use Rattle.frame.specs.Disjoint.{are_apart}
+use Rattle.frame.specs.Disjoint.{are_disjoint}
 use Rattle.frame.specs.Substitution.{CodeImages, image, code_image, code_apply}
 use Rattle.frame.proofs.SymbolNumberLemmas.{below-take}
 use Rattle.reasons.specs.ReadImages.{named_images, AreVariables}
-use Rattle.reasons.specs.Clashes.{is_kept, is_other_apart, AreBeside}
+use Rattle.reasons.specs.DisjointViolations.{is_kept, is_other_disjoint, AreBeside}
 use Rattle.reasons.specs.declared.named_images.Image.{Image}
 use Rattle.reasons.specs.Stored.Vectors.{AreImages, code_images}
 use Rattle.reasons.proofs.NamedLemmas.{image_same}
@@ -41,29 +41,29 @@ all-parts p (x ∷ xs) ys h =
     let rest : (list_all p xs ≡ true) × (list_all p ys ≡ true) = all-parts p xs ys one.1 in
     (ap (λ b. b && list_all p xs) one.0 ∙ rest.0, rest.1)
 
-apart-parts : (S : Database) (e f g : Expr) → are_apart S e (f ++ g) ≡ true → (are_apart S e f ≡ true) × (are_apart S e g ≡ true)
-apart-parts S [] f g h = (refl, refl)
-apart-parts S (u ∷ e) f g h =
-    let one : (list_all (is_kept S u) (f ++ g) ≡ true) × (are_apart S e (f ++ g) ≡ true) = and_parts (list_all (is_kept S u) (f ++ g)) (are_apart S e (f ++ g)) h in
+disjoint-parts : (S : Database) (e f g : Expr) → are_disjoint S e (f ++ g) ≡ true → (are_disjoint S e f ≡ true) × (are_disjoint S e g ≡ true)
+disjoint-parts S [] f g h = (refl, refl)
+disjoint-parts S (u ∷ e) f g h =
+    let one : (list_all (is_kept S u) (f ++ g) ≡ true) × (are_disjoint S e (f ++ g) ≡ true) = and_parts (list_all (is_kept S u) (f ++ g)) (are_disjoint S e (f ++ g)) h in
     let here : (list_all (is_kept S u) f ≡ true) × (list_all (is_kept S u) g ≡ true) = all-parts (is_kept S u) f g one.0 in
-    let rest : (are_apart S e f ≡ true) × (are_apart S e g ≡ true) = apart-parts S e f g one.1 in
-    (ap (λ b. b && are_apart S e f) here.0 ∙ rest.0, ap (λ b. b && are_apart S e g) here.1 ∙ rest.1)
+    let rest : (are_disjoint S e f ≡ true) × (are_disjoint S e g ≡ true) = disjoint-parts S e f g one.1 in
+    (ap (λ b. b && are_disjoint S e f) here.0 ∙ rest.0, ap (λ b. b && are_disjoint S e g) here.1 ∙ rest.1)
 
 module _ (S : Database) (names : List Name) (distinct : AreDistinct names) (σ : CodeImages) (variables : AreVariables (length names) σ) (x : ℕ) (inside : x < length names) where
   -- disjoint from the images of all of these
-  all_others : (group : List ℕ) → AreBelow (length names) group → are_apart S (decode names (code_image σ x)) (decode names (code_apply σ group)) ≡ true
-      → list_all (is_other_apart S (named_images names σ) (name_at names x)) (decode names group) ≡ true
+  all_others : (group : List ℕ) → AreBelow (length names) group → are_disjoint S (decode names (code_image σ x)) (decode names (code_apply σ group)) ≡ true
+      → list_all (is_other_disjoint S (named_images names σ) (name_at names x)) (decode names group) ≡ true
   all_others [] below h = refl
   all_others (y ∷ group) below h =
       let images = named_images names σ in
-      let parts : (are_apart S (decode names (code_image σ x)) (decode names (code_image σ y)) ≡ true) × (are_apart S (decode names (code_image σ x)) (decode names (code_apply σ group)) ≡ true) =
-      apart-parts S (decode names (code_image σ x)) (decode names (code_image σ y)) (decode names (code_apply σ group))
-      (ap (are_apart S (decode names (code_image σ x))) (sym (map-append (name_at names) (code_image σ y) (code_apply σ group))) ∙ h) in
-      let own : are_apart S (image images (name_at names x)) (image images (name_at names y)) ≡ true =
-      ap (λ e. are_apart S e (image images (name_at names y))) (sym (image_same names distinct σ x variables inside))
-      ∙ (ap (are_apart S (decode names (code_image σ x))) (sym (image_same names distinct σ y variables below.0)) ∙ parts.0) in
-      ap (λ b. (name_eq (name_at names x) (name_at names y) || b) && list_all (is_other_apart S images (name_at names x)) (decode names group)) own
-      ∙ (ap (λ b. b && list_all (is_other_apart S images (name_at names x)) (decode names group)) (or-true (name_eq (name_at names x) (name_at names y))) ∙ all_others group below.1 parts.1)
+      let parts : (are_disjoint S (decode names (code_image σ x)) (decode names (code_image σ y)) ≡ true) × (are_disjoint S (decode names (code_image σ x)) (decode names (code_apply σ group)) ≡ true) =
+      disjoint-parts S (decode names (code_image σ x)) (decode names (code_image σ y)) (decode names (code_apply σ group))
+      (ap (are_disjoint S (decode names (code_image σ x))) (sym (map-append (name_at names) (code_image σ y) (code_apply σ group))) ∙ h) in
+      let own : are_disjoint S (image images (name_at names x)) (image images (name_at names y)) ≡ true =
+      ap (λ e. are_disjoint S e (image images (name_at names y))) (sym (image_same names distinct σ x variables inside))
+      ∙ (ap (are_disjoint S (decode names (code_image σ x))) (sym (image_same names distinct σ y variables below.0)) ∙ parts.0) in
+      ap (λ b. (name_eq (name_at names x) (name_at names y) || b) && list_all (is_other_disjoint S images (name_at names x)) (decode names group)) own
+      ∙ (ap (λ b. b && list_all (is_other_disjoint S images (name_at names x)) (decode names group)) (or-true (name_eq (name_at names x) (name_at names y))) ∙ all_others group below.1 parts.1)
 
   -- before it, itself, and after it
   beside_all : (p : Name → Bool) (group : List ℕ) (k : ℕ) → k < length group → list_all p (decode names (take k group)) ≡ true → p (name_at names (get_or group k 0)) ≡ true
@@ -75,21 +75,21 @@ module _ (S : Database) (names : List Name) (distinct : AreDistinct names) (σ :
       ap (λ b. b && list_all p (decode names group)) parts.0 ∙ beside_all p group k (omega (arith, h)) parts.1 here rest
 
   -- a variable need not be disjoint from itself
-  itself : (y : Name) → is_other_apart S (named_images names σ) y y ≡ true
-  itself y = ap (λ c. c || are_apart S (image (named_images names σ) y) (image (named_images names σ) y)) (name_same y)
+  itself : (y : Name) → is_other_disjoint S (named_images names σ) y y ≡ true
+  itself y = ap (λ c. c || are_disjoint S (image (named_images names σ) y) (image (named_images names σ) y)) (name_same y)
 
   -- an image that is disjoint from those before it and those after it is disjoint from the image of each other variable
-  pub apart_beside : (group before behind image : List ℕ) → AreBelow (length names) group → image ≡ code_image σ x → AreBeside σ group x before behind
-      → are_apart S (decode names image) (decode names before) ≡ true → are_apart S (decode names image) (decode names behind) ≡ true
-      → list_all (is_other_apart S (named_images names σ) (name_at names x)) (decode names group) ≡ true
-  apart_beside group before behind image below is b front rest =
-      beside_all (is_other_apart S (named_images names σ) (name_at names x)) group b.place b.within
+  pub disjoint_beside : (group before behind image : List ℕ) → AreBelow (length names) group → image ≡ code_image σ x → AreBeside σ group x before behind
+      → are_disjoint S (decode names image) (decode names before) ≡ true → are_disjoint S (decode names image) (decode names behind) ≡ true
+      → list_all (is_other_disjoint S (named_images names σ) (name_at names x)) (decode names group) ≡ true
+  disjoint_beside group before behind image below is b front rest =
+      beside_all (is_other_disjoint S (named_images names σ) (name_at names x)) group b.place b.within
       (all_others (take b.place group) (below-take (length names) b.place group below)
-      (ap (λ e. are_apart S (decode names e) (decode names (code_apply σ (take b.place group)))) (sym is) ∙ (ap (λ e. are_apart S (decode names image) (decode names e)) (sym b.front) ∙ front)))
-      (ap (λ y. is_other_apart S (named_images names σ) (name_at names x) (name_at names y)) b.here
+      (ap (λ e. are_disjoint S (decode names e) (decode names (code_apply σ (take b.place group)))) (sym is) ∙ (ap (λ e. are_disjoint S (decode names image) (decode names e)) (sym b.front) ∙ front)))
+      (ap (λ y. is_other_disjoint S (named_images names σ) (name_at names x) (name_at names y)) b.here
       ∙ itself (name_at names x))
       (all_others (drop (suc b.place) group) (below-drop (length names) (suc b.place) group below)
-      (ap (λ e. are_apart S (decode names e) (decode names (code_apply σ (drop (suc b.place) group)))) (sym is) ∙ (ap (λ e. are_apart S (decode names image) (decode names e)) (sym b.rest) ∙ rest)))
+      (ap (λ e. are_disjoint S (decode names e) (decode names (code_apply σ (drop (suc b.place) group)))) (sym is) ∙ (ap (λ e. are_disjoint S (decode names image) (decode names e)) (sym b.rest) ∙ rest)))
 
 -- ---- where the images lie
 

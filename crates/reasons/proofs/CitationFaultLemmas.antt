@@ -13,10 +13,10 @@ use Rattle.mm_read.specs.declared.stmt.Stmt.TheVariants as stmt
 use Rattle.mm_read.specs.Statements.{Database, Expr}
 use Rattle.scope.specs.Active.{stmt_at, expr_of}
 use Rattle.names.specs.Codes.{name_at, decode, AreDistinct}
-use Rattle.entries.specs.declared.cited_parts.Hypothesis.{Hypothesis}
-use Rattle.entries.specs.declared.cited_parts.Hypothesis.TheVariants as hypothesis
+use Rattle.entries.specs.declared.assertion_view.Hypothesis.{Hypothesis}
+use Rattle.entries.specs.declared.assertion_view.Hypothesis.TheVariants as hypothesis
 use Rattle.frame.specs.Below.{AreBelow}
-use Rattle.frame.specs.Cited.{IsAsked, IsOf, IsHead}
+use Rattle.frame.specs.AssertionView.{IsRequired, IsOf, IsTypecode}
 use Rattle.frame.specs.Substitution.{Images, CodeImages, code_apply, apply as applied}
 use Rattle.frame.specs.Citations.{expr_at, option_expr}
 use Rattle.reasons.specs.declared.reason.Fault.{Fault}
@@ -59,28 +59,28 @@ module _ (S : Database) (names : List Name) (σ : Images) (ps : List ℕ) (resul
       ∙ (ap (λ x. take k (named names results) ++ x ∷ []) e ∙ sym last_is))))
 
   -- or it requires another
-  pub other_here : (asked : List ℕ) → AreDistinct names → AreBelow (length names) asked → AreBelow (length names) r.items → decode names asked ≡ asks S σ (get_or ps k 0) → (r.items ≡ asked → ⊥)
-      → IsOther S σ ps (named names results) k (get_or ps k 0) (decode names asked) (decode names r.items)
-  other_here asked distinct low below is differ = record {
+  pub other_here : (required : List ℕ) → AreDistinct names → AreBelow (length names) required → AreBelow (length names) r.items → decode names required ≡ asks S σ (get_or ps k 0) → (r.items ≡ required → ⊥)
+      → IsOther S σ ps (named names results) k (get_or ps k 0) (decode names required) (decode names r.items)
+  other_here required distinct low below is differ = record {
     hypothesis = slice_get-get_or ps k 0 within;
     result = result_is;
-    asked_is = is;
-    differ = λ same. differ (decode-injective names r.items asked distinct below low same);
+    required_is = is;
+    differ = λ same. differ (decode-injective names r.items required distinct below low same);
     before = before;
   }
 
 -- the fault of the result
-module _ (S : Database) (names : List Name) (distinct : AreDistinct names) (p head : ℕ) (kind : Hypothesis) (is : IsAsked S names p head kind) where
+module _ (S : Database) (names : List Name) (distinct : AreDistinct names) (p typecode : ℕ) (kind : Hypothesis) (is : IsRequired S names p typecode kind) where
   -- an expression that does not begin with this number does not begin with its name
-  begins_other : (c : Name) (e : List ℕ) → head < length names → name_at names head ≡ c → AreBelow (length names) e → StartsOther head e → BeginsOther c (decode names e)
+  begins_other : (c : Name) (e : List ℕ) → typecode < length names → name_at names typecode ≡ c → AreBelow (length names) e → StartsOther typecode e → BeginsOther c (decode names e)
   begins_other c [] h n below starts = tt
-  begins_other c (x ∷ e) h n below starts = λ same. starts (name_at-injective names x head distinct below.0 h (same ∙ sym n))
+  begins_other c (x ∷ e) h n below starts = λ same. starts (name_at-injective names x typecode distinct below.0 h (same ∙ sym n))
 
   -- the result for a `$f` that begins with another number begins with another constant
-  pub other_constant : (e : List ℕ) → AreBelow (length names) e → IsFloat kind → StartsOther head e → IsOtherConstant (stmt_at S p) (decode names e)
+  pub other_constant : (e : List ℕ) → AreBelow (length names) e → IsFloat kind → StartsOther typecode e → IsOtherConstant (stmt_at S p) (decode names e)
   other_constant e below float starts = subst (λ o. IsOtherConstant o (decode names e)) (sym is.stands) (by is.stmt kind is.first is.is float)
     where
-      by : (s : Stmt) (h : Hypothesis) → IsHead names head (expr_of s) → IsOf names p s h → IsFloat h → IsOtherConstant (Some s) (decode names e)
+      by : (s : Stmt) (h : Hypothesis) → IsTypecode names typecode (expr_of s) → IsOf names p s h → IsFloat h → IsOtherConstant (Some s) (decode names e)
       by (stmt.Float l c v) h first of float = begins_other c e first.0 first.1 below starts
       by (stmt.Ess l w) (hypothesis.Float x) first of float = absurd of
       by (stmt.Ess l w) (hypothesis.Essential q) first of float = absurd float
@@ -100,38 +100,38 @@ module _ (S : Database) (names : List Name) (distinct : AreDistinct names) (p he
       by (stmt.Prove l w r) (hypothesis.Essential q) first of float = absurd float
 
 -- the result that a hypothesis requires, by number
-pub asked_is : (S : Database) (names : List Name) → AreDistinct names → (σ : CodeImages) → AreVariables (length names) σ → (p : ℕ) (s : Stmt) → stmt_at S p ≡ Some s
-    → (e : List ℕ) → decode names e ≡ expr_of s → AreBelow (length names) e → (asked : List ℕ) → asked ≡ code_apply σ e → decode names asked ≡ asks S (named_images names σ) p
-asked_is S names distinct σ variables p s stands e is below asked same =
+pub required_is : (S : Database) (names : List Name) → AreDistinct names → (σ : CodeImages) → AreVariables (length names) σ → (p : ℕ) (s : Stmt) → stmt_at S p ≡ Some s
+    → (e : List ℕ) → decode names e ≡ expr_of s → AreBelow (length names) e → (required : List ℕ) → required ≡ code_apply σ e → decode names required ≡ asks S (named_images names σ) p
+required_is S names distinct σ variables p s stands e is below required same =
     ap (decode names) same ∙ (apply_same names distinct σ e variables below ∙ ap (λ x. applied (named_images names σ) x) (is ∙ sym (expr_is S p s stands)))
 
 -- the fault is a mismatch
-pub mismatch_is : (S : Database) (names : List Name) (a : ℕ) (s : Stmt) (rs : List Expr) (kind : Hypothesis) (head p k : ℕ) (asked there : Vec ℕ) (fault : Fault)
-    → IsSaid kind head a p asked there fault
-    → IsOther S (images_read S (hypotheses (before S a) s) rs) (hypotheses (before S a) s) rs k p (decode names asked.items) (decode names there.items)
-    → (IsFloat kind → StartsOther head there.items → IsOtherConstant (stmt_at S p) (decode names there.items))
+pub mismatch_is : (S : Database) (names : List Name) (a : ℕ) (s : Stmt) (rs : List Expr) (kind : Hypothesis) (typecode p k : ℕ) (required there : Vec ℕ) (fault : Fault)
+    → IsSaid kind typecode a p required there fault
+    → IsOther S (images_read S (hypotheses (before S a) s) rs) (hypotheses (before S a) s) rs k p (decode names required.items) (decode names there.items)
+    → (IsFloat kind → StartsOther typecode there.items → IsOtherConstant (stmt_at S p) (decode names there.items))
     → IsMismatch S names a s rs fault
-mismatch_is S names a s rs kind head p k asked there Unknown said other constant = absurd said
-mismatch_is S names a s rs kind head p k asked there (Inactive h) said other constant = absurd said
-mismatch_is S names a s rs kind head p k asked there (Later h) said other constant = absurd said
-mismatch_is S names a s rs kind head p k asked there (Few b t n) said other constant = absurd said
-mismatch_is S names a s rs kind head p k asked there (Constant b q r) said other constant =
+mismatch_is S names a s rs kind typecode p k required there Unknown said other constant = absurd said
+mismatch_is S names a s rs kind typecode p k required there (Inactive h) said other constant = absurd said
+mismatch_is S names a s rs kind typecode p k required there (Later h) said other constant = absurd said
+mismatch_is S names a s rs kind typecode p k required there (Few b t n) said other constant = absurd said
+mismatch_is S names a s rs kind typecode p k required there (Constant b q r) said other constant =
     let ps = hypotheses (before S a) s in
     let σ = images_read S ps rs in
-    let P : ℕ → Type 0 = λ p. (IsOther S σ ps rs k p (decode names asked.items) (decode names there.items)) × IsOtherConstant (stmt_at S p) (decode names there.items) in
+    let P : ℕ → Type 0 = λ p. (IsOther S σ ps rs k p (decode names required.items) (decode names there.items)) × IsOtherConstant (stmt_at S p) (decode names there.items) in
     let at = subst P (sym said.1) (other, constant said.3 said.4) in
-    let Q : Vec ℕ → Type 0 = λ v. (IsOther S σ ps rs k q (decode names asked.items) (decode names v.items)) × IsOtherConstant (stmt_at S q) (decode names v.items) in
+    let Q : Vec ℕ → Type 0 = λ v. (IsOther S σ ps rs k q (decode names required.items) (decode names v.items)) × IsOtherConstant (stmt_at S q) (decode names v.items) in
     let both = subst Q (sym said.2) at in
-    (said.0, (k, decode names asked.items, both.0, both.1))
-mismatch_is S names a s rs kind head p k asked there (Expression b q e r) said other constant =
+    (said.0, (k, decode names required.items, both.0, both.1))
+mismatch_is S names a s rs kind typecode p k required there (Expression b q e r) said other constant =
     let ps = hypotheses (before S a) s in
     let σ = images_read S ps rs in
-    let at = subst (λ p. IsOther S σ ps rs k p (decode names asked.items) (decode names there.items)) (sym said.1) other in
+    let at = subst (λ p. IsOther S σ ps rs k p (decode names required.items) (decode names there.items)) (sym said.1) other in
     let next = subst (λ (v : Vec ℕ). IsOther S σ ps rs k q (decode names v.items) (decode names there.items)) (sym said.2) at in
     (said.0, (k, subst (λ (v : Vec ℕ). IsOther S σ ps rs k q (decode names e.items) (decode names v.items)) (sym said.3) next))
-mismatch_is S names a s rs kind head p k asked there (Together b x y u v) said other constant = absurd said
-mismatch_is S names a s rs kind head p k asked there Heavy said other constant = absurd said
-mismatch_is S names a s rs kind head p k asked there Unmarked said other constant = absurd said
+mismatch_is S names a s rs kind typecode p k required there (Together b x y u v) said other constant = absurd said
+mismatch_is S names a s rs kind typecode p k required there Heavy said other constant = absurd said
+mismatch_is S names a s rs kind typecode p k required there Unmarked said other constant = absurd said
 
 -- the result of a test of two lists
 pub not_ne : (b : Bool) (xs ys : List ℕ) → b ≡ not (bytes_eq xs ys) → b ≡ false → xs ≡ ys

@@ -7,12 +7,12 @@ use Rattle.mm_read.specs.Statements.{Database, Expr}
 use Rattle.names.specs.Codes.{name_at, decode, AreDistinct}
 use Rattle.frame.specs.Below.{AreBelow}
 use Rattle.frame.specs.Substitution.{Images, CodeImages, code_apply, apply as applied}
-use Rattle.frame.specs.Disjoint.{are_groups_apart}
-use Rattle.reasons.specs.declared.clash.Clash.{Clash}
+use Rattle.frame.specs.Disjoint.{are_groups_disjoint}
+use Rattle.reasons.specs.declared.violation.DisjointViolation.{DisjointViolation}
 use Rattle.reasons.specs.declared.reason.Fault.{Fault}
 use Rattle.reasons.specs.declared.reason.Fault.TheVariants.{Unknown, Inactive, Later, Few, Constant, Expression, Together, Heavy, Unmarked}
 use Rattle.reasons.specs.ReadImages.{named_images, AreVariables}
-use Rattle.reasons.specs.Clashes.{IsClash}
+use Rattle.reasons.specs.DisjointViolations.{IsViolation}
 use Rattle.reasons.specs.CitationFaults.{IsMismatch}
 use Rattle.reasons.specs.Concluded.{IsWrong}
 use Rattle.reasons.proofs.NamedLemmas.{apply_same}
@@ -30,18 +30,18 @@ wrong_is S names at a s rs room Heavy h = absurd h
 wrong_is S names at a s rs room Unmarked h = absurd h
 
 module _ {T S : Database} {ns names : List Name} {σ τ : Images} {gs hs : List (List Name)} (same : T ≡ S) (named : ns ≡ names) (images : σ ≡ τ) (lists : gs ≡ hs) where
-  -- a clash stays one where statements, names, images and lists are equal
-  pub clash_moved : (c : Clash) → IsClash T ns σ gs c → IsClash S names τ hs c
-  clash_moved c is =
-      subst (λ l. IsClash S names τ l c) lists
-      (subst (λ i. IsClash S names i gs c) images
-      (subst (λ n. IsClash S n σ gs c) named
-      (subst (λ D. IsClash D ns σ gs c) same is)))
+  -- a violation stays one where statements, names, images and lists are equal
+  pub violation_moved : (c : DisjointViolation) → IsViolation T ns σ gs c → IsViolation S names τ hs c
+  violation_moved c is =
+      subst (λ l. IsViolation S names τ l c) lists
+      (subst (λ i. IsViolation S names i gs c) images
+      (subst (λ n. IsViolation S n σ gs c) named
+      (subst (λ D. IsViolation D ns σ gs c) same is)))
 
   -- disjoint variables stay so where statements, images and lists are equal
-  pub apart_moved : are_groups_apart T σ gs ≡ true → are_groups_apart S τ hs ≡ true
-  apart_moved is =
-      sym (ap (λ D. are_groups_apart D σ gs) same ∙ (ap (λ i. are_groups_apart S i gs) images ∙ ap (λ l. are_groups_apart S τ l) lists)) ∙ is
+  pub disjoint_moved : are_groups_disjoint T σ gs ≡ true → are_groups_disjoint S τ hs ≡ true
+  disjoint_moved is =
+      sym (ap (λ D. are_groups_disjoint D σ gs) same ∙ (ap (λ i. are_groups_disjoint S i gs) images ∙ ap (λ l. are_groups_disjoint S τ l) lists)) ∙ is
 
 -- the conclusion by number
 module _ (names : List Name) (distinct : AreDistinct names) (σ : CodeImages) (variables : AreVariables (length names) σ) (τ : Images) (images : named_images names σ ≡ τ)

@@ -56,7 +56,7 @@ gives_is S at a s rs stack below e earlier stands variable taken whole is =
       stands = stands.0;
       assertion = stands.1;
       of_variables = variables_are S (is_variable (before S a)) (hypotheses (before S a) s) rs variable;
-      apart = taken.apart;
+      disjoint = taken.disjoint;
     })
     (whole ∙ ap (λ r. below ++ r) (sym taken.fit)) is
 

@@ -2,7 +2,7 @@ pub mod VectorLemmas
 pub mod ImagesLemmas
 pub mod NamedLemmas
 pub mod CitationFaultLemmas
-pub mod ClashLemmas
+pub mod ViolationLemmas
 pub mod BesideLemmas
 pub mod ConcludedLemmas
 pub mod KeptRunLemmas

@@ -8,10 +8,10 @@ use Rattle.mm_read.specs.declared.stmt.Stmt.TheVariants as stmt
 use Rattle.mm_read.specs.Statements.{Database}
 use Rattle.scope.specs.Active.{stmt_at}
 use Rattle.names.specs.Codes.{name_at, decode, AreDistinct}
-use Rattle.entries.specs.declared.cited_parts.Hypothesis.{Hypothesis}
-use Rattle.entries.specs.declared.cited_parts.Hypothesis.TheVariants.{Float, Essential}
+use Rattle.entries.specs.declared.assertion_view.Hypothesis.{Hypothesis}
+use Rattle.entries.specs.declared.assertion_view.Hypothesis.TheVariants.{Float, Essential}
 use Rattle.frame.specs.Below.{AreBelow}
-use Rattle.frame.specs.Cited.{AreAsked, IsOf}
+use Rattle.frame.specs.AssertionView.{AreRequired, IsOf}
 use Rattle.frame.specs.Substitution.{CodeImages, code_image, code_apply, image, apply}
 use Rattle.frame.proofs.KindWalk.{same-number}
 use Rattle.reasons.specs.declared.named_images.Image.{Image}
@@ -80,17 +80,17 @@ variables-append n [] τ h k = k
 variables-append n (p ∷ σ) τ h k = (h.0, variables-append n σ τ h.1 k)
 
 -- all hypotheses read the same off the results by number and by name
-pub images_are : (S : Database) (names : List Name) (ps heads : List ℕ) (hs : List Hypothesis) (es : List (List ℕ)) → AreAsked S names ps heads hs
+pub images_are : (S : Database) (names : List Name) (ps typecodes : List ℕ) (hs : List Hypothesis) (es : List (List ℕ)) → AreRequired S names ps typecodes hs
     → (named_images names (codes_read hs es) ≡ images_read S ps (map (decode names) es)) × AreVariables (length names) (codes_read hs es)
-images_are S names [] [] [] es asked = (refl, tt)
-images_are S names [] (x ∷ heads) hs es asked = absurd asked
-images_are S names [] [] (h ∷ hs) es asked = absurd asked
-images_are S names (p ∷ ps) [] hs es asked = absurd asked
-images_are S names (p ∷ ps) (x ∷ heads) [] es asked = absurd asked
-images_are S names (p ∷ ps) (x ∷ heads) (h ∷ hs) [] asked = (refl, tt)
-images_are S names (p ∷ ps) (x ∷ heads) (h ∷ hs) (e ∷ es) asked =
-    let one = image_is S names p asked.0.stmt h e asked.0.stands asked.0.is in
-    let rest = images_are S names ps heads hs es asked.1 in (
+images_are S names [] [] [] es required = (refl, tt)
+images_are S names [] (x ∷ typecodes) hs es required = absurd required
+images_are S names [] [] (h ∷ hs) es required = absurd required
+images_are S names (p ∷ ps) [] hs es required = absurd required
+images_are S names (p ∷ ps) (x ∷ typecodes) [] es required = absurd required
+images_are S names (p ∷ ps) (x ∷ typecodes) (h ∷ hs) [] required = (refl, tt)
+images_are S names (p ∷ ps) (x ∷ typecodes) (h ∷ hs) (e ∷ es) required =
+    let one = image_is S names p required.0.stmt h e required.0.stands required.0.is in
+    let rest = images_are S names ps typecodes hs es required.1 in (
       named-append names (code_at h e) (codes_read hs es)
           ∙ (ap (λ σ. σ ++ named_images names (codes_read hs es)) one.0 ∙ ap (λ τ. image_at (stmt_at S p) (decode names e) ++ τ) rest.0),
       variables-append (length names) (code_at h e) (codes_read hs es) one.1 rest.1,

@@ -20,7 +20,7 @@ use Rattle.reasons.specs.Explained.{Gives}
 use Rattle.reasons.specs.FirstFault.{Fails, RunsWell, IsFirstFault, IsEnd}
 use Rattle.reasons.proofs.RunItemLemmas.{mark_fails, recall_heavy, cite_stuck, recall_item, what_is, found-at}
 use Rattle.frame.specs.AtPosition.{IsPosition, ArePositions}
-use Rattle.verify.specs.Goes.{behind, named}
+use Rattle.verify.specs.StepsByNumber.{behind, named}
 use Rattle.verify.specs.Machine.{Results, State, start, IsSaved, Runs}
 use Rattle.verify.specs.Stops.{IsOther, IsStopped}
 use Rattle.verify.proofs.Words.{take_all, length-map, slice_get-get_or, slice_get_within, item-cite, get_or_default}

@@ -5,8 +5,8 @@ use Rattle.std.specs.Global.{Vec}
 use Rattle.frame.specs.Below.{AreBelow}
 use Rattle.mm_lex.specs.Alphabet.{Name}
 use Rattle.mm_read.specs.Statements.{Database}
-use Rattle.entries.specs.declared.cited_parts.Hypothesis.{Hypothesis}
-use Rattle.frame.specs.Cited.{AreAsked, IsAsked}
+use Rattle.entries.specs.declared.assertion_view.Hypothesis.{Hypothesis}
+use Rattle.frame.specs.AssertionView.{AreRequired, IsRequired}
 use Rattle.reasons.specs.Stored.Vectors.{AreSymbols, codes}
 use Rattle.verify.proofs.Words.{drop_all, drop_more, get_or_from_slice_get, map_push, slice_get_within}
 
@@ -41,29 +41,29 @@ symbols-at n (w ∷ vs) (suc i) v h l e = symbols-at n vs i v h.1 (omega (arith,
 
 -- the results that an assertion requires, hypothesis by hypothesis
 module _ (S : Database) (names : List Name) where
-  pub asked-heads : (ps heads : List ℕ) (hs : List Hypothesis) → AreAsked S names ps heads hs → length heads ≡ length ps
-  asked-heads [] [] [] h = refl
-  asked-heads [] (x ∷ heads) hs h = absurd h
-  asked-heads [] [] (x ∷ hs) h = absurd h
-  asked-heads (p ∷ ps) [] hs h = absurd h
-  asked-heads (p ∷ ps) (x ∷ heads) [] h = absurd h
-  asked-heads (p ∷ ps) (x ∷ heads) (y ∷ hs) h = ap suc (asked-heads ps heads hs h.1)
+  pub required-typecodes : (ps typecodes : List ℕ) (hs : List Hypothesis) → AreRequired S names ps typecodes hs → length typecodes ≡ length ps
+  required-typecodes [] [] [] h = refl
+  required-typecodes [] (x ∷ typecodes) hs h = absurd h
+  required-typecodes [] [] (x ∷ hs) h = absurd h
+  required-typecodes (p ∷ ps) [] hs h = absurd h
+  required-typecodes (p ∷ ps) (x ∷ typecodes) [] h = absurd h
+  required-typecodes (p ∷ ps) (x ∷ typecodes) (y ∷ hs) h = ap suc (required-typecodes ps typecodes hs h.1)
 
-  pub asked-kinds : (ps heads : List ℕ) (hs : List Hypothesis) → AreAsked S names ps heads hs → length hs ≡ length ps
-  asked-kinds [] [] [] h = refl
-  asked-kinds [] (x ∷ heads) hs h = absurd h
-  asked-kinds [] [] (x ∷ hs) h = absurd h
-  asked-kinds (p ∷ ps) [] hs h = absurd h
-  asked-kinds (p ∷ ps) (x ∷ heads) [] h = absurd h
-  asked-kinds (p ∷ ps) (x ∷ heads) (y ∷ hs) h = ap suc (asked-kinds ps heads hs h.1)
+  pub required-kinds : (ps typecodes : List ℕ) (hs : List Hypothesis) → AreRequired S names ps typecodes hs → length hs ≡ length ps
+  required-kinds [] [] [] h = refl
+  required-kinds [] (x ∷ typecodes) hs h = absurd h
+  required-kinds [] [] (x ∷ hs) h = absurd h
+  required-kinds (p ∷ ps) [] hs h = absurd h
+  required-kinds (p ∷ ps) (x ∷ typecodes) [] h = absurd h
+  required-kinds (p ∷ ps) (x ∷ typecodes) (y ∷ hs) h = ap suc (required-kinds ps typecodes hs h.1)
 
-  pub asked-at : (ps heads : List ℕ) (hs : List Hypothesis) (k : ℕ) (d : Hypothesis) → AreAsked S names ps heads hs → k < length ps
-      → IsAsked S names (get_or ps k 0) (get_or heads k 0) (get_or hs k d)
-  asked-at [] heads hs k d h l = absurd (omega (arith, l))
-  asked-at (p ∷ ps) [] hs k d h l = absurd h
-  asked-at (p ∷ ps) (x ∷ heads) [] k d h l = absurd h
-  asked-at (p ∷ ps) (x ∷ heads) (y ∷ hs) zero d h l = h.0
-  asked-at (p ∷ ps) (x ∷ heads) (y ∷ hs) (suc k) d h l = asked-at ps heads hs k d h.1 (omega (arith, l))
+  pub required-at : (ps typecodes : List ℕ) (hs : List Hypothesis) (k : ℕ) (d : Hypothesis) → AreRequired S names ps typecodes hs → k < length ps
+      → IsRequired S names (get_or ps k 0) (get_or typecodes k 0) (get_or hs k d)
+  required-at [] typecodes hs k d h l = absurd (omega (arith, l))
+  required-at (p ∷ ps) [] hs k d h l = absurd h
+  required-at (p ∷ ps) (x ∷ typecodes) [] k d h l = absurd h
+  required-at (p ∷ ps) (x ∷ typecodes) (y ∷ hs) zero d h l = h.0
+  required-at (p ∷ ps) (x ∷ typecodes) (y ∷ hs) (suc k) d h l = required-at ps typecodes hs k d h.1 (omega (arith, l))
 
 pub symbols-if : (n : ℕ) (old new : List (Vec ℕ)) (v : Vec ℕ) (b : Bool) → new ≡ cond b (old ++ v ∷ []) old → AreSymbols n old → AreBelow n v.items → AreSymbols n new
 symbols-if n old new v true e h k = symbols-push n old new v e h k

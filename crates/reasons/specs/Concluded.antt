@@ -10,13 +10,13 @@ use Rattle.names.specs.Codes.{decode}
 use Rattle.frame.specs.Below.{AreBelow}
 use Rattle.frame.specs.FrameOf.{hypotheses, mandatory_groups}
 use Rattle.frame.specs.Substitution.{Images, apply as applied}
-use Rattle.frame.specs.Disjoint.{are_groups_apart}
+use Rattle.frame.specs.Disjoint.{are_groups_disjoint}
 use Rattle.reasons.specs.declared.reason.Fault.{Fault}
 use Rattle.reasons.specs.declared.reason.Fault.TheVariants.{Together, Heavy, Constant, Expression}
 use Rattle.reasons.specs.declared.named_citation.Concluded.{Concluded}
 use Rattle.reasons.specs.declared.named_citation.Concluded.TheVariants.{Wrong, Right}
 use Rattle.reasons.specs.ReadImages.{images_read}
-use Rattle.reasons.specs.Clashes.{IsClash}
+use Rattle.reasons.specs.DisjointViolations.{IsViolation}
 use Rattle.reasons.specs.CitationFaults.{AllFit, IsMismatch}
 
 -- the images that the results give
@@ -30,15 +30,15 @@ DoFit S a s rs = AllFit S (images_of S a s rs) (hypotheses (before S a) s) rs
 -- .. and the images are disjoint
 pub record AreTaken (S : Database) (at a : ℕ) (s : Stmt) (rs : List Expr) : Type 0 where
   pub fit : DoFit S a s rs
-  pub apart : IsTrue (are_groups_apart (before S at) (images_of S a s rs) (mandatory_groups (before S a) s))
+  pub disjoint : IsTrue (are_groups_disjoint (before S at) (images_of S a s rs) (mandatory_groups (before S a) s))
 
 -- the fault of the results: the first mismatch; else two variables that are not disjoint; else there is no room
 abbrev pub IsWrong : Database → List Name → ℕ → ℕ → Stmt → List Expr → ℕ → Fault → Type 0
 IsWrong S names at a s rs room (Constant b p there) = IsMismatch S names a s rs (Constant b p there)
-IsWrong S names at a s rs room (Expression b p asked there) = IsMismatch S names a s rs (Expression b p asked there)
+IsWrong S names at a s rs room (Expression b p required there) = IsMismatch S names a s rs (Expression b p required there)
 IsWrong S names at a s rs room (Together b x y u v) =
     (b ≡ a) × DoFit S a s rs
-    × IsClash (before S at) names (images_of S a s rs) (mandatory_groups (before S a) s) (record { first = x; second = y; one = u; other = v })
+    × IsViolation (before S at) names (images_of S a s rs) (mandatory_groups (before S a) s) (record { first = x; second = y; one = u; other = v })
 IsWrong S names at a s rs room Heavy = AreTaken S at a s rs × (room < length (applied (images_of S a s rs) (expr_of s)))
 IsWrong S names at a s rs room fault = ⊥
 

@@ -10,9 +10,9 @@ use Rattle.frame.specs.Below.{AllBelow}
 use Rattle.frame.specs.Parts.{Numbered}
 use Rattle.frame.specs.Substitution.{Images, apply as applied}
 use Rattle.frame.specs.Citations.{IsHypothesis, IsInstance, premises}
-use Rattle.verify.specs.Goes.{behind, named}
+use Rattle.verify.specs.StepsByNumber.{behind, named}
 use Rattle.verify.specs.Machine.{State}
-use Rattle.verify.specs.ResultPlaces.{Held}
+use Rattle.verify.specs.ResultPlaces.{HeldResults}
 use Rattle.subst.specs.declared.buffer.TheConstants.{SYMBOLS_LIMIT}
 
 -- the statement s at i gives e in place of the results above `below`
@@ -21,16 +21,16 @@ pub data Gives (S : Database) (at i : ℕ) (s : Stmt) (stack below : List Expr) 
   of_assertion : (σ : Images) → IsInstance S at i s σ → stack ≡ below ++ premises S i s σ → e ≡ applied σ (expr_of s) → Gives S at i s stack below e
 
 -- the results, by name, behind those that are kept for labels
-abbrev pub named_behind : Numbered → ℕ → Held → State
+abbrev pub named_behind : Numbered → ℕ → HeldResults → State
 named_behind f labels results = named f.names (behind labels results.results)
 
 -- each number has a name, and the results are within the limit
-pub record MayExplain (f : Numbered) (results : Held) : Type 0 where
+pub record MayExplain (f : Numbered) (results : HeldResults) : Type 0 where
   pub below : AllBelow (length f.names) results.results.stack
   pub light : results.results.weight ≤ SYMBOLS_LIMIT
 
 -- whatever the statement at i gives over the results passes the limit
-abbrev pub CannotCite : Numbered → ℕ → ℕ → Held → Type 0
+abbrev pub CannotCite : Numbered → ℕ → ℕ → HeldResults → Type 0
 CannotCite f at i results =
     (s : Stmt) (below : List Expr) (e : Expr) → stmt_at f.statements i ≡ Some s → Gives f.statements at i s (map (decode f.names) results.results.stack) below e
     → SYMBOLS_LIMIT < results.results.weight + length e

@@ -1,5 +1,5 @@
 pub mod ReadImages
-pub mod Clashes
+pub mod DisjointViolations
 pub mod CitationFaults
 pub mod Concluded
 pub mod Explained

@@ -8,8 +8,8 @@ use Rattle.mm_read.specs.declared.stmt.Stmt.TheVariants as stmt
 use Rattle.mm_read.specs.Statements.{Expr, Database}
 use Rattle.scope.specs.Active.{stmt_at}
 use Rattle.names.specs.Codes.{name_at, decode}
-use Rattle.entries.specs.declared.cited_parts.Hypothesis.{Hypothesis}
-use Rattle.entries.specs.declared.cited_parts.Hypothesis.TheVariants.{Float, Essential}
+use Rattle.entries.specs.declared.assertion_view.Hypothesis.{Hypothesis}
+use Rattle.entries.specs.declared.assertion_view.Hypothesis.TheVariants.{Float, Essential}
 use Rattle.frame.specs.Substitution.{Images, CodeImages}
 
 -- the result for a `$f`, without its constant, is the image of its variable; for another statement it is none

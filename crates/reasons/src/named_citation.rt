@@ -3,7 +3,7 @@ ghost use Rattle.std.specs.Prelude.{◌≡◌, ℕ, ◌<◌, ◌≤◌, drop, le
 ghost use Rattle.mm_read.specs.declared.stmt.Stmt.{Stmt as Statement};
 ghost use Rattle.frame.specs.Below.{AreBelow};
 ghost use Rattle.frame.specs.FrameOf.{HasAssertion, hypotheses};
-ghost use Rattle.frame.specs.Cited.{IsCited};
+ghost use Rattle.frame.specs.AssertionView.{IsViewOf};
 ghost use Rattle.frame.specs.AtPosition.{AreLegal};
 ghost use Rattle.reasons.specs.Stored.Vectors.{AreSymbols, AreImages, CountIs, codes, named};
 ghost use Rattle.reasons.specs.CitationFaults.{IsSaid, IsMismatch, FitsAll, AreReadOff};
@@ -13,11 +13,11 @@ ghost use Rattle.reasons.specs.FirstFault.{FailsAt};
 ghost use Rattle.reasons.specs.Concluded.{IsBelow, IsConcluded};
 ghost use Rattle.subst.specs.declared.buffer.TheConstants.{SYMBOLS_LIMIT};
 
-use crate::clash::find_clash;
 use crate::named_images::{Image, apply, read_images};
 use crate::reason::Fault;
-use entries::{Cited, Hypothesis};
-use frame::{Frames, Gathered, Meaning};
+use crate::violation::find_violation;
+use entries::{AssertionView, Hypothesis};
+use frame::{FrameBuffers, Frames, Meaning};
 use std::alloc::{AllocError, Global};
 use subst::SYMBOLS_LIMIT;
 use verify::Results;
@@ -66,9 +66,9 @@ fn cite_assertion(
 {
     let mut mandatory = Vec::new(alloc);
     frames.mandatory(a, &mut mandatory)?;
-    let mut gathered = Gathered::new(alloc);
-    frames.gather(a, &mut gathered)?;
-    let cited = frames.gathered(a, &gathered);
+    let mut frame_buffers = FrameBuffers::new(alloc);
+    frames.fill_buffers(a, &mut frame_buffers)?;
+    let cited = frames.cited_from(a, &frame_buffers);
     cite_parts(alloc, frames, at, a, mandatory.as_slice(), &cited, results)
 }
 
@@ -79,7 +79,7 @@ fn cite_parts(
     at: usize,
     a: usize,
     mandatory: &[u32],
-    cited: &Cited<'_>,
+    cited: &AssertionView<'_>,
     results: &Results,
 ) -> Result<Fault, AllocError>
     requires legal { AreLegal frames.now.statements frames.now.names }
@@ -87,7 +87,7 @@ fn cite_parts(
     requires earlier { a < at }
     requires assertion { (s : Statement) × HasAssertion frames.now.statements a s }
     requires mandatory { (s : Statement) → stmt_at frames.now.statements a ≡ Some s → mandatory.now ≡ hypotheses (before frames.now.statements a) s }
-    requires cited { (s : Statement) → stmt_at frames.now.statements a ≡ Some s → IsCited frames.now.statements frames.now.names a s cited.now }
+    requires cited { (s : Statement) → stmt_at frames.now.statements a ≡ Some s → IsViewOf frames.now.statements frames.now.names a s cited.now }
     requires results { MayExplain frames.now results.now }
     requires stuck { CannotCite frames.now at a results.now }
     ensures { (labels : ℕ) (s : Statement) → stmt_at frames.now.statements a ≡ Some s
@@ -149,7 +149,7 @@ fn conclude(
     at: usize,
     a: usize,
     mandatory: &[u32],
-    cited: &Cited<'_>,
+    cited: &AssertionView<'_>,
     results: &[Vec<u32>],
     room: usize,
 ) -> Result<Concluded, AllocError>
@@ -158,7 +158,7 @@ fn conclude(
     requires earlier { a < at }
     requires assertion { (s : Statement) × HasAssertion frames.now.statements a s }
     requires mandatory { (s : Statement) → stmt_at frames.now.statements a ≡ Some s → mandatory.now ≡ hypotheses (before frames.now.statements a) s }
-    requires cited { (s : Statement) → stmt_at frames.now.statements a ≡ Some s → IsCited frames.now.statements frames.now.names a s cited.now }
+    requires cited { (s : Statement) → stmt_at frames.now.statements a ≡ Some s → IsViewOf frames.now.statements frames.now.names a s cited.now }
     requires symbols { AreSymbols (length frames.now.names) results.now }
     requires count { CountIs frames.now.statements a (length results.now) }
     ensures below { IfOk result (IsBelow (length frames.now.names)) }
@@ -170,14 +170,14 @@ fn conclude(
         return Ok(Concluded::Wrong(fault));
     }
     let pairs = frames.active_pairs(at);
-    let clash = find_clash(alloc, &pairs, images.as_slice(), &cited.groups)?;
-    if let Some(clash) = clash {
+    let violation = find_violation(alloc, &pairs, images.as_slice(), &cited.groups)?;
+    if let Some(violation) = violation {
         return Ok(Concluded::Wrong(Fault::Together {
             assertion: a,
-            first: clash.first,
-            second: clash.second,
-            one: clash.one,
-            other: clash.other,
+            first: violation.first,
+            second: violation.second,
+            one: violation.one,
+            other: violation.other,
         }));
     }
     match apply(alloc, images.as_slice(), cited.conclusion, room)? {
@@ -192,14 +192,14 @@ fn find_other(
     frames: &Frames,
     a: usize,
     mandatory: &[u32],
-    cited: &Cited<'_>,
+    cited: &AssertionView<'_>,
     results: &[Vec<u32>],
     images: &[Image],
 ) -> Result<Option<Fault>, AllocError>
     requires legal { AreLegal frames.now.statements frames.now.names }
     requires assertion { (s : Statement) × HasAssertion frames.now.statements a s }
     requires mandatory { (s : Statement) → stmt_at frames.now.statements a ≡ Some s → mandatory.now ≡ hypotheses (before frames.now.statements a) s }
-    requires cited { (s : Statement) → stmt_at frames.now.statements a ≡ Some s → IsCited frames.now.statements frames.now.names a s cited.now }
+    requires cited { (s : Statement) → stmt_at frames.now.statements a ≡ Some s → IsViewOf frames.now.statements frames.now.names a s cited.now }
     requires symbols { AreSymbols (length frames.now.names) results.now }
     requires images { AreImages (length frames.now.names) images.now }
     requires count { CountIs frames.now.statements a (length results.now) }
@@ -210,17 +210,17 @@ fn find_other(
     for k in 0..results.len() {
         let hypothesis = mandatory[k] as usize;
         let result = results[k].as_slice();
-        let Some(asked) = apply(alloc, images, frames.expr(hypothesis), SYMBOLS_LIMIT)? else {
+        let Some(required) = apply(alloc, images, frames.expr(hypothesis), SYMBOLS_LIMIT)? else {
             return Err(AllocError);
         };
-        if asked.as_slice() != result {
+        if required.as_slice() != result {
             let result = Vec::from_slice(alloc, result)?;
             return Ok(Some(other(
                 cited.hypotheses.get(k),
-                cited.heads[k],
+                cited.typecodes[k],
                 a,
                 hypothesis,
-                asked,
+                required,
                 result,
             )));
         }
@@ -231,16 +231,16 @@ fn find_other(
 /// Returns the fault of a result that is not the one that the hypothesis requires.
 fn other(
     kind: Hypothesis,
-    head: u32,
+    typecode: u32,
     assertion: usize,
     hypothesis: usize,
-    asked: Vec<u32>,
+    required: Vec<u32>,
     there: Vec<u32>,
 ) -> Fault
-    ensures { IsSaid kind head assertion hypothesis asked there result }
+    ensures { IsSaid kind typecode assertion hypothesis required there result }
 {
     let begins = match there.first() {
-        Some(first) => *first == head,
+        Some(first) => *first == typecode,
         None => false,
     };
     if matches!(kind, Hypothesis::Float(_)) && !begins {
@@ -253,7 +253,7 @@ fn other(
     Fault::Expression {
         assertion,
         hypothesis,
-        asked,
+        required,
         result: there,
     }
 }

@@ -40,7 +40,7 @@ pub enum Fault {
     Expression {
         assertion: usize,
         hypothesis: usize,
-        asked: Vec<u32>,
+        required: Vec<u32>,
         result: Vec<u32>,
     },
     /// Two variables of the assertion must be disjoint, and `one` stands in the image of `first`, `other` in that of

@@ -12,7 +12,7 @@ use Rattle.mm_read.specs.declared.stmt.Stmt.TheVariants.{Open, Close, Const, Var
 use Rattle.mm_read.specs.Statements.{Database}
 use Rattle.scope.specs.Active.{bare, has_float, active_variables, typed_variables}
 use Rattle.scope.specs.Legal.{all_different, broken_rule}
-use Rattle.scope.specs.Stored.Noted.{numbers_differ}
+use Rattle.scope.specs.Stored.SymbolNumbers.{numbers_differ}
 use Rattle.names.specs.Codes.{name_at, decode, with_names, numbers_in, number_in, AreNamed, AreCodes, AreDistinct}
 use Rattle.scope.specs.Kinds.{Declared, kind_in, with_kind, with_kinds}
 use Rattle.scope.specs.Stored.Stacks.{IsKept, IsPlain, can_push}

@@ -12,10 +12,10 @@ use Rattle.mm_read.specs.Statements.{Database}
 use Rattle.scope.specs.Active.{constants, variables, label_of, has_label}
 use Rattle.scope.specs.Legal.{broken_rule}
 use Rattle.names.specs.Codes.{with_names}
-use Rattle.scope.specs.Kinds.{Declared, kind_in, Tells, TellsAll, IsNumberingOf, with_kind, with_kinds, is_label_kind, is_constant_kind, is_variable_kind}
+use Rattle.scope.specs.Kinds.{Declared, kind_in, MatchesKind, MatchesKinds, IsNumberingOf, with_kind, with_kinds, is_label_kind, is_constant_kind, is_variable_kind}
 use Rattle.scope.specs.Symbols.{symbols_of, symbols_by, symbols_after, symbols_in, option_list, labels_of}
-use Rattle.scope.specs.Declares.{declared_with, MayDeclare, IsNotedBy}
-use Rattle.scope.specs.Stored.Noted.{AreNoted}
+use Rattle.scope.specs.Declares.{declared_with, MayDeclare, IsRecordedBy}
+use Rattle.scope.specs.Stored.SymbolNumbers.{AreRecorded}
 use Rattle.scope.specs.declared.numbering.NameKind.{NameKind}
 use Rattle.scope.specs.declared.numbering.NameKind.TheVariants.{Label, Constant, Variable}
 use Rattle.names.proofs.CodesLemmas.{same_name}
@@ -31,27 +31,27 @@ any-append : (p : Stmt → Bool) (S : Database) (s : Stmt) → list_any p (S ++ 
 any-append p S s = list_any-append p S (s ∷ []) ∙ ap (λ b. list_any p S || b) (or-false (p s))
 
 -- the three tests after one more statement, from what it adds to each
-tells-step : (S : Database) (s : Stmt) (x : Name) (k k' : Option NameKind) → Tells S x k
+tells-step : (S : Database) (s : Stmt) (x : Name) (k k' : Option NameKind) → MatchesKind S x k
     → (is_label_kind k || has_label x (label_of s)) ≡ is_label_kind k' → (is_constant_kind k || has_name x (constants s)) ≡ is_constant_kind k'
-    → (is_variable_kind k || has_name x (variables s)) ≡ is_variable_kind k' → Tells (S ++ s ∷ []) x k'
+    → (is_variable_kind k || has_name x (variables s)) ≡ is_variable_kind k' → MatchesKind (S ++ s ∷ []) x k'
 tells-step S s x k k' t l c v = record {
   label = any-append (λ s. has_label x (label_of s)) S s ∙ (ap (λ b. b || has_label x (label_of s)) t.label ∙ l);
   constant = any-append (λ s. has_name x (constants s)) S s ∙ (ap (λ b. b || has_name x (constants s)) t.constant ∙ c);
   variable = any-append (λ s. has_name x (variables s)) S s ∙ (ap (λ b. b || has_name x (variables s)) t.variable ∙ v);
 }
 
-pub tells-nothing : (S : Database) (s : Stmt) (names : Declared) → ((x : Name) → has_label x (label_of s) ≡ false) → constants s ≡ [] → variables s ≡ [] → TellsAll S names → TellsAll (S ++ s ∷ []) names
+pub tells-nothing : (S : Database) (s : Stmt) (names : Declared) → ((x : Name) → has_label x (label_of s) ≡ false) → constants s ≡ [] → variables s ≡ [] → MatchesKinds S names → MatchesKinds (S ++ s ∷ []) names
 tells-nothing S s names l c v told x =
     tells-step S s x (kind_in names x) (kind_in names x) (told x)
     (ap (λ b. is_label_kind (kind_in names x) || b) (l x) ∙ or-false (is_label_kind (kind_in names x)))
     (ap (λ xs. is_constant_kind (kind_in names x) || has_name x xs) c ∙ or-false (is_constant_kind (kind_in names x)))
     (ap (λ xs. is_variable_kind (kind_in names x) || has_name x xs) v ∙ or-false (is_variable_kind (kind_in names x)))
 
-pub tells-constants : (S : Database) (names : Declared) (xs : List Name) → ((x : Name) → has_name x xs ≡ true → kind_in names x ≡ None) → TellsAll S names → TellsAll (S ++ Const xs ∷ []) (with_kinds names Constant xs)
+pub tells-constants : (S : Database) (names : Declared) (xs : List Name) → ((x : Name) → has_name x xs ≡ true → kind_in names x ≡ None) → MatchesKinds S names → MatchesKinds (S ++ Const xs ∷ []) (with_kinds names Constant xs)
 tells-constants S names xs fresh told x =
-    subst (λ (k : Option NameKind). Tells (S ++ Const xs ∷ []) x k) (sym (kind_in-with_kinds names x Constant xs)) (by (kind_in names x) (has_name x xs) refl refl (told x))
+    subst (λ (k : Option NameKind). MatchesKind (S ++ Const xs ∷ []) x k) (sym (kind_in-with_kinds names x Constant xs)) (by (kind_in names x) (has_name x xs) refl refl (told x))
   where
-    by : (k : Option NameKind) (b : Bool) → kind_in names x ≡ k → has_name x xs ≡ b → Tells S x k → Tells (S ++ Const xs ∷ []) x (or_kind k b Constant)
+    by : (k : Option NameKind) (b : Bool) → kind_in names x ≡ k → has_name x xs ≡ b → MatchesKind S x k → MatchesKind (S ++ Const xs ∷ []) x (or_kind k b Constant)
     by None true p q t = tells-step S (Const xs) x None (Some Constant) t refl q refl
     by None false p q t = tells-step S (Const xs) x None None t refl q refl
     by (Some k) true p q t = absurd (clash k (sym p ∙ fresh x q))
@@ -60,11 +60,11 @@ tells-constants S names xs fresh told x =
         clash k e = cc
     by (Some k) false p q t = tells-step S (Const xs) x (Some k) (Some k) t (or-false (is_label_kind (Some k))) (ap (λ b. is_constant_kind (Some k) || b) q ∙ or-false (is_constant_kind (Some k))) (or-false (is_variable_kind (Some k)))
 
-pub tells-variables : (S : Database) (names : Declared) (xs : List Name) → ((x : Name) → has_name x xs ≡ true → (is_label_kind (kind_in names x) ≡ false) × (is_constant_kind (kind_in names x) ≡ false)) → TellsAll S names → TellsAll (S ++ Var xs ∷ []) (with_kinds names Variable xs)
+pub tells-variables : (S : Database) (names : Declared) (xs : List Name) → ((x : Name) → has_name x xs ≡ true → (is_label_kind (kind_in names x) ≡ false) × (is_constant_kind (kind_in names x) ≡ false)) → MatchesKinds S names → MatchesKinds (S ++ Var xs ∷ []) (with_kinds names Variable xs)
 tells-variables S names xs free told x =
-    subst (λ (k : Option NameKind). Tells (S ++ Var xs ∷ []) x k) (sym (kind_in-with_kinds names x Variable xs)) (by (kind_in names x) (has_name x xs) refl refl (told x))
+    subst (λ (k : Option NameKind). MatchesKind (S ++ Var xs ∷ []) x k) (sym (kind_in-with_kinds names x Variable xs)) (by (kind_in names x) (has_name x xs) refl refl (told x))
   where
-    by : (k : Option NameKind) (b : Bool) → kind_in names x ≡ k → has_name x xs ≡ b → Tells S x k → Tells (S ++ Var xs ∷ []) x (or_kind k b Variable)
+    by : (k : Option NameKind) (b : Bool) → kind_in names x ≡ k → has_name x xs ≡ b → MatchesKind S x k → MatchesKind (S ++ Var xs ∷ []) x (or_kind k b Variable)
     by None true p q t = tells-step S (Var xs) x None (Some Variable) t refl refl q
     by None false p q t = tells-step S (Var xs) x None None t refl refl q
     by (Some Label) true p q t = absurd (true≢false (sym (ap is_label_kind p) ∙ (free x q).0))
@@ -72,9 +72,9 @@ tells-variables S names xs free told x =
     by (Some Variable) true p q t = tells-step S (Var xs) x (Some Variable) (Some Variable) t refl refl refl
     by (Some k) false p q t = tells-step S (Var xs) x (Some k) (Some k) t (or-false (is_label_kind (Some k))) (or-false (is_constant_kind (Some k))) (ap (λ b. is_variable_kind (Some k) || b) q ∙ or-false (is_variable_kind (Some k)))
 
-pub tells-label : (S : Database) (s : Stmt) (names : Declared) (l : Name) → label_of s ≡ Some l → constants s ≡ [] → variables s ≡ [] → kind_in names l ≡ None → TellsAll S names → TellsAll (S ++ s ∷ []) (with_kinds names Label (l ∷ []))
+pub tells-label : (S : Database) (s : Stmt) (names : Declared) (l : Name) → label_of s ≡ Some l → constants s ≡ [] → variables s ≡ [] → kind_in names l ≡ None → MatchesKinds S names → MatchesKinds (S ++ s ∷ []) (with_kinds names Label (l ∷ []))
 tells-label S s names l labelled c v fresh told x =
-    subst (λ (k : Option NameKind). Tells (S ++ s ∷ []) x k) (sym (kind_in-with_kinds names x Label (l ∷ [])))
+    subst (λ (k : Option NameKind). MatchesKind (S ++ s ∷ []) x k) (sym (kind_in-with_kinds names x Label (l ∷ [])))
     (by (kind_in names x) (name_eq x l) refl refl (told x))
   where
     has : has_label x (label_of s) ≡ name_eq x l
@@ -89,7 +89,7 @@ tells-label S s names l labelled c v fresh told x =
     clash : (k : NameKind) → Some k ≡ None → ⊥
     clash k e = cc
 
-    by : (k : Option NameKind) (b : Bool) → kind_in names x ≡ k → name_eq x l ≡ b → Tells S x k → Tells (S ++ s ∷ []) x (or_kind k (b || false) Label)
+    by : (k : Option NameKind) (b : Bool) → kind_in names x ≡ k → name_eq x l ≡ b → MatchesKind S x k → MatchesKind (S ++ s ∷ []) x (or_kind k (b || false) Label)
     by None true p q t = tells-step S s x None (Some Label) t (has ∙ q) (with_c None) (with_v None)
     by None false p q t = tells-step S s x None None t (has ∙ q) (with_c None) (with_v None)
     by (Some k) true p q t = absurd (clash k (sym p ∙ (ap (kind_in names) (same_name x l q) ∙ fresh)))
@@ -105,10 +105,10 @@ numbering-nothing S s names l c v label by k = record {
 }
 
 -- the symbols of a legal `$c` are new, and those of a legal `$v` are no labels
-pub constants-free : (S : Database) (names : Declared) (xs : List Name) → broken_rule S (Const xs) ≡ None → TellsAll S names → (x : Name) → has_name x xs ≡ true → kind_in names x ≡ None
+pub constants-free : (S : Database) (names : Declared) (xs : List Name) → broken_rule S (Const xs) ≡ None → MatchesKinds S names → (x : Name) → has_name x xs ≡ true → kind_in names x ≡ None
 constants-free S names xs legal told x h = fresh-none S names x told (all-has _ x xs (legal-constants S xs legal).0 h)
 
-pub variables-free : (S : Database) (names : Declared) (xs : List Name) → broken_rule S (Var xs) ≡ None → TellsAll S names → (x : Name) → has_name x xs ≡ true → (is_label_kind (kind_in names x) ≡ false) × (is_constant_kind (kind_in names x) ≡ false)
+pub variables-free : (S : Database) (names : Declared) (xs : List Name) → broken_rule S (Var xs) ≡ None → MatchesKinds S names → (x : Name) → has_name x xs ≡ true → (is_label_kind (kind_in names x) ≡ false) × (is_constant_kind (kind_in names x) ≡ false)
 variables-free S names xs legal told x h = inactive-free S names x told (all-has _ x xs (legal-variables S xs legal).0 h)
 
 pub numbering-constants : (S : Database) (names : Declared) (xs : List Name) → broken_rule S (Const xs) ≡ None → IsNumberingOf S names → IsNumberingOf (S ++ Const xs ∷ []) (with_kinds names Constant xs)
@@ -130,7 +130,7 @@ numbering-variables S names xs legal k =
     }
 
 -- the label of a legal statement is new
-pub label-free : (S : Database) (names : Declared) (s : Stmt) (l : Name) → label_of s ≡ Some l → broken_rule S s ≡ None → TellsAll S names → kind_in names l ≡ None
+pub label-free : (S : Database) (names : Declared) (s : Stmt) (l : Name) → label_of s ≡ Some l → broken_rule S s ≡ None → MatchesKinds S names → kind_in names l ≡ None
 label-free S names s l is legal told = fresh-none S names l told (legal-label S s l is legal)
 
 pub numbering-label : (S : Database) (names : Declared) (s : Stmt) (l : Name) → label_of s ≡ Some l → constants s ≡ [] → variables s ≡ [] → symbols_by s ≡ [] → broken_rule S s ≡ None → IsNumberingOf S names → IsNumberingOf (S ++ s ∷ []) (with_kind names Label l)
@@ -144,7 +144,7 @@ numbering-label S names s l is c v none legal k =
 
 -- ---- by the shape of the statement
 
-pub may-declare : (S : Database) (s : Stmt) (names : Declared) → broken_rule S s ≡ None → TellsAll S names → MayDeclare names s
+pub may-declare : (S : Database) (s : Stmt) (names : Declared) → broken_rule S s ≡ None → MatchesKinds S names → MayDeclare names s
 may-declare S (Const xs) names legal told = λ x h. ap is_label_kind (constants-free S names xs legal told x h)
 may-declare S (Var xs) names legal told = λ x h. (variables-free S names xs legal told x h).0
 may-declare S (Float label constant variable) names legal told = label-free S names (Float label constant variable) label refl legal told
@@ -179,14 +179,14 @@ declared_with-more names Close = ([], sym (append-nil names))
 declared_with-more names (Disj xs) = ([], sym (append-nil names))
 
 -- the recorded numbers of a legal statement stand for its symbols
-pub noted-after : (S : Database) (s : Stmt) (names : Declared) (old new : Option (List ℕ)) → broken_rule S s ≡ None → IsNumberingOf S names → IsNotedBy (declared_with names s) s old new
-    → AreNoted (symbols_after S s) (symbols_in s) old → AreNoted (symbols_after S s) (symbols_in s) new
-noted-after S (Const xs) names old new legal k is noted = subst (λ (N : List Name). AreNoted N xs new) ((numbering-constants S names xs legal k).symbols ∙ symbols_of-append S (Const xs)) is
-noted-after S (Var xs) names old new legal k is noted = subst (λ (N : List Name). AreNoted N xs new) ((numbering-variables S names xs legal k).symbols ∙ symbols_of-append S (Var xs)) is
-noted-after S (Float label constant variable) names old new legal k is noted = subst (AreNoted (symbols_of S) (constant ∷ variable ∷ [])) (sym is) noted
-noted-after S (Ess label expr) names old new legal k is noted = subst (AreNoted (symbols_of S) expr) (sym is) noted
-noted-after S (Axiom label expr) names old new legal k is noted = subst (AreNoted (symbols_of S) expr) (sym is) noted
-noted-after S (Prove label expr proof) names old new legal k is noted = subst (AreNoted (symbols_of S) expr) (sym is) noted
-noted-after S Open names old new legal k is noted = subst (AreNoted (symbols_of S) []) (sym is) noted
-noted-after S Close names old new legal k is noted = subst (AreNoted (symbols_of S) []) (sym is) noted
-noted-after S (Disj xs) names old new legal k is noted = subst (AreNoted (symbols_of S) xs) (sym is) noted
+pub recorded-after : (S : Database) (s : Stmt) (names : Declared) (old new : Option (List ℕ)) → broken_rule S s ≡ None → IsNumberingOf S names → IsRecordedBy (declared_with names s) s old new
+    → AreRecorded (symbols_after S s) (symbols_in s) old → AreRecorded (symbols_after S s) (symbols_in s) new
+recorded-after S (Const xs) names old new legal k is recorded = subst (λ (N : List Name). AreRecorded N xs new) ((numbering-constants S names xs legal k).symbols ∙ symbols_of-append S (Const xs)) is
+recorded-after S (Var xs) names old new legal k is recorded = subst (λ (N : List Name). AreRecorded N xs new) ((numbering-variables S names xs legal k).symbols ∙ symbols_of-append S (Var xs)) is
+recorded-after S (Float label constant variable) names old new legal k is recorded = subst (AreRecorded (symbols_of S) (constant ∷ variable ∷ [])) (sym is) recorded
+recorded-after S (Ess label expr) names old new legal k is recorded = subst (AreRecorded (symbols_of S) expr) (sym is) recorded
+recorded-after S (Axiom label expr) names old new legal k is recorded = subst (AreRecorded (symbols_of S) expr) (sym is) recorded
+recorded-after S (Prove label expr proof) names old new legal k is recorded = subst (AreRecorded (symbols_of S) expr) (sym is) recorded
+recorded-after S Open names old new legal k is recorded = subst (AreRecorded (symbols_of S) []) (sym is) recorded
+recorded-after S Close names old new legal k is recorded = subst (AreRecorded (symbols_of S) []) (sym is) recorded
+recorded-after S (Disj xs) names old new legal k is recorded = subst (AreRecorded (symbols_of S) xs) (sym is) recorded

@@ -7,7 +7,7 @@ use Rattle.std.proofs.lemmas.Option.{slice_get-map, slice_get_read}
 use Rattle.mm_lex.specs.Alphabet.{Name}
 use Rattle.names.specs.Codes.{name_at, code_of}
 use Rattle.names.proofs.CodesLemmas.{code-name, code-first, added-name}
-use Rattle.scope.specs.Kinds.{Declared, declared_names, declared_symbols, declared_labels, names_that, names_as, kind_in, with_their, is_symbol_kind, is_labelling, IsNumberOf}
+use Rattle.scope.specs.Kinds.{Declared, declared_names, declared_symbols, declared_labels, names_that, names_as, kind_in, zip_kinds, is_symbol_kind, is_labelling, IsNumberOf}
 use Rattle.scope.specs.Stored.KindCounts.{kinds_of, AreCounted, places_that}
 use Rattle.scope.specs.declared.numbering.NameKind.{NameKind}
 use Rattle.scope.specs.declared.numbering.NameKind.TheVariants.{Label, Constant, Variable}
@@ -18,68 +18,68 @@ use Rattle.scope.proofs.SymbolNameLemmas.{names_that-append, number-at}
 
 module _ (names : List Name) (entries : List CountedKind) (same : length entries ≡ length names) (counted : AreCounted 0 entries) (e : CountedKind) where
   -- the symbols before a place
-  pub symbols-before : (n : ℕ) → slice_get entries n ≡ Some e → e.before ≡ length (declared_symbols (take n (with_their names (kinds_of entries))))
+  pub symbols-before : (n : ℕ) → slice_get entries n ≡ Some e → e.before ≡ length (declared_symbols (take n (zip_kinds names (kinds_of entries))))
   symbols-before n at = let is = count-at names entries 0 n e same counted at in omega (arith, is)
 
-  all-before : (n : ℕ) → n ≤ length names → length (take n (with_their names (kinds_of entries))) ≡ n
+  all-before : (n : ℕ) → n ≤ length names → length (take n (zip_kinds names (kinds_of entries))) ≡ n
   all-before n below =
       let size = length-seen names (kinds_of entries) (kinds-length names entries same) in
-      length-take-le n (with_their names (kinds_of entries)) (omega (arith, size, below))
+      length-take-le n (zip_kinds names (kinds_of entries)) (omega (arith, size, below))
 
   -- there are no more than names, and the others are labels
   pub before-within : (n : ℕ) → n ≤ length names → slice_get entries n ≡ Some e → e.before ≤ n
   before-within n below at =
       let is = symbols-before n at in
       let all = all-before n below in
-      let both = both-counts (take n (with_their names (kinds_of entries))) in
+      let both = both-counts (take n (zip_kinds names (kinds_of entries))) in
       omega (arith, is, all, both)
 
-  pub labels-before : (n : ℕ) → n ≤ length names → slice_get entries n ≡ Some e → n - e.before ≡ length (declared_labels (take n (with_their names (kinds_of entries))))
+  pub labels-before : (n : ℕ) → n ≤ length names → slice_get entries n ≡ Some e → n - e.before ≡ length (declared_labels (take n (zip_kinds names (kinds_of entries))))
   labels-before n below at =
       let is = symbols-before n at in
       let all = all-before n below in
-      let both = both-counts (take n (with_their names (kinds_of entries))) in
+      let both = both-counts (take n (zip_kinds names (kinds_of entries))) in
       omega (arith, is, all, both)
 
   -- the kind of the name at a place
-  pub kind-of-entry : (x : Name) (n : ℕ) → code_of names x ≡ Some n → slice_get entries n ≡ Some e → kind_in (with_their names (kinds_of entries)) x ≡ Some e.kind
+  pub kind-of-entry : (x : Name) (n : ℕ) → code_of names x ≡ Some n → slice_get entries n ≡ Some e → kind_in (zip_kinds names (kinds_of entries)) x ≡ Some e.kind
   kind-of-entry x n code at =
       let p = code-name names x n code in
       kind-at names (kinds_of entries) x n e.kind p.0 p.1 (code-first names x n code) (slice_get-map (λ e. e.kind) entries n ∙ ap (option_map (λ e. e.kind)) at)
 
   numbered : (own : NameKind → Bool) (x : Name) (n : ℕ) → code_of names x ≡ Some n → slice_get entries n ≡ Some e → own e.kind ≡ true
-      → IsNumberOf (names_that own (with_their names (kinds_of entries))) x (length (names_that own (take n (with_their names (kinds_of entries)))))
+      → IsNumberOf (names_that own (zip_kinds names (kinds_of entries))) x (length (names_that own (take n (zip_kinds names (kinds_of entries)))))
   numbered own x n code at is =
       let p = code-name names x n code in
-      by (declared_names (with_their names (kinds_of entries))) (names-seen names (kinds_of entries) (kinds-length names entries same)) p.0 p.1 (code-first names x n code)
+      by (declared_names (zip_kinds names (kinds_of entries))) (names-seen names (kinds_of entries) (kinds-length names entries same)) p.0 p.1 (code-first names x n code)
     where
       by : (seen : List Name) → seen ≡ names → n < length names → name_at names n ≡ x → ((m : ℕ) → m < n → name_at names m ≡ x → ⊥)
-          → IsNumberOf (names_that own (with_their names (kinds_of entries))) x (length (names_that own (take n (with_their names (kinds_of entries)))))
+          → IsNumberOf (names_that own (zip_kinds names (kinds_of entries))) x (length (names_that own (take n (zip_kinds names (kinds_of entries)))))
       by seen are below here first =
           let is_seen = names-seen names (kinds_of entries) (kinds-length names entries same) in
-          number-at own (with_their names (kinds_of entries)) x n e.kind (subst (λ (N : List Name). n < length N) (sym is_seen) below) (ap (λ N. name_at N n) is_seen ∙ here)
+          number-at own (zip_kinds names (kinds_of entries)) x n e.kind (subst (λ (N : List Name). n < length N) (sym is_seen) below) (ap (λ N. name_at N n) is_seen ∙ here)
           (λ m lt q. first m lt (ap (λ N. name_at N m) (sym is_seen) ∙ q)) (kind-of-entry x n code at) is
 
   -- and its number
   pub number-of-entry : (x : Name) (n : ℕ) → code_of names x ≡ Some n → slice_get entries n ≡ Some e
-      → IsNumberOf (names_as e.kind (with_their names (kinds_of entries))) x (cond (is_symbol_kind e.kind) e.before (n - e.before))
+      → IsNumberOf (names_as e.kind (zip_kinds names (kinds_of entries))) x (cond (is_symbol_kind e.kind) e.before (n - e.before))
   number-of-entry x n code at = by e.kind refl (code-name names x n code).0
     where
       within : n < length names → n ≤ length names
       within lt = omega (arith, lt)
 
-      by : (k : NameKind) → e.kind ≡ k → n < length names → IsNumberOf (names_as k (with_their names (kinds_of entries))) x (cond (is_symbol_kind k) e.before (n - e.before))
-      by Label q lt = subst (λ (i : ℕ). IsNumberOf (names_that is_labelling (with_their names (kinds_of entries))) x i) (sym (labels-before n (within lt) at)) (numbered is_labelling x n code at (ap is_labelling q))
-      by Constant q lt = subst (λ (i : ℕ). IsNumberOf (names_that is_symbol_kind (with_their names (kinds_of entries))) x i) (sym (symbols-before n at)) (numbered is_symbol_kind x n code at (ap is_symbol_kind q))
-      by Variable q lt = subst (λ (i : ℕ). IsNumberOf (names_that is_symbol_kind (with_their names (kinds_of entries))) x i) (sym (symbols-before n at)) (numbered is_symbol_kind x n code at (ap is_symbol_kind q))
+      by : (k : NameKind) → e.kind ≡ k → n < length names → IsNumberOf (names_as k (zip_kinds names (kinds_of entries))) x (cond (is_symbol_kind k) e.before (n - e.before))
+      by Label q lt = subst (λ (i : ℕ). IsNumberOf (names_that is_labelling (zip_kinds names (kinds_of entries))) x i) (sym (labels-before n (within lt) at)) (numbered is_labelling x n code at (ap is_labelling q))
+      by Constant q lt = subst (λ (i : ℕ). IsNumberOf (names_that is_symbol_kind (zip_kinds names (kinds_of entries))) x i) (sym (symbols-before n at)) (numbered is_symbol_kind x n code at (ap is_symbol_kind q))
+      by Variable q lt = subst (λ (i : ℕ). IsNumberOf (names_that is_symbol_kind (zip_kinds names (kinds_of entries))) x i) (sym (symbols-before n at)) (numbered is_symbol_kind x n code at (ap is_symbol_kind q))
 
 -- there are as many places as names of some kinds
-pub places-count : (own : NameKind → Bool) (names : List Name) (entries : List CountedKind) (places : List ℕ) (seen : Declared) → length entries ≡ length names → places ≡ places_that own 0 entries → with_their names (kinds_of entries) ≡ seen
+pub places-count : (own : NameKind → Bool) (names : List Name) (entries : List CountedKind) (places : List ℕ) (seen : Declared) → length entries ≡ length names → places ≡ places_that own 0 entries → zip_kinds names (kinds_of entries) ≡ seen
     → length places ≡ length (names_that own seen)
 places-count own names entries places seen same are view = ap length are ∙ (places-length own 0 names entries same ∙ ap (λ N. length (names_that own N)) view)
 
 -- the name of a number stands at its place
-pub name-of-number : (own : NameKind → Bool) (names : List Name) (entries : List CountedKind) (places : List ℕ) (seen : Declared) (n p : ℕ) → length entries ≡ length names → places ≡ places_that own 0 entries → with_their names (kinds_of entries) ≡ seen
+pub name-of-number : (own : NameKind → Bool) (names : List Name) (entries : List CountedKind) (places : List ℕ) (seen : Declared) (n p : ℕ) → length entries ≡ length names → places ≡ places_that own 0 entries → zip_kinds names (kinds_of entries) ≡ seen
     → n < length (names_that own seen) → p ≡ get_or places n p → (p < length names) × (name_at names p ≡ name_at (names_that own seen) n)
 name-of-number own names entries places seen n p same are view below at =
     let count = places-count own names entries places seen same are view in

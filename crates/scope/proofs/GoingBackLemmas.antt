@@ -16,7 +16,7 @@ use Rattle.names.specs.Codes.{numbers_in, number_in, AreNamed}
 use Rattle.scope.specs.Symbols.{symbols_of}
 use Rattle.scope.specs.Standing.{stands_at, standing_of}
 use Rattle.scope.specs.declared.standing.Standing.{Standing}
-use Rattle.scope.specs.Kinds.{Declared, kind_in, TellsAll, is_label_kind, is_constant_kind}
+use Rattle.scope.specs.Kinds.{Declared, kind_in, MatchesKinds, is_label_kind, is_constant_kind}
 use Rattle.scope.specs.Stored.Stacks.{sizes_of, blocks_of, can_push, IsKept}
 use Rattle.scope.specs.declared.stack_heights.StackHeights.{StackHeights}
 use Rattle.scope.specs.declared.numbering.NameKind.{NameKind}
@@ -111,14 +111,14 @@ all-has p x (y ∷ xs) h k = by (name_eq x y) refl (and_parts (p y) (list_all p 
     by true e h k rest = ap p (same_name x y e) ∙ h.0
     by false e h k rest = rest h.1 k
 
-pub fresh-none : (S : Database) (names : Declared) (x : Name) → TellsAll S names → not (was_symbol S x || was_label S x) ≡ true → kind_in names x ≡ None
+pub fresh-none : (S : Database) (names : Declared) (x : Name) → MatchesKinds S names → not (was_symbol S x || was_label S x) ≡ true → kind_in names x ≡ None
 fresh-none S names x told h = by (kind_in names x) (fresh-kind S x (kind_in names x) (told x) ∙ h)
   where
     by : (k : Option NameKind) → not (is_some k) ≡ true → k ≡ None
     by None h = refl
     by (Some k) h = cc
 
-pub inactive-free : (S : Database) (names : Declared) (x : Name) → TellsAll S names → not (is_variable S x || is_constant S x || was_label S x) ≡ true
+pub inactive-free : (S : Database) (names : Declared) (x : Name) → MatchesKinds S names → not (is_variable S x || is_constant S x || was_label S x) ≡ true
     → (is_label_kind (kind_in names x) ≡ false) × (is_constant_kind (kind_in names x) ≡ false)
 inactive-free S names x told h =
     let p = or_parts (is_variable S x || is_constant S x) (was_label S x) (not-true (is_variable S x || is_constant S x || was_label S x) h) in

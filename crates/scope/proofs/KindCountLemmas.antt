@@ -6,7 +6,7 @@ use Rattle.std.proofs.lemmas.Option.{same_Some}
 use Rattle.mm_lex.specs.Alphabet.{Name}
 use Rattle.names.specs.Codes.{name_at}
 use Rattle.scope.specs.Stored.KindCounts.{kinds_of, behind, AreCounted, places_that}
-use Rattle.scope.specs.Kinds.{Declared, names_that, declared_symbols, symbols_before, with_their, is_symbol_kind, is_labelling}
+use Rattle.scope.specs.Kinds.{Declared, names_that, declared_symbols, symbols_before, zip_kinds, is_symbol_kind, is_labelling}
 use Rattle.scope.specs.declared.numbering.CountedKind.{CountedKind}
 use Rattle.scope.specs.declared.numbering.NameKind.{NameKind}
 use Rattle.scope.specs.declared.numbering.NameKind.TheVariants.{Label, Constant, Variable}
@@ -41,14 +41,14 @@ counted-take n (suc i) (e ∷ entries) c = (c.0, counted-take (behind e) i entri
 
 -- the count of an entry is that of the symbols before its place
 pub count-at : (names : List Name) (entries : List CountedKind) (n i : ℕ) (e : CountedKind) → length entries ≡ length names → AreCounted n entries → slice_get entries i ≡ Some e
-    → e.before ≡ n + symbols_before (with_their names (kinds_of entries)) i
+    → e.before ≡ n + symbols_before (zip_kinds names (kinds_of entries)) i
 count-at names [] n i e l c h = cc
 count-at [] (d ∷ entries) n i e l c h = absurd (omega (arith, l))
 count-at (x ∷ names) (d ∷ entries) n zero e l c h = ap (λ (z : CountedKind). z.before) (sym (same_Some d e h)) ∙ (c.0 ∙ sym (add-zero n))
 count-at (x ∷ names) (d ∷ entries) n (suc i) e l c h = by (is_symbol_kind d.kind) (count-at names entries (behind d) i e (omega (arith, l)) c.1 h)
   where
-    by : (b : Bool) → e.before ≡ cond b (d.before + 1) d.before + symbols_before (with_their names (kinds_of entries)) i
-        → e.before ≡ n + length (cond b (x ∷ declared_symbols (take i (with_their names (kinds_of entries)))) (declared_symbols (take i (with_their names (kinds_of entries)))))
+    by : (b : Bool) → e.before ≡ cond b (d.before + 1) d.before + symbols_before (zip_kinds names (kinds_of entries)) i
+        → e.before ≡ n + length (cond b (x ∷ declared_symbols (take i (zip_kinds names (kinds_of entries)))) (declared_symbols (take i (zip_kinds names (kinds_of entries)))))
     by true k = let o = c.0 in omega (arith, k, o)
     by false k = let o = c.0 in omega (arith, k, o)
 
@@ -67,14 +67,14 @@ places-push own n (d ∷ entries) e = by (own d.kind) (places-push own (n + 1) e
     by false h = h
 
 -- there are as many as names of these kinds
-pub places-length : (own : NameKind → Bool) (n : ℕ) (names : List Name) (entries : List CountedKind) → length entries ≡ length names → length (places_that own n entries) ≡ length (names_that own (with_their names (kinds_of entries)))
+pub places-length : (own : NameKind → Bool) (n : ℕ) (names : List Name) (entries : List CountedKind) → length entries ≡ length names → length (places_that own n entries) ≡ length (names_that own (zip_kinds names (kinds_of entries)))
 places-length own n [] [] h = refl
 places-length own n [] (e ∷ entries) h = absurd (omega (arith, h))
 places-length own n (x ∷ names) [] h = absurd (omega (arith, h))
 places-length own n (x ∷ names) (e ∷ entries) h = by (own e.kind) (places-length own (n + 1) names entries (omega (arith, h)))
   where
-    by : (b : Bool) → length (places_that own (n + 1) entries) ≡ length (names_that own (with_their names (kinds_of entries)))
-        → length (cond b (n ∷ places_that own (n + 1) entries) (places_that own (n + 1) entries)) ≡ length (cond b (x ∷ names_that own (with_their names (kinds_of entries))) (names_that own (with_their names (kinds_of entries))))
+    by : (b : Bool) → length (places_that own (n + 1) entries) ≡ length (names_that own (zip_kinds names (kinds_of entries)))
+        → length (cond b (n ∷ places_that own (n + 1) entries) (places_that own (n + 1) entries)) ≡ length (cond b (x ∷ names_that own (zip_kinds names (kinds_of entries))) (names_that own (zip_kinds names (kinds_of entries))))
     by true k = ap suc k
     by false k = k
 
@@ -88,28 +88,28 @@ places-fewer own n (e ∷ entries) = by (own e.kind) (places-fewer own (n + 1) e
 
 -- the place of a number is that of the name
 pub place-at : (own : NameKind → Bool) (n : ℕ) (names : List Name) (entries : List CountedKind) (c p : ℕ) → length entries ≡ length names → slice_get (places_that own n entries) c ≡ Some p
-    → (i : ℕ) × (p ≡ n + i) × (i < length names) × (name_at names i ≡ name_at (names_that own (with_their names (kinds_of entries))) c)
+    → (i : ℕ) × (p ≡ n + i) × (i < length names) × (name_at names i ≡ name_at (names_that own (zip_kinds names (kinds_of entries))) c)
 place-at own n [] [] c p h g = cc
 place-at own n [] (e ∷ entries) c p h g = absurd (omega (arith, h))
 place-at own n (x ∷ names) [] c p h g = absurd (omega (arith, h))
 place-at own n (x ∷ names) (e ∷ entries) c p h g = by (own e.kind) c g (λ d. place-at own (n + 1) names entries d p (omega (arith, h)))
   where
-    later : (c : ℕ) → ((i : ℕ) × (p ≡ n + 1 + i) × (i < length names) × (name_at names i ≡ name_at (names_that own (with_their names (kinds_of entries))) c))
-        → (i : ℕ) × (p ≡ n + i) × (i < suc (length names)) × (name_at (x ∷ names) i ≡ name_at (names_that own (with_their names (kinds_of entries))) c)
+    later : (c : ℕ) → ((i : ℕ) × (p ≡ n + 1 + i) × (i < length names) × (name_at names i ≡ name_at (names_that own (zip_kinds names (kinds_of entries))) c))
+        → (i : ℕ) × (p ≡ n + i) × (i < suc (length names)) × (name_at (x ∷ names) i ≡ name_at (names_that own (zip_kinds names (kinds_of entries))) c)
     later c rest =
         let at = rest.1 in let below = rest.2 in
         (suc rest.0, omega (arith, at), omega (arith, below), rest.3)
 
     by : (b : Bool) (c : ℕ) → slice_get (cond b (n ∷ places_that own (n + 1) entries) (places_that own (n + 1) entries)) c ≡ Some p
-        → ((d : ℕ) → slice_get (places_that own (n + 1) entries) d ≡ Some p → (i : ℕ) × (p ≡ n + 1 + i) × (i < length names) × (name_at names i ≡ name_at (names_that own (with_their names (kinds_of entries))) d))
-        → (i : ℕ) × (p ≡ n + i) × (i < suc (length names)) × (name_at (x ∷ names) i ≡ name_at (cond b (x ∷ names_that own (with_their names (kinds_of entries))) (names_that own (with_their names (kinds_of entries)))) c)
+        → ((d : ℕ) → slice_get (places_that own (n + 1) entries) d ≡ Some p → (i : ℕ) × (p ≡ n + 1 + i) × (i < length names) × (name_at names i ≡ name_at (names_that own (zip_kinds names (kinds_of entries))) d))
+        → (i : ℕ) × (p ≡ n + i) × (i < suc (length names)) × (name_at (x ∷ names) i ≡ name_at (cond b (x ∷ names_that own (zip_kinds names (kinds_of entries))) (names_that own (zip_kinds names (kinds_of entries)))) c)
     by true zero g rest = (0, sym (same_Some n p g) ∙ sym (add-zero n), omega arith, refl)
     by true (suc c) g rest = later c (rest c g)
     by false c g rest = later c (rest c g)
 
 -- those of the first entries come first
 pub places-take : (own : NameKind → Bool) (n k : ℕ) (names : List Name) (entries : List CountedKind) → length entries ≡ length names
-    → places_that own n (take k entries) ≡ take (length (names_that own (take k (with_their names (kinds_of entries))))) (places_that own n entries)
+    → places_that own n (take k entries) ≡ take (length (names_that own (take k (zip_kinds names (kinds_of entries))))) (places_that own n entries)
 places-take own n zero [] [] h = refl
 places-take own n (suc k) [] [] h = refl
 places-take own n k [] (e ∷ entries) h = absurd (omega (arith, h))
@@ -117,9 +117,9 @@ places-take own n k (x ∷ names) [] h = absurd (omega (arith, h))
 places-take own n zero (x ∷ names) (e ∷ entries) h = refl
 places-take own n (suc k) (x ∷ names) (e ∷ entries) h = by (own e.kind) (places-take own (n + 1) k names entries (omega (arith, h)))
   where
-    by : (b : Bool) → places_that own (n + 1) (take k entries) ≡ take (length (names_that own (take k (with_their names (kinds_of entries))))) (places_that own (n + 1) entries)
+    by : (b : Bool) → places_that own (n + 1) (take k entries) ≡ take (length (names_that own (take k (zip_kinds names (kinds_of entries))))) (places_that own (n + 1) entries)
         → cond b (n ∷ places_that own (n + 1) (take k entries)) (places_that own (n + 1) (take k entries))
-        ≡ take (length (cond b (x ∷ names_that own (take k (with_their names (kinds_of entries)))) (names_that own (take k (with_their names (kinds_of entries)))))) (cond b (n ∷ places_that own (n + 1) entries) (places_that own (n + 1) entries))
+        ≡ take (length (cond b (x ∷ names_that own (take k (zip_kinds names (kinds_of entries)))) (names_that own (take k (zip_kinds names (kinds_of entries)))))) (cond b (n ∷ places_that own (n + 1) entries) (places_that own (n + 1) entries))
     by true g = ap (λ r. n ∷ r) g
     by false g = g
 

@@ -12,7 +12,7 @@ use Rattle.mm_read.specs.Statements.{Database}
 use Rattle.scope.specs.Active.{variables, constants, active, is_float_of, typed_by, is_variable, is_constant, has_float, was_symbol, was_label, was_variable, active_variables, typed_variables}
 use Rattle.scope.specs.Legal.{all_different}
 use Rattle.names.specs.Codes.{number_in, numbers_in}
-use Rattle.scope.specs.Kinds.{Tells}
+use Rattle.scope.specs.Kinds.{MatchesKind}
 use Rattle.scope.specs.Sorts.{IsSort, sort_by}
 use Rattle.scope.specs.declared.numbering.NameKind.{NameKind}
 use Rattle.scope.specs.declared.numbering.NameKind.TheVariants.{Label, Constant, Variable}
@@ -86,22 +86,22 @@ numbers-has names x (y ∷ xs) h = ap (λ b. b || list_any (λ n. n == number_in
 not_active : (S : Database) (x : Name) → was_variable S x ≡ false → is_variable S x ≡ false
 not_active S x h = false_from_ne_true (is_variable S x) (λ e. true≢false (sym (active-was 1 S x (sym (is_variable-active S x) ∙ e)) ∙ h))
 
-pub constant-sort : (S : Database) (x : Name) → Tells S x (Some Constant) → IsSort S x sort.Constant
+pub constant-sort : (S : Database) (x : Name) → MatchesKind S x (Some Constant) → IsSort S x sort.Constant
 constant-sort S x t =
     let no = not_active S x t.variable in
     record { constant = t.constant; variable = no; label = t.label; untyped = ap (λ b. not b || has_float S x) no }
 
-pub label-sort : (S : Database) (x : Name) → Tells S x (Some Label) → IsSort S x sort.Label
+pub label-sort : (S : Database) (x : Name) → MatchesKind S x (Some Label) → IsSort S x sort.Label
 label-sort S x t =
     let no = not_active S x t.variable in
     record { constant = t.constant; variable = no; label = t.label; untyped = ap (λ b. not b || has_float S x) no }
 
-pub no-sort : (S : Database) (x : Name) → Tells S x None → IsSort S x sort.Inactive
+pub no-sort : (S : Database) (x : Name) → MatchesKind S x None → IsSort S x sort.Inactive
 no-sort S x t =
     let no = not_active S x t.variable in
     record { constant = t.constant; variable = no; label = t.label; untyped = ap (λ b. not b || has_float S x) no }
 
-pub variable-sort : (S : Database) (x : Name) → Tells S x (Some Variable) → IsSort S x (sort_by (is_variable S x) (has_float S x))
+pub variable-sort : (S : Database) (x : Name) → MatchesKind S x (Some Variable) → IsSort S x (sort_by (is_variable S x) (has_float S x))
 variable-sort S x t = by (is_variable S x) (has_float S x) refl refl
   where
     by : (a b : Bool) → is_variable S x ≡ a → has_float S x ≡ b → IsSort S x (sort_by a b)
@@ -110,7 +110,7 @@ variable-sort S x t = by (is_variable S x) (has_float S x) refl refl
     by false b p q = record { constant = t.constant; variable = p; label = t.label; untyped = ap (λ c. not c || has_float S x) p }
 
 -- a name with no kind was never declared, and one with a kind was
-pub fresh-kind : (S : Database) (x : Name) (k : Option NameKind) → Tells S x k → not (is_some k) ≡ not (was_symbol S x || was_label S x)
+pub fresh-kind : (S : Database) (x : Name) (k : Option NameKind) → MatchesKind S x k → not (is_some k) ≡ not (was_symbol S x || was_label S x)
 fresh-kind S x None t = ap not (sym (ap (λ b. b || was_label S x) (was_symbol-either S x ∙ (ap (λ b. b || was_variable S x) t.constant ∙ t.variable)) ∙ t.label))
 fresh-kind S x (Some Label) t = ap not (sym (ap (λ b. b || was_label S x) (was_symbol-either S x ∙ (ap (λ b. b || was_variable S x) t.constant ∙ t.variable)) ∙ t.label))
 fresh-kind S x (Some Constant) t = ap not (sym (ap (λ b. b || was_label S x) (was_symbol-either S x ∙ ap (λ b. b || was_variable S x) t.constant)))

@@ -10,7 +10,7 @@ use Rattle.mm_lex.specs.Alphabet.{Name, name_eq, has_name}
 use Rattle.mm_read.specs.Statements.{Expr}
 use Rattle.names.specs.Codes.{name_at, decode, with_name, with_names, AreCodes}
 use Rattle.scope.specs.Kinds.{Declared, declared_names, names_that, declared_symbols, declared_labels, kind_in, with_kind, with_kinds, is_label_kind, is_symbol_kind, is_labelling, IsNumberOf}
-use Rattle.scope.specs.Stored.Noted.{AreNoted, IsAppended}
+use Rattle.scope.specs.Stored.SymbolNumbers.{AreRecorded, IsAppended}
 use Rattle.scope.specs.declared.numbering.NameKind.{NameKind}
 use Rattle.scope.specs.declared.numbering.NameKind.TheVariants.{Label, Constant, Variable}
 use Rattle.names.proofs.CodesLemmas.{name_same, same_name}
@@ -131,20 +131,20 @@ number-at own (p ∷ names) x (suc n) k lt e first h is =
 -- ---- numbers that are recorded
 
 -- one symbol more
-pub noted-more : (symbols : List Name) (xs : Expr) (x : Name) (n : ℕ) (old new : Option (List ℕ)) → IsNumberOf symbols x n → IsAppended n old new → AreNoted symbols xs old → AreNoted symbols (xs ++ x ∷ []) new
-noted-more symbols xs x n old None is more noted = tt
-noted-more symbols xs x n None (Some new) is more noted = cc
-noted-more symbols xs x n (Some old) (Some new) is more noted =
+pub recorded-more : (symbols : List Name) (xs : Expr) (x : Name) (n : ℕ) (old new : Option (List ℕ)) → IsNumberOf symbols x n → IsAppended n old new → AreRecorded symbols xs old → AreRecorded symbols (xs ++ x ∷ []) new
+recorded-more symbols xs x n old None is more recorded = tt
+recorded-more symbols xs x n None (Some new) is more recorded = cc
+recorded-more symbols xs x n (Some old) (Some new) is more recorded =
     let same : new ≡ old ++ n ∷ [] = same_Some new (old ++ n ∷ []) more in
     let below : nat_lt n (length symbols) ≡ true = lt-ltb n (length symbols) is.0 in (
-      ap (list_all (λ m. nat_lt m (length symbols))) same ∙ (list_all-append (λ m. nat_lt m (length symbols)) old (n ∷ []) ∙ (ap (λ b. b && (nat_lt n (length symbols) && true)) noted.0 ∙ ap (λ b. b && true) below)),
-      ap (decode symbols) same ∙ (map-append (name_at symbols) old (n ∷ []) ∙ (ap (λ r. r ++ name_at symbols n ∷ []) noted.1 ∙ ap (λ y. xs ++ y ∷ []) is.1)),
+      ap (list_all (λ m. nat_lt m (length symbols))) same ∙ (list_all-append (λ m. nat_lt m (length symbols)) old (n ∷ []) ∙ (ap (λ b. b && (nat_lt n (length symbols) && true)) recorded.0 ∙ ap (λ b. b && true) below)),
+      ap (decode symbols) same ∙ (map-append (name_at symbols) old (n ∷ []) ∙ (ap (λ r. r ++ name_at symbols n ∷ []) recorded.1 ∙ ap (λ y. xs ++ y ∷ []) is.1)),
     )
 
 -- with more symbols
-pub noted-later : (symbols more : List Name) (xs : Expr) (noted : Option (List ℕ)) → AreNoted symbols xs noted → AreNoted (symbols ++ more) xs noted
-noted-later symbols more xs None are = tt
-noted-later symbols more xs (Some numbers) are = (codes numbers are.0, same numbers are.0 ∙ are.1)
+pub recorded-later : (symbols more : List Name) (xs : Expr) (recorded : Option (List ℕ)) → AreRecorded symbols xs recorded → AreRecorded (symbols ++ more) xs recorded
+recorded-later symbols more xs None are = tt
+recorded-later symbols more xs (Some numbers) are = (codes numbers are.0, same numbers are.0 ∙ are.1)
   where
     within : (n : ℕ) → nat_lt n (length symbols) ≡ true → n < length (symbols ++ more)
     within n h = let below = ltb-true n (length symbols) h in let long = length-append symbols more in omega (arith, below, long)
@@ -163,4 +163,4 @@ noted-later symbols more xs (Some numbers) are = (codes numbers are.0, same numb
 
 -- the recorded numbers stand for the first of the symbols, and the rest is to come
 abbrev pub AreDone : List Name → Expr → Expr → Option (List ℕ) → Type 0
-AreDone symbols all rest noted = (done : Expr) × (done ++ rest ≡ all) × AreNoted symbols done noted
+AreDone symbols all rest recorded = (done : Expr) × (done ++ rest ≡ all) × AreRecorded symbols done recorded

@@ -5,7 +5,7 @@ use Rattle.mm_lex.specs.Alphabet.{Name, has_name}
 use Rattle.mm_read.specs.declared.stmt.Stmt.{Stmt}
 use Rattle.mm_read.specs.declared.stmt.Stmt.TheVariants.{Const, Var, Float, Ess, Axiom, Prove}
 use Rattle.scope.specs.Kinds.{Declared, declared_symbols, kind_in, is_label_kind, with_kind, with_kinds}
-use Rattle.scope.specs.Stored.Noted.{AreNoted}
+use Rattle.scope.specs.Stored.SymbolNumbers.{AreRecorded}
 use Rattle.scope.specs.declared.numbering.NameKind.TheVariants.{Label, Constant, Variable}
 
 -- the names after the statement
@@ -29,7 +29,7 @@ MayDeclare names (Prove label expr proof) = kind_in names label ≡ None
 MayDeclare names s = Unit {0}
 
 -- the numbers of the symbols that a `$c` or a `$v` declares are recorded; those of another statement stay as they were
-abbrev pub IsNotedBy : Declared → Stmt → Option (List ℕ) → Option (List ℕ) → Type 0
-IsNotedBy names (Const xs) old new = AreNoted (declared_symbols names) xs new
-IsNotedBy names (Var xs) old new = AreNoted (declared_symbols names) xs new
-IsNotedBy names s old new = new ≡ old
+abbrev pub IsRecordedBy : Declared → Stmt → Option (List ℕ) → Option (List ℕ) → Type 0
+IsRecordedBy names (Const xs) old new = AreRecorded (declared_symbols names) xs new
+IsRecordedBy names (Var xs) old new = AreRecorded (declared_symbols names) xs new
+IsRecordedBy names s old new = new ≡ old

@@ -15,10 +15,10 @@ abbrev pub Declared : Type 0
 Declared = List (Name × NameKind)
 
 -- each name with the kind that has its place
-abbrev pub with_their : List Name → List NameKind → Declared
-with_their [] kinds = []
-with_their (x ∷ names) [] = []
-with_their (x ∷ names) (k ∷ kinds) = (x, k) ∷ with_their names kinds
+abbrev pub zip_kinds : List Name → List NameKind → Declared
+zip_kinds [] kinds = []
+zip_kinds (x ∷ names) [] = []
+zip_kinds (x ∷ names) (k ∷ kinds) = (x, k) ∷ zip_kinds names kinds
 
 abbrev pub declared_names : Declared → List Name
 declared_names names = map (λ p. p.0) names
@@ -76,17 +76,17 @@ abbrev pub symbols_before : Declared → ℕ → ℕ
 symbols_before names n = length (declared_symbols (take n names))
 
 -- the kind tells what the statements say of the name
-pub record Tells (S : Database) (x : Name) (kind : Option NameKind) : Type 0 where
+pub record MatchesKind (S : Database) (x : Name) (kind : Option NameKind) : Type 0 where
   pub label : was_label S x ≡ is_label_kind kind
   pub constant : is_constant S x ≡ is_constant_kind kind
   pub variable : was_variable S x ≡ is_variable_kind kind
 
-abbrev pub TellsAll : Database → Declared → Type 0
-TellsAll S names = (x : Name) → Tells S x (kind_in names x)
+abbrev pub MatchesKinds : Database → Declared → Type 0
+MatchesKinds S names = (x : Name) → MatchesKind S x (kind_in names x)
 
 -- the labels and the symbols of the statements, each with its kind
 pub record IsNumberingOf (S : Database) (names : Declared) : Type 0 where
-  pub told : TellsAll S names
+  pub told : MatchesKinds S names
   pub symbols : declared_symbols names ≡ symbols_of S
   pub labels : declared_labels names ≡ labels_of S
 

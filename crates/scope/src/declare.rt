@@ -2,12 +2,12 @@
 ghost use Rattle.std.specs.Prelude.{◌≡◌, ◌++◌, None, true, false, IfOk, OnOk, OnErr};
 ghost use Rattle.mm_lex.specs.Alphabet.{Name, has_name};
 ghost use Rattle.scope.specs.Kinds.{Declared, IsNumberOf, declared_symbols, is_label_kind, is_symbol_kind, kind_in, with_kind, with_kinds};
-ghost use Rattle.scope.specs.Declares.{IsNotedBy, MayDeclare, declared_with};
-ghost use Rattle.scope.specs.Stored.Noted.{AreNoted};
+ghost use Rattle.scope.specs.Declares.{IsRecordedBy, MayDeclare, declared_with};
+ghost use Rattle.scope.specs.Stored.SymbolNumbers.{AreRecorded};
 ghost use Rattle.scope.specs.declared.numbering.NameKind.TheVariants as shape_kind;
 
-use crate::noted::Noted;
 use crate::numbering::{NameKind, Numbering};
+use crate::symbol_numbers::SymbolNumbers;
 use mm_lex::{Word, Words};
 use mm_read::Stmt;
 use std::alloc::{AllocError, Global};
@@ -19,16 +19,22 @@ pub fn declare_names(
     names: &mut Numbering,
     alloc: Global,
     stmt: &Stmt,
-    noted: &mut Noted,
+    recorded: &mut SymbolNumbers,
 ) -> Result<(), AllocError>
     requires { MayDeclare names.old stmt.now }
     ensures names { OnOk result (names.new ≡ declared_with names.old stmt.now) }
-    ensures noted { OnOk result (IsNotedBy names.new stmt.now noted.old noted.new) }
+    ensures recorded { OnOk result (IsRecordedBy names.new stmt.now recorded.old recorded.new) }
     ensures more { (more : Declared) × (names.new ≡ names.old ++ more) }
 {
     match stmt {
-        Stmt::Const(symbols) => declare_symbols(names, alloc, symbols, NameKind::Constant, noted),
-        Stmt::Var(symbols) => declare_symbols(names, alloc, symbols, NameKind::Variable, noted),
+        Stmt::Const(symbols) => declare_symbols(
+            names,
+            alloc,
+            symbols,
+            NameKind::Constant,
+            recorded,
+        ),
+        Stmt::Var(symbols) => declare_symbols(names, alloc, symbols, NameKind::Variable, recorded),
         Stmt::Float { label, .. } => declare_label(names, alloc, label),
         Stmt::Ess { label, .. } => declare_label(names, alloc, label),
         Stmt::Axiom { label, .. } => declare_label(names, alloc, label),
@@ -55,18 +61,18 @@ fn declare_symbols(
     alloc: Global,
     symbols: &Words,
     kind: NameKind,
-    noted: &mut Noted,
+    recorded: &mut SymbolNumbers,
 ) -> Result<(), AllocError>
     requires symbol { is_symbol_kind kind ≡ true }
     requires free { (x : Name) → has_name x symbols.now ≡ true → is_label_kind (kind_in names.old x) ≡ false }
     ensures ok { OnOk result (names.new ≡ with_kinds names.old kind symbols.now) }
-    ensures noted { OnOk result (AreNoted (declared_symbols names.new) symbols.now noted.new) }
+    ensures recorded { OnOk result (AreRecorded (declared_symbols names.new) symbols.now recorded.new) }
     ensures more { (more : Declared) × (names.new ≡ names.old ++ more) }
 {
-    noted.begin();
+    recorded.begin();
     for symbol in symbols.iter() {
         let number = declare_symbol(names, alloc, symbol, kind)?;
-        noted.note(number);
+        recorded.record_number(number);
     }
     Ok(())
 }

@@ -6,16 +6,16 @@ ghost use Rattle.mm_read.specs.Statements.{Expr};
 ghost use Rattle.mm_read.specs.declared.stmt.Stmt.TheVariants as stmt;
 ghost use Rattle.scope.specs.Active.{is_constant, is_variable, was_label, was_symbol};
 ghost use Rattle.scope.specs.Legal.{all_different, are_typed, starts_with_constant, broken_rule};
-ghost use Rattle.scope.specs.Stored.Noted.{AreNoted, numbers_differ};
+ghost use Rattle.scope.specs.Stored.SymbolNumbers.{AreRecorded, numbers_differ};
 ghost use Rattle.scope.specs.Stored.Ordered.{DifferNext, IsTwice};
 ghost use Rattle.scope.specs.Kinds.{IsNumberOf};
 ghost use Rattle.scope.specs.Sorts.{IsSort, is_symbol_sort, sorts_rule};
 ghost use Rattle.scope.specs.Symbols.{symbols_of, symbols_after, symbols_in};
 
-use crate::noted::Noted;
 use crate::numbering::{NameKind, Numbering};
 use crate::rule::Rule;
 use crate::rules::Rules;
+use crate::symbol_numbers::SymbolNumbers;
 use mm_lex::{Word, Words};
 use mm_read::Stmt;
 use std::alloc::{AllocError, Global};
@@ -60,29 +60,29 @@ impl<'a> Judge<'a> {
     ///
     /// If it breaks none and recording has begun, the recorded numbers are those of its symbols, or are discarded if an
     /// allocation fails; for `$c` and `$v` they are discarded.
-    pub(crate) fn broken_rule(&self, stmt: &Stmt, noted: &mut Noted) -> Option<Rule>
-        requires { AreNoted (symbols_of self.now.statements) [] noted.old }
+    pub(crate) fn broken_rule(&self, stmt: &Stmt, recorded: &mut SymbolNumbers) -> Option<Rule>
+        requires { AreRecorded (symbols_of self.now.statements) [] recorded.old }
         ensures rule { result ≡ broken_rule self.now.statements stmt.now }
-        ensures noted { result ≡ None → AreNoted (symbols_after self.now.statements stmt.now) (symbols_in stmt.now) noted.new }
+        ensures recorded { result ≡ None → AreRecorded (symbols_after self.now.statements stmt.now) (symbols_in stmt.now) recorded.new }
     {
         match stmt {
-            Stmt::Disj(symbols) => self.broken_by_disjoint(symbols, noted),
+            Stmt::Disj(symbols) => self.broken_by_disjoint(symbols, recorded),
             Stmt::Float {
                 label,
                 constant,
                 variable,
-            } => self.broken_by_float(label, constant, variable, noted),
-            Stmt::Ess { label, expr } => self.broken_by_labelled(label, expr, noted),
-            Stmt::Axiom { label, expr } => self.broken_by_labelled(label, expr, noted),
-            Stmt::Prove { label, expr, .. } => self.broken_by_labelled(label, expr, noted),
+            } => self.broken_by_float(label, constant, variable, recorded),
+            Stmt::Ess { label, expr } => self.broken_by_labelled(label, expr, recorded),
+            Stmt::Axiom { label, expr } => self.broken_by_labelled(label, expr, recorded),
+            Stmt::Prove { label, expr, .. } => self.broken_by_labelled(label, expr, recorded),
             Stmt::Open => None,
             Stmt::Close => self.broken_by_close(),
             Stmt::Const(symbols) => {
-                noted.forget();
+                recorded.forget();
                 self.broken_by_constants(symbols)
             }
             Stmt::Var(symbols) => {
-                noted.forget();
+                recorded.forget();
                 self.broken_by_variables(symbols)
             }
         }
@@ -124,15 +124,15 @@ impl<'a> Judge<'a> {
         None
     }
 
-    fn broken_by_disjoint(&self, symbols: &Words, noted: &mut Noted) -> Option<Rule>
-        requires { AreNoted (symbols_of self.now.statements) [] noted.old }
+    fn broken_by_disjoint(&self, symbols: &Words, recorded: &mut SymbolNumbers) -> Option<Rule>
+        requires { AreRecorded (symbols_of self.now.statements) [] recorded.old }
         ensures rule { result ≡ broken_rule self.now.statements (stmt.Disj symbols.now) }
-        ensures noted { result ≡ None → AreNoted (symbols_of self.now.statements) symbols.now noted.new }
+        ensures recorded { result ≡ None → AreRecorded (symbols_of self.now.statements) symbols.now recorded.new }
     {
-        if !self.are_active(symbols, noted) {
+        if !self.are_active(symbols, recorded) {
             return Some(Rule::G8);
         }
-        if !self.are_apart(symbols, noted) {
+        if !self.are_distinct(symbols, recorded) {
             return Some(Rule::G8);
         }
         None
@@ -143,29 +143,34 @@ impl<'a> Judge<'a> {
         label: &Word,
         constant: &Word,
         variable: &Word,
-        noted: &mut Noted,
+        recorded: &mut SymbolNumbers,
     ) -> Option<Rule>
-        requires { AreNoted (symbols_of self.now.statements) [] noted.old }
+        requires { AreRecorded (symbols_of self.now.statements) [] recorded.old }
         ensures rule { result ≡ broken_rule self.now.statements (stmt.Float label.now constant.now variable.now) }
-        ensures noted { result ≡ None → AreNoted (symbols_of self.now.statements) (constant.now ∷ variable.now ∷ []) noted.new }
+        ensures recorded { result ≡ None → AreRecorded (symbols_of self.now.statements) (constant.now ∷ variable.now ∷ []) recorded.new }
     {
         if !self.is_fresh(label.as_bytes()) {
             return Some(Rule::G4);
         }
-        let first = self.sort_and_note(constant.as_bytes(), noted);
-        let second = self.sort_and_note(variable.as_bytes(), noted);
+        let first = self.sort_and_record(constant.as_bytes(), recorded);
+        let second = self.sort_and_record(variable.as_bytes(), recorded);
         broken_by_sorts(first, second)
     }
 
-    fn broken_by_labelled(&self, label: &Word, expr: &Words, noted: &mut Noted) -> Option<Rule>
-        requires { AreNoted (symbols_of self.now.statements) [] noted.old }
+    fn broken_by_labelled(
+        &self,
+        label: &Word,
+        expr: &Words,
+        recorded: &mut SymbolNumbers,
+    ) -> Option<Rule>
+        requires { AreRecorded (symbols_of self.now.statements) [] recorded.old }
         ensures rule { result ≡ broken_rule self.now.statements (stmt.Axiom label.now expr.now) }
-        ensures noted { result ≡ None → AreNoted (symbols_of self.now.statements) expr.now noted.new }
+        ensures recorded { result ≡ None → AreRecorded (symbols_of self.now.statements) expr.now recorded.new }
     {
         if !self.is_fresh(label.as_bytes()) {
             return Some(Rule::G4);
         }
-        let Some((leads, typed)) = self.are_symbols(expr, noted) else {
+        let Some((leads, typed)) = self.are_symbols(expr, recorded) else {
             return Some(Rule::G5);
         };
         if !leads {
@@ -179,22 +184,22 @@ impl<'a> Judge<'a> {
 
     /// Returns whether each symbol is a constant or an active variable, and then whether the first is a
     /// constant, and each variable has an active `$f`.
-    fn are_symbols(&self, expr: &Words, noted: &mut Noted) -> Option<(bool, bool)>
-        requires { AreNoted (symbols_of self.now.statements) [] noted.old }
+    fn are_symbols(&self, expr: &Words, recorded: &mut SymbolNumbers) -> Option<(bool, bool)>
+        requires { AreRecorded (symbols_of self.now.statements) [] recorded.old }
         ensures symbols { result ≡ (if list_all (λ x. is_constant self.now.statements x || is_variable self.now.statements x) expr.now then Some (starts_with_constant self.now.statements expr.now, are_typed self.now.statements expr.now) else None) }
-        ensures noted { is_some result ≡ true → AreNoted (symbols_of self.now.statements) expr.now noted.new }
+        ensures recorded { is_some result ≡ true → AreRecorded (symbols_of self.now.statements) expr.now recorded.new }
     {
         let mut symbols = expr.iter();
         let Some(first) = symbols.next() else {
             return Some((true, true));
         };
-        let leader = self.sort_and_note(first, noted);
+        let leader = self.sort_and_record(first, recorded);
         if matches!(leader, Sort::Label | Sort::Inactive) {
             return None;
         }
         let mut typed = !matches!(leader, Sort::Untyped);
         for symbol in symbols {
-            match self.sort_and_note(symbol, noted) {
+            match self.sort_and_record(symbol, recorded) {
                 Sort::Constant | Sort::Typed => {}
                 Sort::Untyped => typed = false,
                 Sort::Label | Sort::Inactive => return None,
@@ -215,13 +220,13 @@ impl<'a> Judge<'a> {
         symbols.iter().all(|symbol| self.is_inactive(symbol))
     }
 
-    fn are_active(&self, symbols: &Words, noted: &mut Noted) -> bool
-        requires { AreNoted (symbols_of self.now.statements) [] noted.old }
+    fn are_active(&self, symbols: &Words, recorded: &mut SymbolNumbers) -> bool
+        requires { AreRecorded (symbols_of self.now.statements) [] recorded.old }
         ensures active { result ≡ list_all (λ x. is_variable self.now.statements x) symbols.now }
-        ensures noted { result ≡ true → AreNoted (symbols_of self.now.statements) symbols.now noted.new }
+        ensures recorded { result ≡ true → AreRecorded (symbols_of self.now.statements) symbols.now recorded.new }
     {
         for symbol in symbols.iter() {
-            let sort = self.sort_and_note(symbol, noted);
+            let sort = self.sort_and_record(symbol, recorded);
             if !matches!(sort, Sort::Typed | Sort::Untyped) {
                 return false;
             }
@@ -230,11 +235,11 @@ impl<'a> Judge<'a> {
     }
 
     /// Returns whether no symbol stands twice in the list. A short list is judged by the recorded numbers.
-    fn are_apart(&self, symbols: &Words, noted: &Noted) -> bool
-        requires { AreNoted (symbols_of self.now.statements) symbols.now noted.now }
+    fn are_distinct(&self, symbols: &Words, recorded: &SymbolNumbers) -> bool
+        requires { AreRecorded (symbols_of self.now.statements) symbols.now recorded.now }
         ensures { result ≡ all_different symbols.now }
     {
-        if let Some(numbers) = noted.numbers() {
+        if let Some(numbers) = recorded.numbers() {
             if numbers.len() < FEW {
                 return numbers_differ(numbers);
             }
@@ -251,12 +256,12 @@ impl<'a> Judge<'a> {
 
     /// Returns what a name is, and records the number of a symbol.
     #[inline(always)]
-    fn sort_and_note(&self, name: &[u8], noted: &mut Noted) -> Sort
+    fn sort_and_record(&self, name: &[u8], recorded: &mut SymbolNumbers) -> Sort
         ensures sort { IsSort self.now.statements name.now result }
-        ensures noted { (xs : Expr) → is_symbol_sort result ≡ true → AreNoted (symbols_of self.now.statements) xs noted.old → AreNoted (symbols_of self.now.statements) (xs ++ name.now ∷ []) noted.new }
+        ensures recorded { (xs : Expr) → is_symbol_sort result ≡ true → AreRecorded (symbols_of self.now.statements) xs recorded.old → AreRecorded (symbols_of self.now.statements) (xs ++ name.now ∷ []) recorded.new }
     {
         let (sort, number) = self.look_up(name);
-        noted.note(number);
+        recorded.record_number(number);
         sort
     }
 

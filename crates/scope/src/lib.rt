@@ -4,7 +4,7 @@
 //! that it breaks; `Rules` does the same with a numbering that is lent to it, so that one table of names serves rules and frames.
 //! Read `rule`, `standing` and `steps`, then `scope` and `reading` (what it tells) and `rules`; `legal` decides the rules,
 //! `accept` has what a statement changes in their state and `declare` what it declares in the numbering; `numbering`, `stack`,
-//! `stack_heights`, `history` and `noted` are the parts, `laws` what is active.
+//! `stack_heights`, `history` and `symbol_numbers` are the parts, `laws` what is active.
 #![tactic(auto)]
 
 mod accept;
@@ -12,7 +12,6 @@ mod declare;
 mod history;
 mod laws;
 mod legal;
-mod noted;
 mod numbering;
 mod reading;
 mod rule;
@@ -22,11 +21,11 @@ mod stack;
 mod stack_heights;
 mod standing;
 mod steps;
+mod symbol_numbers;
 
 pub use declare::declare_names;
 pub use history::History;
 pub use laws::{active_by_sentence, active_closed, active_later, active_more, rules_ignore_proofs};
-pub use noted::Noted;
 pub use numbering::{NameKind, Numbering};
 pub use rule::Rule;
 pub use rules::Rules;
@@ -34,3 +33,4 @@ pub use scope::Scope;
 pub use stack::Stack;
 pub use standing::Standing;
 pub use steps::Steps;
+pub use symbol_numbers::SymbolNumbers;

@@ -41,12 +41,12 @@ pub struct Numbering {
 impl Model for Numbering {
     ghost use Rattle.std.specs.Prelude.{ℕ, List};
     ghost use Rattle.scope.specs.Stored.KindCounts.{kinds_of, IsCounted};
-    ghost use Rattle.scope.specs.Kinds.{with_their};
+    ghost use Rattle.scope.specs.Kinds.{zip_kinds};
     ghost use Rattle.scope.specs.declared.numbering.NameKind.{NameKind};
 
     ghost Value = { List (List ℕ × NameKind) };
 
-    ghost view = { λ a. with_their a.names (kinds_of a.entries.items) };
+    ghost view = { λ a. zip_kinds a.names (kinds_of a.entries.items) };
 
     ghost invariant = { λ a. IsCounted a.names a.entries.items a.symbols.items a.labels.items };
 }

@@ -7,17 +7,17 @@ ghost use Rattle.scope.specs.Kinds.{IsNumberingOf};
 ghost use Rattle.scope.specs.Legal.{broken_rule, end_rule};
 ghost use Rattle.scope.specs.Sorts.{sort_by};
 ghost use Rattle.scope.specs.Standing.{standing_of};
-ghost use Rattle.scope.specs.Stored.Noted.{AreNoted};
+ghost use Rattle.scope.specs.Stored.SymbolNumbers.{AreRecorded};
 ghost use Rattle.scope.specs.Stored.Stacks.{sizes_of};
 ghost use Rattle.scope.specs.Symbols.{symbols_of, symbols_after, symbols_in};
 
 use crate::history::History;
 use crate::legal::{Judge, Sort};
-use crate::noted::Noted;
 use crate::numbering::Numbering;
 use crate::rule::Rule;
 use crate::stack::Stack;
 use crate::stack_heights::StackHeights;
+use crate::symbol_numbers::SymbolNumbers;
 use entries::give_back;
 use mm_read::Stmt;
 use std::alloc::{AllocError, Global};
@@ -149,19 +149,19 @@ impl Rules {
         names: &'a Numbering,
         alloc: Global,
         stmt: &Stmt,
-        noted: &mut Noted,
+        recorded: &mut SymbolNumbers,
     ) -> Option<Rule>
         requires numbering { IsNumberingOf self.now.statements names.now }
-        requires empty { AreNoted (symbols_of self.now.statements) [] noted.old }
+        requires empty { AreRecorded (symbols_of self.now.statements) [] recorded.old }
         ensures rule { result ≡ broken_rule self.now.statements stmt.now }
-        ensures noted { result ≡ None → AreNoted (symbols_after self.now.statements stmt.now) (symbols_in stmt.now) noted.new }
+        ensures recorded { result ≡ None → AreRecorded (symbols_after self.now.statements stmt.now) (symbols_in stmt.now) recorded.new }
     {
         let judge = Judge {
             rules: self,
             names,
             alloc,
         };
-        judge.broken_rule(stmt, noted)
+        judge.broken_rule(stmt, recorded)
     }
 
     /// Returns how many `$f`, `$e` and `$d` are active.

@@ -5,18 +5,18 @@ ghost use Rattle.scope.specs.Active.{bare, is_closed};
 ghost use Rattle.scope.specs.Legal.{IsLegal, broken_rule, end_rule};
 ghost use Rattle.scope.specs.Kinds.{Declared, IsNumberingOf};
 ghost use Rattle.scope.specs.Standing.{standing_of};
-ghost use Rattle.scope.specs.Stored.Noted.{AreNoted};
+ghost use Rattle.scope.specs.Stored.SymbolNumbers.{AreRecorded};
 ghost use Rattle.scope.specs.declared.standing.Standing.{Standing as Standings};
 ghost use Rattle.scope.specs.Symbols.{symbols_after, symbols_in};
 
 use crate::declare::declare_names;
 use crate::legal::Judge;
-use crate::noted::Noted;
 use crate::numbering::Numbering;
 use crate::rule::Rule;
 use crate::rules::Rules;
 use crate::standing::{Standing, copy_standing, push_standing};
 use crate::steps::Steps;
+use crate::symbol_numbers::SymbolNumbers;
 use mm_read::Stmt;
 use std::alloc::{AllocError, Global};
 use std::marker::Model;
@@ -32,7 +32,7 @@ pub struct Scope {
     pub(crate) count: usize,
     marked_names: usize,
     marked_count: usize,
-    noted: Noted,
+    recorded: SymbolNumbers,
 }
 
 impl Model for Scope {
@@ -60,7 +60,7 @@ impl Scope {
             count: 0,
             marked_names: 0,
             marked_count: 0,
-            noted: Noted::new(alloc),
+            recorded: SymbolNumbers::new(alloc),
         }
     }
 
@@ -82,10 +82,10 @@ impl Scope {
         ensures counted { steps.new.count ≡ steps.old.count + 1 }
     {
         steps.tick();
-        self.noted.begin();
+        self.recorded.begin();
         let broken = self
             .rules
-            .broken_rule(&self.names, self.alloc, stmt, &mut self.noted);
+            .broken_rule(&self.names, self.alloc, stmt, &mut self.recorded);
         if let Some(rule) = broken {
             return Err(rule);
         }
@@ -101,7 +101,7 @@ impl Scope {
             &mut self.standing,
             self.count + 1,
             stmt,
-            &mut self.noted,
+            &mut self.recorded,
         );
         if taken.is_err() {
             self.names.truncate(names);
@@ -131,9 +131,9 @@ impl Scope {
     pub fn broken_rule(&self, stmt: &Stmt) -> Option<Rule>
         ensures { result ≡ broken_rule self.now.statements stmt.now }
     {
-        let mut unnoted = Noted::new(self.alloc);
+        let mut unrecorded = SymbolNumbers::new(self.alloc);
         self.rules
-            .broken_rule(&self.names, self.alloc, stmt, &mut unnoted)
+            .broken_rule(&self.names, self.alloc, stmt, &mut unrecorded)
     }
 
     /// Returns what the end of the text breaks: G10 if a block is open. Does not allocate.
@@ -187,7 +187,7 @@ impl Scope {
             count: self.count,
             marked_names: self.marked_names,
             marked_count: self.marked_count,
-            noted: Noted::new(self.alloc),
+            recorded: SymbolNumbers::new(self.alloc),
         })
     }
 }
@@ -202,13 +202,13 @@ fn take_in(
     standing: &mut Vec<Standing>,
     at: usize,
     stmt: &Stmt,
-    noted: &mut Noted,
+    recorded: &mut SymbolNumbers,
 ) -> Result<(), AllocError>
     requires legal { IsLegal rules.old.statements stmt.now }
     requires numbering { IsNumberingOf rules.old.statements names.old }
     requires standing { standing.old.items ≡ standing_of rules.old.statements }
     requires at { at ≡ length rules.old.statements + 1 }
-    requires noted { AreNoted (symbols_after rules.old.statements stmt.now) (symbols_in stmt.now) noted.old }
+    requires recorded { AreRecorded (symbols_after rules.old.statements stmt.now) (symbols_in stmt.now) recorded.old }
     ensures added { OnOk result (rules.new.statements ≡ rules.old.statements ++ bare stmt.now ∷ []) }
     ensures same { OnErr result (rules.new.statements ≡ rules.old.statements) }
     ensures marked { rules.new.marked ≡ rules.old.marked }
@@ -218,8 +218,8 @@ fn take_in(
     ensures behind { OnErr result ((more : List Standings) × (standing.new.items ≡ standing.old.items ++ more)) }
 {
     push_standing(standing, alloc, at, stmt)?;
-    declare_names(names, alloc, stmt, noted)?;
-    match noted.numbers() {
+    declare_names(names, alloc, stmt, recorded)?;
+    match recorded.numbers() {
         Some(numbers) => rules.accept(stmt, numbers)?,
         None => return Err(AllocError),
     }

@@ -83,7 +83,7 @@ impl Stack {
         ensures err { OnErr result (self.new ≡ self.old) }
     {
         let place = self.numbers.len();
-        note_place(&mut self.places, number, place)?;
+        record_place(&mut self.places, number, place)?;
         self.numbers.push(number)?;
         Ok(())
     }
@@ -105,8 +105,8 @@ impl Stack {
 }
 
 /// Records where a number stands.
-fn note_place(places: &mut Vec<usize>, number: u32, place: usize) -> Result<(), AllocError>
-    ensures noted { OnOk result (slice_get places.new.items number ≡ Some place) }
+fn record_place(places: &mut Vec<usize>, number: u32, place: usize) -> Result<(), AllocError>
+    ensures recorded { OnOk result (slice_get places.new.items number ≡ Some place) }
     ensures others { (n k : ℕ) → n ≢ number → slice_get places.old.items n ≡ Some k → slice_get places.new.items n ≡ Some k }
 {
     if places.len() <= number as usize {

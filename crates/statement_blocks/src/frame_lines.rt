@@ -8,7 +8,7 @@ ghost use Rattle.statement_blocks.specs.Shows.{IsShown};
 use crate::shown::Shown;
 use crate::statement_line::push_statement;
 use entries::Groups;
-use frame::{Frames, Gathered};
+use frame::{FrameBuffers, Frames};
 use mm_read::Stmt;
 use std::alloc::{AllocError, Global};
 
@@ -67,9 +67,9 @@ fn push_disjoint(alloc: Global, text: &mut Vec<u8>, shown: &Shown<'_>) -> Result
     if let Some(cited) = shown.frames.cited(shown.at) {
         return push_groups(text, shown.frames, &cited.groups);
     }
-    let mut gathered = Gathered::new(alloc);
-    shown.frames.gather(shown.at, &mut gathered)?;
-    let whole = shown.frames.gathered(shown.at, &gathered);
+    let mut frame_buffers = FrameBuffers::new(alloc);
+    shown.frames.fill_buffers(shown.at, &mut frame_buffers)?;
+    let whole = shown.frames.cited_from(shown.at, &frame_buffers);
     push_groups(text, shown.frames, &whole.groups)
 }
 

@@ -8,11 +8,11 @@ use Rattle.mm_read.specs.declared.stmt.Stmt.{Stmt}
 use Rattle.mm_read.specs.Statements.{Expr, Database}
 use Rattle.scope.specs.Active.{stmt_at, before, expr_of, is_assertion}
 use Rattle.names.specs.Codes.{decode}
-use Rattle.entries.specs.declared.cited_parts.Hypothesis.TheVariants.{Float}
-use Rattle.entries.specs.declared.cited_parts.Cited.{Cited}
+use Rattle.entries.specs.declared.assertion_view.Hypothesis.TheVariants.{Float}
+use Rattle.entries.specs.declared.assertion_view.AssertionView.{AssertionView}
 use Rattle.frame.specs.Below.{AreBelow, AllBelow}
 use Rattle.frame.specs.Bound.{IsBound}
-use Rattle.frame.specs.Cited.{IsCited}
+use Rattle.frame.specs.AssertionView.{IsViewOf}
 use Rattle.frame.specs.FrameOf.{HasAssertion, hypotheses}
 use Rattle.frame.specs.Citations.{Carries, IsHypothesis, IsInstance, premises}
 use Rattle.frame.specs.AtPosition.{AreLegal}
@@ -20,10 +20,10 @@ use Rattle.frame.specs.Substitution.{Images, CodeImages, apply as applied, code_
 use Rattle.proof_code.specs.declared.item.Item.TheVariants.{Cite}
 use Rattle.subst.proofs.GroupLemmas.{below-drop}
 use Rattle.verify.specs.Fits.{IsTyped, AreRead, AreDifferent}
-use Rattle.verify.specs.Goes.{AreNamed}
+use Rattle.verify.specs.StepsByNumber.{AreNamed}
 use Rattle.verify.specs.Machine.{Results, State, Cites, of_hypothesis, of_assertion, Steps, with_result}
 use Rattle.verify.specs.ResultPlaces.{below, top}
-use Rattle.verify.proofs.MandatoryAsked.{asked-lengths, asked-different}
+use Rattle.verify.proofs.RequiredHypotheses.{required-lengths, required-different}
 use Rattle.verify.proofs.CitationLemmas.{Meets, meets-step}
 use Rattle.verify.proofs.CitingLemmas.{read-over}
 use Rattle.verify.proofs.KeptListsLemmas.{cited-plain}
@@ -31,7 +31,7 @@ use Rattle.verify.proofs.Decide.{append_cut, length-premises, not_both}
 use Rattle.verify.proofs.ImageLemmas.{apply-below}
 use Rattle.verify.proofs.Named.{halves, length-top}
 use Rattle.verify.proofs.ResultPlaceLemmas.{map-drop}
-use Rattle.steps.specs.StepTable.{Step, stands, of_hypothesis as makes_hypothesis, of_assertion as makes_assertion, Notes}
+use Rattle.steps.specs.StepTable.{Step, stands, of_hypothesis as makes_hypothesis, of_assertion as makes_assertion, RecordsItem}
 use Rattle.steps.specs.Rows.{Row, no_row, expr_in, Follows, from_hypothesis, from_assertion, AreRows}
 use Rattle.steps.specs.StepTable as table
 use Rattle.steps.specs.Stored.Drafted.{row_of, rows_of, codes_in, progress_of, IsDraft, IsTied, GivesHypothesis, GivesAssertion}
@@ -57,8 +57,8 @@ codes-named S at names rows (k ∷ ks) are b = (one rows k are b.0, codes-named 
     one rs k are h = let r = there rs k h in subst (λ x. AreBelow (length names) x.expr) (sym (get_or_from_slice_get rs k r.0 no_row r.1)) ((are k r.0 r.1).named)
 
 -- the citation is recorded, and the results of the run are the expressions of the rows
-abbrev IsNoted : Database → ℕ → List Name → TableDraft → Name → TableDraft → State → Type 0
-IsNoted S at names d label new next = Notes S at (progress_of d) (Cite label) (progress_of new) × IsTied names new next
+abbrev IsRecorded : Database → ℕ → List Name → TableDraft → Name → TableDraft → State → Type 0
+IsRecorded S at names d label new next = RecordsItem S at (progress_of d) (Cite label) (progress_of new) × IsTied names new next
 
 module _ (S : Database) (at : ℕ) (names : List Name) (legal : AreLegal S names) (d : TableDraft) (is : IsDraft S at names d) (label : Name) (st : State) (tied : IsTied names d st) where
   -- ---- a hypothesis
@@ -85,7 +85,7 @@ module _ (S : Database) (at : ℕ) (names : List Name) (legal : AreLegal S names
     hypothesis-draft' new (inl finds) = found-draft S at names legal d new is h_step d.stack.items (expr_of s) finds is.stack_below hypothesis-same
     hypothesis-draft' new (inr makes) = made-draft S at names legal d new is h_step d.stack.items codes makes is.stack_below tt (from_hypothesis s active refl named) low
 
-    hypothesis-tied' : (new : TableDraft) → GivesHypothesis d new i codes → (b : List Expr) (f : Expr) → (st.stack ≡ b) × (f ≡ expr_of s) → IsNoted S at names d label new (with_result st b f)
+    hypothesis-tied' : (new : TableDraft) → GivesHypothesis d new i codes → (b : List Expr) (f : Expr) → (st.stack ≡ b) × (f ≡ expr_of s) → IsRecorded S at names d label new (with_result st b f)
     hypothesis-tied' new (inl finds) b f (whole, gives) = (
       (d.stack.items, h_step, finds.place, makes_hypothesis s carries active refl refl, found-placed S at names legal d new is h_step d.stack.items (expr_of s) finds is.stack_below hypothesis-same, finds.stack, finds.saved),
       found-tied S at names legal d new is h_step d.stack.items f finds is.stack_below (λ r e x. hypothesis-same r e x ∙ sym gives) st b tied (tied.stack ∙ whole),
@@ -99,12 +99,12 @@ module _ (S : Database) (at : ℕ) (names : List Name) (legal : AreLegal S names
     pub hypothesis-draft : (new : TableDraft) → GivesHypothesis d new i codes → IsDraft S at names new
     hypothesis-draft = hypothesis-draft'
 
-    pub hypothesis-done : (new : TableDraft) → GivesHypothesis d new i codes → (next : State) → Steps S at st (Cite label) next → IsNoted S at names d label new next
-    hypothesis-done new gives next run = subst (IsNoted S at names d label new) (sym run.3) (hypothesis-tied' new gives run.0 run.1 (run-hypothesis run.0 run.1 run.2))
+    pub hypothesis-done : (new : TableDraft) → GivesHypothesis d new i codes → (next : State) → Steps S at st (Cite label) next → IsRecorded S at names d label new next
+    hypothesis-done new gives next run = subst (IsRecorded S at names d label new) (sym run.3) (hypothesis-tied' new gives run.0 run.1 (run-hypothesis run.0 run.1 run.2))
 
   -- ---- an assertion
 
-  module _ (a : ℕ) (s : Stmt) (c : Cited) (carries : Carries S a s label) (has : HasAssertion S a s) (earlier : a < at) (cited : IsCited S names a s c) (next : State) (run : Steps S at st (Cite label) next) where
+  module _ (a : ℕ) (s : Stmt) (c : AssertionView) (carries : Carries S a s label) (has : HasAssertion S a s) (earlier : a < at) (cited : IsViewOf S names a s c) (next : State) (run : Steps S at st (Cite label) next) where
     abbrev n : ℕ
     n = length c.hypotheses
 
@@ -150,14 +150,14 @@ module _ (S : Database) (at : ℕ) (names : List Name) (legal : AreLegal S names
     top-codes = top-map (codes_in d) n d.stack.items
 
     -- the code for a `$f` begins with its typecode
-    pub typed : (k x : ℕ) → slice_get c.hypotheses k ≡ Some (Float x) → IsTyped (get_or c.heads.now k 0) (get_or (map (codes_in d) (top n d.stack.items)) k [])
-    typed k x kind = subst (λ es. IsTyped (get_or c.heads.now k 0) (get_or es k [])) top-codes (meets'.typed k x kind)
+    pub typed : (k x : ℕ) → slice_get c.hypotheses k ≡ Some (Float x) → IsTyped (get_or c.typecodes.now k 0) (get_or (map (codes_in d) (top n d.stack.items)) k [])
+    typed k x kind = subst (λ es. IsTyped (get_or c.typecodes.now k 0) (get_or es k [])) top-codes (meets'.typed k x kind)
 
     abbrev a_step : Step
     a_step = record { position = a; taken = top n d.stack.items }
 
     hypotheses-count : n ≡ length (hypotheses (before S a) s)
-    hypotheses-count = (asked-lengths S names (hypotheses (before S a) s) c.heads.now c.hypotheses cited.asked).1
+    hypotheses-count = (required-lengths S names (hypotheses (before S a) s) c.typecodes.now c.hypotheses cited.required).1
 
     record Instance : Type 0 where
       images : Images
@@ -211,18 +211,18 @@ module _ (S : Database) (at : ℕ) (names : List Name) (legal : AreLegal S names
         let takes2 = takes1 ∙ ap (λ u. premises S a u σ) same in
         is' ∙ (ap (λ u. applied σ (expr_of u)) same ∙ (legal.single at a s σ instance.images fits2 instance.fits (sym takes2 ∙ instance.takes) ∙ sym instance.gives))
 
-    made-step : (ρ : CodeImages) → AreRead c.heads.now c.hypotheses (map (codes_in d) (top n d.stack.items)) ρ → decode names (code_apply ρ c.conclusion.now) ≡ run.1
-    made-step ρ read = sym (meets'.gives ρ (subst (λ es. AreRead c.heads.now c.hypotheses es ρ) (sym top-codes) read))
+    made-step : (ρ : CodeImages) → AreRead c.typecodes.now c.hypotheses (map (codes_in d) (top n d.stack.items)) ρ → decode names (code_apply ρ c.conclusion.now) ≡ run.1
+    made-step ρ read = sym (meets'.gives ρ (subst (λ es. AreRead c.typecodes.now c.hypotheses es ρ) (sym top-codes) read))
 
-    made-follows : (ρ : CodeImages) → AreRead c.heads.now c.hypotheses (map (codes_in d) (top n d.stack.items)) ρ → Follows S at names rows' (record { step = a_step; expr = code_apply ρ c.conclusion.now })
+    made-follows : (ρ : CodeImages) → AreRead c.typecodes.now c.hypotheses (map (codes_in d) (top n d.stack.items)) ρ → Follows S at names rows' (record { step = a_step; expr = code_apply ρ c.conclusion.now })
     made-follows ρ read = from_assertion s instance.images instance.fits instance.takes (made-step ρ read ∙ instance.gives)
 
-    made-coded : (ρ : CodeImages) → AreRead c.heads.now c.hypotheses (map (codes_in d) (top n d.stack.items)) ρ → AreBelow (length names) (code_apply ρ c.conclusion.now)
+    made-coded : (ρ : CodeImages) → AreRead c.typecodes.now c.hypotheses (map (codes_in d) (top n d.stack.items)) ρ → AreBelow (length names) (code_apply ρ c.conclusion.now)
     made-coded ρ read =
         let es = map (codes_in d) (top n d.stack.items) in
         let len : length es ≡ length c.hypotheses = length-map (top n d.stack.items) (codes_in d) ∙ length-top n d.stack.items many in
         apply-below names ρ c.conclusion.now
-        (read-over S names a s legal.distinct bound c.heads.now c.hypotheses cited.asked es len ρ read (codes-named S at names rows' (top n d.stack.items) is.rows (in_rows (top n d.stack.items) low_top)))
+        (read-over S names a s legal.distinct bound c.typecodes.now c.hypotheses cited.required es len ρ read (codes-named S at names rows' (top n d.stack.items) is.rows (in_rows (top n d.stack.items) low_top)))
         cited.conclusion_below
 
     makes-step : table.Makes S at label d.stack.items (below n d.stack.items) a_step
@@ -233,7 +233,7 @@ module _ (S : Database) (at : ℕ) (names : List Name) (legal : AreLegal S names
     assertion-draft new (inr (ρ, read, makes)) = made-draft S at names legal d new is a_step (below n d.stack.items) (code_apply ρ c.conclusion.now) makes low_rest low_top (made-follows ρ read) (made-coded ρ read)
 
     -- a step found or made records the citation, with what the run gives
-    done' : (new : TableDraft) → GivesAssertion d new a c → IsNoted S at names d label new (with_result st run.0 run.1)
+    done' : (new : TableDraft) → GivesAssertion d new a c → IsRecorded S at names d label new (with_result st run.0 run.1)
     done' new (inl finds) = (
       (below n d.stack.items, a_step, finds.place, makes-step, found-placed S at names legal d new is a_step (below n d.stack.items) run.1 finds low_rest assertion-same, finds.stack, finds.saved),
       found-tied S at names legal d new is a_step (below n d.stack.items) run.1 finds low_rest assertion-same st run.0 tied instance.front,
@@ -244,12 +244,12 @@ module _ (S : Database) (at : ℕ) (names : List Name) (legal : AreLegal S names
           made-tied S at names legal d new is a_step (below n d.stack.items) e makes low_rest low_top (made-follows ρ read) (made-coded ρ read) st run.0 run.1 tied instance.front (made-step ρ read),
         )
 
-    pub assertion-done : (new : TableDraft) → GivesAssertion d new a c → IsNoted S at names d label new next
-    assertion-done new gives = subst (IsNoted S at names d label new) (sym run.3) (done' new gives)
+    pub assertion-done : (new : TableDraft) → GivesAssertion d new a c → IsRecorded S at names d label new next
+    assertion-done new gives = subst (IsRecorded S at names d label new) (sym run.3) (done' new gives)
 
-    pub heads-count : length c.heads.now ≡ n
-    heads-count = let l = asked-lengths S names (hypotheses (before S a) s) c.heads.now c.hypotheses cited.asked in l.0 ∙ sym l.1
+    pub typecodes-count : length c.typecodes.now ≡ n
+    typecodes-count = let l = required-lengths S names (hypotheses (before S a) s) c.typecodes.now c.hypotheses cited.required in l.0 ∙ sym l.1
 
     -- no two of its `$f` are of one variable
     pub different : AreDifferent c.hypotheses
-    different = asked-different S names a s c.heads.now c.hypotheses bound cited.asked
+    different = required-different S names a s c.typecodes.now c.hypotheses bound cited.required

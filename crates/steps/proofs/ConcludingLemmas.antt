@@ -11,25 +11,25 @@ use Rattle.frame.specs.Below.{AreBelow}
 use Rattle.frame.specs.ExprPlaces.{AreExprPlaces}
 use Rattle.subst.specs.declared.symbol_range.SymbolRange.{SymbolRange}
 use Rattle.subst.specs.SymbolRanges.{seen_at, images_at, AreWithin}
-use Rattle.entries.specs.declared.cited_parts.Hypothesis.{Hypothesis}
-use Rattle.entries.specs.declared.cited_parts.Hypothesis.TheVariants.{Float}
+use Rattle.entries.specs.declared.assertion_view.Hypothesis.{Hypothesis}
+use Rattle.entries.specs.declared.assertion_view.Hypothesis.TheVariants.{Float}
 use Rattle.verify.specs.Fits.{IsTyped, AreRead, Reads}
 use Rattle.verify.specs.ReadPlaces.{ReadsAll}
 use Rattle.verify.proofs.ReadImageLemmas.{reads-seen}
 
-module _ (xs ys heads : List ℕ) (hs : List Hypothesis) (places : List SymbolRange) (images : List (ℕ × SymbolRange)) (same : ys ≡ xs) (count : length places ≡ length hs) (within : AreWithin (length xs) places) where
+module _ (xs ys typecodes : List ℕ) (hs : List Hypothesis) (places : List SymbolRange) (images : List (ℕ × SymbolRange)) (same : ys ≡ xs) (count : length places ≡ length hs) (within : AreWithin (length xs) places) where
   -- the images read by places are those read off the results that stand there
-  seen : (b : Bool) → ReadsAll b (length hs) ys heads hs places images → Reads b heads hs (map (seen_at xs) places) (images_at xs images)
-  seen b r = reads-seen b xs heads hs places images count within (subst (λ s. ReadsAll b (length hs) s heads hs places images) same r)
+  seen : (b : Bool) → ReadsAll b (length hs) ys typecodes hs places images → Reads b typecodes hs (map (seen_at xs) places) (images_at xs images)
+  seen b r = reads-seen b xs typecodes hs places images count within (subst (λ s. ReadsAll b (length hs) s typecodes hs places images) same r)
 
-  pub never-other : (b : Bool) → ((k x : ℕ) → slice_get hs k ≡ Some (Float x) → IsTyped (get_or heads k 0) (get_or (map (seen_at xs) places) k []))
-      → ReadsAll b (length hs) ys heads hs places images → b ≡ false → ⊥
+  pub never-other : (b : Bool) → ((k x : ℕ) → slice_get hs k ≡ Some (Float x) → IsTyped (get_or typecodes k 0) (get_or (map (seen_at xs) places) k []))
+      → ReadsAll b (length hs) ys typecodes hs places images → b ≡ false → ⊥
   never-other b typed r e =
-      let h = subst (λ v. Reads v heads hs (map (seen_at xs) places) (images_at xs images)) e (seen b r) in
+      let h = subst (λ v. Reads v typecodes hs (map (seen_at xs) places) (images_at xs images)) e (seen b r) in
       h.3 (typed h.0 h.1 h.2)
 
-  pub all-read : (b : Bool) → ReadsAll b (length hs) ys heads hs places images → b ≡ true → AreRead heads hs (map (seen_at xs) places) (images_at xs images)
-  all-read b r e = subst (λ v. Reads v heads hs (map (seen_at xs) places) (images_at xs images)) e (seen b r)
+  pub all-read : (b : Bool) → ReadsAll b (length hs) ys typecodes hs places images → b ≡ true → AreRead typecodes hs (map (seen_at xs) places) (images_at xs images)
+  all-read b r e = subst (λ v. Reads v typecodes hs (map (seen_at xs) places) (images_at xs images)) e (seen b r)
 
 -- the places of an expression are those of its numbers
 pub standing-codes : (names : List Name) (e : List ℕ) (x : Expr) (standing : Option (Bor (List (List ℕ)))) → AreDistinct names → AreBelow (length names) e → decode names e ≡ x

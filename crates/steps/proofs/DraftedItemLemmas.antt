@@ -20,7 +20,7 @@ use Rattle.steps.specs.Rows.{steps_of, expr_in, AreRows}
 use Rattle.steps.specs.Stored.Drafted.{row_of, rows_of, AreInBuffer, AreKnown, IsDraft, IsTied, CanDo, IsDone}
 use Rattle.steps.specs.declared.table_draft.TableDraft.{TableDraft}
 use Rattle.frame.proofs.SymbolNumberLemmas.{below-push}
-use Rattle.frame.proofs.ApartLemmas.{below-at}
+use Rattle.frame.proofs.ActiveDisjointLemmas.{below-at}
 
 -- the last of a list
 front-last : (xs : List ℕ) (d : ℕ) → 0 < length xs → (b : List ℕ) × (xs ≡ b ++ get_or xs (length xs - 1) d ∷ [])

@@ -8,13 +8,13 @@ use Rattle.mm_read.specs.declared.stmt.Stmt.{Stmt}
 use Rattle.mm_read.specs.declared.stmt.Stmt.TheVariants as stmt
 use Rattle.mm_read.specs.Statements.{Database}
 use Rattle.scope.specs.Active.{stmt_at, before, is_assertion}
-use Rattle.entries.specs.declared.cited_parts.Hypothesis.{Hypothesis}
-use Rattle.entries.specs.declared.cited_parts.Hypothesis.TheVariants.{Float, Essential}
+use Rattle.entries.specs.declared.assertion_view.Hypothesis.{Hypothesis}
+use Rattle.entries.specs.declared.assertion_view.Hypothesis.TheVariants.{Float, Essential}
 use Rattle.frame.specs.Below.{AreBelow}
-use Rattle.frame.specs.Cited.{IsOf, AreAsked}
+use Rattle.frame.specs.AssertionView.{IsOf, AreRequired}
 use Rattle.frame.specs.FrameOf.{HasAssertion, hypotheses}
 use Rattle.frame.specs.Citations.{IsHypothesis}
-use Rattle.verify.proofs.MandatoryAsked.{asked-lengths}
+use Rattle.verify.proofs.RequiredHypotheses.{required-lengths}
 use Rattle.verify.proofs.Decide.{length-premises, not_both}
 use Rattle.steps.specs.Rows.{Row, no_row, expr_in, Follows, from_hypothesis, from_assertion, AreRows}
 use Rattle.steps.specs.Essential.{is_premise, for_premises, mandatory, essential_of}
@@ -22,18 +22,18 @@ use Rattle.steps.specs.Stored.Marked.{taken_by}
 use Rattle.frame.proofs.FoundByNumber.{some-same}
 
 -- the parts of the assertion tell which hypotheses are `$e`
-pub premises-by : (S : Database) (names : List Name) (ps heads : List ℕ) (hs : List Hypothesis) (taken : List ℕ) → AreAsked S names ps heads hs → for_premises S ps taken ≡ taken_by hs taken
+pub premises-by : (S : Database) (names : List Name) (ps typecodes : List ℕ) (hs : List Hypothesis) (taken : List ℕ) → AreRequired S names ps typecodes hs → for_premises S ps taken ≡ taken_by hs taken
 premises-by S names [] [] [] taken a = refl
 premises-by S names [] [] (h ∷ hs) taken a = absurd a
-premises-by S names [] (c ∷ heads) [] taken a = absurd a
-premises-by S names [] (c ∷ heads) (h ∷ hs) taken a = absurd a
+premises-by S names [] (c ∷ typecodes) [] taken a = absurd a
+premises-by S names [] (c ∷ typecodes) (h ∷ hs) taken a = absurd a
 premises-by S names (p ∷ ps) [] [] taken a = absurd a
 premises-by S names (p ∷ ps) [] (h ∷ hs) taken a = absurd a
-premises-by S names (p ∷ ps) (c ∷ heads) [] taken a = absurd a
-premises-by S names (p ∷ ps) (c ∷ heads) (h ∷ hs) [] a = refl
-premises-by S names (p ∷ ps) (c ∷ heads) (h ∷ hs) (k ∷ taken) a =
+premises-by S names (p ∷ ps) (c ∷ typecodes) [] taken a = absurd a
+premises-by S names (p ∷ ps) (c ∷ typecodes) (h ∷ hs) [] a = refl
+premises-by S names (p ∷ ps) (c ∷ typecodes) (h ∷ hs) (k ∷ taken) a =
     ap (λ o. if is_premise o then k ∷ for_premises S ps taken else for_premises S ps taken) a.0.stands
-    ∙ by a.0.stmt h a.0.is (premises-by S names ps heads hs taken a.1)
+    ∙ by a.0.stmt h a.0.is (premises-by S names ps typecodes hs taken a.1)
   where
     by : (s : Stmt) (h : Hypothesis) → IsOf names p s h → for_premises S ps taken ≡ taken_by hs taken → (if is_premise (Some s) then k ∷ for_premises S ps taken else for_premises S ps taken) ≡ taken_by (h ∷ hs) (k ∷ taken)
     by (stmt.Float l c v) (Float x) is e = e
@@ -102,13 +102,13 @@ module _ (S : Database) (at : ℕ) (names : List Name) (rows : List Row) (row : 
       ∙ (ap (λ u. length (hypotheses (before S row.step.position) u)) (some-same fits.stands (ap (stmt_at S) (sym is) ∙ has.0))
       ∙ ap (λ p. length (hypotheses (before S p) s)) (sym is))))
 
-  pub asks-all : (s : Stmt) (heads : List ℕ) (hs : List Hypothesis) → HasAssertion S position s → AreAsked S names (hypotheses (before S position) s) heads hs → length row.step.taken ≡ length hs
-  asks-all s heads hs has asked = takes-all s has follows ∙ sym (asked-lengths S names (hypotheses (before S position) s) heads hs asked).1
+  pub asks-all : (s : Stmt) (typecodes : List ℕ) (hs : List Hypothesis) → HasAssertion S position s → AreRequired S names (hypotheses (before S position) s) typecodes hs → length row.step.taken ≡ length hs
+  asks-all s typecodes hs has required = takes-all s has follows ∙ sym (required-lengths S names (hypotheses (before S position) s) typecodes hs required).1
 
-  pub essential-by : (s : Stmt) (heads : List ℕ) (hs : List Hypothesis) → HasAssertion S position s → AreAsked S names (hypotheses (before S position) s) heads hs → essential_of S row.step ≡ taken_by hs row.step.taken
-  essential-by s heads hs has asked =
+  pub essential-by : (s : Stmt) (typecodes : List ℕ) (hs : List Hypothesis) → HasAssertion S position s → AreRequired S names (hypotheses (before S position) s) typecodes hs → essential_of S row.step ≡ taken_by hs row.step.taken
+  essential-by s typecodes hs has required =
       ap (λ p. for_premises S (mandatory S p (stmt_at S p)) row.step.taken) (sym is)
-      ∙ (ap (λ o. for_premises S (mandatory S position o) row.step.taken) has.0 ∙ premises-by S names (hypotheses (before S position) s) heads hs row.step.taken asked)
+      ∙ (ap (λ o. for_premises S (mandatory S position o) row.step.taken) has.0 ∙ premises-by S names (hypotheses (before S position) s) typecodes hs row.step.taken required)
 
   -- a step that cites a hypothesis
   takes-none : (s : Stmt) → IsHypothesis S at position s → Follows S at names rows row → [] ≡ essential_of S row.step

@@ -14,11 +14,11 @@ use Rattle.verify.specs.Right.{IsRight}
 use Rattle.verify.proofs.Complete.{conclude_same}
 use Rattle.verify.proofs.LawsHold.{spellings_run}
 use Rattle.verify.proofs.StepLemmas.{items-more, all-taken}
-use Rattle.steps.specs.StepTable.{progress, NotesAll, AreSteps}
+use Rattle.steps.specs.StepTable.{progress, RecordsItems, AreSteps}
 use Rattle.steps.specs.Rows.{steps_of, expr_in}
 use Rattle.steps.specs.Stored.Drafted.{row_of, rows_of, progress_of, IsTied, CanDo, IsDone}
 use Rattle.steps.specs.declared.table_draft.TableDraft.{TableDraft}
-use Rattle.steps.proofs.SoundLemmas.{notes-sound, notes-snoc, nothing-sound, root-last}
+use Rattle.steps.proofs.SoundLemmas.{records-sound, records-snoc, nothing-sound, root-last}
 use Rattle.frame.proofs.FoundByNumber.{some-same}
 
 drop-more : (labels : List Name) (xs : List ℕ) (i : ℕ) → i < length xs → map (item_of labels) (drop i xs) ≡ item_of labels (get_or xs i 0) ∷ map (item_of labels) (drop (i + 1) xs)
@@ -35,7 +35,7 @@ module _ (S : Database) (at : ℕ) (names : List Name) where
     pub tied : IsTied names d state
     pub rest : Runs S at state (map (item_of labels) (drop i numbers)) end
     pub ends : end.stack ≡ expr_of stmt ∷ []
-    pub noted : NotesAll S at (progress [] [] []) (map (item_of labels) (take i numbers)) (progress_of d)
+    pub recorded : RecordsItems S at (progress [] [] []) (map (item_of labels) (take i numbers)) (progress_of d)
 
   pub reached-start : AreLegal S names → (labels : List Name) (numbers : List ℕ) (items : List Item) (d : TableDraft) → items_of labels numbers ≡ items → IsRight S at items → d.placed.items ≡ [] → d.stack.items ≡ [] → d.saved.items ≡ []
       → Reached labels numbers 0 d
@@ -50,7 +50,7 @@ module _ (S : Database) (at : ℕ) (names : List Name) where
         tied = record { stack = ap (map (expr_in names (rows_of d))) stack; saved = ap (map (expr_in names (rows_of d))) saved };
         rest = subst (λ is. Runs S at start is r.end) (sym same) r.runs;
         ends = r.one ∙ ap (λ e. e ∷ []) (conclude_same S at (legal.single at) t r.result (expr_of derives.stmt) r.concludes derives.concludes);
-        noted = ap (λ r. progress (steps_of r) [] []) (sym rows) ∙ (ap (λ s. progress (steps_of (rows_of d)) s []) (sym stack) ∙ ap (λ s. progress (steps_of (rows_of d)) d.stack.items s) (sym saved));
+        recorded = ap (λ r. progress (steps_of r) [] []) (sym rows) ∙ (ap (λ s. progress (steps_of (rows_of d)) s []) (sym stack) ∙ ap (λ s. progress (steps_of (rows_of d)) d.stack.items s) (sym saved));
       }
 
   -- the item may be done
@@ -72,8 +72,8 @@ module _ (S : Database) (at : ℕ) (names : List Name) where
         tied = y.1;
         rest = x.2;
         ends = r.ends;
-        noted = subst (λ is. NotesAll S at (progress [] [] []) is (progress_of new)) (sym (items-more labels numbers i h))
-            (notes-snoc S at (map (item_of labels) (take i numbers)) (item_of labels (get_or numbers i 0)) (progress [] [] []) (progress_of d) (progress_of new) r.noted y.0);
+        recorded = subst (λ is. RecordsItems S at (progress [] [] []) is (progress_of new)) (sym (items-more labels numbers i h))
+            (records-snoc S at (map (item_of labels) (take i numbers)) (item_of labels (get_or numbers i 0)) (progress [] [] []) (progress_of d) (progress_of new) r.recorded y.0);
       }
 
   -- all were done
@@ -82,8 +82,8 @@ module _ (S : Database) (at : ℕ) (names : List Name) where
     over : r.state ≡ r.end
     over = subst (λ is. Runs S at r.state is r.end) (ap (map (item_of labels)) (drop_all i numbers h)) r.rest
 
-    noted-all : NotesAll S at (progress [] [] []) items (progress_of d)
-    noted-all = subst (λ is. NotesAll S at (progress [] [] []) is (progress_of d)) (all-taken (item_of labels) numbers i h ∙ same) r.noted
+    recorded-all : RecordsItems S at (progress [] [] []) items (progress_of d)
+    recorded-all = subst (λ is. RecordsItems S at (progress [] [] []) is (progress_of d)) (all-taken (item_of labels) numbers i h ∙ same) r.recorded
 
     one-left : map (expr_in names (rows_of d)) d.stack.items ≡ expr_of r.stmt ∷ []
     one-left = r.tied.stack ∙ (ap (λ s. s.stack) over ∙ r.ends)
@@ -97,7 +97,7 @@ module _ (S : Database) (at : ℕ) (names : List Name) where
     pub reached-steps : AreSteps S at items (steps_of (rows_of d))
     reached-steps =
         let n = root d.stack.items (expr_of r.stmt) one-left in
-        record { end = progress_of d; root = n.0; noted = noted-all; same = refl; one = n.1; last = root-last (progress_of d) n.0 (notes-sound S at items (progress [] [] []) (progress_of d) nothing-sound noted-all) n.1 }
+        record { end = progress_of d; root = n.0; recorded = recorded-all; same = refl; one = n.1; last = root-last (progress_of d) n.0 (records-sound S at items (progress [] [] []) (progress_of d) nothing-sound recorded-all) n.1 }
 
     pub reached-last : (s : Stmt) → stmt_at S at ≡ Some s → expr_in names (rows_of d) (length (rows_of d) - 1) ≡ expr_of s
     unfolding root reached-steps

@@ -8,7 +8,7 @@ use Rattle.frame.specs.Below.{AreBelow}
 use Rattle.proof_code.specs.declared.item.Item.{Item}
 use Rattle.proof_code.specs.declared.item.Item.TheVariants.{Cite, Recall, Mark}
 use Rattle.verify.proofs.PlanLemmas.{below-get}
-use Rattle.steps.specs.StepTable.{Step, Progress, progress, IsPlaced, stands, comes_last, Makes, of_hypothesis, of_assertion, Notes, NotesAll, AreSteps}
+use Rattle.steps.specs.StepTable.{Step, Progress, progress, IsPlaced, stands, comes_last, Makes, of_hypothesis, of_assertion, RecordsItem, RecordsItems, AreSteps}
 use Rattle.steps.proofs.DraftRowLemmas.{some-front, some-more}
 use Rattle.frame.proofs.SymbolNumberLemmas.{below-push, below-more}
 use Rattle.entries.proofs.StatementRecordLemmas.{get-last}
@@ -83,7 +83,7 @@ module _ (p q : Progress) (is : IsSound p) (below : List ℕ) (step : Step) (n :
 
 module _ (S : Database) (at : ℕ) where
   -- after a citation all is sound
-  cites : (p q : Progress) (label : Name) → IsSound p → Notes S at p (Cite label) q → IsSound q
+  cites : (p q : Progress) (label : Name) → IsSound p → RecordsItem S at p (Cite label) q → IsSound q
   cites p q label is (below, step, n, makes, placed, stack, saved) = by makes
     where
       by : Makes S at label p.stack below step → IsSound q
@@ -113,19 +113,19 @@ module _ (S : Database) (at : ℕ) where
     last = is.last;
   }
 
-  pub note-sound : (p q : Progress) (item : Item) → IsSound p → Notes S at p item q → IsSound q
-  note-sound p q (Cite label) is h = cites p q label is h
-  note-sound p q (Recall zero) is h = absurd h.1
-  note-sound p q (Recall (suc k)) is h = subst IsSound (sym h.2) (recalls p h.0 is (below-get (length p.steps) p.saved k h.0 is.saved_below h.1))
-  note-sound p q Mark is h = subst IsSound (sym h.3) (marks p h.1 is (below-split (length p.steps) h.0 (h.1 ∷ []) (subst (AreBelow (length p.steps)) h.2 is.stack_below)).1.0)
+  pub record_item-sound : (p q : Progress) (item : Item) → IsSound p → RecordsItem S at p item q → IsSound q
+  record_item-sound p q (Cite label) is h = cites p q label is h
+  record_item-sound p q (Recall zero) is h = absurd h.1
+  record_item-sound p q (Recall (suc k)) is h = subst IsSound (sym h.2) (recalls p h.0 is (below-get (length p.steps) p.saved k h.0 is.saved_below h.1))
+  record_item-sound p q Mark is h = subst IsSound (sym h.3) (marks p h.1 is (below-split (length p.steps) h.0 (h.1 ∷ []) (subst (AreBelow (length p.steps)) h.2 is.stack_below)).1.0)
 
-  pub notes-sound : (items : List Item) (p q : Progress) → IsSound p → NotesAll S at p items q → IsSound q
-  notes-sound [] p q is h = subst IsSound h is
-  notes-sound (item ∷ items) p q is h = notes-sound items h.0 q (note-sound p h.0 item is h.1) h.2
+  pub records-sound : (items : List Item) (p q : Progress) → IsSound p → RecordsItems S at p items q → IsSound q
+  records-sound [] p q is h = subst IsSound h is
+  records-sound (item ∷ items) p q is h = records-sound items h.0 q (record_item-sound p h.0 item is h.1) h.2
 
-  pub notes-snoc : (items : List Item) (item : Item) (p q r : Progress) → NotesAll S at p items q → Notes S at q item r → NotesAll S at p (items ++ item ∷ []) r
-  notes-snoc [] item p q r h n = (r, subst (λ v. Notes S at v item r) (sym h) n, refl)
-  notes-snoc (i ∷ items) item p q r h n = (h.0, h.1, notes-snoc items item h.0 q r h.2 n)
+  pub records-snoc : (items : List Item) (item : Item) (p q r : Progress) → RecordsItems S at p items q → RecordsItem S at q item r → RecordsItems S at p (items ++ item ∷ []) r
+  records-snoc [] item p q r h n = (r, subst (λ v. RecordsItem S at v item r) (sym h) n, refl)
+  records-snoc (i ∷ items) item p q r h n = (h.0, h.1, records-snoc items item h.0 q r h.2 n)
 
 pub nothing-sound : IsSound (progress [] [] [])
 nothing-sound = record { stack_below = tt; saved_below = tt; ordered = λ k s e. (let x = e in cc); once = λ j k s e f. (let x = e in cc); last = λ n e. absurd (omega (arith, e)) }
@@ -144,4 +144,4 @@ root-last p n is one =
 
 pub steps-sound : (S : Database) (at : ℕ) (items : List Item) (steps : List Step) (are : AreSteps S at items steps) → IsSound (progress steps are.end.stack are.end.saved)
 steps-sound S at items steps are =
-    subst (λ s. IsSound (progress s are.end.stack are.end.saved)) are.same (notes-sound S at items (progress [] [] []) are.end nothing-sound are.noted)
+    subst (λ s. IsSound (progress s are.end.stack are.end.saved)) are.same (records-sound S at items (progress [] [] []) are.end nothing-sound are.recorded)

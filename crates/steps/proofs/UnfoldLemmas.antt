@@ -20,9 +20,9 @@ use Rattle.verify.proofs.Decide.{not_both}
 use Rattle.verify.proofs.GrowthLemmas.{leaves}
 use Rattle.verify.proofs.PlanLemmas.{map-pick, trees-same}
 use Rattle.frame.proofs.PositionLemmas.{get-front, get-last}
-use Rattle.steps.specs.StepTable.{Step, Progress, progress, IsPlaced, stands, comes_last, Makes, of_hypothesis, of_assertion, Notes, NotesAll, AreSteps}
+use Rattle.steps.specs.StepTable.{Step, Progress, progress, IsPlaced, stands, comes_last, Makes, of_hypothesis, of_assertion, RecordsItem, RecordsItems, AreSteps}
 use Rattle.steps.specs.Unfolded.{has_assertion, citation_over, unfolded_behind, unfolded, last_unfolded}
-use Rattle.steps.proofs.SoundLemmas.{IsSound, note-sound, nothing-sound, below-split}
+use Rattle.steps.proofs.SoundLemmas.{IsSound, record_item-sound, nothing-sound, below-split}
 
 module _ (S : Database) where
   -- ---- a list of steps, one by one
@@ -108,7 +108,7 @@ module _ (S : Database) where
       (ap (map (pick (us ++ t ∷ []))) saved ∙ map-pick us (t ∷ []) p.saved (subst (λ k. AreBelow k p.saved) (sym len) is.saved_below))
 
   module _ (at : ℕ) where
-    cite-grows : (p q : Progress) (label : Name) → IsSound p → Notes S at p (Cite label) q → Grows S at (seen p) (Cite label) (seen q)
+    cite-grows : (p q : Progress) (label : Name) → IsSound p → RecordsItem S at p (Cite label) q → Grows S at (seen p) (Cite label) (seen q)
     cite-grows p q label is (below, step, n, makes, placed, stack, saved) = by makes
       where
         low : p.stack ≡ below ++ step.taken → AreBelow (length p.steps) below
@@ -138,16 +138,16 @@ module _ (S : Database) where
               cites-over p q below step n is (low whole) placed stack saved,
             )
 
-    note-grows : (p q : Progress) (item : Item) → IsSound p → Notes S at p item q → Grows S at (seen p) item (seen q)
-    note-grows p q (Cite label) is h = cite-grows p q label is h
-    note-grows p q (Recall zero) is h = absurd h.1
-    note-grows p q (Recall (suc k)) is h =
+    record_item-grows : (p q : Progress) (item : Item) → IsSound p → RecordsItem S at p item q → Grows S at (seen p) item (seen q)
+    record_item-grows p q (Cite label) is h = cite-grows p q label is h
+    record_item-grows p q (Recall zero) is h = absurd h.1
+    record_item-grows p q (Recall (suc k)) is h =
         let us = unfolded S p.steps in (
           pick us h.0,
           map-at (pick us) p.saved k h.0 h.1,
           ap seen h.2 ∙ ap (λ s. trees s (map (pick us) p.saved)) (map_push (pick us) p.stack h.0),
         )
-    note-grows p q Mark is h =
+    record_item-grows p q Mark is h =
         let us = unfolded S p.steps in (
           map (pick us) h.0,
           pick us h.1,
@@ -155,14 +155,14 @@ module _ (S : Database) where
           ap seen h.3 ∙ ap (trees (map (pick us) p.stack)) (map_push (pick us) p.saved h.1),
         )
 
-    notes-grow : (items : List Item) (p q : Progress) → IsSound p → NotesAll S at p items q → GrowsBy S at (seen p) items (seen q)
-    notes-grow [] p q is h = ap seen h
-    notes-grow (item ∷ items) p q is h = (seen h.0, note-grows p h.0 item is h.1, notes-grow items h.0 q (note-sound S at p h.0 item is h.1) h.2)
+    records-grow : (items : List Item) (p q : Progress) → IsSound p → RecordsItems S at p items q → GrowsBy S at (seen p) items (seen q)
+    records-grow [] p q is h = ap seen h
+    records-grow (item ∷ items) p q is h = (seen h.0, record_item-grows p h.0 item is h.1, records-grow items h.0 q (record_item-sound S at p h.0 item is h.1) h.2)
 
     -- the last step unfolds to the derivation that the items spell
     pub unfolds : HasLabelsOnce S → (items : List Item) (steps : List Step) → IsRight S at items → AreSteps S at items steps → Derives S at items (last_unfolded S steps)
     unfolds once items steps right are =
-        let left = leaves S at once items (seen are.end) right (notes-grow items (progress [] [] []) are.end nothing-sound are.noted) in
+        let left = leaves S at once items (seen are.end) right (records-grow items (progress [] [] []) are.end nothing-sound are.recorded) in
         let one : map (pick (unfolded S are.end.steps)) (are.root ∷ []) ≡ left.0 ∷ [] = ap (map (pick (unfolded S are.end.steps))) (sym are.one) ∙ left.2 in
         let top : pick (unfolded S are.end.steps) are.root ≡ left.0 = cc in
         let last : length steps - 1 ≡ are.root = (let l = are.last in omega (arith, l)) in

@@ -43,22 +43,22 @@ IsMarked saved zero n = ⊥
 IsMarked saved (suc k) n = slice_get saved k ≡ Some n
 
 -- the effect of one item: a citation makes its step, a recall and a mark make none
-abbrev pub Notes : Database → ℕ → Progress → Item → Progress → Type 0
-Notes S at old (Cite label) new =
+abbrev pub RecordsItem : Database → ℕ → Progress → Item → Progress → Type 0
+RecordsItem S at old (Cite label) new =
     (below : List ℕ) × (step : Step) × (n : ℕ) × Makes S at label old.stack below step × IsPlaced old.steps step new.steps n
     × (new.stack ≡ below ++ n ∷ []) × (new.saved ≡ old.saved)
-Notes S at old (Recall k) new = (n : ℕ) × IsMarked old.saved k n × (new ≡ progress old.steps (old.stack ++ n ∷ []) old.saved)
-Notes S at old Mark new = (below : List ℕ) × (n : ℕ) × (old.stack ≡ below ++ n ∷ []) × (new ≡ progress old.steps old.stack (old.saved ++ n ∷ []))
+RecordsItem S at old (Recall k) new = (n : ℕ) × IsMarked old.saved k n × (new ≡ progress old.steps (old.stack ++ n ∷ []) old.saved)
+RecordsItem S at old Mark new = (below : List ℕ) × (n : ℕ) × (old.stack ≡ below ++ n ∷ []) × (new ≡ progress old.steps old.stack (old.saved ++ n ∷ []))
 
-abbrev pub NotesAll : Database → ℕ → Progress → List Item → Progress → Type 0
-NotesAll S at old [] new = old ≡ new
-NotesAll S at old (item ∷ items) new = (next : Progress) × Notes S at old item next × NotesAll S at next items new
+abbrev pub RecordsItems : Database → ℕ → Progress → List Item → Progress → Type 0
+RecordsItems S at old [] new = old ≡ new
+RecordsItems S at old (item ∷ items) new = (next : Progress) × RecordsItem S at old item next × RecordsItems S at next items new
 
 -- these are the steps of the items, and the one result that is left is that of the last step
 pub record AreSteps (S : Database) (at : ℕ) (items : List Item) (steps : List Step) : Type 0 where
   pub end : Progress
   pub root : ℕ
-  pub noted : NotesAll S at (progress [] [] []) items end
+  pub recorded : RecordsItems S at (progress [] [] []) items end
   pub same : end.steps ≡ steps
   pub one : end.stack ≡ root ∷ []
   pub last : length steps ≡ suc root

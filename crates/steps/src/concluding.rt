@@ -1,13 +1,13 @@
 //! The conclusion that an assertion draws from the results that it takes.
 ghost use Rattle.std.specs.Prelude.{◌≡◌, ℕ, ◌++◌, [], List, Some, OnOk, IfOk, IfSome, length, map, get_or, slice_get};
-ghost use Rattle.entries.specs.declared.cited_parts.Hypothesis.TheVariants.{Float};
+ghost use Rattle.entries.specs.declared.assertion_view.Hypothesis.TheVariants.{Float};
 ghost use Rattle.entries.specs.SymbolPlaces.{ArePlacesOf};
 ghost use Rattle.frame.specs.Substitution.{CodeImages, code_apply};
 ghost use Rattle.subst.specs.SymbolRanges.{seen_at, AreWithin};
 ghost use Rattle.subst.specs.Vanishing.{HaveSameResult};
 ghost use Rattle.verify.specs.Fits.{AreDifferent, IsTyped, AreRead};
 
-use entries::{Cited, SymbolPlaces};
+use entries::{AssertionView, SymbolPlaces};
 use std::alloc::AllocError;
 use subst::{Buffer, ImageRanges, Remaining, SYMBOLS_LIMIT, SymbolRange, place_between};
 use verify::read_off;
@@ -43,18 +43,18 @@ pub fn conclude(
     symbols: &mut Buffer,
     images: &mut ImageRanges,
     remaining: &mut Remaining,
-    cited: &Cited<'_>,
+    cited: &AssertionView<'_>,
     standing: Option<&SymbolPlaces>,
     places: &[SymbolRange],
 ) -> Result<SymbolRange, AllocError>
     requires standing { IfSome standing (λ places. ArePlacesOf cited.now.conclusion.now places.now) }
     requires same { length places.now ≡ length cited.now.hypotheses }
-    requires heads { length cited.now.heads.now ≡ length cited.now.hypotheses }
+    requires typecodes { length cited.now.typecodes.now ≡ length cited.now.hypotheses }
     requires within { AreWithin (length symbols.old) places.now }
     requires different { AreDifferent cited.now.hypotheses }
     requires typed { (k x : ℕ) → slice_get cited.now.hypotheses k ≡ Some (Float x)
-        → IsTyped (get_or cited.now.heads.now k 0) (get_or (map (seen_at symbols.old) places.now) k []) }
-    ensures added { OnOk result ((ρ : CodeImages) × AreRead cited.now.heads.now cited.now.hypotheses (map (seen_at symbols.old) places.now) ρ
+        → IsTyped (get_or cited.now.typecodes.now k 0) (get_or (map (seen_at symbols.old) places.now) k []) }
+    ensures added { OnOk result ((ρ : CodeImages) × AreRead cited.now.typecodes.now cited.now.hypotheses (map (seen_at symbols.old) places.now) ρ
         × (symbols.new ≡ symbols.old ++ code_apply ρ cited.now.conclusion.now)) }
     ensures place { IfOk result (λ place. (place.start ≡ length symbols.old) × (place.end ≡ length symbols.new)) }
 {
@@ -62,7 +62,7 @@ pub fn conclude(
     let Some(_) = read_off(
         images,
         symbols.as_slice(),
-        cited.heads,
+        cited.typecodes,
         &cited.hypotheses,
         places,
     )?

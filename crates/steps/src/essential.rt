@@ -5,10 +5,10 @@ ghost use Rattle.steps.specs.Rows.{no_row, steps_of, AreRows};
 ghost use Rattle.steps.specs.Essential.{essential_of, AreEssential};
 ghost use Rattle.steps.specs.Stored.Marked.{taken_by, mark_each, mark_last, AreMarkedFrom, AreMarks};
 
-use crate::noting::cited_at;
+use crate::recording::cited_at;
 use crate::steps_table::ProofTable;
 use entries::{Hypotheses, Hypothesis};
-use frame::{Frames, Gathered, Meaning};
+use frame::{FrameBuffers, Frames, Meaning};
 use std::alloc::{AllocError, Global};
 
 /// Returns the places that are taken for a `$e`.
@@ -37,7 +37,7 @@ fn premises_of(
     at: usize,
     table: &ProofTable,
     place: usize,
-    gathered: &mut Gathered,
+    frame_buffers: &mut FrameBuffers,
 ) -> Result<Vec<usize>, AllocError>
     requires at { (1 ≤ at) × (at ≤ length frames.now.statements) }
     requires rows { AreRows frames.now.statements at frames.now.names table.now }
@@ -47,7 +47,7 @@ fn premises_of(
     let position = table.position(place);
     match frames.meaning(at, position) {
         Meaning::Assertion => {
-            let cited = cited_at(frames, position, gathered)?;
+            let cited = cited_at(frames, position, frame_buffers)?;
             premises_among(alloc, &cited.hypotheses, table.taken(place))
         }
         Meaning::Hypothesis(_) => Ok(Vec::new(alloc)),
@@ -72,7 +72,7 @@ fn mark_step(
     at: usize,
     table: &ProofTable,
     place: usize,
-    gathered: &mut Gathered,
+    frame_buffers: &mut FrameBuffers,
     marks: &mut [bool],
 ) -> Result<(), AllocError>
     requires at { (1 ≤ at) × (at ≤ length frames.now.statements) }
@@ -82,7 +82,7 @@ fn mark_step(
     ensures { OnOk result (AreMarkedFrom frames.now.statements (steps_of table.now) place marks.new) }
 {
     if marks[place] {
-        let premises = premises_of(alloc, frames, at, table, place, gathered)?;
+        let premises = premises_of(alloc, frames, at, table, place, frame_buffers)?;
         mark_all(&premises, marks);
     }
     Ok(())
@@ -112,10 +112,18 @@ fn marks_of(
     ensures { IfOk result (λ marks. AreMarks frames.now.statements (steps_of table.now) marks.items) }
 {
     let count = table.len();
-    let mut gathered = Gathered::new(alloc);
+    let mut frame_buffers = FrameBuffers::new(alloc);
     let mut marks = last_marked(alloc, count)?;
     for place in (0..count).rev() {
-        mark_step(alloc, frames, at, table, place, &mut gathered, &mut marks)?;
+        mark_step(
+            alloc,
+            frames,
+            at,
+            table,
+            place,
+            &mut frame_buffers,
+            &mut marks,
+        )?;
     }
     Ok(marks)
 }
@@ -175,12 +183,12 @@ fn keep_marked(
     requires empty { kept.old ≡ [] }
     ensures { OnOk result (AreEssential frames.now.statements table.now kept.new) }
 {
-    let mut gathered = Gathered::new(alloc);
+    let mut frame_buffers = FrameBuffers::new(alloc);
     let mut numbers = Vec::new(alloc);
     for place in 0..table.len() {
         numbers.push(kept.len())?;
         if marks[place] {
-            let premises = premises_of(alloc, frames, at, table, place, &mut gathered)?;
+            let premises = premises_of(alloc, frames, at, table, place, &mut frame_buffers)?;
             let taken = renumbered(alloc, &premises, &numbers)?;
             kept.push(table.position(place), taken, table.expr(place))?;
         }

@@ -4,7 +4,7 @@
 //! concludes from those that it takes, in the order in which the items make them; `essential_table` returns the steps of such a
 //! table that a mathematician reads.
 //!
-//! Reading order: `steps_table` (the table, and the call), `noting` (one item), `table_draft` (one citation), `concluding` (one
+//! Reading order: `steps_table` (the table, and the call), `recording` (one item), `table_draft` (one citation), `concluding` (one
 //! conclusion), `known` (steps found again), `essential` (the steps that a mathematician reads), `laws`.
 #![tactic(auto)]
 
@@ -12,7 +12,7 @@ mod concluding;
 mod essential;
 mod known;
 pub mod laws;
-mod noting;
+mod recording;
 mod steps_table;
 mod table_draft;
 

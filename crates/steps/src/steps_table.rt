@@ -7,9 +7,9 @@ ghost use Rattle.steps.specs.StepTable.{AreSteps};
 ghost use Rattle.steps.specs.Rows.{no_row, row, steps_of, expr_in, AreRows};
 ghost use Rattle.steps.specs.Unfolded.{last_unfolded};
 
-use crate::noting::note;
+use crate::recording::record_item;
 use crate::table_draft::{PlacedStep, TableDraft};
-use frame::{Frames, Gathered};
+use frame::{FrameBuffers, Frames};
 use proof_code::Items;
 use std::alloc::{AllocError, Global};
 use std::marker::Model;
@@ -119,16 +119,16 @@ pub fn proof_table(
 {
     let parts = items.parts();
     let positions = frames.positions(parts.labels)?;
-    let mut gathered = Gathered::new(alloc);
+    let mut frame_buffers = FrameBuffers::new(alloc);
     let mut draft = TableDraft::new(alloc);
     for number in parts.numbers {
-        note(
+        record_item(
             alloc,
             frames,
             at,
             &positions,
             *number,
-            &mut gathered,
+            &mut frame_buffers,
             &mut draft,
         )?;
     }

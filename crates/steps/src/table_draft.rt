@@ -3,7 +3,7 @@ ghost use Rattle.std.specs.Prelude.{◌≡◌, ℕ, ◌<◌, ◌≤◌, ◌∷�
 ghost use Rattle.mm_lex.specs.Alphabet.{Name};
 ghost use Rattle.mm_read.specs.declared.stmt.Stmt.{Stmt as Statement};
 ghost use Rattle.entries.specs.SymbolPlaces.{ArePlacesOf};
-ghost use Rattle.entries.specs.declared.cited_parts.Hypothesis.TheVariants.{Float};
+ghost use Rattle.entries.specs.declared.assertion_view.Hypothesis.TheVariants.{Float};
 ghost use Rattle.frame.specs.Below.{AreBelow};
 ghost use Rattle.verify.specs.Fits.{AreDifferent, IsTyped};
 ghost use Rattle.verify.specs.ResultPlaces.{top};
@@ -11,7 +11,7 @@ ghost use Rattle.steps.specs.Stored.Drafted.{IsDraft, AreHeld, Adds, GivesHypoth
 
 use crate::concluding::conclude;
 use crate::known::{find, keep, key};
-use entries::{Cited, SymbolPlaces};
+use entries::{AssertionView, SymbolPlaces};
 use std::alloc::{AllocError, Global};
 use std::collections::BTreeMap;
 use subst::{Buffer, ImageRanges, Remaining, SYMBOLS_LIMIT, SymbolRange, place_between};
@@ -132,16 +132,16 @@ pub fn cite_parts(
     alloc: Global,
     draft: &mut TableDraft,
     position: usize,
-    cited: &Cited<'_>,
+    cited: &AssertionView<'_>,
     standing: Option<&SymbolPlaces>,
 ) -> Result<(), AllocError>
     requires standing { IfSome standing (λ places. ArePlacesOf cited.now.conclusion.now places.now) }
     requires held { AreHeld draft.old }
     requires many { length cited.now.hypotheses ≤ length draft.old.stack.items }
-    requires heads { length cited.now.heads.now ≡ length cited.now.hypotheses }
+    requires typecodes { length cited.now.typecodes.now ≡ length cited.now.hypotheses }
     requires different { AreDifferent cited.now.hypotheses }
     requires typed { (k x : ℕ) → slice_get cited.now.hypotheses k ≡ Some (Float x)
-        → IsTyped (get_or cited.now.heads.now k 0) (get_or (map (codes_in draft.old) (top (length cited.now.hypotheses) draft.old.stack.items)) k []) }
+        → IsTyped (get_or cited.now.typecodes.now k 0) (get_or (map (codes_in draft.old) (top (length cited.now.hypotheses) draft.old.stack.items)) k []) }
     ensures { OnOk result (GivesAssertion draft.old draft.new position cited.now) }
 {
     let kept = draft.stack.len() - cited.hypotheses.len();

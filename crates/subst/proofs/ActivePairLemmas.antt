@@ -1,9 +1,9 @@
 -- Variables of one active `$d`: each two of them are disjoint.
 use Rattle.subst.proofs.Words.{◌≡◌, ℕ, ◌+◌, ◌<◌, ◌&&◌, ◌||◌, ◌==◌, true, false, not, true≢false, List, length, take, get_or, list_any, bit_at, bit_or, Option, Some, refl, sym, ◌∙◌, ap, subst, arith, inl, inr, and_from, or_left, or_right, eq-eqb, list_any_at, get_or-take, length-take, below-at, name_at, is_pair, AreBelow, Numbered}
-use Rattle.subst.proofs.Words.{Places, IsAt, IsPlace, Grows, IsAmong, AreBitsOf, PlaceWord, RowWord, IsFact, AreFacts, ArePairs, NotesWord}
+use Rattle.subst.proofs.Words.{Places, IsAt, IsPlace, Grows, IsAmong, AreBitsOf, PlaceWord, RowWord, IsFact, AreFacts, ArePairs, RecordsWord}
 use Rattle.subst.proofs.BitsLemmas.{differ, zero-none, or-either}
 use Rattle.subst.proofs.VariablePlaceLemmas.{among-before, among-last}
-use Rattle.subst.proofs.DisjointRowLemmas.{facts-noted}
+use Rattle.subst.proofs.DisjointRowLemmas.{facts-recorded}
 
 -- ---- the bits of a list
 
@@ -87,7 +87,7 @@ module _ (v u w : Numbered) (list : List ℕ) (pairs : ArePairsOf v u)
         pairs.each x y hx hy ((rw pairs.names at tells) x y hx hy ∙ or_left _ _ (and_from _ _ (ap not (differ x y other)) (and_from _ _ (in-list x p) (in-list y q)))));
   }
 
--- ---- what is noted of a list
+-- ---- what is recorded of a list
 
 module _ (v : Numbered) (f : Places) (list : List ℕ) (bits : ℕ) (pairs : ArePairs v list) (are : AreBitsOf f bits (length list) list) where
   listed-fact : (p q : ℕ) → bit_at bits p ≡ 1 → bit_at bits q ≡ 1 → (p ≡ q → ⊥) → IsFact v f p q
@@ -99,10 +99,10 @@ module _ (v : Numbered) (f : Places) (list : List ℕ) (bits : ℕ) (pairs : Are
         kept = rw (one.2.same, two.2.same) (pairs.each one.0 two.0 one.1 two.1 (λ same. other (are.once p q two.0 a b (subst (IsAt f p) same one.2) two.2)));
       }
 
-  pub listed-facts : (old new : List RowWord) (p less : ℕ) → AreFacts v f old → NotesWord old new p (record { index = 0; bits = less }) → bit_at bits p ≡ 1 → ((j : ℕ) → bit_at less j ≡ 1 → bit_at bits j ≡ 1) → (bit_at less p ≡ 1 → ⊥) → AreFacts v f new
-  listed-facts old new p less facts notes here only gone =
+  pub listed-facts : (old new : List RowWord) (p less : ℕ) → AreFacts v f old → RecordsWord old new p (record { index = 0; bits = less }) → bit_at bits p ≡ 1 → ((j : ℕ) → bit_at less j ≡ 1 → bit_at bits j ≡ 1) → (bit_at less p ≡ 1 → ⊥) → AreFacts v f new
+  listed-facts old new p less facts records here only gone =
       let w : PlaceWord = record { index = 0; bits = less } in
-      facts-noted v f old new p w facts notes
+      facts-recorded v f old new p w facts records
       (λ q h. (let place = h.place in
       let same : h.bit ≡ q = omega (arith, place) in
       subst (IsFact v f p) same (listed-fact p h.bit here (only h.bit h.set) (λ e. gone (rw e h.set)))))

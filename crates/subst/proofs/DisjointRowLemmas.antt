@@ -1,6 +1,6 @@
 -- Variables that were found to be disjoint.
 use Rattle.subst.proofs.Words.{◌≡◌, ℕ, ◌+◌, ◌*◌, ◌^◌, ◌<◌, ◌≤◌, ◌⊎◌, true, List, [], ◌∷◌, ◌++◌, length, get_or, slice_set, bit_at, bit_and, bit_not, bit_or, w64, sym, ◌∙◌, ap, subst, arith, inl, inr, cases_eq, cases_lt, get_or_append_left, get_or_push, get_or-set_same, get_or-set_other, length-set, length_push, Numbered}
-use Rattle.subst.proofs.Words.{PlaceWord, HasAmong, HasBit, HasPlace, no_word, RowWord, no_row, IsRowAt, HasFact, IsFact, AreFacts, NotesWord, TellsWord, TellsAll, TellsBits, TellsEach, Places, is_kept, Grows}
+use Rattle.subst.proofs.Words.{PlaceWord, HasAmong, HasBit, HasPlace, no_word, RowWord, no_row, IsRowAt, HasFact, IsFact, AreFacts, RecordsWord, TellsWord, TellsAll, TellsBits, TellsEach, Places, is_kept, Grows}
 use Rattle.subst.proofs.BitsLemmas.{zero-none, or-either, and-left, and-rest, IsTaken}
 use Rattle.subst.proofs.VariablePlaceLemmas.{kept-grown, place-grown}
 use Rattle.subst.proofs.PlaceSetLemmas.{word-more}
@@ -35,8 +35,8 @@ module _ (ws : List RowWord) (p : ℕ) (w : PlaceWord) where
             inr (sym h.row ∙ ap (λ (u : RowWord). u.place) e, record { bit = h.bit; place = h.place ∙ ap (λ (u : RowWord). 64 * u.index + h.bit) e; set = ap (λ (u : RowWord). bit_at u.bits h.bit) (sym e) ∙ h.set })
       ]
 
-  pub notes-pushed : NotesWord ws (ws ++ (record { place = p; index = w.index; bits = w.bits }) ∷ []) p w
-  notes-pushed = record { only = pushed-fact }
+  pub records-pushed : RecordsWord ws (ws ++ (record { place = p; index = w.index; bits = w.bits }) ∷ []) p w
+  records-pushed = record { only = pushed-fact }
 
 -- more bits in the row that was found
 module _ (ws : List RowWord) (p k bits : ℕ) (w : PlaceWord) (at : IsRowAt ws p w.index k) (own : (get_or ws k no_row).bits ≡ bits) where
@@ -60,15 +60,15 @@ module _ (ws : List RowWord) (p k bits : ℕ) (w : PlaceWord) (at : IsRowAt ws p
             inl (record { word = h.word; there = omega (arith, low, length-set ws k longer); row = ap (λ (u : RowWord). u.place) (sym e) ∙ h.row; bit = h.bit; place = h.place ∙ ap (λ (u : RowWord). 64 * u.index + h.bit) e; set = ap (λ (u : RowWord). bit_at u.bits h.bit) (sym e) ∙ h.set })
       ]
 
-  pub notes-set : NotesWord ws (slice_set ws k (record { place = p; index = w.index; bits = bit_or bits w.bits })) p w
-  notes-set = record { only = set-fact }
+  pub records-set : RecordsWord ws (slice_set ws k (record { place = p; index = w.index; bits = bit_or bits w.bits })) p w
+  records-set = record { only = set-fact }
 
-pub notes-nothing : (ws : List RowWord) (p : ℕ) (w : PlaceWord) → NotesWord ws ws p w
-notes-nothing ws p w = record { only = λ r q h. inl h }
+pub records-nothing : (ws : List RowWord) (p : ℕ) (w : PlaceWord) → RecordsWord ws ws p w
+records-nothing ws p w = record { only = λ r q h. inl h }
 
-pub facts-noted : (v : Numbered) (f : Places) (old new : List RowWord) (p : ℕ) (w : PlaceWord) → AreFacts v f old → NotesWord old new p w → ((q : ℕ) → HasBit w q → IsFact v f p q) → AreFacts v f new
-facts-noted v f old new p w facts notes own = record {
-  each = λ r q h. elim (notes.only r q h) [ inl before ↦ facts.each r q before | inr now ↦ subst (λ n. IsFact v f n q) (sym now.0) (own q now.1) ];
+pub facts-recorded : (v : Numbered) (f : Places) (old new : List RowWord) (p : ℕ) (w : PlaceWord) → AreFacts v f old → RecordsWord old new p w → ((q : ℕ) → HasBit w q → IsFact v f p q) → AreFacts v f new
+facts-recorded v f old new p w facts records own = record {
+  each = λ r q h. elim (records.only r q h) [ inl before ↦ facts.each r q before | inr now ↦ subst (λ n. IsFact v f n q) (sym now.0) (own q now.1) ];
 }
 
 -- ---- the words of a set, one after another
@@ -88,11 +88,11 @@ told-more v f p ws n first next = record {
 pub told-all : (v : Numbered) (f : Places) (p : ℕ) (ws : List PlaceWord) (n : ℕ) → length ws ≤ n → AreToldFirst v f p ws n → TellsAll v f p ws true
 told-all v f p ws n long told = λ q h. (let low = h.there in told.each h.word q (omega (arith, long, low)) h.has)
 
--- what is not noted of a word was asked for, or nothing is left
+-- what is not recorded of a word was asked for, or nothing is left
 pub told-word : (v : Numbered) (f : Places) (rows : List RowWord) (p : ℕ) (w : PlaceWord) (known : ℕ) → w.bits < 2 ^ 64 → known < 2 ^ 64 → AreFacts v f rows → ((b : ℕ) → bit_at known b ≡ 1 → HasFact rows p (64 * w.index + b))
     → TellsWord v f p (record { index = w.index; bits = bit_and w.bits (bit_not w64 known) }) true → TellsWord v f p w true
-told-word v f rows p w known fits other facts noted asked = λ q h. elim (and-rest w.bits known h.bit fits other h.set) [
-  | inl old ↦ rw h.place (facts.each p _ (noted h.bit old)).kept
+told-word v f rows p w known fits other facts recorded asked = λ q h. elim (and-rest w.bits known h.bit fits other h.set) [
+  | inl old ↦ rw h.place (facts.each p _ (recorded h.bit old)).kept
   | inr rest ↦ asked q (record { bit = h.bit; place = h.place; set = rest })
 ]
 
@@ -117,6 +117,6 @@ pub are_told-all : (v : Numbered) (f : Places) (words ws : List PlaceWord) (n : 
 are_told-all v f words ws n long told = λ p q h b. told.each p q (let low = h.there in record { word = h.word; there = omega (arith, low, long); has = h.has }) b
 
 -- the places of a word that were asked for
-pub told-facts : (v : Numbered) (f : Places) (old new : List RowWord) (p : ℕ) (w : PlaceWord) → AreFacts v f old → NotesWord old new p w → p < length f.variables → ((b : ℕ) → bit_at w.bits b ≡ 1 → 64 * w.index + b < length f.variables)
+pub told-facts : (v : Numbered) (f : Places) (old new : List RowWord) (p : ℕ) (w : PlaceWord) → AreFacts v f old → RecordsWord old new p w → p < length f.variables → ((b : ℕ) → bit_at w.bits b ≡ 1 → 64 * w.index + b < length f.variables)
     → TellsWord v f p w true → AreFacts v f new
-told-facts v f old new p w facts notes row below told = facts-noted v f old new p w facts notes (λ q h. (let place = h.place in let low = below h.bit h.set in record { row = row; place = omega (arith, place, low); kept = told q h }))
+told-facts v f old new p w facts records row below told = facts-recorded v f old new p w facts records (λ q h. (let place = h.place in let low = below h.bit h.set in record { row = row; place = omega (arith, place, low); kept = told q h }))

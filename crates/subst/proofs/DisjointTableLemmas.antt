@@ -1,14 +1,14 @@
 -- The tables of a cache, as images are listed in them.
 use Rattle.subst.proofs.Words.{◌≡◌, ℕ, ◌+◌, ◌-◌, ◌<◌, ◌≤◌, ◌==◌, false, List, [], ◌∷◌, ◌++◌, length, take, take_all, drop, get_or, sym, ap, subst, arith, Numbered, SymbolRange, seen_at}
-use Rattle.subst.proofs.Words.{Places, ArePlaced, Grows, AreNoted, Noted, KeepsRest, AddsSymbols, HasPlace, NotesImage, AreTables}
+use Rattle.subst.proofs.Words.{Places, ArePlaced, Grows, AreImagesRecorded, RecordedImages, KeepsRest, AddsSymbols, HasPlace, RecordsImage, AreTables}
 use Rattle.subst.specs.declared.disjoint_tables.DisjointTables.{DisjointTables}
 use Rattle.subst.proofs.SymbolRangeLemmas.{length-seen}
 use Rattle.subst.proofs.DisjointRowLemmas.{facts-grown}
-use Rattle.subst.proofs.ImageVariableLemmas.{noted-over, noted-begin, noted-most, noted-long, rest-most, seen-behind}
+use Rattle.subst.proofs.ImageVariableLemmas.{recorded-over, recorded-begin, recorded-most, recorded-long, rest-most, seen-behind}
 
 pub tables-over : (v w : Numbered) (over more symbols : List ℕ) (t : DisjointTables) → v ≡ w → symbols ≡ over ++ more → AreTables v over t → AreTables w symbols t
 tables-over v w over more symbols t same e h =
-    subst (λ u. AreTables u symbols t) same (subst (λ s. AreTables v s t) (sym e) (record { placed = h.placed; noted = noted-over v t.variables over more t.images h.noted; facts = h.facts }))
+    subst (λ u. AreTables u symbols t) same (subst (λ s. AreTables v s t) (sym e) (record { placed = h.placed; recorded = recorded-over v t.variables over more t.images h.recorded; facts = h.facts }))
 
 -- an expression without its first symbol
 abbrev pub rest_of : List ℕ → List ℕ
@@ -23,25 +23,25 @@ pub some-range : (xs rest : List ℕ) (p : SymbolRange) (x : ℕ) → p.start �
 some-range xs rest p x low high e = let size = ap length e in omega (arith, length-seen xs p low high, size)
 
 -- the images behind those that are long were taken away
-abbrev pub begun_of : Noted → Noted
+abbrev pub begun_of : RecordedImages → RecordedImages
 begun_of n = record { words = take n.kept n.words; list = []; kept = n.kept; read = []; long = n.long }
 
-module _ (v : Numbered) (symbols : List ℕ) (t : DisjointTables) (g : Places) (tables : AreTables v symbols t) (placed : ArePlaced v g) (grows : Grows t.variables g) (listed : Noted) (keeps : KeepsRest (begun_of t.images) listed) where
-  listed-noted : AreNoted v g symbols listed
-  listed-noted = noted-most v t.variables g symbols (begun_of t.images) listed grows (rest-most (begun_of t.images) listed keeps) (noted-begin v t.variables symbols t.images tables.noted)
+module _ (v : Numbered) (symbols : List ℕ) (t : DisjointTables) (g : Places) (tables : AreTables v symbols t) (placed : ArePlaced v g) (grows : Grows t.variables g) (listed : RecordedImages) (keeps : KeepsRest (begun_of t.images) listed) where
+  listed-recorded : AreImagesRecorded v g symbols listed
+  listed-recorded = recorded-most v t.variables g symbols (begun_of t.images) listed grows (rest-most (begun_of t.images) listed keeps) (recorded-begin v t.variables symbols t.images tables.recorded)
 
   -- places were listed
   pub tables-listed : AreTables v symbols (record { variables = g; images = listed; rows = t.rows; before = t.before })
-  tables-listed = record { placed = placed; noted = listed-noted; facts = facts-grown v t.variables g t.rows grows tables.facts }
+  tables-listed = record { placed = placed; recorded = listed-recorded; facts = facts-grown v t.variables g t.rows grows tables.facts }
 
--- the list is noted as that of what stands behind the first symbol of a range
-pub tables-noted : (v : Numbered) (symbols : List ℕ) (t : DisjointTables) (new : Noted) (range image : SymbolRange) (x : ℕ) (rest : List ℕ) → AreTables v symbols t
-    → AddsSymbols v t.variables (HasPlace []) (HasPlace t.images.list) (length rest) rest → NotesImage t.images new image → range.start ≤ range.end → range.end ≤ length symbols → image.start ≡ range.start + 1 → image.end ≡ range.end → seen_at symbols range ≡ x ∷ rest
+-- the list is recorded as that of what stands behind the first symbol of a range
+pub tables-recorded : (v : Numbered) (symbols : List ℕ) (t : DisjointTables) (new : RecordedImages) (range image : SymbolRange) (x : ℕ) (rest : List ℕ) → AreTables v symbols t
+    → AddsSymbols v t.variables (HasPlace []) (HasPlace t.images.list) (length rest) rest → RecordsImage t.images new image → range.start ≤ range.end → range.end ≤ length symbols → image.start ≡ range.start + 1 → image.end ≡ range.end → seen_at symbols range ≡ x ∷ rest
     → AreTables v symbols (record { variables = t.variables; images = new; rows = t.rows; before = t.before })
-tables-noted v symbols t new range image x rest tables adds notes start end low_is high_is seen =
+tables-recorded v symbols t new range image x rest tables adds records start end low_is high_is seen =
     let some = some-range symbols rest range x start end seen in
     let behind = seen-behind symbols rest range image x some low_is high_is seen in record {
       placed = tables.placed;
-      noted = noted-long v t.variables symbols t.images new image notes (omega (arith, low_is, high_is, some)) (omega (arith, high_is, end)) (rw behind adds) tables.noted;
+      recorded = recorded-long v t.variables symbols t.images new image records (omega (arith, low_is, high_is, some)) (omega (arith, high_is, end)) (rw behind adds) tables.recorded;
       facts = tables.facts;
     }

@@ -1,6 +1,6 @@
 -- The images of each two numbers of a group, each held against those before it.
 use Rattle.subst.proofs.Words.{◌≡◌, ℕ, zero, suc, ◌+◌, ◌<◌, ◌≤◌, Bool, true, false, not, ◌||◌, ◌&&◌, ◌==◌, List, [], ◌∷◌, length, map, take, drop, get_or, slice_get, slice_range, Some, refl, list_all, list_any, position_or_len, sym, ◌∙◌, ap, subst, arith, inl, inr, true≢false, lt-ltb, and_from, and_parts, or_right, cases_eq, or_cases, or_left, cases_Bool, false_from_ne_true, list_all-map, list_all_at, list_all_more, list_any_at, get_or-take, get_or_default, length-take, eqb-true, last_part}
-use Rattle.subst.proofs.Words.{Name, name_eq, has_name, Expr, Database, name_at, decode, AreDistinct, name_same, same_name, name_eq-comm, is_pair, groups, Numbered, CodeImages, code_image, image, images_of_names, are_apart, is_group_apart, are_groups_apart, AreBelow, AllBelow, image_named, are_two_apart, is_number_apart, are_numbers_apart, pair_at, apart-from}
+use Rattle.subst.proofs.Words.{Name, name_eq, has_name, Expr, Database, name_at, decode, AreDistinct, name_same, same_name, name_eq-comm, is_pair, groups, Numbered, CodeImages, code_image, image, images_of_names, are_disjoint, is_group_disjoint, are_groups_disjoint, AreBelow, AllBelow, image_named, are_two_disjoint, is_number_disjoint, are_numbers_disjoint, pair_at, disjoint-from}
 use Rattle.subst.proofs.Words.{Places, ArePlaced, ArePlacesOf, HasVariable, IsAmong, HasPlace, PlaceWord, WordRange, IsIn, IsRangeOf, AddsWords, TellsEach}
 use Rattle.std.proofs.lemmas.Option.{get_or_from_slice_get, slice_get-get_or, slice_get_within}
 use Rattle.std.proofs.lemmas.List.Folds.{Any-from_list_any}
@@ -8,7 +8,7 @@ use Rattle.std.proofs.Math.Bool.{and_comm}
 use Rattle.subst.proofs.BitsLemmas.{differ}
 use Rattle.subst.proofs.VariablePlaceLemmas.{grows-own, has-more, places-same, at-variable}
 use Rattle.subst.proofs.ImageVariableLemmas.{in-listed, listed-in}
-use Rattle.subst.proofs.GoodLemmas.{is_good, at-names, apart-from_good, good-at, all-at, at-all}
+use Rattle.subst.proofs.GoodLemmas.{is_good, at-names, disjoint-from_good, good-at, all-at, at-all}
 use Rattle.subst.proofs.SubstitutionLemmas.{place-of, image-decode}
 
 -- ---- lists
@@ -23,7 +23,7 @@ below-group n [] i g b h = absurd (cc)
 below-group n (f ∷ groups) zero g b h = let e : f ≡ g = cc in subst (AreBelow n) e b.0
 below-group n (f ∷ groups) (suc i) g b h = below-group n groups i g b.1 h
 
--- a group that is not apart, and one more that is
+-- a group that is not disjoint, and one more that is
 pub group-stops : (p : List ℕ → Bool) (groups : List (List ℕ)) (i : ℕ) (g : List ℕ) → slice_get groups i ≡ Some g → p g ≡ false → list_all p groups ≡ false
 group-stops p groups i g h e =
     list_all_at p groups i [] (slice_get_within groups i g h) (ap p (get_or_from_slice_get groups i g [] h) ∙ e)
@@ -51,8 +51,8 @@ pair-swap D x y =
     ap (λ b. not b && list_any (λ names. has_name x names && has_name y names) (groups D)) (name_eq-comm x y)
     ∙ ap (λ b. not (name_eq y x) && b) (any-same (λ names. has_name x names && has_name y names) (λ names. has_name y names && has_name x names) (groups D) (λ names. and_comm (has_name x names) (has_name y names)))
 
-apart-swap : (D : Database) (e f : Expr) → are_apart D e f ≡ true → are_apart D f e ≡ true
-apart-swap D e f h = apart-from D f e (λ u v p q in_f in_e. pair-swap D u v ∙ pair_at D e f h v u q p in_e in_f)
+disjoint-swap : (D : Database) (e f : Expr) → are_disjoint D e f ≡ true → are_disjoint D f e ≡ true
+disjoint-swap D e f h = disjoint-from D f e (λ u v p q in_f in_e. pair-swap D u v ∙ pair_at D e f h v u q p in_e in_f)
 
 eq-swap : (i j : ℕ) → (i == j) ≡ (j == i)
 eq-swap i j = grind arith
@@ -61,19 +61,19 @@ eq-own : (j : ℕ) → (j == j) ≡ true
 eq-own j = grind arith
 
 module _ (D : Database) (image_of : ℕ → Expr) where
-  two-swap : (k l : ℕ) → are_two_apart D image_of k l ≡ true → are_two_apart D image_of l k ≡ true
-  two-swap k l h = elim (or_cases (k == l) (are_apart D (image_of k) (image_of l)) h) [
+  two-swap : (k l : ℕ) → are_two_disjoint D image_of k l ≡ true → are_two_disjoint D image_of l k ≡ true
+  two-swap k l h = elim (or_cases (k == l) (are_disjoint D (image_of k) (image_of l)) h) [
     | inl same ↦ or_left (l == k) _ (eq-swap l k ∙ same)
-    | inr apart ↦ or_right (l == k) _ (apart-swap D (image_of k) (image_of l) apart)
+    | inr disjoint ↦ or_right (l == k) _ (disjoint-swap D (image_of k) (image_of l) disjoint)
   ]
 
 -- ---- each held against those before it
 
 module _ (D : Database) (image_of : ℕ → Expr) (group : List ℕ) where
   abbrev two : ℕ → ℕ → Bool
-  two a b = are_two_apart D image_of (get_or group a 0) (get_or group b 0)
+  two a b = are_two_disjoint D image_of (get_or group a 0) (get_or group b 0)
 
-  -- the images of each two of the first n numbers are apart
+  -- the images of each two of the first n numbers are disjoint
   pub record ArePairwise (n : ℕ) : Type 0 where
     pub each : (a b : ℕ) → a < n → b < n → two a b ≡ true
 
@@ -88,10 +88,10 @@ module _ (D : Database) (image_of : ℕ → Expr) (group : List ℕ) where
     ];
   }
 
-  pub pairwise-end : (n : ℕ) → length group ≤ n → ArePairwise n → are_numbers_apart D image_of group ≡ true
+  pub pairwise-end : (n : ℕ) → length group ≤ n → ArePairwise n → are_numbers_disjoint D image_of group ≡ true
   pairwise-end n long all =
-      all-at (is_number_apart D image_of group) group
-      (λ a h. all-at (are_two_apart D image_of (get_or group a 0)) group (λ b l. all.each a b (omega (arith, h, long)) (omega (arith, l, long))))
+      all-at (is_number_disjoint D image_of group) group
+      (λ a h. all-at (are_two_disjoint D image_of (get_or group a 0)) group (λ b l. all.each a b (omega (arith, h, long)) (omega (arith, l, long))))
 
 -- x stands in one of the images of the first n numbers
 abbrev pub IsInImages : CodeImages → List ℕ → ℕ → ℕ → Type 0
@@ -121,11 +121,11 @@ module _ (v : Numbered) (f : Places) (placed : ArePlaced v f) (σ : CodeImages) 
     ];
   }
 
-  -- each image before is apart from it
-  pub next-apart : TellsEach v f listed set true → (a : ℕ) → a < n → are_two_apart v.statements (image_named v.names σ) (get_or group a 0) (get_or group n 0) ≡ true
-  next-apart told a h =
+  -- each image before is disjoint from it
+  pub next-disjoint : TellsEach v f listed set true → (a : ℕ) → a < n → are_two_disjoint v.statements (image_named v.names σ) (get_or group a 0) (get_or group n 0) ≡ true
+  next-disjoint told a h =
       or_right (get_or group a 0 == get_or group n 0) _
-      (apart-from_good v (image_at a) (image_at n) (λ x y p q. good x y (first.each x (a, h, p)) (own-listed.each y q)))
+      (disjoint-from_good v (image_at a) (image_at n) (λ x y p q. good x y (first.each x (a, h, p)) (own-listed.each y q)))
     where
       good : (x y : ℕ) → HasVariable v f (HasPlace set) x → HasVariable v f (HasPlace listed) y → is_good v x y ≡ true
       good x y (inl none) other = or_left _ _ (or_left _ _ (ap not none))
@@ -133,7 +133,7 @@ module _ (v : Numbered) (f : Places) (placed : ArePlaced v f) (σ : CodeImages) 
       good x y (inr one) (inr two) = or_right _ _ (pair-swap v.statements (name_at v.names x) (name_at v.names y) ∙ (sym (at-names v f two.0 one.0 y x two.1 one.1) ∙ told two.0 one.0 two.2 one.2))
 
   -- or one is not
-  pub next-clash : TellsEach v f listed set false → (a : ℕ) × (a < n) × (are_apart v.statements (image_named v.names σ (get_or group a 0)) (image_named v.names σ (get_or group n 0)) ≡ false)
+  pub next-clash : TellsEach v f listed set false → (a : ℕ) × (a < n) × (are_disjoint v.statements (image_named v.names σ (get_or group a 0)) (image_named v.names σ (get_or group n 0)) ≡ false)
   next-clash told =
       let p = told.0 in
       let q = told.1 in
@@ -149,12 +149,12 @@ module _ (v : Numbered) (f : Places) (placed : ArePlaced v f) (σ : CodeImages) 
 -- ---- a number that stands in the group before
 
 module _ (D : Database) (image_of : ℕ → Expr) (group : List ℕ) (n : ℕ) where
-  pub held-clash : (a : ℕ) → a < n → n < length group → are_apart D (image_of (get_or group a 0)) (image_of (get_or group n 0)) ≡ false → list_any (λ x. x == get_or group n 0) (take n group) ≡ false → are_numbers_apart D image_of group ≡ false
+  pub held-clash : (a : ℕ) → a < n → n < length group → are_disjoint D (image_of (get_or group a 0)) (image_of (get_or group n 0)) ≡ false → list_any (λ x. x == get_or group n 0) (take n group) ≡ false → are_numbers_disjoint D image_of group ≡ false
   held-clash a h there clash none =
       let low : a < length (take n group) = omega (arith, length-take n group, h, there) in
       let other : (get_or group a 0 == get_or group n 0) ≡ false = ap (λ x. x == get_or group n 0) (sym (get_or-take n group a 0 h)) ∙ false_from_ne_true _ (λ e. true≢false (sym (list_any_at (λ x. x == get_or group n 0) (take n group) a 0 low e) ∙ none)) in
-      false_from_ne_true (are_numbers_apart D image_of group)
-      (λ all. true≢false (sym (at-all (are_two_apart D image_of (get_or group a 0)) group n (at-all (is_number_apart D image_of group) group a all (omega (arith, h, there))) there) ∙ rw (other, clash) refl))
+      false_from_ne_true (are_numbers_disjoint D image_of group)
+      (λ all. true≢false (sym (at-all (are_two_disjoint D image_of (get_or group a 0)) group n (at-all (is_number_disjoint D image_of group) group a all (omega (arith, h, there))) there) ∙ rw (other, clash) refl))
 
   repeated : list_any (λ x. x == get_or group n 0) (take n group) ≡ true → (a : ℕ) × (a < n) × (get_or group a 0 ≡ get_or group n 0)
   repeated any =
@@ -167,7 +167,7 @@ module _ (D : Database) (image_of : ℕ → Expr) (group : List ℕ) (n : ℕ) w
   pub repeat-pairwise : list_any (λ x. x == get_or group n 0) (take n group) ≡ true → ArePairwise D image_of group n → ArePairwise D image_of group (n + 1)
   repeat-pairwise any h =
       let one = repeated any in
-      pairwise-more D image_of group n h (λ b less. subst (λ k. are_two_apart D image_of (get_or group b 0) k ≡ true) one.2 (h.each b one.0 less one.1))
+      pairwise-more D image_of group n h (λ b less. subst (λ k. are_two_disjoint D image_of (get_or group b 0) k ≡ true) one.2 (h.each b one.0 less one.1))
 
 pub repeat-images : (v : Numbered) (f : Places) (σ : CodeImages) (group : List ℕ) (n : ℕ) (P : ℕ → Type 0) → list_any (λ x. x == get_or group n 0) (take n group) ≡ true → ArePlacesOf v f P (IsInImages σ group n) → ArePlacesOf v f P (IsInImages σ group (n + 1))
 repeat-images v f σ group n P any h =
@@ -198,20 +198,20 @@ module _ (names : List Name) (distinct : AreDistinct names) where
 
   module _ (D : Database) (σ : CodeImages) where
     two-named : (k l : ℕ) → k < length names → l < length names
-        → are_two_apart D (image_named names σ) k l ≡ (name_eq (name_at names k) (name_at names l) || are_apart D (image (images_of_names names σ) (name_at names k)) (image (images_of_names names σ) (name_at names l)))
+        → are_two_disjoint D (image_named names σ) k l ≡ (name_eq (name_at names k) (name_at names l) || are_disjoint D (image (images_of_names names σ) (name_at names k)) (image (images_of_names names σ) (name_at names l)))
     two-named k l hk hl =
-        ap (λ b. b || are_apart D (image_named names σ k) (image_named names σ l)) (eq-named k l hk hl)
-        ∙ (ap (λ e. name_eq (name_at names k) (name_at names l) || are_apart D e (image_named names σ l)) (image-decode names σ k distinct (lt-ltb k (length names) hk))
-        ∙ ap (λ e. name_eq (name_at names k) (name_at names l) || are_apart D (image (images_of_names names σ) (name_at names k)) e) (image-decode names σ l distinct (lt-ltb l (length names) hl)))
+        ap (λ b. b || are_disjoint D (image_named names σ k) (image_named names σ l)) (eq-named k l hk hl)
+        ∙ (ap (λ e. name_eq (name_at names k) (name_at names l) || are_disjoint D e (image_named names σ l)) (image-decode names σ k distinct (lt-ltb k (length names) hk))
+        ∙ ap (λ e. name_eq (name_at names k) (name_at names l) || are_disjoint D (image (images_of_names names σ) (name_at names k)) e) (image-decode names σ l distinct (lt-ltb l (length names) hl)))
 
-    group-named : (g : List ℕ) → AreBelow (length names) g → are_numbers_apart D (image_named names σ) g ≡ is_group_apart D (images_of_names names σ) (decode names g)
+    group-named : (g : List ℕ) → AreBelow (length names) g → are_numbers_disjoint D (image_named names σ) g ≡ is_group_disjoint D (images_of_names names σ) (decode names g)
     group-named g b = simp list_all-map (
-        all-below (length names) (is_number_apart D (image_named names σ) g) (λ k. list_all (λ l. name_eq (name_at names k) (name_at names l) || are_apart D (image (images_of_names names σ) (name_at names k)) (image (images_of_names names σ) (name_at names l))) g) g b
-        (λ k hk. all-below (length names) (are_two_apart D (image_named names σ) k) (λ l. name_eq (name_at names k) (name_at names l) || are_apart D (image (images_of_names names σ) (name_at names k)) (image (images_of_names names σ) (name_at names l))) g b (λ l hl. two-named k l hk hl))
+        all-below (length names) (is_number_disjoint D (image_named names σ) g) (λ k. list_all (λ l. name_eq (name_at names k) (name_at names l) || are_disjoint D (image (images_of_names names σ) (name_at names k)) (image (images_of_names names σ) (name_at names l))) g) g b
+        (λ k hk. all-below (length names) (are_two_disjoint D (image_named names σ) k) (λ l. name_eq (name_at names k) (name_at names l) || are_disjoint D (image (images_of_names names σ) (name_at names k)) (image (images_of_names names σ) (name_at names l))) g b (λ l hl. two-named k l hk hl))
         )
 
-    pub groups-named : (gs : List (List ℕ)) → AllBelow (length names) gs → list_all (are_numbers_apart D (image_named names σ)) gs ≡ are_groups_apart D (images_of_names names σ) (map (decode names) gs)
+    pub groups-named : (gs : List (List ℕ)) → AllBelow (length names) gs → list_all (are_numbers_disjoint D (image_named names σ)) gs ≡ are_groups_disjoint D (images_of_names names σ) (map (decode names) gs)
     groups-named [] b = refl
     groups-named (g ∷ gs) b =
-        ap (λ r. r && list_all (are_numbers_apart D (image_named names σ)) gs) (group-named g b.0)
-        ∙ ap (λ r. is_group_apart D (images_of_names names σ) (decode names g) && r) (groups-named gs b.1)
+        ap (λ r. r && list_all (are_numbers_disjoint D (image_named names σ)) gs) (group-named g b.0)
+        ∙ ap (λ r. is_group_disjoint D (images_of_names names σ) (decode names g) && r) (groups-named gs b.1)

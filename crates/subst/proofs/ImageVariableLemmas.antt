@@ -1,6 +1,6 @@
 -- The words of the variables of images, and where they lie.
 use Rattle.subst.proofs.Words.{◌≡◌, ℕ, ◌+◌, ◌-◌, ◌<◌, ◌≤◌, List, [], ◌∷◌, ◌++◌, length, take, drop, get_or, slice_range, refl, sym, ◌∙◌, ap, subst, arith, inl, inr, append-nil, get_or_append_left, get_or-append_right, get_or-append-add, get_or-drop, get_or-take, drop-drop, drop-take, length-append, length-take, length-drop, Numbered, code_image, SymbolRange, seen_at, images_at}
-use Rattle.subst.proofs.Words.{Places, Grows, IsAmong, PlaceWord, HasBit, HasPlace, no_word, AddsSymbols, AddsWords, Noted, WordRange, ReadImage, LongImage, IsIn, IsRangeOf, IsLong, AreNoted, AreRead, Appends, KeepsMost, KeepsRest, KeepsImage, NotesImage}
+use Rattle.subst.proofs.Words.{Places, Grows, IsAmong, PlaceWord, HasBit, HasPlace, no_word, AddsSymbols, AddsWords, RecordedImages, WordRange, ReadImage, LongImage, IsIn, IsRangeOf, IsLong, AreImagesRecorded, AreRead, Appends, KeepsMost, KeepsRest, KeepsImage, RecordsImage}
 use Rattle.subst.proofs.VariablePlaceLemmas.{grows-own, has-more, places-same}
 use Rattle.subst.proofs.PlaceSetLemmas.{place-none}
 use Rattle.subst.proofs.SymbolRangeLemmas.{seen-more}
@@ -51,38 +51,38 @@ listed-in words r j low high h =
       has = subst (λ u. HasBit u j) (get_or-take (r.end - r.start) (drop r.start words) k no_word less ∙ get_or-drop r.start words k no_word) h.has;
     }
 
--- ---- what is noted stays
+-- ---- what is recorded stays
 
-pub most-own : (n : Noted) → KeepsMost n n
+pub most-own : (n : RecordedImages) → KeepsMost n n
 most-own n = ([], n.list, ap (λ s. record { words = s; list = n.list; kept = n.kept; read = n.read; long = n.long }) (sym (append-nil n.words)))
 
-pub rest-own : (n : Noted) → KeepsRest n n
+pub rest-own : (n : RecordedImages) → KeepsRest n n
 rest-own n = (n.list, refl)
 
-pub rest-most : (old new : Noted) → KeepsRest old new → KeepsMost old new
+pub rest-most : (old new : RecordedImages) → KeepsRest old new → KeepsMost old new
 rest-most old new h = ([], h.0, h.1 ∙ ap (λ s. record { words = s; list = h.0; kept = old.kept; read = old.read; long = old.long }) (sym (append-nil old.words)))
 
-pub rest-twice : (a b c : Noted) → KeepsRest a b → KeepsRest b c → KeepsRest a c
+pub rest-twice : (a b c : RecordedImages) → KeepsRest a b → KeepsRest b c → KeepsRest a c
 rest-twice a b c h k = (k.0, k.1 ∙ rw h.1 refl)
 
-pub rest-cleared : (a b c : Noted) → b ≡ record { words = a.words; list = []; kept = a.kept; read = a.read; long = a.long } → KeepsRest b c → KeepsRest a c
+pub rest-cleared : (a b c : RecordedImages) → b ≡ record { words = a.words; list = []; kept = a.kept; read = a.read; long = a.long } → KeepsRest b c → KeepsRest a c
 rest-cleared a b c h k = (k.0, k.1 ∙ rw h refl)
 
-pub most-twice : (a b c : Noted) → KeepsRest a b → KeepsMost b c → KeepsMost a c
+pub most-twice : (a b c : RecordedImages) → KeepsRest a b → KeepsMost b c → KeepsMost a c
 most-twice a b c h k = (k.0, k.1, k.2 ∙ rw h.1 refl)
 
 long-grown : (v : Numbered) (f g : Places) (symbols : List ℕ) (words more : List PlaceWord) (kept : ℕ) (e : LongImage) → Grows f g → IsLong v f symbols words kept e → IsLong v g symbols (words ++ more) kept e
 long-grown v f g symbols words more kept e grows h = record { low = h.low; high = h.high; within = h.within; range = range-grown v f g words more e.words (seen_at symbols e.image) grows h.range }
 
-pub noted-most : (v : Numbered) (f g : Places) (symbols : List ℕ) (old new : Noted) → Grows f g → KeepsMost old new → AreNoted v f symbols old → AreNoted v g symbols new
-noted-most v f g symbols old new grows keeps h =
+pub recorded-most : (v : Numbered) (f g : Places) (symbols : List ℕ) (old new : RecordedImages) → Grows f g → KeepsMost old new → AreImagesRecorded v f symbols old → AreImagesRecorded v g symbols new
+recorded-most v f g symbols old new grows keeps h =
     let kept = h.kept in
     rw keeps.2 (record {
       kept = omega (arith, kept, length-append old.words keeps.0);
       long = All-weaker (IsLong v f symbols old.words old.kept) (IsLong v g symbols (old.words ++ keeps.0) old.kept) (λ e is. long-grown v f g symbols old.words keeps.0 old.kept e grows is) old.long h.long;
     })
 
-pub read-most : (v : Numbered) (f g : Places) (symbols : List ℕ) (images : List (ℕ × SymbolRange)) (old new : Noted) → Grows f g → KeepsMost old new → AreRead v f symbols images old → AreRead v g symbols images new
+pub read-most : (v : Numbered) (f g : Places) (symbols : List ℕ) (images : List (ℕ × SymbolRange)) (old new : RecordedImages) → Grows f g → KeepsMost old new → AreRead v f symbols images old → AreRead v g symbols images new
 read-most v f g symbols images old new grows keeps h =
     rw keeps.2 (record {
       each = All-weaker (λ (e : ReadImage). IsRangeOf v f old.words e.words (code_image (images_at symbols images) e.symbol)) (λ e. IsRangeOf v g (old.words ++ keeps.0) e.words (code_image (images_at symbols images) e.symbol))
@@ -90,8 +90,8 @@ read-most v f g symbols images old new grows keeps h =
     })
 
 -- the symbols grew
-pub noted-over : (v : Numbered) (f : Places) (symbols more : List ℕ) (n : Noted) → AreNoted v f symbols n → AreNoted v f (symbols ++ more) n
-noted-over v f symbols more n h = record {
+pub recorded-over : (v : Numbered) (f : Places) (symbols more : List ℕ) (n : RecordedImages) → AreImagesRecorded v f symbols n → AreImagesRecorded v f (symbols ++ more) n
+recorded-over v f symbols more n h = record {
   kept = h.kept;
   long = All-weaker (IsLong v f symbols n.words n.kept) (IsLong v f (symbols ++ more) n.words n.kept)
       (λ e is. (let high = is.high in record {
@@ -102,8 +102,8 @@ noted-over v f symbols more n h = record {
       })) n.long h.long;
 }
 
-pub noted-none : (v : Numbered) (f : Places) (symbols : List ℕ) (n : Noted) → n.kept ≡ 0 → n.long ≡ [] → AreNoted v f symbols n
-noted-none v f symbols n kept long = record { kept = omega (arith, kept); long = rw long (All-nil (IsLong v f symbols n.words n.kept)) }
+pub recorded-none : (v : Numbered) (f : Places) (symbols : List ℕ) (n : RecordedImages) → n.kept ≡ 0 → n.long ≡ [] → AreImagesRecorded v f symbols n
+recorded-none v f symbols n kept long = record { kept = omega (arith, kept); long = rw long (All-nil (IsLong v f symbols n.words n.kept)) }
 
 -- ---- a citation begins
 
@@ -113,8 +113,8 @@ in-taken words n r j within h = let to = h.to in let low = h.there in record { s
 taken-in : (words : List PlaceWord) (n : ℕ) (r : WordRange) (j : ℕ) → r.end ≤ n → IsIn (take n words) r j → IsIn words r j
 taken-in words n r j within h = let to = h.to in let low = h.there in record { spot = h.spot; from = h.from; to = to; there = omega (arith, length-take n words, low); has = subst (λ u. HasBit u j) (get_or-take n words h.spot no_word (omega (arith, to, within))) h.has }
 
-pub noted-begin : (v : Numbered) (f : Places) (symbols : List ℕ) (n : Noted) → AreNoted v f symbols n → AreNoted v f symbols (record { words = take n.kept n.words; list = []; kept = n.kept; read = []; long = n.long })
-noted-begin v f symbols n h =
+pub recorded-begin : (v : Numbered) (f : Places) (symbols : List ℕ) (n : RecordedImages) → AreImagesRecorded v f symbols n → AreImagesRecorded v f symbols (record { words = take n.kept n.words; list = []; kept = n.kept; read = []; long = n.long })
+recorded-begin v f symbols n h =
     let kept = h.kept in record {
       kept = omega (arith, length-take n.kept n.words, kept);
       long = All-weaker (IsLong v f symbols n.words n.kept) (IsLong v f symbols (take n.kept n.words) n.kept)
@@ -130,12 +130,12 @@ noted-begin v f symbols n h =
           })) n.long h.long;
     }
 
-pub read-none : (v : Numbered) (f : Places) (symbols : List ℕ) (images : List (ℕ × SymbolRange)) (n : Noted) → n.read ≡ [] → AreRead v f symbols images n
+pub read-none : (v : Numbered) (f : Places) (symbols : List ℕ) (images : List (ℕ × SymbolRange)) (n : RecordedImages) → n.read ≡ [] → AreRead v f symbols images n
 read-none v f symbols images n none = record { each = rw none (All-nil (λ (e : ReadImage). IsRangeOf v f n.words e.words (code_image (images_at symbols images) e.symbol))) }
 
 -- ---- the list
 
--- the places of a range that was noted are those of the variables of its image
+-- the places of a range that was recorded are those of the variables of its image
 pub range-symbols : (v : Numbered) (f : Places) (words old new : List PlaceWord) (r : WordRange) (image : List ℕ) → IsRangeOf v f words r image → AddsWords old new (slice_range words r.start r.end) → AddsSymbols v f (HasPlace old) (HasPlace new) (length image) image
 range-symbols v f words old new r image range adds = record {
   before = adds.before;
@@ -174,39 +174,39 @@ module _ (words list : List PlaceWord) where
     };
   }
 
-pub appended-range : (v : Numbered) (f : Places) (old new : Noted) (r : WordRange) (image : List ℕ) → Appends old new r → AddsSymbols v f (HasPlace []) (HasPlace old.list) (length image) image → IsRangeOf v f new.words r image
+pub appended-range : (v : Numbered) (f : Places) (old new : RecordedImages) (r : WordRange) (image : List ℕ) → Appends old new r → AddsSymbols v f (HasPlace []) (HasPlace old.list) (length image) image → IsRangeOf v f new.words r image
 appended-range v f old new r image appends adds = rw (appends.whole, appends.range) (list-range old.words old.list v f image adds)
 
 -- ---- what was found
 
-pub long-range : (v : Numbered) (f : Places) (symbols : List ℕ) (n : Noted) (image : SymbolRange) (r : WordRange) → AreNoted v f symbols n → (k : ℕ) → k < length n.long → get_or n.long k (record { image = image; words = r }) ≡ record { image = image; words = r }
+pub long-range : (v : Numbered) (f : Places) (symbols : List ℕ) (n : RecordedImages) (image : SymbolRange) (r : WordRange) → AreImagesRecorded v f symbols n → (k : ℕ) → k < length n.long → get_or n.long k (record { image = image; words = r }) ≡ record { image = image; words = r }
     → IsLong v f symbols n.words n.kept (record { image = image; words = r })
-long-range v f symbols n image r noted k low same = All-contains (IsLong v f symbols n.words n.kept) n.long (record { image = image; words = r }) noted.long (k, low, same)
+long-range v f symbols n image r recorded k low same = All-contains (IsLong v f symbols n.words n.kept) n.long (record { image = image; words = r }) recorded.long (k, low, same)
 
-pub read-range : (v : Numbered) (f : Places) (symbols : List ℕ) (images : List (ℕ × SymbolRange)) (n : Noted) (x : ℕ) (r : WordRange) → AreRead v f symbols images n → (k : ℕ) → k < length n.read → get_or n.read k (record { symbol = x; words = r }) ≡ record { symbol = x; words = r }
+pub read-range : (v : Numbered) (f : Places) (symbols : List ℕ) (images : List (ℕ × SymbolRange)) (n : RecordedImages) (x : ℕ) (r : WordRange) → AreRead v f symbols images n → (k : ℕ) → k < length n.read → get_or n.read k (record { symbol = x; words = r }) ≡ record { symbol = x; words = r }
     → IsRangeOf v f n.words r (code_image (images_at symbols images) x)
 read-range v f symbols images n x r read k low same = All-contains (λ (e : ReadImage). IsRangeOf v f n.words e.words (code_image (images_at symbols images) e.symbol)) n.read (record { symbol = x; words = r }) read.each (k, low, same)
 
 -- ---- what was kept
 
-pub noted-image : (v : Numbered) (f : Places) (symbols : List ℕ) (old new : Noted) (x : ℕ) (r : WordRange) → KeepsImage old new x r → AreNoted v f symbols old → AreNoted v f symbols new
-noted-image v f symbols old new x r (inl e) h = rw e h
-noted-image v f symbols old new x r (inr e) h = rw e (record { kept = h.kept; long = h.long })
+pub recorded-image : (v : Numbered) (f : Places) (symbols : List ℕ) (old new : RecordedImages) (x : ℕ) (r : WordRange) → KeepsImage old new x r → AreImagesRecorded v f symbols old → AreImagesRecorded v f symbols new
+recorded-image v f symbols old new x r (inl e) h = rw e h
+recorded-image v f symbols old new x r (inr e) h = rw e (record { kept = h.kept; long = h.long })
 
-pub words-image : (old new : Noted) (x : ℕ) (r : WordRange) → KeepsImage old new x r → new.words ≡ old.words
-words-image old new x r (inl e) = ap (λ (n : Noted). n.words) e
-words-image old new x r (inr e) = ap (λ (n : Noted). n.words) e
+pub words-image : (old new : RecordedImages) (x : ℕ) (r : WordRange) → KeepsImage old new x r → new.words ≡ old.words
+words-image old new x r (inl e) = ap (λ (n : RecordedImages). n.words) e
+words-image old new x r (inr e) = ap (λ (n : RecordedImages). n.words) e
 
-pub read-image : (v : Numbered) (f : Places) (symbols : List ℕ) (images : List (ℕ × SymbolRange)) (old new : Noted) (x : ℕ) (r : WordRange) → KeepsImage old new x r → IsRangeOf v f old.words r (code_image (images_at symbols images) x) → AreRead v f symbols images old → AreRead v f symbols images new
+pub read-image : (v : Numbered) (f : Places) (symbols : List ℕ) (images : List (ℕ × SymbolRange)) (old new : RecordedImages) (x : ℕ) (r : WordRange) → KeepsImage old new x r → IsRangeOf v f old.words r (code_image (images_at symbols images) x) → AreRead v f symbols images old → AreRead v f symbols images new
 read-image v f symbols images old new x r (inl e) own h = rw e h
 read-image v f symbols images old new x r (inr e) own h =
     rw e (record { each = All-push (λ (i : ReadImage). IsRangeOf v f old.words i.words (code_image (images_at symbols images) i.symbol)) old.read (record { symbol = x; words = r }) h.each own })
 
 -- a long image more
-pub noted-long : (v : Numbered) (f : Places) (symbols : List ℕ) (old new : Noted) (image : SymbolRange) → NotesImage old new image → image.start ≤ image.end → image.end ≤ length symbols
-    → AddsSymbols v f (HasPlace []) (HasPlace old.list) (length (seen_at symbols image)) (seen_at symbols image) → AreNoted v f symbols old → AreNoted v f symbols new
-noted-long v f symbols old new image (inl keeps) low high own h = noted-most v f f symbols old new (grows-own f) keeps h
-noted-long v f symbols old new image (inr e) low high own h =
+pub recorded-long : (v : Numbered) (f : Places) (symbols : List ℕ) (old new : RecordedImages) (image : SymbolRange) → RecordsImage old new image → image.start ≤ image.end → image.end ≤ length symbols
+    → AddsSymbols v f (HasPlace []) (HasPlace old.list) (length (seen_at symbols image)) (seen_at symbols image) → AreImagesRecorded v f symbols old → AreImagesRecorded v f symbols new
+recorded-long v f symbols old new image (inl keeps) low high own h = recorded-most v f f symbols old new (grows-own f) keeps h
+recorded-long v f symbols old new image (inr e) low high own h =
     let kept = h.kept in
     let words : List PlaceWord = old.words ++ old.list in
     let entry : LongImage = record { image = image; words = record { start = length old.words; end = length words } } in

@@ -1,5 +1,5 @@
 -- Substitution and the pair clause, worked out.
-use Rattle.subst.proofs.Words.{◌≡◌, [], ◌∷◌, codes, refl, true, false, before, apply, code_apply, are_apart, are_groups_apart}
+use Rattle.subst.proofs.Words.{◌≡◌, [], ◌∷◌, codes, refl, true, false, before, apply, code_apply, are_disjoint, are_groups_disjoint}
 use Rattle.scope.proofs.Databases.{w, row_seven}
 
 -- x and y in one another's place, put in at once
@@ -14,26 +14,26 @@ swapped_numbers = refl
 empty_image : apply ((codes "x", []) ∷ []) (w (codes "|- ( x )")) ≡ w (codes "|- ( )")
 empty_image = refl
 
--- nothing keeps x and z apart outside of the block, and the second block does
-outside_the_block : are_apart (before row_seven 10) (w (codes "x")) (w (codes "z")) ≡ false
+-- nothing makes x and z disjoint outside of the block, and the second block does
+outside_the_block : are_disjoint (before row_seven 10) (w (codes "x")) (w (codes "z")) ≡ false
 outside_the_block = refl
 
--- a `$d` in an open block keeps x and z apart
-inside_the_block : are_apart row_seven (w (codes "x")) (w (codes "z")) ≡ true
+-- a `$d` in an open block makes x and z disjoint
+inside_the_block : are_disjoint row_seven (w (codes "x")) (w (codes "z")) ≡ true
 inside_the_block = refl
 
--- a variable is never apart from itself
-shared_variable : are_apart row_seven (w (codes "x")) (w (codes "x")) ≡ false
+-- a variable is never disjoint from itself
+shared_variable : are_disjoint row_seven (w (codes "x")) (w (codes "x")) ≡ false
 shared_variable = refl
 
 -- a constant in both images is no hindrance
-shared_constant : are_apart row_seven (w (codes "R")) (w (codes "R")) ≡ true
+shared_constant : are_disjoint row_seven (w (codes "R")) (w (codes "R")) ≡ true
 shared_constant = refl
 
 pair_with_itself :
-    are_groups_apart row_seven ((codes "x", w (codes "x")) ∷ (codes "y", w (codes "x")) ∷ []) (w (codes "x y") ∷ []) ≡ false
+    are_groups_disjoint row_seven ((codes "x", w (codes "x")) ∷ (codes "y", w (codes "x")) ∷ []) (w (codes "x y") ∷ []) ≡ false
 pair_with_itself = refl
 
 pair_with_another :
-    are_groups_apart row_seven ((codes "x", w (codes "x")) ∷ (codes "y", w (codes "z")) ∷ []) (w (codes "x y") ∷ []) ≡ true
+    are_groups_disjoint row_seven ((codes "x", w (codes "x")) ∷ (codes "y", w (codes "z")) ∷ []) (w (codes "x y") ∷ []) ≡ true
 pair_with_another = refl

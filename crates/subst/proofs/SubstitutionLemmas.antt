@@ -47,7 +47,7 @@ image-unnamed names σ x h =
     image-at names σ 0 names x
     ∙ ap (λ b. cond b (decode names (code_image σ (0 + position_or_len (name_eq x) names))) (x ∷ [])) (unknown-number names x (sym h))
 
--- a number's name has that number, where names are told apart
+-- a number's name has that number, where names are distinct
 pub place-of : (names : List Name) (n : ℕ) → AreDistinct names → nat_lt n (length names) ≡ true
     → (has_name (name_at names n) names ≡ true) × (position_or_len (name_eq (name_at names n)) names ≡ n)
 place-of [] n d h = absurd (omega (arith, ltb-true n 0 h))

@@ -1,7 +1,7 @@
 -- The words in which this crate is proved, and the lemmas of std and of the layers below, passed on from one place.
-pub use Rattle.frame.proofs.ApartLemmas.{all-from, apart-from, below-at, last_part, pair_at}
+pub use Rattle.frame.proofs.ActiveDisjointLemmas.{all-from, disjoint-from, below-at, last_part, pair_at}
 pub use Rattle.frame.specs.Below.{AllBelow, AreBelow}
-pub use Rattle.frame.specs.Disjoint.{are_apart, are_groups_apart, is_group_apart}
+pub use Rattle.frame.specs.Disjoint.{are_disjoint, are_groups_disjoint, is_group_disjoint}
 pub use Rattle.frame.specs.FrameOf.{groups, is_pair, together}
 pub use Rattle.frame.specs.Parts.{Numbered}
 pub use Rattle.frame.specs.Substitution.{CodeImages, Images, apply, code_apply, code_image, image, images_from, images_of_names}
@@ -23,15 +23,15 @@ pub use Rattle.std.specs.Int.{bit_at, bit_not, trailing_zeros}
 pub use Rattle.std.specs.List.{All, list_all, list_any, position_or_len, prefix_len}
 pub use Rattle.std.specs.Map.{lookup}
 pub use Rattle.std.specs.Prelude.{Err, IfNone, IfSome, MatchOption, None, Ok, OnOk, Option, Result, Some, [], bytes_eq, codes, cond, if◌then◌else◌, is_err, is_ok, map, min, nat_eq, nat_lt, not, replicate, slice_get, slice_range, slice_set, suc, zero, ◌%◌, ◌&&◌, ◌*◌, ◌/◌, ◌||◌, ◌∷◌, ◌≤◌, ◌⊎◌}
-pub use Rattle.subst.specs.Apart.{are_numbers_apart, are_two_apart, image_named, is_number_apart}
+pub use Rattle.subst.specs.DisjointImages.{are_numbers_disjoint, are_two_disjoint, image_named, is_number_disjoint}
 pub use Rattle.subst.specs.SymbolRanges.{AreInside, AreWithin, images_at, seen_at}
-pub use Rattle.subst.specs.Stored.DisjointRows.{AreFacts, ArePairs, HasFact, IsFact, IsRowAt, NotesWord, TellsAll, TellsBits, TellsEach, TellsWord, no_row}
+pub use Rattle.subst.specs.Stored.DisjointRows.{AreFacts, ArePairs, HasFact, IsFact, IsRowAt, RecordsWord, TellsAll, TellsBits, TellsEach, TellsWord, no_row}
 pub use Rattle.subst.specs.Stored.DisjointTables.{AreTables}
-pub use Rattle.subst.specs.Stored.ImageVariables.{AddsImage, Appends, AreNoted, AreRead, IsIn, IsLong, IsRangeOf, KeepsImage, KeepsMost, KeepsRest, Noted, NotesImage}
+pub use Rattle.subst.specs.Stored.ImageVariables.{AddsImage, Appends, AreImagesRecorded, AreRead, IsIn, IsLong, IsRangeOf, KeepsImage, KeepsMost, KeepsRest, RecordedImages, RecordsImage}
 pub use Rattle.subst.specs.Stored.PlaceSets.{AddsFirst, AddsSymbols, AddsWord, AddsWords, ArePlacesBelow, HasAmong, HasBit, HasEither, HasPlace, TakesPlace, no_word}
 pub use Rattle.subst.specs.Stored.VariablePlaces.{AreBitsOf, ArePlaced, ArePlacesOf, Grows, HasVariable, IsAmong, IsAt, IsListed, IsPlace, IsVariable, Places, is_kept, variable_name}
-pub use Rattle.subst.specs.Images.{is_image_apart}
-pub use Rattle.subst.specs.Laws.{KeepApart, PairClause, SubstitutionOverNames}
+pub use Rattle.subst.specs.Images.{is_image_disjoint}
+pub use Rattle.subst.specs.Laws.{AreImagesDisjoint, PairClause, SubstitutionOverNames}
 pub use Rattle.subst.specs.Stored.Slots.{AreUpTo, placed}
 pub use Rattle.subst.specs.Stored.Written.{IsWritten, LacksRoom}
 pub use Rattle.subst.specs.declared.symbol_range.SymbolRange.{SymbolRange}

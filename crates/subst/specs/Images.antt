@@ -3,13 +3,13 @@
 -- The code goes through the lists of a frame one variable at a time.
 use Rattle.std.specs.Prelude.{ℕ, ◌<◌, Bool, ◌||◌, List, length}
 use Rattle.std.specs.List.{list_all}
-use Rattle.subst.specs.Words.{Name, name_eq, Expr, Database, CodeImages, Images, code_image, image, are_apart}
+use Rattle.subst.specs.Words.{Name, name_eq, Expr, Database, CodeImages, Images, code_image, image, are_disjoint}
 use Rattle.frame.specs.Below.{AreBelow}
 
 -- the image of each number that stands for a name has such numbers alone
 abbrev pub AreOver : List Name → CodeImages → Type 0
 AreOver names σ = (n : ℕ) → n < length names → AreBelow (length names) (code_image σ n)
 
--- the image e of x is apart from those of the other names
-abbrev pub is_image_apart : Database → Images → List Name → Name → Expr → Bool
-is_image_apart S σ names x e = list_all (λ y. name_eq x y || are_apart S e (image σ y)) names
+-- the image e of x is disjoint from those of the other names
+abbrev pub is_image_disjoint : Database → Images → List Name → Name → Expr → Bool
+is_image_disjoint S σ names x e = list_all (λ y. name_eq x y || are_disjoint S e (image σ y)) names

@@ -3,7 +3,7 @@
 -- The code substitutes over numbers, and tests all symbols of two images against each other at once.
 use Rattle.std.specs.Prelude.{◌≡◌, ℕ, ◌↔◌, ◌&&◌, List, IsTrue}
 use Rattle.std.specs.List.{list_any}
-use Rattle.subst.specs.Words.{Name, has_name, Expr, Database, is_variable, decode, AreCodes, AreDistinct, groups, together, CodeImages, Images, image, apply, code_apply, images_of_names, are_groups_apart}
+use Rattle.subst.specs.Words.{Name, has_name, Expr, Database, is_variable, decode, AreCodes, AreDistinct, groups, together, CodeImages, Images, image, apply, code_apply, images_of_names, are_groups_disjoint}
 
 -- where no two numbers stand for one name, to substitute and then to read names is to read names and then to substitute
 abbrev pub SubstitutionOverNames : Type 0
@@ -13,14 +13,14 @@ SubstitutionOverNames =
 
 -- the two conditions on two images: no variable stands in both,
 -- and each two variables, one from each, stand together in an active `$d`
-pub record KeepApart (S : Database) (e f : Expr) : Type 0 where
+pub record AreImagesDisjoint (S : Database) (e f : Expr) : Type 0 where
   pub none_shared : (u : Name) → IsTrue (is_variable S u) → IsTrue (has_name u e) → IsTrue (has_name u f) → ⊥
   pub each_listed :
       (u v : Name) → IsTrue (is_variable S u) → IsTrue (is_variable S v) → IsTrue (has_name u e) → IsTrue (has_name v f)
       → IsTrue (list_any (λ names. has_name u names && has_name v names) (groups S))
 
--- the test of a citation holds exactly where the images of each two variables that its lists keep apart meet both
+-- the test of a citation holds exactly where the images of each two variables of one of its lists meet both
 abbrev pub PairClause : Type 0
 PairClause =
-    (S : Database) (σ : Images) (lists : List (List Name)) → IsTrue (are_groups_apart S σ lists)
-    ↔ ((x y : Name) → IsTrue (together lists x y) → KeepApart S (image σ x) (image σ y))
+    (S : Database) (σ : Images) (lists : List (List Name)) → IsTrue (are_groups_disjoint S σ lists)
+    ↔ ((x y : Name) → IsTrue (together lists x y) → AreImagesDisjoint S (image σ x) (image σ y))

@@ -1,7 +1,7 @@
 pub mod Words
 pub mod SymbolRanges
 pub mod Images
-pub mod Apart
+pub mod DisjointImages
 pub mod DisjointCaches
 pub mod Vanishing
 pub mod Laws

@@ -1,5 +1,5 @@
 -- The words of the layers below in which this crate is specified, passed on from one place.
-pub use Rattle.frame.specs.Disjoint.{are_apart, are_groups_apart}
+pub use Rattle.frame.specs.Disjoint.{are_disjoint, are_groups_disjoint}
 pub use Rattle.frame.specs.FrameOf.{groups, is_pair, together}
 pub use Rattle.frame.specs.Substitution.{CodeImages, Images, apply, code_apply, code_image, image, images_of_names}
 pub use Rattle.mm_lex.specs.Alphabet.{Name, has_name, name_eq}

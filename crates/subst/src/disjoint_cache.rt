@@ -1,7 +1,7 @@
 //! What is known of the variables of one proof.
 ghost use Rattle.std.specs.Prelude.{◌≡◌, ◌++◌, ◌≤◌, List, ℕ, [], length, map, IfOk};
 ghost use Rattle.frame.specs.Below.{AllBelow, AreBelow};
-ghost use Rattle.frame.specs.Disjoint.{are_groups_apart};
+ghost use Rattle.frame.specs.Disjoint.{are_groups_disjoint};
 ghost use Rattle.frame.specs.Substitution.{code_apply, images_of_names};
 ghost use Rattle.names.specs.Codes.{AreDistinct, decode};
 ghost use Rattle.subst.specs.Images.{AreOver};
@@ -93,7 +93,7 @@ impl DisjointCache {
         requires below { AllBelow (length pairs.now.names) groups.now }
         ensures about { self.new.about ≡ self.old.about }
         ensures over { (more : List ℕ) × (symbols.now ≡ self.new.over ++ more) }
-        ensures apart { IfOk result (λ ok. ok ≡ are_groups_apart pairs.now.statements (images_of_names pairs.now.names (images_at symbols.now images.now)) (map (decode pairs.now.names) groups.now)) }
+        ensures disjoint { IfOk result (λ ok. ok ≡ are_groups_disjoint pairs.now.statements (images_of_names pairs.now.names (images_at symbols.now images.now)) (map (decode pairs.now.names) groups.now)) }
     {
         if groups.len() == 0 {
             return Ok(true);
@@ -118,7 +118,7 @@ impl DisjointCache {
         requires below { AllBelow (length pairs.now.names) groups.now }
         ensures about { self.new.about ≡ self.old.about }
         ensures over { self.new.over ≡ symbols.now }
-        ensures apart { IfOk result (λ ok. ok ≡ are_groups_apart pairs.now.statements (images_of_names pairs.now.names (images_at symbols.now images.now)) (map (decode pairs.now.names) groups.now)) }
+        ensures disjoint { IfOk result (λ ok. ok ≡ are_groups_disjoint pairs.now.statements (images_of_names pairs.now.names (images_at symbols.now images.now)) (map (decode pairs.now.names) groups.now)) }
     {
         self.subject = Subject::grown(&self.subject, symbols);
         let symbols = symbols.as_slice();
@@ -132,7 +132,7 @@ impl DisjointCache {
     /// Errors: an allocation fails. Cost: the symbols of the expression and of its images, or the counts of their variables
     /// for those that are long; the result is not read.
     #[inline(always)]
-    pub fn note_result(
+    pub fn record_result(
         &mut self,
         pairs: &Pairs<'_>,
         symbols: &Buffer,
@@ -155,7 +155,8 @@ impl DisjointCache {
         }
         self.subject = Subject::grown(&self.subject, symbols);
         let symbols = symbols.as_slice();
-        self.tables.note_result(pairs, symbols, images, expr, place)
+        self.tables
+            .record_result(pairs, symbols, images, expr, place)
     }
 
     /// Notes the variables of a result that is an expression of more than `LONG_RESULT` symbols. The result lies in the
@@ -163,7 +164,7 @@ impl DisjointCache {
     ///
     /// Errors: an allocation fails. Cost: the symbols of the expression.
     #[inline(always)]
-    pub fn note_expr(
+    pub fn record_expr(
         &mut self,
         pairs: &Pairs<'_>,
         symbols: &Buffer,
@@ -183,6 +184,6 @@ impl DisjointCache {
         }
         self.subject = Subject::grown(&self.subject, symbols);
         let symbols = symbols.as_slice();
-        self.tables.note_expr(pairs, symbols, expr, place)
+        self.tables.record_expr(pairs, symbols, expr, place)
     }
 }

@@ -2,7 +2,7 @@
 ghost use Rattle.std.specs.Prelude.{◌≡◌, ℕ, ◌+◌, ◌*◌, ◌<◌, [], length, IfOk, IfSome};
 ghost use Rattle.std.specs.Int.{bit_at};
 ghost use Rattle.frame.specs.Below.{AreBelow};
-ghost use Rattle.subst.specs.Stored.DisjointRows.{AreFacts, ArePairs, HasFact, IsRowAt, NotesWord, TellsAll, TellsBits, TellsEach, TellsWord};
+ghost use Rattle.subst.specs.Stored.DisjointRows.{AreFacts, ArePairs, HasFact, IsRowAt, RecordsWord, TellsAll, TellsBits, TellsEach, TellsWord};
 ghost use Rattle.subst.specs.Stored.PlaceSets.{ArePlacesBelow, HasBit};
 ghost use Rattle.subst.specs.Stored.VariablePlaces.{ArePlaced, Grows};
 
@@ -14,7 +14,7 @@ use frame::{PairMemo, Pairs};
 use std::alloc::{AllocError, Global};
 use std::marker::Model;
 
-/// What was found is noted of so many places.
+/// What was found is recorded of so many places.
 const NOTED_PLACES: u32 = 8192;
 
 /// So many of the last active `$d` are read in a proof before the first question.
@@ -33,7 +33,7 @@ pub struct RowWord {
 
 /// Which variables of a proof were found to be disjoint: words of bits. A bit that is set is a fact, another one says nothing.
 ///
-/// A hint tells where a word may stand. At most 24 MB are used: of variables beyond the first 8,192 nothing is noted.
+/// A hint tells where a word may stand. At most 24 MB are used: of variables beyond the first 8,192 nothing is recorded.
 #[derive(Drop)]
 pub struct DisjointRows {
     hints: Hints,
@@ -99,8 +99,8 @@ impl DisjointRows {
 
     /// Notes that places are disjoint from a place.
     #[inline(always)]
-    fn note(&mut self, place: usize, word: PlaceWord) -> Result<(), AllocError>
-        ensures { NotesWord self.old self.new place word }
+    fn record_word(&mut self, place: usize, word: PlaceWord) -> Result<(), AllocError>
+        ensures { RecordsWord self.old self.new place word }
     {
         if place >= NOTED_PLACES as usize || word.index >= NOTED_PLACES / 64 {
             return Ok(());
@@ -158,7 +158,7 @@ impl DisjointRows {
     {
         let mut before = pairs.copy();
         let mut left = READ_LISTS;
-        while let Some(list) = before.take_last() {
+        while let Some(list) = before.pop_disjoint() {
             self.learn_list(pairs, variables, list)?;
             left = left.saturating_sub(1);
             if left == 0 {
@@ -192,7 +192,7 @@ impl DisjointRows {
             let bit = lowest(rest);
             let index = 0;
             let bits = without(listed, bit);
-            self.note(bit, PlaceWord { index, bits })?;
+            self.record_word(bit, PlaceWord { index, bits })?;
             rest = without(rest, bit);
         }
         Ok(())
@@ -218,7 +218,7 @@ impl DisjointRows {
         if !are_pairs(pairs, variables, &mut self.memo, place, word) {
             return Ok(false);
         }
-        self.note(place, word)?;
+        self.record_word(place, word)?;
         Ok(true)
     }
 

@@ -4,7 +4,7 @@ ghost use Rattle.std.specs.List.{list_all};
 ghost use Rattle.frame.specs.Below.{AllBelow, AreBelow};
 ghost use Rattle.frame.specs.Substitution.{code_apply};
 ghost use Rattle.frame.specs.Parts.{Numbered};
-ghost use Rattle.subst.specs.Apart.{are_numbers_apart, image_named};
+ghost use Rattle.subst.specs.DisjointImages.{are_numbers_disjoint, image_named};
 ghost use Rattle.subst.specs.Images.{AreOver};
 ghost use Rattle.subst.specs.SymbolRanges.{AreInside, images_at, seen_at};
 ghost use Rattle.subst.specs.Stored.DisjointTables.{AreTables};
@@ -79,7 +79,7 @@ impl DisjointTables {
         requires below { AreBelow (length pairs.now.names) group.now }
         ensures tables { AreTables pairs.now symbols.now self.new }
         ensures read { AreRead pairs.now self.new.variables symbols.now images.now self.new.images }
-        ensures disjoint { IfOk result (λ ok. ok ≡ are_numbers_apart pairs.now.statements (image_named pairs.now.names (images_at symbols.now images.now)) group.now) }
+        ensures disjoint { IfOk result (λ ok. ok ≡ are_numbers_disjoint pairs.now.statements (image_named pairs.now.names (images_at symbols.now images.now)) group.now) }
     {
         self.before.clear();
         for (index, k) in group.iter().enumerate() {
@@ -113,7 +113,7 @@ impl DisjointTables {
         requires inside { AreInside (length symbols.now) images.now }
         requires below { AllBelow (length pairs.now.names) groups.now }
         ensures tables { AreTables pairs.now symbols.now self.new }
-        ensures disjoint { IfOk result (λ ok. ok ≡ list_all (are_numbers_apart pairs.now.statements (image_named pairs.now.names (images_at symbols.now images.now))) groups.now) }
+        ensures disjoint { IfOk result (λ ok. ok ≡ list_all (are_numbers_disjoint pairs.now.statements (image_named pairs.now.names (images_at symbols.now images.now))) groups.now) }
     {
         self.rows.learn(pairs, &mut self.variables)?;
         self.images.begin();
@@ -129,7 +129,7 @@ impl DisjointTables {
     }
 
     /// Notes the variables of a long result from the images that it was made of, without reading it.
-    pub fn note_result(
+    pub fn record_result(
         &mut self,
         pairs: &Pairs<'_>,
         symbols: &[u32],
@@ -154,11 +154,11 @@ impl DisjointTables {
             self.images
                 .add_image(pairs, variables, symbols, images, *symbol)?;
         }
-        self.images.note(behind_first(result_range))
+        self.images.record_image(behind_first(result_range))
     }
 
     /// Notes the variables of a long result that is a hypothesis.
-    pub fn note_expr(
+    pub fn record_expr(
         &mut self,
         pairs: &Pairs<'_>,
         symbols: &[u32],
@@ -177,7 +177,7 @@ impl DisjointTables {
         self.images.begin();
         self.images
             .add_symbols(pairs, &mut self.variables, &expr[1..])?;
-        self.images.note(behind_first(result_range))
+        self.images.record_image(behind_first(result_range))
     }
 }
 

@@ -5,7 +5,7 @@ ghost use Rattle.frame.specs.Below.{AreBelow};
 ghost use Rattle.frame.specs.Substitution.{code_image};
 ghost use Rattle.subst.specs.Images.{AreOver};
 ghost use Rattle.subst.specs.SymbolRanges.{AreInside, images_at};
-ghost use Rattle.subst.specs.Stored.ImageVariables.{AddsImage, Appends, AreNoted, AreRead, IsRangeOf, KeepsImage, KeepsMost, KeepsRest, NotesImage};
+ghost use Rattle.subst.specs.Stored.ImageVariables.{AddsImage, Appends, AreImagesRecorded, AreRead, IsRangeOf, KeepsImage, KeepsMost, KeepsRest, RecordsImage};
 ghost use Rattle.subst.specs.Stored.PlaceSets.{AddsWords};
 ghost use Rattle.subst.specs.Stored.VariablePlaces.{ArePlaced, Grows};
 
@@ -66,9 +66,9 @@ pub struct ImageVariables {
 }
 
 impl Model for ImageVariables {
-    ghost use Rattle.subst.specs.Stored.ImageVariables.{Noted};
+    ghost use Rattle.subst.specs.Stored.ImageVariables.{RecordedImages};
 
-    ghost Value = { Noted };
+    ghost Value = { RecordedImages };
 
     ghost view = { λ a. record { words = a.words.items; list = a.list; kept = a.kept; read = a.read.items; long = a.long.items } };
 }
@@ -141,7 +141,7 @@ impl ImageVariables {
         }
     }
 
-    /// Returns the range of a long image that was noted.
+    /// Returns the range of a long image that was recorded.
     #[inline(always)]
     fn find_long(&self, image: SymbolRange) -> Option<WordRange>
         ensures { IfSome result (λ range. Contains self.now.long (record { image = image; words = range })) }
@@ -214,7 +214,7 @@ impl ImageVariables {
         symbol: u32,
     ) -> Result<(), AllocError>
         requires placed { ArePlaced pairs.now variables.old }
-        requires noted { AreNoted pairs.now variables.old symbols.now self.old }
+        requires recorded { AreImagesRecorded pairs.now variables.old symbols.now self.old }
         requires named { AreOver pairs.now.names (images_at symbols.now images.now) }
         requires inside { AreInside (length symbols.now) images.now }
         requires number { symbol < length pairs.now.names }
@@ -272,7 +272,7 @@ impl ImageVariables {
         self.list.clear();
     }
 
-    /// Returns the range of the places of the variables of the image of a symbol, which is read, or was noted.
+    /// Returns the range of the places of the variables of the image of a symbol, which is read, or was recorded.
     fn read_image(
         &mut self,
         pairs: &Pairs<'_>,
@@ -282,7 +282,7 @@ impl ImageVariables {
         symbol: u32,
     ) -> Result<WordRange, AllocError>
         requires placed { ArePlaced pairs.now variables.old }
-        requires noted { AreNoted pairs.now variables.old symbols.now self.old }
+        requires recorded { AreImagesRecorded pairs.now variables.old symbols.now self.old }
         requires named { AreOver pairs.now.names (images_at symbols.now images.now) }
         requires inside { AreInside (length symbols.now) images.now }
         requires number { symbol < length pairs.now.names }
@@ -322,14 +322,14 @@ impl ImageVariables {
         symbol: u32,
     ) -> Result<WordRange, AllocError>
         requires placed { ArePlaced pairs.now variables.old }
-        requires noted { AreNoted pairs.now variables.old symbols.now self.old }
+        requires recorded { AreImagesRecorded pairs.now variables.old symbols.now self.old }
         requires read { AreRead pairs.now variables.old symbols.now images.now self.old }
         requires named { AreOver pairs.now.names (images_at symbols.now images.now) }
         requires inside { AreInside (length symbols.now) images.now }
         requires number { symbol < length pairs.now.names }
         ensures placed { ArePlaced pairs.now variables.new }
         ensures grows { Grows variables.old variables.new }
-        ensures noted { AreNoted pairs.now variables.new symbols.now self.new }
+        ensures recorded { AreImagesRecorded pairs.now variables.new symbols.now self.new }
         ensures read { AreRead pairs.now variables.new symbols.now images.now self.new }
         ensures range { IfOk result (λ range. IsRangeOf pairs.now variables.new self.new.words range (code_image (images_at symbols.now images.now) symbol)) }
     {
@@ -344,8 +344,8 @@ impl ImageVariables {
     /// Notes that the list has the places of the variables of a long image, if its words are few.
     ///
     /// Errors: an allocation fails. Cost: the words of the list.
-    pub fn note(&mut self, image: SymbolRange) -> Result<(), AllocError>
-        ensures { NotesImage self.old self.new image }
+    pub fn record_image(&mut self, image: SymbolRange) -> Result<(), AllocError>
+        ensures { RecordsImage self.old self.new image }
     {
         let len = image.end.saturating_sub(image.start) as usize;
         if self.list.as_slice().len() > len / SYMBOLS_PER_WORD {

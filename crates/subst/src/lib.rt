@@ -5,15 +5,15 @@
 //! with a buffer of its own, and `apply` puts all its images in at once. Symbols are numbers; that this is substitution over
 //! the names that they stand for is a law. `DisjointCache` tells whether images meet the disjoint variable condition.
 //!
-//! Reading order: `symbol_range`, `image_ranges`, `copies`, `filling`, `matching`, `buffer`, `vanishing`, `images`, `asked_apart`; `hints`,
+//! Reading order: `symbol_range`, `image_ranges`, `copies`, `filling`, `matching`, `buffer`, `vanishing`, `images`, `disjoint_condition`; `hints`,
 //! `variable_places`, `place_words`, `place_set`, `disjoint_rows`, `image_variables`, `disjoint_tables`, `subject`,
 //! `disjoint_cache`; `laws`.
 #![tactic(auto)]
 
-mod asked_apart;
 mod buffer;
 mod copies;
 mod disjoint_cache;
+mod disjoint_condition;
 mod disjoint_rows;
 mod disjoint_tables;
 mod filling;
@@ -30,9 +30,9 @@ mod symbol_range;
 mod vanishing;
 mod variable_places;
 
-pub use asked_apart::disjoint;
 pub use buffer::{Buffer, SYMBOLS_LIMIT, apply_into};
 pub use disjoint_cache::DisjointCache;
+pub use disjoint_condition::disjoint;
 pub use image_ranges::ImageRanges;
 pub use images::{Subst, apply, has_room};
 pub use laws::{pair_clause, substitution_over_names};

@@ -1,24 +1,24 @@
 -- The citation of an assertion, by results of numbers.
 use Rattle.verify.proofs.Words.{◌≡◌, ℕ, ◌-◌, ◌<◌, ◌≤◌, Bool, true, false, List, [], ◌++◌, length, map, get_or, slice_get, Some, sym, ◌∙◌, ap, subst, arith, length-append, length-map, map-append}
-use Rattle.verify.proofs.Words.{Name, Stmt, Expr, Database, stmt_at, before, expr_of, is_assertion, is_variable, name_at, decode, HasAssertion, mandatory_groups, Images, applied, CodeImages, code_apply, images_of_names, are_groups_apart, Carries, IsInstance, premises, AreLegal, Cite, substitution_over_names, Float, IsBound, IsTyped, AreRead, DoFit, named, AreNamed, Goes, Results, Cites, of_hypothesis, of_assertion, below, top, Adds, some-same, true≢false, AreOver, MayCite, HasCited, Assertion, Claim, Numbered}
+use Rattle.verify.proofs.Words.{Name, Stmt, Expr, Database, stmt_at, before, expr_of, is_assertion, is_variable, name_at, decode, HasAssertion, mandatory_groups, Images, applied, CodeImages, code_apply, images_of_names, are_groups_disjoint, Carries, IsInstance, premises, AreLegal, Cite, substitution_over_names, Float, IsBound, IsTyped, AreRead, DoFit, named, AreNamed, StepsByNumber, Results, Cites, of_hypothesis, of_assertion, below, top, Adds, some-same, true≢false, AreOver, MayCite, HasCited, Assertion, Claim, Numbered}
 use Rattle.verify.specs.KeptLists.{IsCitedBy}
 use Rattle.verify.proofs.LabelTableLemmas.{has_with}
-use Rattle.entries.specs.declared.cited_parts.Cited.{Cited}
-use Rattle.verify.proofs.MandatoryAsked.{asked-lengths}
-use Rattle.verify.proofs.CitingLemmas.{of_variables, apply-τ, apart-τ, premises-read, premise-typed, fits-agree, conclusion-agrees, apart-agrees, read-over}
+use Rattle.entries.specs.declared.assertion_view.AssertionView.{AssertionView}
+use Rattle.verify.proofs.RequiredHypotheses.{required-lengths}
+use Rattle.verify.proofs.CitingLemmas.{of_variables, apply-τ, disjoint-τ, premises-read, premise-typed, fits-agree, conclusion-agrees, disjoint-agrees, read-over}
 use Rattle.verify.proofs.Decide.{append_cut, length-premises, not_both}
 use Rattle.verify.proofs.ImageLemmas.{only, apply-below, are-codes}
 use Rattle.verify.proofs.Named.{saved-same, named-result, result-named, all-take, all-drop, halves, length-top}
 
 -- what the code finds wherever the citation can give f
-pub record Meets (S : Database) (names : List Name) (at a : ℕ) (c : Cited) (stack : List (List ℕ)) (f : Expr) : Type 0 where
+pub record Meets (S : Database) (names : List Name) (at a : ℕ) (c : AssertionView) (stack : List (List ℕ)) (f : Expr) : Type 0 where
   pub many : length c.hypotheses ≤ length stack
-  pub typed : (k x : ℕ) → slice_get c.hypotheses k ≡ Some (Float x) → IsTyped (get_or c.heads.now k 0) (get_or (top (length c.hypotheses) stack) k [])
-  pub fits : (ρ : CodeImages) → AreRead c.heads.now c.hypotheses (top (length c.hypotheses) stack) ρ → DoFit S (images_of_names names ρ) c.hypotheses (map (decode names) (top (length c.hypotheses) stack))
-  pub apart : (ρ : CodeImages) → AreRead c.heads.now c.hypotheses (top (length c.hypotheses) stack) ρ → are_groups_apart (before S at) (images_of_names names ρ) (map (decode names) c.groups) ≡ true
-  pub gives : (ρ : CodeImages) → AreRead c.heads.now c.hypotheses (top (length c.hypotheses) stack) ρ → f ≡ decode names (code_apply ρ c.conclusion.now)
+  pub typed : (k x : ℕ) → slice_get c.hypotheses k ≡ Some (Float x) → IsTyped (get_or c.typecodes.now k 0) (get_or (top (length c.hypotheses) stack) k [])
+  pub fits : (ρ : CodeImages) → AreRead c.typecodes.now c.hypotheses (top (length c.hypotheses) stack) ρ → DoFit S (images_of_names names ρ) c.hypotheses (map (decode names) (top (length c.hypotheses) stack))
+  pub disjoint : (ρ : CodeImages) → AreRead c.typecodes.now c.hypotheses (top (length c.hypotheses) stack) ρ → are_groups_disjoint (before S at) (images_of_names names ρ) (map (decode names) c.groups) ≡ true
+  pub gives : (ρ : CodeImages) → AreRead c.typecodes.now c.hypotheses (top (length c.hypotheses) stack) ρ → f ≡ decode names (code_apply ρ c.conclusion.now)
 
-module _ (S : Database) (names : List Name) (at a : ℕ) (s : Stmt) (c : Cited) (legal : AreLegal S names) (bound : IsBound S a s) (is : IsCitedBy S names a s c) where
+module _ (S : Database) (names : List Name) (at a : ℕ) (s : Stmt) (c : AssertionView) (legal : AreLegal S names) (bound : IsBound S a s) (is : IsCitedBy S names a s c) where
   abbrev n : ℕ
   n = length c.hypotheses
 
@@ -30,7 +30,7 @@ module _ (S : Database) (names : List Name) (at a : ℕ) (s : Stmt) (c : Cited) 
   meets : (old : Results ℕ) (σ : Images) (b : List Expr) (f : Expr) → AreNamed names old
       → IsInstance S at a s σ → map (decode names) old.stack ≡ b ++ premises S a s σ → f ≡ applied σ (expr_of s) → Meets S names at a c old.stack f
   meets old σ b f an fits whole gives =
-      let lp : length (premises S a s σ) ≡ n = length-premises S a s σ ∙ sym (asked-lengths S names _ c.heads.now c.hypotheses is.asked).1 in
+      let lp : length (premises S a s σ) ≡ n = length-premises S a s σ ∙ sym (required-lengths S names _ c.typecodes.now c.hypotheses is.required).1 in
       let ls = ap length whole in
       let la = length-append b (premises S a s σ) in
       let lm = length-map old.stack (decode names) in
@@ -42,11 +42,11 @@ module _ (S : Database) (names : List Name) (at a : ℕ) (s : Stmt) (c : Cited) 
       let low = all-drop (length names) (length old.stack - n) old.stack an.stack_named in
       record {
         many = many;
-        typed = premise-typed S names a s legal.distinct bound c.heads.now c.hypotheses is.asked es count low σ fits.of_variables (sym cut);
-        fits = λ ρ read. fits-agree S names a s legal.distinct bound c.heads.now c.hypotheses is.asked es count low σ fits.of_variables (sym cut) ρ read;
-        apart = λ ρ read. is.groups (before S at) (images_of_names names ρ)
-            ∙ (apart-agrees S names a s legal.distinct bound c.heads.now c.hypotheses is.asked es count low σ fits.of_variables (sym cut) ρ read (before S at) ∙ fits.apart);
-        gives = λ ρ read. gives ∙ (conclusion-agrees S names a s legal.distinct bound c.heads.now c.hypotheses is.asked es count low σ fits.of_variables (sym cut) ρ read ∙ sym (conclusion-named ρ));
+        typed = premise-typed S names a s legal.distinct bound c.typecodes.now c.hypotheses is.required es count low σ fits.of_variables (sym cut);
+        fits = λ ρ read. fits-agree S names a s legal.distinct bound c.typecodes.now c.hypotheses is.required es count low σ fits.of_variables (sym cut) ρ read;
+        disjoint = λ ρ read. is.groups (before S at) (images_of_names names ρ)
+            ∙ (disjoint-agrees S names a s legal.distinct bound c.typecodes.now c.hypotheses is.required es count low σ fits.of_variables (sym cut) ρ read (before S at) ∙ fits.disjoint);
+        gives = λ ρ read. gives ∙ (conclusion-agrees S names a s legal.distinct bound c.typecodes.now c.hypotheses is.required es count low σ fits.of_variables (sym cut) ρ read ∙ sym (conclusion-named ρ));
       }
 
   -- every step by the label is one by this assertion
@@ -62,60 +62,60 @@ module _ (S : Database) (names : List Name) (at a : ℕ) (s : Stmt) (c : Cited) 
       (whole ∙ (ap (λ m. b ++ premises S m t σ) i ∙ ap (λ u. b ++ premises S a u σ) e)) (gives ∙ ap (λ u. applied σ (expr_of u)) e)
 
   goes-assertion : (ok : Bool) (old new : Results ℕ) (label : Name) (ρ : CodeImages) → AreNamed names old → Carries S a s label → HasAssertion S a s → a < at
-      → n ≤ length old.stack → AreRead c.heads.now c.hypotheses (top n old.stack) ρ → DoFit S (images_of_names names ρ) c.hypotheses (map (decode names) (top n old.stack))
-      → are_groups_apart (before S at) (images_of_names names ρ) (map (decode names) c.groups) ≡ true
+      → n ≤ length old.stack → AreRead c.typecodes.now c.hypotheses (top n old.stack) ρ → DoFit S (images_of_names names ρ) c.hypotheses (map (decode names) (top n old.stack))
+      → are_groups_disjoint (before S at) (images_of_names names ρ) (map (decode names) c.groups) ≡ true
       → Adds ok old new (below n old.stack) (code_apply ρ c.conclusion.now)
-      → Goes ok S at names (Cite label) old new
-  goes-assertion true old new label ρ an carries has earlier many read fits apart adds =
+      → StepsByNumber ok S at names (Cite label) old new
+  goes-assertion true old new label ρ an carries has earlier many read fits disjoint adds =
       let es = top n old.stack in
       let e = code_apply ρ c.conclusion.now in
       let count = length-top n old.stack many in
       let low = all-drop (length names) (length old.stack - n) old.stack an.stack_named in
       let τ = only (is_variable (before S a)) (images_of_names names ρ) in
-      let prem : premises S a s τ ≡ map (decode names) es = premises-read S names a s legal.distinct bound c.heads.now c.hypotheses is.asked es count ρ read fits in
-      let away : are_groups_apart (before S at) τ (mandatory_groups (before S a) s) ≡ true
-      = apart-τ S names a s legal.distinct bound c.heads.now c.hypotheses is.asked es count ρ read (before S at) (mandatory_groups (before S a) s) ∙ (sym (is.groups (before S at) (images_of_names names ρ)) ∙ apart) in
+      let prem : premises S a s τ ≡ map (decode names) es = premises-read S names a s legal.distinct bound c.typecodes.now c.hypotheses is.required es count ρ read fits in
+      let away : are_groups_disjoint (before S at) τ (mandatory_groups (before S a) s) ≡ true
+      = disjoint-τ S names a s legal.distinct bound c.typecodes.now c.hypotheses is.required es count ρ read (before S at) (mandatory_groups (before S a) s) ∙ (sym (is.groups (before S at) (images_of_names names ρ)) ∙ disjoint) in
       let whole : map (decode names) old.stack ≡ map (decode names) (below n old.stack) ++ premises S a s τ
       = ap (map (decode names)) (halves n old.stack) ∙ (map-append (decode names) (below n old.stack) es ∙ ap (λ v. map (decode names) (below n old.stack) ++ v) (sym prem)) in
-      let gives : decode names e ≡ applied τ (expr_of s) = conclusion-named ρ ∙ sym (apply-τ S names a s legal.distinct bound c.heads.now c.hypotheses is.asked es count ρ read (expr_of s)) in (
+      let gives : decode names e ≡ applied τ (expr_of s) = conclusion-named ρ ∙ sym (apply-τ S names a s legal.distinct bound c.typecodes.now c.hypotheses is.required es count ρ read (expr_of s)) in (
         (
           map (decode names) (below n old.stack),
           decode names e,
           of_assertion a s τ carries
-              (record { earlier = earlier; stands = has.0; assertion = has.1; of_variables = of_variables S names a s legal.distinct bound c.heads.now c.hypotheses is.asked es count ρ read; apart = away }) whole gives,
+              (record { earlier = earlier; stands = has.0; assertion = has.1; of_variables = of_variables S names a s legal.distinct bound c.typecodes.now c.hypotheses is.required es count ρ read; disjoint = away }) whole gives,
           ap (named names) adds ∙ named-result names old (below n old.stack) e,
         ),
         subst (AreNamed names) (sym adds) (result-named names old (below n old.stack) e an (all-take (length names) (length old.stack - n) old.stack an.stack_named)
-            (apply-below names ρ c.conclusion.now (read-over S names a s legal.distinct bound c.heads.now c.hypotheses is.asked es count ρ read low) is.conclusion_below)),
+            (apply-below names ρ c.conclusion.now (read-over S names a s legal.distinct bound c.typecodes.now c.hypotheses is.required es count ρ read low) is.conclusion_below)),
       )
-  goes-assertion false old new label ρ an carries has earlier many read fits apart heavy = λ next p.
+  goes-assertion false old new label ρ an carries has earlier many read fits disjoint heavy = λ next p.
       let m = meets-step old label p.0 p.1 an carries has p.2 in
       let l = ap length (m.gives ρ read) ∙ length-map (code_apply ρ c.conclusion.now) (name_at names) in
       let w = ap (λ v. v.weight) p.3 in
       omega (arith, heavy, l, w)
 
   goes-not : (old new : Results ℕ) (label : Name) → AreNamed names old → Carries S a s label → HasAssertion S a s
-      → ((f : Expr) → Meets S names at a c old.stack f → ⊥) → Goes false S at names (Cite label) old new
+      → ((f : Expr) → Meets S names at a c old.stack f → ⊥) → StepsByNumber false S at names (Cite label) old new
   goes-not old new label an carries has none = λ next p. absurd (none p.1 (meets-step old label p.0 p.1 an carries has p.2))
 
 -- the same by what a citation rests on
-module _ (t : Claim) (a : ℕ) (about : Numbered) (old : Results ℕ) (may : MayCite t a about old) (c : Cited) (cited : (s : Stmt) → stmt_at t.frames.now.statements a ≡ Some s → IsCitedBy t.frames.now.statements t.frames.now.names a s c) where
+module _ (t : Claim) (a : ℕ) (about : Numbered) (old : Results ℕ) (may : MayCite t a about old) (c : AssertionView) (cited : (s : Stmt) → stmt_at t.frames.now.statements a ≡ Some s → IsCitedBy t.frames.now.statements t.frames.now.names a s c) where
   abbrev count : ℕ
   count = length c.hypotheses
 
-  pub over-read : (ρ : CodeImages) → count ≤ length old.stack → AreRead c.heads.now c.hypotheses (top count old.stack) ρ → AreOver t.frames.now.names ρ
+  pub over-read : (ρ : CodeImages) → count ≤ length old.stack → AreRead c.typecodes.now c.hypotheses (top count old.stack) ρ → AreOver t.frames.now.names ρ
   over-read ρ many read =
-      read-over t.frames.now.statements t.frames.now.names a may.assertion.0 may.ready.legal.distinct (may.ready.legal.bound a may.assertion.0 may.assertion.1) c.heads.now c.hypotheses (cited may.assertion.0 may.assertion.1.0).asked
+      read-over t.frames.now.statements t.frames.now.names a may.assertion.0 may.ready.legal.distinct (may.ready.legal.bound a may.assertion.0 may.assertion.1) c.typecodes.now c.hypotheses (cited may.assertion.0 may.assertion.1.0).required
       (top count old.stack) (length-top count old.stack many) ρ read (all-drop (length t.frames.now.names) (length old.stack - count) old.stack may.named.stack_named)
 
-  pub has-cited : (ok : Bool) (new : Results ℕ) (ρ : CodeImages) → count ≤ length old.stack → AreRead c.heads.now c.hypotheses (top count old.stack) ρ
+  pub has-cited : (ok : Bool) (new : Results ℕ) (ρ : CodeImages) → count ≤ length old.stack → AreRead c.typecodes.now c.hypotheses (top count old.stack) ρ
       → DoFit t.frames.now.statements (images_of_names t.frames.now.names ρ) c.hypotheses (map (decode t.frames.now.names) (top count old.stack))
-      → are_groups_apart (before t.frames.now.statements t.at) (images_of_names t.frames.now.names ρ) (map (decode t.frames.now.names) c.groups) ≡ true
+      → are_groups_disjoint (before t.frames.now.statements t.at) (images_of_names t.frames.now.names ρ) (map (decode t.frames.now.names) c.groups) ≡ true
       → Adds ok old new (below count old.stack) (code_apply ρ c.conclusion.now) → HasCited t.frames.now.statements t.at t.frames.now.names (Assertion a) old new ok
-  has-cited ok new ρ many read fits apart adds = (
+  has-cited ok new ρ many read fits disjoint adds = (
     λ label is.
         let has = has_with t.frames.now.statements a is.0 may.assertion.0 label is.1 may.assertion.1 in
-        goes-assertion t.frames.now.statements t.frames.now.names t.at a is.0 c may.ready.legal (may.ready.legal.bound a is.0 has) (cited is.0 is.1.stands) ok old new label ρ may.named is.1 has may.earlier many read fits apart adds,
+        goes-assertion t.frames.now.statements t.frames.now.names t.at a is.0 c may.ready.legal (may.ready.legal.bound a is.0 has) (cited is.0 is.1.stands) ok old new label ρ may.named is.1 has may.earlier many read fits disjoint adds,
     saved-same old new (below count old.stack) (code_apply ρ c.conclusion.now) ok adds,
   )
 

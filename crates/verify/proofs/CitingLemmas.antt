@@ -1,10 +1,10 @@
 -- The results that an assertion takes are what some images make of its hypotheses, exactly where the first symbols agree
 -- and each `$e` is its result under the images that are read off the others.
 use Rattle.verify.proofs.Words.{◌≡◌, ℕ, zero, suc, ◌<◌, Bool, true, false, cond, List, [], ◌∷◌, ◌++◌, length, map, drop, get_or, slice_get, Option, Some, None, option_map, ◌⊎◌, refl, sym, ◌∙◌, ap, subst, arith, inl, inr, true≢false, append-nil, lt-ltb, length-map, ext_get_or, get_or_from_slice_get, slice_get_within, slice_get-map}
-use Rattle.verify.proofs.Words.{Name, Stmt, Expr, Database, stmt_at, before, expr_of, is_variable, name_at, decode, code_of, AreDistinct, code-name, hypotheses, mandatory_groups, Images, image, applied, CodeImages, code_image, images_of_names, OfVariables, premises, expr_at, option_expr, are_groups_apart, AreBelow, AllBelow, AreOver, image-named, image-unnamed, image-decode, Hypothesis, Float, Essential, IsBound, HasFloat, IsFirstFixed, head_of, IsHead, IsAsked, AreAsked, IsTyped, AreRead, FitsOne, DoFit, some-same, name_at-injective}
+use Rattle.verify.proofs.Words.{Name, Stmt, Expr, Database, stmt_at, before, expr_of, is_variable, name_at, decode, code_of, AreDistinct, code-name, hypotheses, mandatory_groups, Images, image, applied, CodeImages, code_image, images_of_names, OfVariables, premises, expr_at, option_expr, are_groups_disjoint, AreBelow, AllBelow, AreOver, image-named, image-unnamed, image-decode, Hypothesis, Float, Essential, IsBound, HasFloat, IsFirstFixed, typecode_of, IsTypecode, IsRequired, AreRequired, IsTyped, AreRead, FitsOne, DoFit, some-same, name_at-injective}
 use Rattle.mm_read.specs.declared.stmt.Stmt.TheVariants as stmt
 use Rattle.verify.proofs.Named.{all-at}
-use Rattle.verify.proofs.MandatoryAsked.{At, asked-lengths, asked-at, float-at, essential-at, float-number, float-find}
+use Rattle.verify.proofs.RequiredHypotheses.{At, required-lengths, required-at, float-at, essential-at, float-number, float-find}
 use Rattle.verify.proofs.ImageLemmas.{apply-members, groups-members, only, only-all, image-only, image-fixed}
 
 -- ---- lists of numbers and of names
@@ -22,25 +22,25 @@ drop-decode names [] = refl
 drop-decode names (x ∷ e) = refl
 
 -- a list with symbols, and its first one
-pub headed : (names : List Name) (e : List ℕ) → 0 < length e → decode names e ≡ name_at names (head_of e) ∷ decode names (drop 1 e)
+pub headed : (names : List Name) (e : List ℕ) → 0 < length e → decode names e ≡ name_at names (typecode_of e) ∷ decode names (drop 1 e)
 headed names [] h = absurd (omega (arith, h))
 headed names (x ∷ e) h = refl
 
 module _ (S : Database) (names : List Name) (a : ℕ) (s : Stmt) (distinct : AreDistinct names) (bound : IsBound S a s)
-    (heads : List ℕ) (hs : List Hypothesis) (asked : AreAsked S names (hypotheses (before S a) s) heads hs) (rs : List (List ℕ)) (count : length rs ≡ length hs) where
+    (typecodes : List ℕ) (hs : List Hypothesis) (required : AreRequired S names (hypotheses (before S a) s) typecodes hs) (rs : List (List ℕ)) (count : length rs ≡ length hs) where
   abbrev V : Name → Bool
   V = is_variable (before S a)
 
   abbrev ps : List ℕ
   ps = hypotheses (before S a) s
 
-  -- the first symbols, and what is asked of the results, are as many as the positions
-  lens : (length heads ≡ length ps) × (length hs ≡ length ps)
-  lens = asked-lengths S names ps heads hs asked
+  -- the first symbols, and what is required of the results, are as many as the positions
+  lens : (length typecodes ≡ length ps) × (length hs ≡ length ps)
+  lens = required-lengths S names ps typecodes hs required
 
-  -- what is asked of the hypothesis at an index
-  at : (k : ℕ) → k < length rs → At S names ps heads hs k
-  at k h = asked-at S names ps heads hs k asked (let l = lens.1 in omega (arith, h, l, count))
+  -- what is required of the hypothesis at an index
+  at : (k : ℕ) → k < length rs → At S names ps typecodes hs k
+  at k h = required-at S names ps typecodes hs k required (let l = lens.1 in omega (arith, h, l, count))
 
   -- a hypothesis of the assertion has a result
   within : (k : ℕ) (h : Hypothesis) → slice_get hs k ≡ Some h → k < length rs
@@ -52,7 +52,7 @@ module _ (S : Database) (names : List Name) (a : ℕ) (s : Stmt) (distinct : Are
 
   -- ---- the images that were read
 
-  module _ (ρ : CodeImages) (read : AreRead heads hs rs ρ) where
+  module _ (ρ : CodeImages) (read : AreRead typecodes hs rs ρ) where
     abbrev N : Images
     N = images_of_names names ρ
 
@@ -72,7 +72,7 @@ module _ (S : Database) (names : List Name) (a : ℕ) (s : Stmt) (distinct : Are
             image-named names ρ y n e
             ∙ (ap (decode names) (read.own n (λ k is.
             (let d = at k (within k (Float n) is) in
-            let f = float-at S names d.position d.head n (subst (IsAsked S names d.position d.head) (some-same d.kind is) d.asked) in
+            let f = float-at S names d.position d.typecode n (subst (IsRequired S names d.position d.typecode) (some-same d.kind is) d.required) in
             let v : V f.variable ≡ true = bound.variable k d.position f.label f.constant f.variable d.listed f.stands in
             true≢false (sym v ∙ (ap V (sym f.named ∙ c.1) ∙ none)))))
             ∙ ap (λ z. z ∷ []) c.1)
@@ -108,28 +108,28 @@ module _ (S : Database) (names : List Name) (a : ℕ) (s : Stmt) (distinct : Are
     pub apply-τ : (e : Expr) → applied τ e ≡ applied N e
     apply-τ e = apply-members τ N e (λ x k. image-τ x)
 
-    pub apart-τ : (D : Database) (gs : List (List Name)) → are_groups_apart D τ gs ≡ are_groups_apart D N gs
-    apart-τ D gs = groups-members D τ N gs (λ k g x e f. image-τ x)
+    pub disjoint-τ : (D : Database) (gs : List (List Name)) → are_groups_disjoint D τ gs ≡ are_groups_disjoint D N gs
+    disjoint-τ D gs = groups-members D τ N gs (λ k g x e f. image-τ x)
 
     -- what they make of the hypotheses are the results
     module _ (fits : DoFit S N hs (map (decode names) rs)) where
-      one-premise : (k : ℕ) → k < length rs → (d : At S names ps heads hs k) → applied τ (expr_at S d.position) ≡ decode names (get_or rs k [])
-      one-premise k less d = by d.hypothesis d.kind d.asked
+      one-premise : (k : ℕ) → k < length rs → (d : At S names ps typecodes hs k) → applied τ (expr_at S d.position) ≡ decode names (get_or rs k [])
+      one-premise k less d = by d.hypothesis d.kind d.required
         where
-          by : (h : Hypothesis) → slice_get hs k ≡ Some h → IsAsked S names d.position d.head h → applied τ (expr_at S d.position) ≡ decode names (get_or rs k [])
-          by (Essential q) kind asked =
-              let f = essential-at S names d.position d.head q asked in
+          by : (h : Hypothesis) → slice_get hs k ≡ Some h → IsRequired S names d.position d.typecode h → applied τ (expr_at S d.position) ≡ decode names (get_or rs k [])
+          by (Essential q) kind required =
+              let f = essential-at S names d.position d.typecode q required in
               apply-τ (expr_at S d.position) ∙ (ap (λ p. applied N (expr_at S p)) (sym f.same) ∙ (sym (fits.each k (Essential q) kind) ∙ get-decode names rs k))
-          by (Float x) kind asked =
-              let f = float-at S names d.position d.head x asked in
+          by (Float x) kind required =
+              let f = float-at S names d.position d.typecode x required in
               let fixed : V f.constant ≡ false = bound.first k d.position (stmt.Float f.label f.constant f.variable) d.listed f.stands in
               let typed = read.typed k x kind in
-              let head : head_of (get_or rs k []) ≡ d.head = typed.first ∙ get_or_from_slice_get heads k d.head 0 d.first in
+              let typecode : typecode_of (get_or rs k []) ≡ d.typecode = typed.first ∙ get_or_from_slice_get typecodes k d.typecode 0 d.first in
               ap (applied τ) (expr-stands d.position (stmt.Float f.label f.constant f.variable) f.stands)
               ∙ (apply-τ (f.constant ∷ f.variable ∷ [])
               ∙ (ap (λ e. e ++ (image N f.variable ++ [])) (image-constant f.constant fixed)
               ∙ (ap (λ e. f.constant ∷ e) (append-nil (image N f.variable) ∙ image-float k x f.variable kind f.below f.named)
-              ∙ (ap (λ c. c ∷ decode names (drop 1 (get_or rs k []))) (sym (ap (name_at names) head ∙ f.head_named)) ∙ sym (headed names (get_or rs k []) typed.some)))))
+              ∙ (ap (λ c. c ∷ decode names (drop 1 (get_or rs k []))) (sym (ap (name_at names) typecode ∙ f.typecode_named)) ∙ sym (headed names (get_or rs k []) typed.some)))))
 
       pub premises-read : premises S a s τ ≡ map (decode names) rs
       premises-read =
@@ -150,9 +150,9 @@ module _ (S : Database) (names : List Name) (a : ℕ) (s : Stmt) (distinct : Are
     fixed y none = image-fixed V σ y of_vars none
 
     -- the result of a `$f`
-    float-premise : (k : ℕ) (d : At S names ps heads hs k) (x : ℕ) → (asked : IsAsked S names d.position d.head (Float x)) → let f = float-at S names d.position d.head x asked in decode names (get_or rs k []) ≡ f.constant ∷ image σ f.variable
-    float-premise k d x asked =
-        let f = float-at S names d.position d.head x asked in
+    float-premise : (k : ℕ) (d : At S names ps typecodes hs k) (x : ℕ) → (required : IsRequired S names d.position d.typecode (Float x)) → let f = float-at S names d.position d.typecode x required in decode names (get_or rs k []) ≡ f.constant ∷ image σ f.variable
+    float-premise k d x required =
+        let f = float-at S names d.position d.typecode x required in
         let fix : V f.constant ≡ false = bound.first k d.position (stmt.Float f.label f.constant f.variable) d.listed f.stands in
         premise-at k d.position d.listed
         ∙ (ap (applied σ) (expr-stands d.position (stmt.Float f.label f.constant f.variable) f.stands)
@@ -162,42 +162,42 @@ module _ (S : Database) (names : List Name) (a : ℕ) (s : Stmt) (distinct : Are
     premise-some : (k x : ℕ) → slice_get hs k ≡ Some (Float x) → get_or rs k [] ≡ [] → ⊥
     premise-some k x kind none =
         let d = at k (within k (Float x) kind) in
-        let asked' = subst (IsAsked S names d.position d.head) (some-same d.kind kind) d.asked in
-        let f = float-at S names d.position d.head x asked' in
-        let e : [] ≡ f.constant ∷ image σ f.variable = ap (decode names) (sym none) ∙ float-premise k d x asked' in cc
+        let required' = subst (IsRequired S names d.position d.typecode) (some-same d.kind kind) d.required in
+        let f = float-at S names d.position d.typecode x required' in
+        let e : [] ≡ f.constant ∷ image σ f.variable = ap (decode names) (sym none) ∙ float-premise k d x required' in cc
 
-    one-head : (k : ℕ) → (d : At S names ps heads hs k) → head_of (get_or rs k []) ≡ d.head
-    one-head k d = by (expr_of d.asked.stmt) d.asked.first (get_or rs k []) (all-at (length names) k rs low)
-        (bound.first k d.position d.asked.stmt d.listed d.asked.stands)
-        (premise-at k d.position d.listed ∙ ap (applied σ) (expr-stands d.position d.asked.stmt d.asked.stands))
+    one-typecode : (k : ℕ) → (d : At S names ps typecodes hs k) → typecode_of (get_or rs k []) ≡ d.typecode
+    one-typecode k d = by (expr_of d.required.stmt) d.required.first (get_or rs k []) (all-at (length names) k rs low)
+        (bound.first k d.position d.required.stmt d.listed d.required.stands)
+        (premise-at k d.position d.listed ∙ ap (applied σ) (expr-stands d.position d.required.stmt d.required.stands))
       where
-        by : (e : Expr) → IsHead names d.head e → (r : List ℕ) → AreBelow (length names) r → IsFirstFixed (before S a) e → decode names r ≡ applied σ e → head_of r ≡ d.head
+        by : (e : Expr) → IsTypecode names d.typecode e → (r : List ℕ) → AreBelow (length names) r → IsFirstFixed (before S a) e → decode names r ≡ applied σ e → typecode_of r ≡ d.typecode
         by [] first [] b fix same = sym first
         by [] first (n ∷ r) b fix same = cc
         by (x ∷ e) first [] b fix same = let q : [] ≡ x ∷ applied σ e = same ∙ ap (λ i. i ++ applied σ e) (fixed x fix) in cc
         by (x ∷ e) first (n ∷ r) b fix same =
             let q : name_at names n ∷ decode names r ≡ x ∷ applied σ e = same ∙ ap (λ i. i ++ applied σ e) (fixed x fix) in
             let one : name_at names n ≡ x = cc in
-            name_at-injective names n d.head distinct b.0 first.0 (one ∙ sym first.1)
+            name_at-injective names n d.typecode distinct b.0 first.0 (one ∙ sym first.1)
 
     -- begins as the `$f` asks
-    pub premise-typed : (k x : ℕ) → slice_get hs k ≡ Some (Float x) → IsTyped (get_or heads k 0) (get_or rs k [])
+    pub premise-typed : (k x : ℕ) → slice_get hs k ≡ Some (Float x) → IsTyped (get_or typecodes k 0) (get_or rs k [])
     premise-typed k x kind =
         let d = at k (within k (Float x) kind) in
-        record { some = some-length (get_or rs k []) (premise-some k x kind); first = one-head k d ∙ sym (get_or_from_slice_get heads k d.head 0 d.first) }
+        record { some = some-length (get_or rs k []) (premise-some k x kind); first = one-typecode k d ∙ sym (get_or_from_slice_get typecodes k d.typecode 0 d.first) }
       where
         some-length : (e : List ℕ) → (e ≡ [] → ⊥) → 0 < length e
         some-length [] none = absurd (none refl)
         some-length (y ∷ e) none = omega arith
 
-    module _ (ρ : CodeImages) (read : AreRead heads hs rs ρ) where
+    module _ (ρ : CodeImages) (read : AreRead typecodes hs rs ρ) where
       float-agrees : (k x : ℕ) (v : Name) → slice_get hs k ≡ Some (Float x) → x < length names → name_at names x ≡ v → image (images_of_names names ρ) v ≡ image σ v
       float-agrees k x v kind lows named =
           let d = at k (within k (Float x) kind) in
-          let asked' = subst (IsAsked S names d.position d.head) (some-same d.kind kind) d.asked in
-          let f = float-at S names d.position d.head x asked' in
+          let required' = subst (IsRequired S names d.position d.typecode) (some-same d.kind kind) d.required in
+          let f = float-at S names d.position d.typecode x required' in
           image-float ρ read k x v kind lows named
-          ∙ (sym (drop-decode names (get_or rs k [])) ∙ (ap (drop 1) (float-premise k d x asked') ∙ ap (image σ) (sym f.named ∙ named)))
+          ∙ (sym (drop-decode names (get_or rs k [])) ∙ (ap (drop 1) (float-premise k d x required') ∙ ap (image σ) (sym f.named ∙ named)))
 
       -- a symbol that is no variable, or the variable of some `$f`
       agrees : (y : Name) → (V y ≡ true → HasFloat S ps y) → image (images_of_names names ρ) y ≡ image σ y
@@ -207,7 +207,7 @@ module _ (S : Database) (names : List Name) (a : ℕ) (s : Stmt) (distinct : Are
           float f =
               let d = at f.place (let l = lens.1 in let m = slice_get_within ps f.place f.position f.listed in omega (arith, l, m, count)) in
               let same : d.position ≡ f.position = some-same d.listed f.listed in
-              let x = float-number S names d.position d.head d.hypothesis f.label f.constant y d.asked (ap (stmt_at S) same ∙ f.stands) in
+              let x = float-number S names d.position d.typecode d.hypothesis f.label f.constant y d.required (ap (stmt_at S) same ∙ f.stands) in
               float-agrees f.place x.0 y (d.kind ∙ ap Some x.1) x.2 x.3
 
           by : (b : Bool) → V y ≡ b → image (images_of_names names ρ) y ≡ image σ y
@@ -221,7 +221,7 @@ module _ (S : Database) (names : List Name) (a : ℕ) (s : Stmt) (distinct : Are
           one k (Float x) kind = tt
           one k (Essential q) kind =
               let d = at k (within k (Essential q) kind) in
-              let f = essential-at S names d.position d.head q (subst (IsAsked S names d.position d.head) (some-same d.kind kind) d.asked) in
+              let f = essential-at S names d.position d.typecode q (subst (IsRequired S names d.position d.typecode) (some-same d.kind kind) d.required) in
               get-decode names rs k
               ∙ (premise-at k d.position d.listed
               ∙ (ap (applied σ) (expr-stands d.position (stmt.Ess f.label f.expr) f.stands)
@@ -231,5 +231,5 @@ module _ (S : Database) (names : List Name) (a : ℕ) (s : Stmt) (distinct : Are
       pub conclusion-agrees : applied σ (expr_of s) ≡ applied (images_of_names names ρ) (expr_of s)
       conclusion-agrees = sym (apply-members (images_of_names names ρ) σ (expr_of s) (λ x in_x. agrees x (λ var. bound.own x in_x var)))
 
-      pub apart-agrees : (D : Database) → are_groups_apart D (images_of_names names ρ) (mandatory_groups (before S a) s) ≡ are_groups_apart D σ (mandatory_groups (before S a) s)
-      apart-agrees D = groups-members D (images_of_names names ρ) σ (mandatory_groups (before S a) s) (λ k g x listed in_g. agrees x (λ var. bound.grouped k g x listed in_g))
+      pub disjoint-agrees : (D : Database) → are_groups_disjoint D (images_of_names names ρ) (mandatory_groups (before S a) s) ≡ are_groups_disjoint D σ (mandatory_groups (before S a) s)
+      disjoint-agrees D = groups-members D (images_of_names names ρ) σ (mandatory_groups (before S a) s) (λ k g x listed in_g. agrees x (λ var. bound.grouped k g x listed in_g))

@@ -1,6 +1,6 @@
 -- Proofs found by computation: the machine runs over their items, and each step has its proof.
 use Rattle.verify.proofs.Words.{◌≡◌, ℕ, zero, suc, ◌-◌, ◌<◌, ◌≤◌, Bool, true, false, nat_lt, nat_le, List, [], ◌∷◌, ◌++◌, length, Option, Some, None, slice_get, refl, is_some, list_all, sym, ◌∙◌, ap, true≢false, bytes_eq-Decides, ltb-true, leb-true}
-use Rattle.verify.proofs.Words.{Name, name_eq, Stmt, Expr, Database, stmt_at, before, is_active, is_variable, is_assertion, label_of, expr_of, hypotheses, mandatory_groups, Images, applied, are_groups_apart, Item, Cite, Recall, Mark, is_hypothesis_kind, IsInstance, premises, Carries, State, start, of_hypothesis, of_assertion, with_result, with_mark, Steps, Runs, below, top, IsRight, weight_limit}
+use Rattle.verify.proofs.Words.{Name, name_eq, Stmt, Expr, Database, stmt_at, before, is_active, is_variable, is_assertion, label_of, expr_of, hypotheses, mandatory_groups, Images, applied, are_groups_disjoint, Item, Cite, Recall, Mark, is_hypothesis_kind, IsInstance, premises, Carries, State, start, of_hypothesis, of_assertion, with_result, with_mark, Steps, Runs, below, top, IsRight, weight_limit}
 use Rattle.mm_read.specs.declared.stmt.Stmt.TheVariants.{Float}
 use Rattle.verify.proofs.Sound.{sound}
 
@@ -89,9 +89,9 @@ module _ (S : Database) (at : ℕ) where
       bind (less found.0 at) (λ earlier.
       bind (test (is_assertion found.1)) (λ assertion.
       bind (test (list_all (λ p. is_variable (before S found.0) p.0) σ)) (λ of_variables.
-      bind (test (are_groups_apart (before S at) σ (mandatory_groups (before S found.0) found.1))) (λ apart.
+      bind (test (are_groups_disjoint (before S at) σ (mandatory_groups (before S found.0) found.1))) (λ disjoint.
       bind (same_exprs st.stack (rest ++ premises S found.0 found.1 σ)) (λ same.
-      let fits : IsInstance S at found.0 found.1 σ = record { earlier = earlier; stands = found.2.stands; assertion = assertion; of_variables = of_variables; apart = apart } in
+      let fits : IsInstance S at found.0 found.1 σ = record { earlier = earlier; stands = found.2.stands; assertion = assertion; of_variables = of_variables; disjoint = disjoint } in
       Some (with_result st rest e, (rest, e, of_assertion found.0 found.1 σ found.2 fits same refl, refl)))))))
 
   abbrev pub step : (st : State) (item : Item) → Option ((next : State) × Steps S at st item next)

@@ -11,10 +11,10 @@ append_cut [] [] x y e l = (refl, e)
 append_cut [] (v ∷ c) x y e l = absurd (omega (arith, ap length e, length-append c y, l))
 append_cut (u ∷ b) [] x y e l = absurd (omega (arith, ap length e, length-append b x, l))
 append_cut {A} (u ∷ b) (v ∷ c) x y e l =
-    let heads : u ≡ v = cc in
+    let typecodes : u ≡ v = cc in
     let tails : b ++ x ≡ c ++ y = cc in
     let r = append_cut b c x y tails l in
-    (ap (λ w. w ∷ b) heads ∙ ap (λ w. v ∷ w) r.0, r.1)
+    (ap (λ w. w ∷ b) typecodes ∙ ap (λ w. v ∷ w) r.0, r.1)
 
 pub length-premises : (S : Database) (a : ℕ) (s : Stmt) (σ : Images) → length (premises S a s σ) ≡ length (hypotheses (before S a) s)
 length-premises S a s σ = length-map (hypotheses (before S a) s) (λ i. applied σ (expr_at S i))

@@ -1,5 +1,5 @@
 -- Images of names: where two agree, and those of variables alone.
-use Rattle.verify.proofs.Words.{◌≡◌, ℕ, zero, suc, Bool, true, false, cond, ◌||◌, ◌&&◌, List, [], ◌∷◌, ◌++◌, length, slice_get, Some, refl, list_all, sym, ◌∙◌, ap, true≢false, Name, name_eq, has_name, Expr, Database, and_from, lt-ltb, or_left, or_right, AreCodes, name_same, same_name, Images, image, applied, CodeImages, code_image, code_apply, are_apart, is_group_apart, are_groups_apart, AreBelow, below-append, AreOver}
+use Rattle.verify.proofs.Words.{◌≡◌, ℕ, zero, suc, Bool, true, false, cond, ◌||◌, ◌&&◌, List, [], ◌∷◌, ◌++◌, length, slice_get, Some, refl, list_all, sym, ◌∙◌, ap, true≢false, Name, name_eq, has_name, Expr, Database, and_from, lt-ltb, or_left, or_right, AreCodes, name_same, same_name, Images, image, applied, CodeImages, code_image, code_apply, are_disjoint, is_group_disjoint, are_groups_disjoint, AreBelow, below-append, AreOver}
 
 all-member : (p q : Name → Bool) (xs : List Name) → ((x : Name) → has_name x xs ≡ true → p x ≡ q x) → list_all p xs ≡ list_all q xs
 all-member p q [] h = refl
@@ -15,18 +15,18 @@ apply-members σ τ (y ∷ e) h =
     ∙ ap (λ r. image τ y ++ r) (apply-members σ τ e (λ x k. h x (or_right (name_eq x y) (has_name x e) k)))
 
 module _ (D : Database) (σ τ : Images) where
-  group-members : (g : List Name) → ((x : Name) → has_name x g ≡ true → image σ x ≡ image τ x) → is_group_apart D σ g ≡ is_group_apart D τ g
+  group-members : (g : List Name) → ((x : Name) → has_name x g ≡ true → image σ x ≡ image τ x) → is_group_disjoint D σ g ≡ is_group_disjoint D τ g
   group-members g h =
-      all-member (λ x. list_all (λ y. name_eq x y || are_apart D (image σ x) (image σ y)) g) (λ x. list_all (λ y. name_eq x y || are_apart D (image τ x) (image τ y)) g) g
-      (λ x in_x. all-member (λ y. name_eq x y || are_apart D (image σ x) (image σ y)) (λ y. name_eq x y || are_apart D (image τ x) (image τ y)) g
-      (λ y in_y. ap (λ e. name_eq x y || are_apart D e (image σ y)) (h x in_x) ∙ ap (λ e. name_eq x y || are_apart D (image τ x) e) (h y in_y)))
+      all-member (λ x. list_all (λ y. name_eq x y || are_disjoint D (image σ x) (image σ y)) g) (λ x. list_all (λ y. name_eq x y || are_disjoint D (image τ x) (image τ y)) g) g
+      (λ x in_x. all-member (λ y. name_eq x y || are_disjoint D (image σ x) (image σ y)) (λ y. name_eq x y || are_disjoint D (image τ x) (image τ y)) g
+      (λ y in_y. ap (λ e. name_eq x y || are_disjoint D e (image σ y)) (h x in_x) ∙ ap (λ e. name_eq x y || are_disjoint D (image τ x) e) (h y in_y)))
 
   pub groups-members : (gs : List (List Name)) → ((k : ℕ) (g : List Name) (x : Name) → slice_get gs k ≡ Some g → has_name x g ≡ true → image σ x ≡ image τ x)
-      → are_groups_apart D σ gs ≡ are_groups_apart D τ gs
+      → are_groups_disjoint D σ gs ≡ are_groups_disjoint D τ gs
   groups-members [] h = refl
   groups-members (g ∷ gs) h =
-      ap (λ b. b && are_groups_apart D σ gs) (group-members g (λ x k. h zero g x refl k))
-      ∙ ap (λ b. is_group_apart D τ g && b) (groups-members gs (λ k f x at k'. h (suc k) f x at k'))
+      ap (λ b. b && are_groups_disjoint D σ gs) (group-members g (λ x k. h zero g x refl k))
+      ∙ ap (λ b. is_group_disjoint D τ g && b) (groups-members gs (λ k f x at k'. h (suc k) f x at k'))
 
 -- ---- images of variables alone
 

@@ -1,6 +1,6 @@
 -- The lists that a proof keeps say what the assertions' own do.
 use Rattle.verify.proofs.Words.{◌≡◌, ℕ, zero, suc, ◌+◌, ◌<◌, ◌≤◌, Bool, true, false, ◌&&◌, ◌||◌, ◌==◌, List, [], ◌∷◌, ◌++◌, length, length-append, map, take, take_all, take_more, map-append, Hypothesis, get_or, slice_get, Some, refl, sym, ap, subst, ◌∙◌, arith, and_from, list_all, list_any, same_Some, get_or_from_slice_get, slice_get_within, inl, inr}
-use Rattle.verify.proofs.Words.{Name, Stmt, Expr, Database, stmt_at, before, expr_of, name_at, decode, name_eq, name_same, mandatory_groups, hypotheses, Images, image, AllBelow, AreBelow, AreAsked, IsCited, are_apart, is_group_apart, are_groups_apart}
+use Rattle.verify.proofs.Words.{Name, Stmt, Expr, Database, stmt_at, before, expr_of, name_at, decode, name_eq, name_same, mandatory_groups, hypotheses, Images, image, AllBelow, AreBelow, AreRequired, IsViewOf, are_disjoint, is_group_disjoint, are_groups_disjoint}
 use Rattle.std.proofs.lemmas.List.Folds.{list_all-append, list_all-map, list_all_more, list_any_at}
 use Rattle.std.proofs.lemmas.Bool.{and_parts, eqb-true, or_cases}
 use Rattle.std.specs.Prelude.{slice_range}
@@ -8,7 +8,7 @@ use Rattle.entries.proofs.SpanLemmas.{cut-more, cut-push, extends-refl, range-be
 use Rattle.entries.specs.Hypotheses.{told}
 use Rattle.entries.specs.Stored.Spans.{AreSpansIn, cut}
 use Rattle.entries.specs.declared.buffer_part.BufferPart.{BufferPart}
-use Rattle.entries.specs.declared.cited_parts.Cited.{Cited}
+use Rattle.entries.specs.declared.assertion_view.AssertionView.{AssertionView}
 use Rattle.verify.specs.KeptLists.{has_both, is_paired, are_covered, SaySame, IsCitedBy, Lists, AreMadeOf, AreListsOf, AreKeptLists, IsAt}
 
 -- ---- the pairs of lists
@@ -57,13 +57,13 @@ module _ (q : ℕ → ℕ → Bool) where
 
 module _ (names : List Name) (D : Database) (σ : Images) where
   abbrev two : Name → Name → Bool
-  two x y = name_eq x y || are_apart D (image σ x) (image σ y)
+  two x y = name_eq x y || are_disjoint D (image σ x) (image σ y)
 
   abbrev by_number : ℕ → ℕ → Bool
   by_number x y = two (name_at names x) (name_at names y)
 
   abbrev group : List ℕ → Bool
-  group g = is_group_apart D σ (decode names g)
+  group g = is_group_disjoint D σ (decode names g)
 
   group-each : (g xs : List ℕ) → list_all (λ x. list_all (two x) (decode names g)) (decode names xs) ≡ list_all (λ x. list_all (by_number x) g) xs
   group-each g [] = refl
@@ -74,7 +74,7 @@ module _ (names : List Name) (D : Database) (σ : Images) where
   all-groups (g ∷ gs) = ap (λ b. b && list_all group gs) (group-each g g) ∙ ap (λ b. pairs by_number g && b) (all-groups gs)
 
   own-pair : (x : ℕ) → by_number x x ≡ true
-  own-pair x = ap (λ b. b || are_apart D (image σ (name_at names x)) (image σ (name_at names x))) (name_same (name_at names x))
+  own-pair x = ap (λ b. b || are_disjoint D (image σ (name_at names x)) (image σ (name_at names x))) (name_same (name_at names x))
 
   group-covered : (gs : List (List ℕ)) (g : List ℕ) → are_covered gs g ≡ true → list_all group gs ≡ true → group g ≡ true
   group-covered gs g covered all = group-each g g ∙ covered-each by_number own-pair gs (sym (all-groups gs) ∙ all) g g covered
@@ -95,16 +95,16 @@ same-none hs = λ names D σ. refl
 pub same-kept : (gs hs : List (List ℕ)) (i : ℕ) (g : List ℕ) → slice_get hs i ≡ Some g → i < length hs → SaySame gs (take i hs) → SaySame (gs ++ g ∷ []) (take (i + 1) hs)
 same-kept gs hs i g here less same = λ names D σ.
     let p = group names D σ in
-    let front : list_all p gs ≡ list_all p (take i hs) = sym (list_all-map (is_group_apart D σ) (decode names) gs) ∙ (same names D σ ∙ list_all-map (is_group_apart D σ) (decode names) (take i hs)) in
-    list_all-map (is_group_apart D σ) (decode names) (gs ++ g ∷ []) ∙ (list_all-append p gs (g ∷ []) ∙ (ap (λ b. list_all p gs && b) (and-true (p g)) ∙ (ap (λ b. b && p g) front
-    ∙ (ap (λ (z : List ℕ). list_all p (take i hs) && p z) (sym (get_or_from_slice_get hs i g [] here)) ∙ (sym (list_all_more p hs i [] less) ∙ sym (list_all-map (is_group_apart D σ) (decode names) (take (i + 1) hs)))))))
+    let front : list_all p gs ≡ list_all p (take i hs) = sym (list_all-map (is_group_disjoint D σ) (decode names) gs) ∙ (same names D σ ∙ list_all-map (is_group_disjoint D σ) (decode names) (take i hs)) in
+    list_all-map (is_group_disjoint D σ) (decode names) (gs ++ g ∷ []) ∙ (list_all-append p gs (g ∷ []) ∙ (ap (λ b. list_all p gs && b) (and-true (p g)) ∙ (ap (λ b. b && p g) front
+    ∙ (ap (λ (z : List ℕ). list_all p (take i hs) && p z) (sym (get_or_from_slice_get hs i g [] here)) ∙ (sym (list_all_more p hs i [] less) ∙ sym (list_all-map (is_group_disjoint D σ) (decode names) (take (i + 1) hs)))))))
 
 pub same-left : (gs hs : List (List ℕ)) (i : ℕ) (g : List ℕ) → slice_get hs i ≡ Some g → i < length hs → are_covered gs g ≡ true → SaySame gs (take i hs) → SaySame gs (take (i + 1) hs)
 same-left gs hs i g here less covered same = λ names D σ.
     let p = group names D σ in
-    let front : list_all p gs ≡ list_all p (take i hs) = sym (list_all-map (is_group_apart D σ) (decode names) gs) ∙ (same names D σ ∙ list_all-map (is_group_apart D σ) (decode names) (take i hs)) in
-    list_all-map (is_group_apart D σ) (decode names) gs ∙ (and-implied (list_all p gs) (p g) (group-covered names D σ gs g covered) ∙ (ap (λ b. b && p g) front
-    ∙ (ap (λ (z : List ℕ). list_all p (take i hs) && p z) (sym (get_or_from_slice_get hs i g [] here)) ∙ (sym (list_all_more p hs i [] less) ∙ sym (list_all-map (is_group_apart D σ) (decode names) (take (i + 1) hs))))))
+    let front : list_all p gs ≡ list_all p (take i hs) = sym (list_all-map (is_group_disjoint D σ) (decode names) gs) ∙ (same names D σ ∙ list_all-map (is_group_disjoint D σ) (decode names) (take i hs)) in
+    list_all-map (is_group_disjoint D σ) (decode names) gs ∙ (and-implied (list_all p gs) (p g) (group-covered names D σ gs g covered) ∙ (ap (λ b. b && p g) front
+    ∙ (ap (λ (z : List ℕ). list_all p (take i hs) && p z) (sym (get_or_from_slice_get hs i g [] here)) ∙ (sym (list_all_more p hs i [] less) ∙ sym (list_all-map (is_group_disjoint D σ) (decode names) (take (i + 1) hs))))))
 
 -- ---- a list more in a buffer
 
@@ -121,9 +121,9 @@ group-appended places new a b s group e from to h k =
 
 -- ---- a hypothesis more, as a number
 
-pub told-more : (asked new : List ℕ) (hs : List Hypothesis) (i n : ℕ) (h : Hypothesis) → map told asked ≡ take i hs → new ≡ asked ++ n ∷ [] → slice_get hs i ≡ Some h → told n ≡ h → map told new ≡ take (i + 1) hs
-told-more asked new hs i n h front k here same =
-    ap (map told) k ∙ (map-append told asked (n ∷ []) ∙ (ap (λ l. l ++ told n ∷ []) front
+pub told-more : (required new : List ℕ) (hs : List Hypothesis) (i n : ℕ) (h : Hypothesis) → map told required ≡ take i hs → new ≡ required ++ n ∷ [] → slice_get hs i ≡ Some h → told n ≡ h → map told new ≡ take (i + 1) hs
+told-more required new hs i n h front k here same =
+    ap (map told) k ∙ (map-append told required (n ∷ []) ∙ (ap (λ l. l ++ told n ∷ []) front
     ∙ (ap (λ (x : Hypothesis). take i hs ++ x ∷ []) (same ∙ sym (get_or_from_slice_get hs i h h here)) ∙ sym (take_more hs i h (slice_get_within hs i h here)))))
 
 -- ---- one element more passes
@@ -168,28 +168,28 @@ at-end ls l position same = record {
     last [] = refl
     last (k ∷ ks) = last ks
 
-pub made-of : (S : Database) (names : List Name) (a : ℕ) (s : Stmt) (c : Cited) (l : Lists) → IsCited S names a s c → AreMadeOf a c l → AreListsOf S names l s
+pub made-of : (S : Database) (names : List Name) (a : ℕ) (s : Stmt) (c : AssertionView) (l : Lists) → IsViewOf S names a s c → AreMadeOf a c l → AreListsOf S names l s
 made-of S names a s c l is made = record {
-  asked_of = rw (made.at, made.heads_same, made.asked_same) is.asked;
-  apart = λ D σ. made.same names D σ ∙ (ap (are_groups_apart D σ) is.groups ∙ ap (λ (b : ℕ). are_groups_apart D σ (mandatory_groups (before S b) s)) (sym made.at));
+  asked_of = rw (made.at, made.heads_same, made.asked_same) is.required;
+  disjoint = λ D σ. made.same names D σ ∙ (ap (are_groups_disjoint D σ) is.groups ∙ ap (λ (b : ℕ). are_groups_disjoint D σ (mandatory_groups (before S b) s)) (sym made.at));
   below_names = made.below (length names) is.groups_below;
 }
 
-pub cited-plain : (S : Database) (names : List Name) (a : ℕ) (s : Stmt) (c : Cited) → IsCited S names a s c → IsCitedBy S names a s c
+pub cited-plain : (S : Database) (names : List Name) (a : ℕ) (s : Stmt) (c : AssertionView) → IsViewOf S names a s c → IsCitedBy S names a s c
 cited-plain S names a s c is = record {
-  asked = is.asked;
+  required = is.required;
   conclusion = is.conclusion;
   conclusion_below = is.conclusion_below;
-  groups = λ D σ. ap (are_groups_apart D σ) is.groups;
+  groups = λ D σ. ap (are_groups_disjoint D σ) is.groups;
   groups_below = is.groups_below;
 }
 
-pub cited-kept : (S : Database) (names : List Name) (a : ℕ) (s : Stmt) (l : Lists) (c : Cited) → AreListsOf S names l s → l.position ≡ a → c.heads.now ≡ l.heads → c.hypotheses ≡ l.asked → c.groups ≡ l.groups
+pub cited-kept : (S : Database) (names : List Name) (a : ℕ) (s : Stmt) (l : Lists) (c : AssertionView) → AreListsOf S names l s → l.position ≡ a → c.typecodes.now ≡ l.typecodes → c.hypotheses ≡ l.required → c.groups ≡ l.groups
     → decode names c.conclusion.now ≡ expr_of s → AreBelow (length names) c.conclusion.now → IsCitedBy S names a s c
-cited-kept S names a s l c are at heads asked groups same below = record {
-  asked = rw (← at, heads, asked) are.asked_of;
+cited-kept S names a s l c are at typecodes required groups same below = record {
+  required = rw (← at, typecodes, required) are.asked_of;
   conclusion = same;
   conclusion_below = below;
-  groups = λ D σ. ap (λ gs. are_groups_apart D σ (map (decode names) gs)) groups ∙ (are.apart D σ ∙ ap (λ (b : ℕ). are_groups_apart D σ (mandatory_groups (before S b) s)) at);
+  groups = λ D σ. ap (λ gs. are_groups_disjoint D σ (map (decode names) gs)) groups ∙ (are.disjoint D σ ∙ ap (λ (b : ℕ). are_groups_disjoint D σ (mandatory_groups (before S b) s)) at);
   groups_below = subst (AllBelow (length names)) (sym groups) are.below_names;
 }

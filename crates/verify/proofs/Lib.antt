@@ -4,7 +4,7 @@ pub mod Sound
 pub mod Complete
 pub mod Decide
 pub mod ResultPlaceLemmas
-pub mod MandatoryAsked
+pub mod RequiredHypotheses
 pub mod ImageLemmas
 pub mod CitingLemmas
 pub mod KeptListsLemmas

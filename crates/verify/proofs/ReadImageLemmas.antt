@@ -1,27 +1,27 @@
 -- Images read off results, one hypothesis after another, and results held against `$e`, by numbers and by names.
 use Rattle.verify.proofs.Words.{◌≡◌, ℕ, zero, suc, ◌+◌, ◌-◌, ◌<◌, ◌≤◌, min, nat_eq, nat_lt, Bool, true, false, cond, List, [], ◌∷◌, length, map, take, drop, get_or, slice_get, Some, None, refl, ◌↔◌, IsTrue, sym, ◌∙◌, ap, subst, arith, true≢false, nat_tests, slice_get_within, slice_get-get_or, same_Some, drop_more, drop-take, drop-drop}
-use Rattle.verify.proofs.Words.{head_of, code_image, applied, CodeImages, code_apply, images_of_names, SymbolRange, seen_at, images_at, AreWithin, image-some, image-none, within-get, length-seen, Hypothesis, Float, Essential, AreDifferent, AreFloats, AreFront, IsTyped, Reads, IsStanding, AreStanding, FitsOne, tail_of, BeginsWith, IsMistyped, ReadTo, ReadsAll, some-same, decode-injective, Name, Stmt, Database, stmt_at, expr_of, decode, AreDistinct, AreBelow, AllBelow, expr_at, option_expr, AreOver, substitution_over_names}
+use Rattle.verify.proofs.Words.{typecode_of, code_image, applied, CodeImages, code_apply, images_of_names, SymbolRange, seen_at, images_at, AreWithin, image-some, image-none, within-get, length-seen, Hypothesis, Float, Essential, AreDifferent, AreFloats, AreFront, IsTyped, Reads, IsStanding, AreStanding, FitsOne, tail_of, BeginsWith, IsMistyped, ReadTo, ReadsAll, some-same, decode-injective, Name, Stmt, Database, stmt_at, expr_of, decode, AreDistinct, AreBelow, AllBelow, expr_at, option_expr, AreOver, substitution_over_names}
 use Rattle.std.specs.Prelude.{◌^◌}
 use Rattle.std.specs.Map.{lookup}
 use Rattle.verify.proofs.CitingLemmas.{get-decode, get-map-of}
 use Rattle.verify.proofs.Named.{all-at}
 use Rattle.verify.proofs.ImageLemmas.{apply-below, are-codes}
 
-module _ (symbols heads : List ℕ) (hs : List Hypothesis) (places : List SymbolRange) (i : ℕ) where
-  module _ (different : AreDifferent hs) (p : SymbolRange) (at_place : slice_get places i ≡ Some p) (x : ℕ) (kind : slice_get hs i ≡ Some (Float x)) (old new : List (ℕ × SymbolRange)) (r : ReadTo i symbols heads hs places old)
-      (low : BeginsWith symbols (get_or heads i 0) p) (set : (y : ℕ) → lookup (nat_eq y) new ≡ cond (nat_eq y x) (Some (tail_of p)) (lookup (nat_eq y) old)) where
+module _ (symbols typecodes : List ℕ) (hs : List Hypothesis) (places : List SymbolRange) (i : ℕ) where
+  module _ (different : AreDifferent hs) (p : SymbolRange) (at_place : slice_get places i ≡ Some p) (x : ℕ) (kind : slice_get hs i ≡ Some (Float x)) (old new : List (ℕ × SymbolRange)) (r : ReadTo i symbols typecodes hs places old)
+      (low : BeginsWith symbols (get_or typecodes i 0) p) (set : (y : ℕ) → lookup (nat_eq y) new ≡ cond (nat_eq y x) (Some (tail_of p)) (lookup (nat_eq y) old)) where
     -- the variable that the test takes for x is x
     same_number : (y : ℕ) → nat_eq y x ≡ true → y ≡ x
     same_number y e = grind (arith, nat_tests, e)
 
-    float-each : (k y : ℕ) (q : SymbolRange) → k < i + 1 → slice_get hs k ≡ Some (Float y) → slice_get places k ≡ Some q → BeginsWith symbols (get_or heads k 0) q × (lookup (nat_eq y) new ≡ Some (tail_of q))
+    float-each : (k y : ℕ) (q : SymbolRange) → k < i + 1 → slice_get hs k ≡ Some (Float y) → slice_get places k ≡ Some q → BeginsWith symbols (get_or typecodes k 0) q × (lookup (nat_eq y) new ≡ Some (tail_of q))
     float-each k y q h kind' at = let b = by (nat_eq y x) refl in (b.0, set y ∙ b.1)
       where
-        by : (b : Bool) → nat_eq y x ≡ b → BeginsWith symbols (get_or heads k 0) q × (cond b (Some (tail_of p)) (lookup (nat_eq y) old) ≡ Some (tail_of q))
+        by : (b : Bool) → nat_eq y x ≡ b → BeginsWith symbols (get_or typecodes k 0) q × (cond b (Some (tail_of p)) (lookup (nat_eq y) old) ≡ Some (tail_of q))
         by true e =
             let one : k ≡ i = different.each k i x (kind' ∙ ap (λ n. Some (Float n)) (same_number y e)) kind in
             let same : p ≡ q = some-same at_place (ap (slice_get places) (sym one) ∙ at) in
-            (subst (λ v. BeginsWith symbols (get_or heads k 0) v) same (subst (λ n. BeginsWith symbols (get_or heads n 0) p) (sym one) low), ap (λ v. Some (tail_of v)) same)
+            (subst (λ v. BeginsWith symbols (get_or typecodes k 0) v) same (subst (λ n. BeginsWith symbols (get_or typecodes n 0) p) (sym one) low), ap (λ v. Some (tail_of v)) same)
         by false e =
             let other : k ≡ i → ⊥ = λ one. (let v : Some (Float y) ≡ Some (Float x) = sym kind' ∙ (ap (slice_get hs) one ∙ kind) in let same : y ≡ x = cc in let t : nat_eq y x ≡ true = grind (arith, nat_tests, same) in true≢false (sym t ∙ e)) in
             r.each k y q (omega (arith, h, other)) kind' at
@@ -33,25 +33,25 @@ module _ (symbols heads : List ℕ) (hs : List Hypothesis) (places : List Symbol
         by true e = absurd (none i (omega arith) (kind ∙ ap (λ n. Some (Float n)) (sym (same_number y e))))
         by false e = r.own y (λ k h. none k (omega (arith, h)))
 
-    pub float-next : ReadTo (i + 1) symbols heads hs places new
+    pub float-next : ReadTo (i + 1) symbols typecodes hs places new
     float-next = record { each = float-each; own = float-own }
 
   -- a hypothesis that is no `$f`, or none
-  pub other-next : ((x : ℕ) → slice_get hs i ≡ Some (Float x) → ⊥) → (images : List (ℕ × SymbolRange)) → ReadTo i symbols heads hs places images → ReadTo (i + 1) symbols heads hs places images
+  pub other-next : ((x : ℕ) → slice_get hs i ≡ Some (Float x) → ⊥) → (images : List (ℕ × SymbolRange)) → ReadTo i symbols typecodes hs places images → ReadTo (i + 1) symbols typecodes hs places images
   other-next none images r = record {
     each = λ k x p h kind at. r.each k x p (let other : k ≡ i → ⊥ = λ one. none x (ap (slice_get hs) (sym one) ∙ kind) in omega (arith, h, other)) kind at;
     own = λ x free. r.own x (λ k h. free k (omega (arith, h)));
   }
 
   -- behind the `$f` that stand first
-  pub front-next : (n : ℕ) → i < 2 ^ 64 → AreFront hs i → n ≡ min (i + 1) (2 ^ 64 - 1) → (images : List (ℕ × SymbolRange)) → ReadTo i symbols heads hs places images → ReadTo n symbols heads hs places images
+  pub front-next : (n : ℕ) → i < 2 ^ 64 → AreFront hs i → n ≡ min (i + 1) (2 ^ 64 - 1) → (images : List (ℕ × SymbolRange)) → ReadTo i symbols typecodes hs places images → ReadTo n symbols typecodes hs places images
   front-next n low front is images r = split (nat_lt i n) refl
     where
-      split : (b : Bool) → nat_lt i n ≡ b → ReadTo n symbols heads hs places images
-      split true e = let next : i + 1 ≡ n = grind (arith, e, is, low) in subst (λ m. ReadTo m symbols heads hs places images) next (other-next front.last images r)
-      split false e = let same : i ≡ n = grind (arith, e, is, low) in subst (λ m. ReadTo m symbols heads hs places images) same r
+      split : (b : Bool) → nat_lt i n ≡ b → ReadTo n symbols typecodes hs places images
+      split true e = let next : i + 1 ≡ n = grind (arith, e, is, low) in subst (λ m. ReadTo m symbols typecodes hs places images) next (other-next front.last images r)
+      split false e = let same : i ≡ n = grind (arith, e, is, low) in subst (λ m. ReadTo m symbols typecodes hs places images) same r
 
-  pub read-whole : (images : List (ℕ × SymbolRange)) → length hs ≤ i → ReadTo i symbols heads hs places images → ReadTo (length hs) symbols heads hs places images
+  pub read-whole : (images : List (ℕ × SymbolRange)) → length hs ≤ i → ReadTo i symbols typecodes hs places images → ReadTo (length hs) symbols typecodes hs places images
   read-whole images past r = record {
     each = λ k x p h. r.each k x p (omega (arith, h, past));
     own = λ x free. r.own x (λ k h at. free k (slice_get_within hs k (Float x) at) at);
@@ -65,9 +65,9 @@ place-at hs places k h d same at = let less = slice_get_within hs k h at in slic
 pub place-within : (n : ℕ) (hs : List Hypothesis) (places : List SymbolRange) (k : ℕ) (h : Hypothesis) (d : SymbolRange) → length places ≡ length hs → slice_get hs k ≡ Some h → AreWithin n places → (get_or places k d).end ≤ n
 place-within n hs places k h d same at within = (within-get n k places (get_or places k d) within (place-at hs places k h d same at)).1
 
-pub mistyped : (symbols heads : List ℕ) (hs : List Hypothesis) (places : List SymbolRange) (k x : ℕ) (d : SymbolRange) (ok : Bool) → length places ≡ length hs → slice_get hs k ≡ Some (Float x)
-    → IsTrue ok ↔ BeginsWith symbols (get_or heads k 0) (get_or places k d) → ok ≡ false → IsMistyped symbols heads hs places
-mistyped symbols heads hs places k x d ok same at begins fails = (k, x, get_or places k d, at, place-at hs places k (Float x) d same at, λ b. true≢false (sym (begins.1 b) ∙ fails))
+pub mistyped : (symbols typecodes : List ℕ) (hs : List Hypothesis) (places : List SymbolRange) (k x : ℕ) (d : SymbolRange) (ok : Bool) → length places ≡ length hs → slice_get hs k ≡ Some (Float x)
+    → IsTrue ok ↔ BeginsWith symbols (get_or typecodes k 0) (get_or places k d) → ok ≡ false → IsMistyped symbols typecodes hs places
+mistyped symbols typecodes hs places k x d ok same at begins fails = (k, x, get_or places k d, at, place-at hs places k (Float x) d same at, λ b. true≢false (sym (begins.1 b) ∙ fails))
 
 pub floats-next : (hs : List Hypothesis) (k x : ℕ) → slice_get hs k ≡ Some (Float x) → AreFloats hs k → AreFloats hs (k + 1)
 floats-next hs k x at before j less = split (nat_lt j k) refl
@@ -85,36 +85,36 @@ tail-range xs p low =
     let e : p.end - p.start ≡ 1 + m = omega (arith, low) in
     sym (ap (λ n. drop 1 (take n (drop p.start xs))) e ∙ (drop-take 1 m (drop p.start xs) ∙ ap (take m) (drop-drop 1 p.start xs)))
 
-head-drop : (xs : List ℕ) (a n : ℕ) → a < length xs → 0 < n → head_of (take n (drop a xs)) ≡ get_or xs a 0
-head-drop xs a zero h m = absurd (omega (arith, m))
-head-drop xs a (suc n) h m = ap (λ l. head_of (take (suc n) l)) (drop_more xs a 0 h)
+typecode-drop : (xs : List ℕ) (a n : ℕ) → a < length xs → 0 < n → typecode_of (take n (drop a xs)) ≡ get_or xs a 0
+typecode-drop xs a zero h m = absurd (omega (arith, m))
+typecode-drop xs a (suc n) h m = ap (λ l. typecode_of (take (suc n) l)) (drop_more xs a 0 h)
 
 -- the symbols at a place, and the list of them
-begun-typed : (symbols : List ℕ) (head : ℕ) (p : SymbolRange) → p.end ≤ length symbols → BeginsWith symbols head p → IsTyped head (seen_at symbols p)
-begun-typed symbols head p high b =
+begun-typed : (symbols : List ℕ) (typecode : ℕ) (p : SymbolRange) → p.end ≤ length symbols → BeginsWith symbols typecode p → IsTyped typecode (seen_at symbols p)
+begun-typed symbols typecode p high b =
     let low = b.0 in
     let len = length-seen symbols p (omega (arith, low)) high in
-    record { some = omega (arith, low, len); first = head-drop symbols p.start (p.end - p.start) (omega (arith, low, high)) (omega (arith, low)) ∙ b.1 }
+    record { some = omega (arith, low, len); first = typecode-drop symbols p.start (p.end - p.start) (omega (arith, low, high)) (omega (arith, low)) ∙ b.1 }
 
-typed-begun : (symbols : List ℕ) (head : ℕ) (p : SymbolRange) → p.start ≤ p.end → p.end ≤ length symbols → IsTyped head (seen_at symbols p) → BeginsWith symbols head p
-typed-begun symbols head p low high t =
+typed-begun : (symbols : List ℕ) (typecode : ℕ) (p : SymbolRange) → p.start ≤ p.end → p.end ≤ length symbols → IsTyped typecode (seen_at symbols p) → BeginsWith symbols typecode p
+typed-begun symbols typecode p low high t =
     let len = length-seen symbols p low high in
     let some = t.some in
-    (omega (arith, some, len), sym (head-drop symbols p.start (p.end - p.start) (omega (arith, some, len, high)) (omega (arith, some, len))) ∙ t.first)
+    (omega (arith, some, len), sym (typecode-drop symbols p.start (p.end - p.start) (omega (arith, some, len, high)) (omega (arith, some, len))) ∙ t.first)
 
-pub reads-seen : (ok : Bool) (symbols heads : List ℕ) (hs : List Hypothesis) (places : List SymbolRange) (images : List (ℕ × SymbolRange)) → length places ≡ length hs → AreWithin (length symbols) places
-    → ReadsAll ok (length hs) symbols heads hs places images → Reads ok heads hs (map (seen_at symbols) places) (images_at symbols images)
-reads-seen true symbols heads hs places images count within r = record { typed = typed; image = image; own = λ x none. image-none symbols images x (r.own x (λ k less. none k)) }
+pub reads-seen : (ok : Bool) (symbols typecodes : List ℕ) (hs : List Hypothesis) (places : List SymbolRange) (images : List (ℕ × SymbolRange)) → length places ≡ length hs → AreWithin (length symbols) places
+    → ReadsAll ok (length hs) symbols typecodes hs places images → Reads ok typecodes hs (map (seen_at symbols) places) (images_at symbols images)
+reads-seen true symbols typecodes hs places images count within r = record { typed = typed; image = image; own = λ x none. image-none symbols images x (r.own x (λ k less. none k)) }
   where
     there : (k x : ℕ) → slice_get hs k ≡ Some (Float x) → (p : SymbolRange) × (slice_get places k ≡ Some p)
     there k x kind = let none : SymbolRange = record { start = 0; end = 0 } in (get_or places k none, place-at hs places k (Float x) none count kind)
 
-    typed : (k x : ℕ) → slice_get hs k ≡ Some (Float x) → IsTyped (get_or heads k 0) (get_or (map (seen_at symbols) places) k [])
+    typed : (k x : ℕ) → slice_get hs k ≡ Some (Float x) → IsTyped (get_or typecodes k 0) (get_or (map (seen_at symbols) places) k [])
     typed k x kind =
         let p = there k x kind in
         let begun = (r.each k x p.0 (slice_get_within hs k (Float x) kind) kind p.1).0 in
         let w = within-get (length symbols) k places p.0 within p.1 in
-        subst (IsTyped (get_or heads k 0)) (sym (get-map-of (seen_at symbols) places k p.0 [] p.1)) (begun-typed symbols (get_or heads k 0) p.0 w.1 begun)
+        subst (IsTyped (get_or typecodes k 0)) (sym (get-map-of (seen_at symbols) places k p.0 [] p.1)) (begun-typed symbols (get_or typecodes k 0) p.0 w.1 begun)
 
     image : (k x : ℕ) → slice_get hs k ≡ Some (Float x) → code_image (images_at symbols images) x ≡ drop 1 (get_or (map (seen_at symbols) places) k [])
     image k x kind =
@@ -122,9 +122,9 @@ reads-seen true symbols heads hs places images count within r = record { typed =
         let e = r.each k x p.0 (slice_get_within hs k (Float x) kind) kind p.1 in
         image-some symbols images x (tail_of p.0) e.1
         ∙ (tail-range symbols p.0 e.0.0 ∙ ap (drop 1) (sym (get-map-of (seen_at symbols) places k p.0 [] p.1)))
-reads-seen false symbols heads hs places images count within r =
+reads-seen false symbols typecodes hs places images count within r =
     let w = within-get (length symbols) r.0 places r.2 within r.4 in
-    (r.0, r.1, r.3, λ typed. r.5 (typed-begun symbols (get_or heads r.0 0) r.2 w.0 w.1 (subst (IsTyped (get_or heads r.0 0)) (get-map-of (seen_at symbols) places r.0 r.2 [] r.4) typed)))
+    (r.0, r.1, r.3, λ typed. r.5 (typed-begun symbols (get_or typecodes r.0 0) r.2 w.0 w.1 (subst (IsTyped (get_or typecodes r.0 0)) (get-map-of (seen_at symbols) places r.0 r.2 [] r.4) typed)))
 
 pub essential-iff : (S : Database) (names : List Name) (ρ : CodeImages) (q : ℕ) (s : Stmt) (r e : List ℕ) (b : Bool) → AreDistinct names → stmt_at S q ≡ Some s → decode names e ≡ expr_of s
     → AreBelow (length names) e → AreOver names ρ → AreBelow (length names) r → IsTrue b ↔ (r ≡ code_apply ρ e) → IsTrue b ↔ (decode names r ≡ applied (images_of_names names ρ) (expr_at S q))

@@ -24,11 +24,11 @@ grown-kept xs ys zs images stack saved w v k e weighs light =
     }
 
 -- behind the symbols over which a cache was filled
-pub noted-more : (over xs ys zs : List ℕ) → (more : List ℕ) × (xs ≡ over ++ more) → zs ≡ xs ++ ys → (more : List ℕ) × (zs ≡ over ++ more)
-noted-more over xs ys zs noted e = (noted.0 ++ ys, e ∙ (ap (λ v. v ++ ys) noted.1 ∙ append_assoc over noted.0 ys))
+pub recorded-more : (over xs ys zs : List ℕ) → (more : List ℕ) × (xs ≡ over ++ more) → zs ≡ xs ++ ys → (more : List ℕ) × (zs ≡ over ++ more)
+recorded-more over xs ys zs recorded e = (recorded.0 ++ ys, e ∙ (ap (λ v. v ++ ys) recorded.1 ∙ append_assoc over recorded.0 ys))
 
-pub noted-none : (over xs : List ℕ) → over ≡ [] → (more : List ℕ) × (xs ≡ over ++ more)
-noted-none over xs e = (xs, ap (λ v. v ++ xs) (sym e))
+pub recorded-none : (over xs : List ℕ) → over ≡ [] → (more : List ℕ) × (xs ≡ over ++ more)
+recorded-none over xs e = (xs, ap (λ v. v ++ xs) (sym e))
 
 -- the place of what was written at its end
 pub new-place : (xs ys zs : List ℕ) (p : SymbolRange) → zs ≡ xs ++ ys → p.start ≡ length xs → p.end ≡ length zs → (p.start ≤ p.end) × (p.end ≤ length zs)

@@ -52,7 +52,7 @@ demo_packed = cites "tt tze tpl" ++ Mark ∷ (cites "tt weq" ++ Mark ∷ (cites 
 demo_packed_weight : weighed (prove (bares demo) 19 demo_packed) ≡ 132
 demo_packed_weight = refl
 
--- row 6: nothing keeps x and z apart at the theorem, and then a `$d` does
+-- row 6: nothing makes x and z disjoint at the theorem, and then a `$d` does
 row_six_open : is_none (prove (before row_seven 10 ++ Prove (codes "th") (w (codes "|- x R z")) [] ∷ []) 10 (cites "wx wz ax")) ≡ true
 row_six_open = refl
 

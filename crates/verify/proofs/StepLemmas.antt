@@ -1,6 +1,6 @@
 -- What the code knows at each exit of a step, as a fact of the machine.
 use Rattle.verify.proofs.Words.{◌≡◌, ℕ, suc, ◌+◌, ◌-◌, ◌<◌, ◌≤◌, Bool, true, false, List, [], ◌∷◌, ◌++◌, length, map, take, drop, get_or, Some, refl, IsTrue, nat_lt, nat_eq, replicate, slice_get, slice_set, sym, ◌∙◌, ap, subst, arith, true≢false, length-append, nat_tests, length-map, map-append, take-append-drop, take_all, take_more, same_from_push, map_push, append-nil, nil_from_length, drop_all, drop_more, map_more, drop-append-le, drop-set-lt, length-set, length-replicate, get_or-set_same, get_or-set_other, get_or-replicate, get_or_from_slice_get, get_or_default, slice_get-get_or}
-use Rattle.verify.proofs.Words.{item-cite, item-recall, Name, Stmt, Database, stmt_at, expr_of, name_at, decode, Item, Cite, Recall, Results, State, start, Cites, of_hypothesis, of_assertion, premises, Expr, Runs, with_result, Adds, Marks, Recalls, Keeps, AreBelow, AllBelow, named, AreNamed, Goes, behind, HasCited, IsGiven, AreGiven, AreKnown, GoesOn, AreLegal, item_of, IsRight, weight_limit, decode-injective, below-group, LabelEntry, Nothing, IsEntry, AreEntries, get-front}
+use Rattle.verify.proofs.Words.{item-cite, item-recall, Name, Stmt, Database, stmt_at, expr_of, name_at, decode, Item, Cite, Recall, Results, State, start, Cites, of_hypothesis, of_assertion, premises, Expr, Runs, with_result, Adds, Marks, Recalls, Keeps, AreBelow, AllBelow, named, AreNamed, StepsByNumber, behind, HasCited, IsCached, AreCached, AreKnown, StepsWithTable, AreLegal, item_of, IsRight, weight_limit, decode-injective, below-group, LabelEntry, Nothing, IsEntry, AreEntries, get-front}
 use Rattle.std.proofs.Common.{length-drop}
 use Rattle.std.proofs.lemmas.List.{get_or-append_right, get_or-drop}
 use Rattle.verify.proofs.Named.{goes-recall, goes-mark, named-result, result-named, all-drop, all-set, all-snoc, all-none, all-at, get-drop}
@@ -18,7 +18,7 @@ cites-alone S at label stack below e (of_assertion a s σ carries is all same) l
 
 module _ (S : Database) (names : List Name) (at : ℕ) (legal : AreLegal S names) where
   module _ (old new : Results ℕ) (an : AreNamed names old) where
-    pub given-result : (label : Name) (ok : Bool) (e : List ℕ) → Cites S at label (map (decode names) old.stack) (map (decode names) old.stack) (decode names e) → AreBelow (length names) e → Adds ok old new old.stack e → Goes ok S at names (Cite label) old new
+    pub given-result : (label : Name) (ok : Bool) (e : List ℕ) → Cites S at label (map (decode names) old.stack) (map (decode names) old.stack) (decode names e) → AreBelow (length names) e → Adds ok old new old.stack e → StepsByNumber ok S at names (Cite label) old new
     given-result label true e cites codes adds = (
       (map (decode names) old.stack, decode names e, cites, ap (named names) adds ∙ named-result names old old.stack e),
       subst (AreNamed names) (sym adds) (result-named names old old.stack e an an.stack_named codes),
@@ -31,12 +31,12 @@ module _ (S : Database) (names : List Name) (at : ℕ) (legal : AreLegal S names
 
   -- ---- the number of an item
 
-  cite-number : (old new : Results ℕ) (ok : Bool) (labels : List Name) (n k : ℕ) → n ≡ suc k → k < length labels → Goes ok S at names (Cite (get_or labels k [])) old new → Goes ok S at names (item_of labels n) old new
-  cite-number old new ok labels n k e h p = subst (λ i. Goes ok S at names i old new) (sym (item-cite labels n k e h)) p
+  cite-number : (old new : Results ℕ) (ok : Bool) (labels : List Name) (n k : ℕ) → n ≡ suc k → k < length labels → StepsByNumber ok S at names (Cite (get_or labels k [])) old new → StepsByNumber ok S at names (item_of labels n) old new
+  cite-number old new ok labels n k e h p = subst (λ i. StepsByNumber ok S at names i old new) (sym (item-cite labels n k e h)) p
 
   recall-number : (old new : Results ℕ) (an : AreNamed names old) (ok : Bool) (labels : List Name) (n k m : ℕ) → n ≡ suc k → length labels ≤ k → m ≡ suc (k - length labels)
-      → Recalls ok old new m → Goes ok S at names (item_of labels n) old new
-  recall-number old new an ok labels n k m e h at_m p = subst (λ i. Goes ok S at names i old new) (ap Recall at_m ∙ sym (item-recall labels n k e h)) (goes-recall names S at ok old new m an p)
+      → Recalls ok old new m → StepsByNumber ok S at names (item_of labels n) old new
+  recall-number old new an ok labels n k m e h at_m p = subst (λ i. StepsByNumber ok S at names i old new) (ap Recall at_m ∙ sym (item-recall labels n k e h)) (goes-recall names S at ok old new m an p)
 
   -- ---- the whole proof
 
@@ -47,11 +47,11 @@ module _ (S : Database) (names : List Name) (at : ℕ) (legal : AreLegal S names
   pub reached-start : (st : Results ℕ) → st ≡ (let r : Results ℕ = record { stack = []; saved = []; weight = 0 } in r) → Reached [] st
   reached-start st e = subst (Reached []) (sym e) (record { runs = refl; are_named = record { stack_named = tt; saved_named = tt } })
 
-  pub reached-step : (items : List Item) (item : Item) (old new : Results ℕ) → Reached items old → Goes true S at names item old new → Reached (items ++ item ∷ []) new
+  pub reached-step : (items : List Item) (item : Item) (old new : Results ℕ) → Reached items old → StepsByNumber true S at names item old new → Reached (items ++ item ∷ []) new
   reached-step items item old new r g =
       record { runs = runs_append S at (legal.single at) items (item ∷ []) start (named names old) (named names new) r.runs (named names new, g.0, refl); are_named = g.1 }
 
-  pub wrong-step : (items rest : List Item) (item : Item) (old new : Results ℕ) (s : Stmt) → stmt_at S at ≡ Some s → Reached items old → Goes false S at names item old new → IsRight S at (items ++ item ∷ rest) → ⊥
+  pub wrong-step : (items rest : List Item) (item : Item) (old new : Results ℕ) (s : Stmt) → stmt_at S at ≡ Some s → Reached items old → StepsByNumber false S at names item old new → IsRight S at (items ++ item ∷ rest) → ⊥
   wrong-step items rest item old new s stands r g right = refuted_at_step S at (legal.single at) legal.once items rest item (named names old) s stands r.runs g right
 
   pub right-end : (items : List Item) (st : Results ℕ) (s : Stmt) (e : List ℕ) → stmt_at S at ≡ Some s → Reached items st → decode names e ≡ expr_of s → st.stack ≡ e ∷ [] → st.weight ≤ weight_limit → IsRight S at items
@@ -88,7 +88,7 @@ module _ (S : Database) (names : List Name) (at : ℕ) where
   pub behind-named : (n : ℕ) (st : Results ℕ) → AreNamed names st → AreNamed names (behind n st)
   behind-named n st a = record { stack_named = a.stack_named; saved_named = all-drop (length names) n st.saved a.saved_named }
 
-  cite-behind : (n : ℕ) (ok : Bool) (label : Name) (old new : Results ℕ) → Goes ok S at names (Cite label) old new → Goes ok S at names (Cite label) (behind n old) (behind n new)
+  cite-behind : (n : ℕ) (ok : Bool) (label : Name) (old new : Results ℕ) → StepsByNumber ok S at names (Cite label) old new → StepsByNumber ok S at names (Cite label) (behind n old) (behind n new)
   cite-behind n true label old new g = (
     (
       g.0.0,
@@ -117,11 +117,11 @@ module _ (S : Database) (names : List Name) (at : ℕ) where
     -- ---- a label that is cited, by what it names
 
     module _ (labels : List Name) (number k : ℕ) (d : LabelEntry) (by_number : number ≡ suc k) (are : AreEntries S at labels table) (within : k < length table) where
-      pub cited-on : (ok : Bool) → HasCited S at names (get_or table k d) old new ok → GoesOn ok S at names table (item_of labels number) old new
+      pub cited-on : (ok : Bool) → HasCited S at names (get_or table k d) old new ok → StepsWithTable ok S at names table (item_of labels number) old new
       cited-on ok cited =
           let goes = cited.0 (get_or labels k []) (entry_at S at labels table k d are within) in (
             cite-number S names at legal (behind (length table) old) (behind (length table) new) ok labels number k by_number (let c = are.count in omega (arith, within, c)) (cite-behind (length table) ok (get_or labels k []) old new goes),
-            λ t. known-if (λ b. Goes b S at names (Cite (get_or labels k [])) old new) (λ g. record { are_named = g.1; given = subst (AreGiven S at names table) (sym (cited.1 t)) known.given }) ok goes t,
+            λ t. known-if (λ b. StepsByNumber b S at names (Cite (get_or labels k [])) old new) (λ g. record { are_named = g.1; given = subst (AreCached S at names table) (sym (cited.1 t)) known.given }) ok goes t,
           )
 
       -- where no results were taken, what is given is kept for the label
@@ -149,33 +149,33 @@ module _ (S : Database) (names : List Name) (at : ℕ) where
           given = record { enough = subst (λ n. length table ≤ n) (sym (length-set new.saved k e)) a.given.enough; each = λ j less. by j less (nat_eq k j) refl };
         })
           where
-            by : (j : ℕ) → j < length table → (b : Bool) → nat_eq k j ≡ b → IsGiven S at names (get_or table j Nothing) (get_or (slice_set new.saved k e) j [])
+            by : (j : ℕ) → j < length table → (b : Bool) → nat_eq k j ≡ b → IsCached S at names (get_or table j Nothing) (get_or (slice_set new.saved k e) j [])
             by j less true t =
                 let one : k ≡ j = grind (arith, nat_tests) in
                 let enough = a.given.enough in
-                subst (λ n. IsGiven S at names (get_or table n Nothing) (get_or (slice_set new.saved k e) n [])) one
+                subst (λ n. IsCached S at names (get_or table n Nothing) (get_or (slice_set new.saved k e) n [])) one
                 (λ some label is stack. subst (λ x. Cites S at label stack stack (decode names x)) (sym (get_or-set_same new.saved k e [] (omega (arith, within, enough)))) (gives label is stack))
             by j less false t =
                 let other : k ≡ j → ⊥ = λ q. (let x : nat_eq k j ≡ true = grind (arith, nat_tests) in true≢false (sym x ∙ t)) in
-                subst (IsGiven S at names (get_or table j Nothing)) (sym (get_or-set_other new.saved k j e [] (λ q. other (sym q)))) (a.given.each j less)
+                subst (IsCached S at names (get_or table j Nothing)) (sym (get_or-set_other new.saved k j e [] (λ q. other (sym q)))) (a.given.each j less)
 
-        pub kept-on : GoesOn true S at names table (item_of labels number) old last
+        pub kept-on : StepsWithTable true S at names table (item_of labels number) old last
         kept-on =
             let on = cited-on true cited in
             let same : behind (length table) new ≡ behind (length table) last =
             sym (ap (behind (length table)) kept ∙ results-same new.stack new.stack (drop (length table) (slice_set new.saved k e)) (drop (length table) new.saved) new.weight new.weight refl (drop-set-lt (length table) new.saved k e within) refl) in
-            (subst (Goes true S at names (item_of labels number) (behind (length table) old)) same on.0, λ t. kept-known (on.1 refl))
+            (subst (StepsByNumber true S at names (item_of labels number) (behind (length table) old)) same on.0, λ t. kept-known (on.1 refl))
 
     -- ---- a label before those of the table
 
     module _ (labels : List Name) (number k : ℕ) (front : List LabelEntry) (d : LabelEntry) (by_number : number ≡ suc k) (are : AreEntries S at labels (front ++ table)) (within : k < length front) where
-      pub viewed-on : (ok : Bool) → HasCited S at names (get_or front k d) old new ok → GoesOn ok S at names table (item_of labels number) old new
+      pub viewed-on : (ok : Bool) → HasCited S at names (get_or front k d) old new ok → StepsWithTable ok S at names table (item_of labels number) old new
       viewed-on ok cited =
           let all = length-append front table in
           let entry = subst (IsEntry S at (get_or labels k [])) (get-front front table k d within) (entry_at S at labels (front ++ table) k d are (omega arith)) in
           let goes = cited.0 (get_or labels k []) entry in (
             cite-number S names at legal (behind (length table) old) (behind (length table) new) ok labels number k by_number (let c = are.count in omega arith) (cite-behind (length table) ok (get_or labels k []) old new goes),
-            λ t. known-if (λ b. Goes b S at names (Cite (get_or labels k [])) old new) (λ g. record { are_named = g.1; given = subst (AreGiven S at names table) (sym (cited.1 t)) known.given }) ok goes t,
+            λ t. known-if (λ b. StepsByNumber b S at names (Cite (get_or labels k [])) old new) (λ g. record { are_named = g.1; given = subst (AreCached S at names table) (sym (cited.1 t)) known.given }) ok goes t,
           )
 
     -- ---- a result that is saved
@@ -187,7 +187,7 @@ module _ (S : Database) (names : List Name) (at : ℕ) where
     })
 
     -- one of those that were marked
-    recall-on : (labels : List Name) (k number : ℕ) (ok : Bool) → number ≡ suc k → length table ≡ length labels → length table ≤ k → Recalls ok old new (suc k) → GoesOn ok S at names table (item_of labels number) old new
+    recall-on : (labels : List Name) (k number : ℕ) (ok : Bool) → number ≡ suc k → length table ≡ length labels → length table ≤ k → Recalls ok old new (suc k) → StepsWithTable ok S at names table (item_of labels number) old new
     recall-on labels k number ok is count high recalls = (
       recall-number S names at legal (behind (length table) old) (behind (length table) new) below_named ok labels number k (suc (k - length table)) is (omega (arith, count, high)) (ap (λ n. suc (k - n)) count) (cut-recalls ok recalls),
       known-if (λ b. Recalls b old new (suc k)) (recall-known k) ok recalls,
@@ -199,7 +199,7 @@ module _ (S : Database) (names : List Name) (at : ℕ) where
 
     -- the one that is kept for a label
     known-on : (labels : List Name) (k number : ℕ) (ok : Bool) → number ≡ suc k → AreEntries S at labels table → k < length table → 0 < length (get_or old.saved k []) → Recalls ok old new (suc k)
-        → GoesOn ok S at names table (item_of labels number) old new
+        → StepsWithTable ok S at names table (item_of labels number) old new
     known-on labels k number ok is are within some recalls = (
       cite-number S names at legal (behind (length table) old) (behind (length table) new) ok labels number k is (let c = are.count in omega (arith, within, c))
           (given-result S names at legal (behind (length table) old) (behind (length table) new) below_named (get_or labels k []) ok (get_or old.saved k [])
@@ -215,18 +215,18 @@ module _ (S : Database) (names : List Name) (at : ℕ) where
         adds true h = ap (behind (length table)) (h.2 ∙ ap (with_result old old.stack) (sym (get_or_from_slice_get old.saved k h.0 [] h.1)))
         adds false h = h (get_or old.saved k []) there
 
-    pub has-on : (labels : List Name) (k number : ℕ) (ok : Bool) → number ≡ suc k → AreEntries S at labels table → (k < length table → 0 < length (get_or old.saved k [])) × Recalls ok old new (suc k) → GoesOn ok S at names table (item_of labels number) old new
+    pub has-on : (labels : List Name) (k number : ℕ) (ok : Bool) → number ≡ suc k → AreEntries S at labels table → (k < length table → 0 < length (get_or old.saved k [])) × Recalls ok old new (suc k) → StepsWithTable ok S at names table (item_of labels number) old new
     has-on labels k number ok is are recalls = by (nat_lt k (length table)) refl
       where
-        by : (b : Bool) → nat_lt k (length table) ≡ b → GoesOn ok S at names table (item_of labels number) old new
+        by : (b : Bool) → nat_lt k (length table) ≡ b → StepsWithTable ok S at names table (item_of labels number) old new
         by true e = let within : k < length table = grind (arith, nat_tests) in known-on labels k number ok is are within (recalls.0 within) recalls.1
         by false e = recall-on labels k number ok is are.count (grind (arith, nat_tests)) recalls.1
 
     -- ---- a mark
 
-    pub mark-on : (labels : List Name) (number : ℕ) (ok : Bool) → number ≡ 0 → Marks ok old new → GoesOn ok S at names table (item_of labels number) old new
+    pub mark-on : (labels : List Name) (number : ℕ) (ok : Bool) → number ≡ 0 → Marks ok old new → StepsWithTable ok S at names table (item_of labels number) old new
     mark-on labels number ok is marks = (
-      subst (λ m. Goes ok S at names (item_of labels m) (behind (length table) old) (behind (length table) new)) (sym is) (goes-mark names S at ok (behind (length table) old) (behind (length table) new) below_named (cut-marks ok marks)),
+      subst (λ m. StepsByNumber ok S at names (item_of labels m) (behind (length table) old) (behind (length table) new)) (sym is) (goes-mark names S at ok (behind (length table) old) (behind (length table) new) below_named (cut-marks ok marks)),
       known-if (λ b. Marks b old new) marked ok marks,
     )
       where
@@ -254,7 +254,7 @@ module _ (S : Database) (names : List Name) (at : ℕ) where
               };
               given = record {
                 enough = omega (arith, enough, length-append old.saved (h.1 ∷ []));
-                each = λ k less. subst (IsGiven S at names (get_or table k Nothing)) (sym (get-front old.saved (h.1 ∷ []) k [] (omega (arith, enough, less)))) (known.given.each k less);
+                each = λ k less. subst (IsCached S at names (get_or table k Nothing)) (sym (get-front old.saved (h.1 ∷ []) k [] (omega (arith, enough, less)))) (known.given.each k less);
               };
             })
 

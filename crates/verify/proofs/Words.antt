@@ -1,7 +1,7 @@
 -- The words in which this crate is proved, and the lemmas of std and of the layers below, passed on from one place.
-pub use Rattle.entries.specs.declared.cited_parts.Hypothesis.{Hypothesis}
-pub use Rattle.entries.specs.declared.cited_parts.Hypothesis.TheVariants.{Essential, Float}
-pub use Rattle.frame.proofs.ApartLemmas.{below-at}
+pub use Rattle.entries.specs.declared.assertion_view.Hypothesis.{Hypothesis}
+pub use Rattle.entries.specs.declared.assertion_view.Hypothesis.TheVariants.{Essential, Float}
+pub use Rattle.frame.proofs.ActiveDisjointLemmas.{below-at}
 pub use Rattle.frame.proofs.FoundByNumber.{decode-injective, name_at-injective, some-same}
 pub use Rattle.frame.proofs.PositionLemmas.{get-front, get-last}
 pub use Rattle.frame.proofs.SymbolNumberLemmas.{below-append, below-more, below-push, below-take}
@@ -9,8 +9,8 @@ pub use Rattle.frame.specs.AtPosition.{AreLegal, ArePositions, HasLabelsOnce, Is
 pub use Rattle.frame.specs.Below.{AllBelow, AreBelow}
 pub use Rattle.frame.specs.Bound.{HasFloat, IsBound, IsFirstFixed}
 pub use Rattle.frame.specs.Citations.{Carries, IsHypothesis, IsInstance, OfVariables, expr_at, is_hypothesis_kind, option_expr, premises}
-pub use Rattle.frame.specs.Cited.{AreAsked, IsAsked, IsCited, IsHead, IsOf, head_of}
-pub use Rattle.frame.specs.Disjoint.{are_apart, are_groups_apart, is_group_apart}
+pub use Rattle.frame.specs.AssertionView.{AreRequired, IsRequired, IsViewOf, IsTypecode, IsOf, typecode_of}
+pub use Rattle.frame.specs.Disjoint.{are_disjoint, are_groups_disjoint, is_group_disjoint}
 pub use Rattle.frame.specs.FrameOf.{HasAssertion, hypotheses, is_hypothesis, mandatory_groups}
 pub use Rattle.frame.specs.Parts.{Numbered}
 pub use Rattle.frame.specs.Substitution.{CodeImages, Images, apply as applied, code_apply, code_image, image, images_of_names}
@@ -50,14 +50,14 @@ pub use Rattle.verify.specs.Concludes.{ConcludeAll, Concludes}
 pub use Rattle.verify.specs.Derivations.{Derivation, Derivations, apply, depth, depth_in, derivation_of, derivation_step, from_list, hyp, more, node_count, nodes_in, none}
 pub use Rattle.verify.specs.Extents.{extent_of}
 pub use Rattle.verify.specs.Fits.{AreDifferent, AreFloats, AreFront, AreRead, AreStanding, DoFit, FitsOne, IsStanding, IsTyped, Reads}
-pub use Rattle.verify.specs.Goes.{AreGiven, AreKnown, AreNamed, Goes, GoesOn, HasCited, IsGiven, MayCite, behind, named}
+pub use Rattle.verify.specs.StepsByNumber.{AreCached, AreKnown, AreNamed, StepsByNumber, StepsWithTable, HasCited, IsCached, MayCite, behind, named}
 pub use Rattle.verify.specs.Growth.{Builds, Grew, Grows, GrowsBy, IsKept, Trees, a_hypothesis, an_assertion, trees, with_tree}
 pub use Rattle.verify.specs.LabelTable.{AreEntries, IsEntry, is_hypothesis_among}
 pub use Rattle.verify.specs.Machine.{Cites, IsSaved, Results, Runs, State, Steps, of_assertion, of_hypothesis, start, with_mark, with_result}
 pub use Rattle.verify.specs.Plan.{AreOrdered, IsAfter, IsPlan, built, built_from, derive, pick, trees_of}
 pub use Rattle.verify.specs.Proves.{Proves, label_or_none, mandatory_labels}
 pub use Rattle.verify.specs.ReadPlaces.{BeginsWith, IsMistyped, ReadTo, ReadsAll, tail_of}
-pub use Rattle.verify.specs.ResultPlaces.{Adds, AreHeld, AreKept, Held, Keeps, Marks, Recalls, Stays, below, held, seen, top}
+pub use Rattle.verify.specs.ResultPlaces.{Adds, AreHeld, AreKept, HeldResults, Keeps, Marks, Recalls, Stays, below, held, seen, top}
 pub use Rattle.verify.specs.Right.{Derives, IsProvable, IsRight, IsSmall, Says, weight_limit}
 pub use Rattle.verify.specs.Stops.{IsOther, StopsAt}
 pub use Rattle.verify.specs.Spells.{IsCitable, Spells, SpellsAll, cites_assertion, cites_hypothesis, marks, recalls, spells_more, spells_none}

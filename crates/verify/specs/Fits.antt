@@ -4,7 +4,7 @@
 use Rattle.std.specs.Prelude.{◌≡◌, ℕ, ◌<◌, ◌≤◌, Bool, true, false, List, [], ◌∷◌, length, drop, get_or, slice_get, Some}
 use Rattle.names.specs.Codes.{decode}
 use Rattle.verify.specs.Words.{Name, Stmt, Expr, Database, stmt_at, expr_of, Images, applied, CodeImages, code_image, expr_at, Hypothesis, Float, Essential}
-use Rattle.frame.specs.Cited.{head_of}
+use Rattle.frame.specs.AssertionView.{typecode_of}
 
 -- the `$f` are of different variables
 pub record AreDifferent (hs : List Hypothesis) : Type 0 where
@@ -34,21 +34,21 @@ pub record IsExprAt (S : Database) (names : List Name) (at : ℕ) (codes : List 
   pub same : decode names codes ≡ expr_of s
 
 -- the result begins with this symbol
-pub record IsTyped (head : ℕ) (r : List ℕ) : Type 0 where
+pub record IsTyped (typecode : ℕ) (r : List ℕ) : Type 0 where
   pub some : 0 < length r
-  pub first : head_of r ≡ head
+  pub first : typecode_of r ≡ typecode
 
 -- the result of each `$f` begins with the symbol that it asks for, the image of its variable is what stands behind, and no
 -- other symbol has an image
-pub record AreRead (heads : List ℕ) (hs : List Hypothesis) (rs : List (List ℕ)) (σ : CodeImages) : Type 0 where
-  pub typed : (k x : ℕ) → slice_get hs k ≡ Some (Float x) → IsTyped (get_or heads k 0) (get_or rs k [])
+pub record AreRead (typecodes : List ℕ) (hs : List Hypothesis) (rs : List (List ℕ)) (σ : CodeImages) : Type 0 where
+  pub typed : (k x : ℕ) → slice_get hs k ≡ Some (Float x) → IsTyped (get_or typecodes k 0) (get_or rs k [])
   pub image : (k x : ℕ) → slice_get hs k ≡ Some (Float x) → code_image σ x ≡ drop 1 (get_or rs k [])
   pub own : (x : ℕ) → ((k : ℕ) → slice_get hs k ≡ Some (Float x) → ⊥) → code_image σ x ≡ x ∷ []
 
 -- the images were read, or the result for some `$f` begins otherwise
 abbrev pub Reads : Bool → List ℕ → List Hypothesis → List (List ℕ) → CodeImages → Type 0
-Reads true heads hs rs σ = AreRead heads hs rs σ
-Reads false heads hs rs σ = (k : ℕ) × (x : ℕ) × (slice_get hs k ≡ Some (Float x)) × (IsTyped (get_or heads k 0) (get_or rs k []) → ⊥)
+Reads true typecodes hs rs σ = AreRead typecodes hs rs σ
+Reads false typecodes hs rs σ = (k : ℕ) × (x : ℕ) × (slice_get hs k ≡ Some (Float x)) × (IsTyped (get_or typecodes k 0) (get_or rs k []) → ⊥)
 
 -- the result is the expression of the `$e` with the images put in
 abbrev pub FitsOne : Database → Images → Hypothesis → Expr → Type 0

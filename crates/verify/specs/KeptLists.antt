@@ -3,10 +3,10 @@
 -- The code keeps fewer lists of disjoint variables than the frame has; they have the same pairs.
 use Rattle.std.specs.Prelude.{◌≡◌, ℕ, ◌<◌, ◌==◌, Bool, ◌&&◌, ◌||◌, List, [], ◌∷◌, length, map, slice_get, Some}
 use Rattle.std.specs.List.{list_all, list_any}
-use Rattle.entries.specs.declared.cited_parts.Cited.{Cited}
+use Rattle.entries.specs.declared.assertion_view.AssertionView.{AssertionView}
 use Rattle.frame.specs.Below.{AllBelow, AreBelow}
-use Rattle.frame.specs.Cited.{AreAsked}
-use Rattle.frame.specs.Disjoint.{are_groups_apart}
+use Rattle.frame.specs.AssertionView.{AreRequired}
+use Rattle.frame.specs.Disjoint.{are_groups_disjoint}
 use Rattle.frame.specs.FrameOf.{mandatory_groups}
 use Rattle.names.specs.Codes.{decode}
 use Rattle.verify.specs.Words.{Name, Stmt, Database, Images, before, expr_of, hypotheses, stmt_at, Hypothesis}
@@ -27,16 +27,16 @@ are_covered gs g = list_all (λ x. list_all (is_paired gs x) g) g
 
 -- under all images the one lists are apart where the others are
 abbrev pub SaySame : List (List ℕ) → List (List ℕ) → Type 0
-SaySame gs hs = (names : List Name) (D : Database) (σ : Images) → are_groups_apart D σ (map (decode names) gs) ≡ are_groups_apart D σ (map (decode names) hs)
+SaySame gs hs = (names : List Name) (D : Database) (σ : Images) → are_groups_disjoint D σ (map (decode names) gs) ≡ are_groups_disjoint D σ (map (decode names) hs)
 
 -- ---- what a citation reads
 
 -- the parts by which the assertion s at a is cited
-pub record IsCitedBy (S : Database) (names : List Name) (a : ℕ) (s : Stmt) (c : Cited) : Type 0 where
-  pub asked : AreAsked S names (hypotheses (before S a) s) c.heads.now c.hypotheses
+pub record IsCitedBy (S : Database) (names : List Name) (a : ℕ) (s : Stmt) (c : AssertionView) : Type 0 where
+  pub required : AreRequired S names (hypotheses (before S a) s) c.typecodes.now c.hypotheses
   pub conclusion : decode names c.conclusion.now ≡ expr_of s
   pub conclusion_below : AreBelow (length names) c.conclusion.now
-  pub groups : (D : Database) (σ : Images) → are_groups_apart D σ (map (decode names) c.groups) ≡ are_groups_apart D σ (mandatory_groups (before S a) s)
+  pub groups : (D : Database) (σ : Images) → are_groups_disjoint D σ (map (decode names) c.groups) ≡ are_groups_disjoint D σ (mandatory_groups (before S a) s)
   pub groups_below : AllBelow (length names) c.groups
 
 -- ---- what is kept
@@ -44,22 +44,22 @@ pub record IsCitedBy (S : Database) (names : List Name) (a : ℕ) (s : Stmt) (c 
 -- the lists of the assertion at a position
 pub record Lists : Type 0 where
   pub position : ℕ
-  pub heads : List ℕ
-  pub asked : List Hypothesis
+  pub typecodes : List ℕ
+  pub required : List Hypothesis
   pub groups : List (List ℕ)
 
 -- they were made of these parts
-pub record AreMadeOf (position : ℕ) (c : Cited) (l : Lists) : Type 0 where
+pub record AreMadeOf (position : ℕ) (c : AssertionView) (l : Lists) : Type 0 where
   pub at : l.position ≡ position
-  pub heads_same : l.heads ≡ c.heads.now
-  pub asked_same : l.asked ≡ c.hypotheses
+  pub heads_same : l.typecodes ≡ c.typecodes.now
+  pub asked_same : l.required ≡ c.hypotheses
   pub same : SaySame l.groups c.groups
   pub below : (n : ℕ) → AllBelow n c.groups → AllBelow n l.groups
 
 -- they say of the assertion s at their position what its parts do
 pub record AreListsOf (S : Database) (names : List Name) (l : Lists) (s : Stmt) : Type 0 where
-  pub asked_of : AreAsked S names (hypotheses (before S l.position) s) l.heads l.asked
-  pub apart : (D : Database) (σ : Images) → are_groups_apart D σ (map (decode names) l.groups) ≡ are_groups_apart D σ (mandatory_groups (before S l.position) s)
+  pub asked_of : AreRequired S names (hypotheses (before S l.position) s) l.typecodes l.required
+  pub disjoint : (D : Database) (σ : Images) → are_groups_disjoint D σ (map (decode names) l.groups) ≡ are_groups_disjoint D σ (mandatory_groups (before S l.position) s)
   pub below_names : AllBelow (length names) l.groups
 
 abbrev pub AreKeptLists : Database → List Name → List Lists → Type 0

@@ -8,7 +8,7 @@ pub mod ResultPlaces
 pub mod Fits
 pub mod ReadPlaces
 pub mod KeptLists
-pub mod Goes
+pub mod StepsByNumber
 pub mod Stops
 pub mod LabelTable
 pub mod Growth

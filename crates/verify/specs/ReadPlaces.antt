@@ -11,19 +11,19 @@ tail_of p = record { start = p.start + 1; end = p.end }
 
 -- the symbols at the place begin with this one
 abbrev pub BeginsWith : List ℕ → ℕ → SymbolRange → Type 0
-BeginsWith symbols head p = (p.start < p.end) × (get_or symbols p.start 0 ≡ head)
+BeginsWith symbols typecode p = (p.start < p.end) × (get_or symbols p.start 0 ≡ typecode)
 
 -- those of the first n hypotheses
-pub record ReadTo (n : ℕ) (symbols heads : List ℕ) (hs : List Hypothesis) (places : List SymbolRange) (images : List (ℕ × SymbolRange)) : Type 0 where
-  pub each : (k x : ℕ) (p : SymbolRange) → k < n → slice_get hs k ≡ Some (Float x) → slice_get places k ≡ Some p → BeginsWith symbols (get_or heads k 0) p × (lookup (nat_eq x) images ≡ Some (tail_of p))
+pub record ReadTo (n : ℕ) (symbols typecodes : List ℕ) (hs : List Hypothesis) (places : List SymbolRange) (images : List (ℕ × SymbolRange)) : Type 0 where
+  pub each : (k x : ℕ) (p : SymbolRange) → k < n → slice_get hs k ≡ Some (Float x) → slice_get places k ≡ Some p → BeginsWith symbols (get_or typecodes k 0) p × (lookup (nat_eq x) images ≡ Some (tail_of p))
   pub own : (x : ℕ) → ((k : ℕ) → k < n → slice_get hs k ≡ Some (Float x) → ⊥) → lookup (nat_eq x) images ≡ None
 
 -- the result for some `$f` begins otherwise
 abbrev pub IsMistyped : List ℕ → List ℕ → List Hypothesis → List SymbolRange → Type 0
-IsMistyped symbols heads hs places =
-    (k : ℕ) × (x : ℕ) × (p : SymbolRange) × (slice_get hs k ≡ Some (Float x)) × (slice_get places k ≡ Some p) × (BeginsWith symbols (get_or heads k 0) p → ⊥)
+IsMistyped symbols typecodes hs places =
+    (k : ℕ) × (x : ℕ) × (p : SymbolRange) × (slice_get hs k ≡ Some (Float x)) × (slice_get places k ≡ Some p) × (BeginsWith symbols (get_or typecodes k 0) p → ⊥)
 
 -- all of them were set, or a result begins otherwise
 abbrev pub ReadsAll : Bool → ℕ → List ℕ → List ℕ → List Hypothesis → List SymbolRange → List (ℕ × SymbolRange) → Type 0
-ReadsAll true n symbols heads hs places images = ReadTo n symbols heads hs places images
-ReadsAll false n symbols heads hs places images = IsMistyped symbols heads hs places
+ReadsAll true n symbols typecodes hs places images = ReadTo n symbols typecodes hs places images
+ReadsAll false n symbols typecodes hs places images = IsMistyped symbols typecodes hs places

@@ -9,7 +9,7 @@ use Rattle.verify.specs.Machine.{Results, with_result, with_mark, IsSaved}
 use Rattle.verify.specs.Right.{weight_limit}
 
 -- results and images, and the statements and names that they are about
-pub record Held : Type 0 where
+pub record HeldResults : Type 0 where
   pub results : Results ℕ
   pub images : CodeImages
   pub about : Numbered
@@ -17,7 +17,7 @@ pub record Held : Type 0 where
 abbrev pub seen : List ℕ → List SymbolRange → List SymbolRange → ℕ → Results ℕ
 seen symbols stack saved weight = record { stack = map (seen_at symbols) stack; saved = map (seen_at symbols) saved; weight = weight }
 
-abbrev pub held : List ℕ → List (ℕ × SymbolRange) → List SymbolRange → List SymbolRange → ℕ → Numbered → Held
+abbrev pub held : List ℕ → List (ℕ × SymbolRange) → List SymbolRange → List SymbolRange → ℕ → Numbered → HeldResults
 held symbols images stack saved weight about = record { results = seen symbols stack saved weight; images = images_at symbols images; about = about }
 
 pub record AreKept (symbols : List ℕ) (images : List (ℕ × SymbolRange)) (stack saved : List SymbolRange) (weight : ℕ) : Type 0 where
@@ -30,7 +30,7 @@ pub record AreKept (symbols : List ℕ) (images : List (ℕ × SymbolRange)) (st
 -- they are kept, and the buffer begins with the symbols over which a cache was filled
 pub record AreHeld (over symbols : List ℕ) (images : List (ℕ × SymbolRange)) (stack saved : List SymbolRange) (weight : ℕ) : Type 0 where
   pub kept : AreKept symbols images stack saved weight
-  pub noted : (more : List ℕ) × (symbols ≡ over ++ more)
+  pub recorded : (more : List ℕ) × (symbols ≡ over ++ more)
 
 abbrev pub below : {A : Type 0} → ℕ → List A → List A
 below r stack = take (length stack - r) stack

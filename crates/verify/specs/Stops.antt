@@ -4,7 +4,7 @@
 use Rattle.std.specs.Prelude.{◌≡◌, ℕ, ◌<◌, ◌≤◌, List, [], ◌∷◌, length, map, take, slice_get, Some}
 use Rattle.verify.specs.Words.{Name, Stmt, Database, stmt_at, expr_of, Item}
 use Rattle.names.specs.Codes.{decode}
-use Rattle.verify.specs.Goes.{named, AreNamed, behind}
+use Rattle.verify.specs.StepsByNumber.{named, AreNamed, behind}
 use Rattle.verify.specs.Machine.{Results, State, start, Runs, Steps}
 use Rattle.verify.specs.Right.{weight_limit}
 use Rattle.verify.specs.declared.failure.Failure.{Failure}

@@ -1,6 +1,6 @@
 -- The words of the layers below in which this crate is specified, passed on from one place.
-pub use Rattle.entries.specs.declared.cited_parts.Hypothesis.{Hypothesis}
-pub use Rattle.entries.specs.declared.cited_parts.Hypothesis.TheVariants.{Essential, Float}
+pub use Rattle.entries.specs.declared.assertion_view.Hypothesis.{Hypothesis}
+pub use Rattle.entries.specs.declared.assertion_view.Hypothesis.TheVariants.{Essential, Float}
 pub use Rattle.frame.specs.Below.{AllBelow}
 pub use Rattle.frame.specs.Citations.{Carries, IsHypothesis, IsInstance, expr_at, premises}
 pub use Rattle.frame.specs.FrameOf.{hypotheses}

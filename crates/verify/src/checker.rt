@@ -17,7 +17,7 @@ use crate::failure::run_items;
 use crate::kept_lists::KeptLists;
 use crate::label_table::{LabelEntry, Mandatory, add_listed, fill_mandatory, fill_table};
 use crate::results::Results;
-use frame::{Frames, Gathered, MandatoryView};
+use frame::{FrameBuffers, Frames, MandatoryView};
 use mm_lex::Words;
 use proof_code::{CodeFault, Items, Reader, is_compressed, normal};
 use std::alloc::{AllocError, Global};
@@ -49,7 +49,7 @@ impl Checker {
             table: Vec::new(alloc),
             mandatory: Vec::new(alloc),
             buffers: Buffers {
-                gathered: Gathered::new(alloc),
+                frame_buffers: FrameBuffers::new(alloc),
                 kept: KeptLists::new(alloc),
                 remaining: Remaining::new(alloc),
                 results: Results::new(alloc),
@@ -68,7 +68,7 @@ impl Checker {
     ///
     /// Does not allocate. Cost: a constant.
     pub fn shrink(&mut self) {
-        self.note_size(0);
+        self.record_size(0);
         if self.largest > KEPT_SIZE {
             self.largest = 0;
             self.reader = Reader::new(self.alloc);
@@ -79,7 +79,7 @@ impl Checker {
     }
 
     /// Notes the weight of the last proof, and the size of the next one.
-    fn note_size(&mut self, next: usize) {
+    fn record_size(&mut self, next: usize) {
         let weight = self.buffers.results.weight();
         self.largest = self.largest.max(weight).max(next);
     }
@@ -89,13 +89,13 @@ impl Checker {
     /// Errors: an allocation fails, or the results would pass the limit of `limit`.
     /// Cost: each label is looked up once; a recall and a mark are one step, a citation costs the lengths of the result
     /// that it leaves and of those that it compares with a `$e`, that of the disjoint variable condition, and if its
-    /// lists are long that of `Frames::gather`. Source: Metamath, 4.2.6 and appendix B.
+    /// lists are long that of `Frames::fill_buffers`. Source: Metamath, 4.2.6 and appendix B.
     pub fn check(&mut self, frames: &Frames, at: usize, items: &Items) -> Result<Answer, AllocError>
         requires { (s : Statement) × IsProvable frames.now.statements at s }
         ensures { IfOk result (λ answer. Says answer (IsRight frames.now.statements at items.now)) }
     {
         let parts = items.parts();
-        self.note_size(parts.numbers.len());
+        self.record_size(parts.numbers.len());
         fill_table(frames, at, parts.labels, &mut self.table)?;
         run_listed(frames, at, &self.table, parts.numbers, &mut self.buffers)
     }
@@ -114,7 +114,7 @@ impl Checker {
         requires { (s : Statement) × IsProvable frames.now.statements at s }
         ensures { IfOk result (λ answer. Says answer (Proves frames.now.statements at tokens.now)) }
     {
-        self.note_size(tokens.as_text().len());
+        self.record_size(tokens.as_text().len());
         if !is_compressed(tokens) {
             return match normal(self.alloc, tokens) {
                 Ok(items) => self.check(frames, at, &items),

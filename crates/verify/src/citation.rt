@@ -6,7 +6,7 @@ ghost use Rattle.mm_lex.specs.Alphabet.{Name};
 ghost use Rattle.mm_read.specs.declared.stmt.Stmt.{Stmt as Statement};
 ghost use Rattle.proof_code.specs.ItemNumbers.{item_of};
 ghost use Rattle.scope.specs.Active.{stmt_at};
-ghost use Rattle.verify.specs.Goes.{AreKnown, AreNamed, GoesOn, HasCited, IsReady, MayCite};
+ghost use Rattle.verify.specs.StepsByNumber.{AreKnown, AreNamed, StepsWithTable, HasCited, IsReady, MayCite};
 ghost use Rattle.verify.specs.KeptLists.{AreKeptLists, IsAt, IsCitedBy};
 ghost use Rattle.verify.specs.LabelTable.{AreEntries, IsEntry, viewed};
 ghost use Rattle.verify.specs.ResultPlaces.{Stays};
@@ -15,8 +15,8 @@ ghost use Rattle.verify.specs.declared.label_table.LabelEntry.TheVariants.{Hypot
 use crate::kept_lists::KeptLists;
 use crate::label_table::LabelEntry;
 use crate::results::Results;
-use entries::Cited;
-use frame::{Frames, Gathered, MandatoryView, Pairs};
+use entries::AssertionView;
+use frame::{FrameBuffers, Frames, MandatoryView, Pairs};
 use std::alloc::AllocError;
 use subst::Remaining;
 
@@ -32,7 +32,7 @@ pub struct Claim<'a> {
 /// are kept.
 #[derive(Drop)]
 pub struct Buffers {
-    pub gathered: Gathered,
+    pub frame_buffers: FrameBuffers,
     pub kept: KeptLists,
     pub remaining: Remaining,
     pub results: Results,
@@ -45,7 +45,7 @@ pub struct Buffers {
 fn cite_parts(
     claim: &Claim<'_>,
     position: usize,
-    cited: &Cited<'_>,
+    cited: &AssertionView<'_>,
     remaining: &mut Remaining,
     results: &mut Results,
 ) -> Result<bool, AllocError>
@@ -59,10 +59,10 @@ fn cite_parts(
     if count > results.len() {
         return Ok(false);
     }
-    let Some(front) = results.read_images(cited.heads, &cited.hypotheses)? else {
+    let Some(front) = results.read_images(cited.typecodes, &cited.hypotheses)? else {
         return Ok(false);
     };
-    if !results.fits(claim.frames, &cited.hypotheses, front, remaining) {
+    if !results.hypotheses_match(claim.frames, &cited.hypotheses, front, remaining) {
         return Ok(false);
     }
     if !results.are_disjoint(&claim.pairs, &cited.groups)? {
@@ -72,7 +72,7 @@ fn cite_parts(
     results.apply(&claim.pairs, count, conclusion)
 }
 
-/// Cites an assertion whose lists are long, and so are gathered first.
+/// Cites an assertion whose lists are long, and so are written out first.
 #[cold]
 #[inline(never)]
 fn cite_long(claim: &Claim<'_>, position: usize, buffers: &mut Buffers) -> Result<bool, AllocError>
@@ -82,8 +82,10 @@ fn cite_long(claim: &Claim<'_>, position: usize, buffers: &mut Buffers) -> Resul
     ensures about { buffers.new.results.about ≡ claim.now.pairs }
     ensures kept { buffers.new.kept ≡ buffers.old.kept }
 {
-    claim.frames.gather(position, &mut buffers.gathered)?;
-    let cited = claim.frames.gathered(position, &buffers.gathered);
+    claim
+        .frames
+        .fill_buffers(position, &mut buffers.frame_buffers)?;
+    let cited = claim.frames.cited_from(position, &buffers.frame_buffers);
     let remaining = &mut buffers.remaining;
     let results = &mut buffers.results;
     cite_parts(claim, position, &cited, remaining, results)
@@ -91,7 +93,7 @@ fn cite_long(claim: &Claim<'_>, position: usize, buffers: &mut Buffers) -> Resul
 
 /// Cites an assertion whose lists are long and are to be kept.
 ///
-/// Errors: an allocation fails. Cost: that of the citation; in the first one of a proof, also that of `Frames::gather` and
+/// Errors: an allocation fails. Cost: that of the citation; in the first one of a proof, also that of `Frames::fill_buffers` and
 /// `KeptLists::keep`.
 #[cold]
 #[inline(never)]
@@ -103,7 +105,12 @@ fn cite_kept(claim: &Claim<'_>, position: usize, buffers: &mut Buffers) -> Resul
     ensures about { buffers.new.results.about ≡ claim.now.pairs }
     ensures kept { OnOk result (AreKeptLists claim.now.frames.now.statements claim.now.frames.now.names buffers.new.kept.lists.items) }
 {
-    let index = kept_index(claim, position, &mut buffers.gathered, &mut buffers.kept)?;
+    let index = kept_index(
+        claim,
+        position,
+        &mut buffers.frame_buffers,
+        &mut buffers.kept,
+    )?;
     let conclusion = claim.frames.expr(position);
     let cited = buffers.kept.at(index).cited(conclusion);
     let remaining = &mut buffers.remaining;
@@ -113,11 +120,11 @@ fn cite_kept(claim: &Claim<'_>, position: usize, buffers: &mut Buffers) -> Resul
 
 /// Returns the index of the lists of an assertion, which are kept at its first citation here.
 ///
-/// Errors: an allocation fails. Cost: that of `Frames::gather` and `KeptLists::keep`.
+/// Errors: an allocation fails. Cost: that of `Frames::fill_buffers` and `KeptLists::keep`.
 fn kept_index(
     claim: &Claim<'_>,
     position: usize,
-    gathered: &mut Gathered,
+    frame_buffers: &mut FrameBuffers,
     kept: &mut KeptLists,
 ) -> Result<usize, AllocError>
     requires assertion { (s : Statement) × HasAssertion claim.now.frames.now.statements position s }
@@ -128,8 +135,8 @@ fn kept_index(
     if let Some(index) = kept.find(position) {
         return Ok(index);
     }
-    claim.frames.gather(position, gathered)?;
-    let cited = claim.frames.gathered(position, gathered);
+    claim.frames.fill_buffers(position, frame_buffers)?;
+    let cited = claim.frames.cited_from(position, frame_buffers);
     kept.keep(position, &cited)
 }
 
@@ -194,7 +201,7 @@ pub fn step(
     requires kept { AreKeptLists claim.now.frames.now.statements claim.now.frames.now.names buffers.old.kept.lists.items }
     ensures about { buffers.new.results.about ≡ claim.now.pairs }
     ensures goes { (labels : List Name) → AreEntries claim.now.frames.now.statements claim.now.at labels table.now
-        → IfOk result (λ ok. GoesOn ok claim.now.frames.now.statements claim.now.at claim.now.frames.now.names table.now (item_of labels number) buffers.old.results.results buffers.new.results.results) }
+        → IfOk result (λ ok. StepsWithTable ok claim.now.frames.now.statements claim.now.at claim.now.frames.now.names table.now (item_of labels number) buffers.old.results.results buffers.new.results.results) }
     ensures stays { IfOk result (λ ok. Stays ok buffers.old.results.results buffers.new.results.results) }
     ensures kept { OnOk result (AreKeptLists claim.now.frames.now.statements claim.now.frames.now.names buffers.new.kept.lists.items) }
 {
@@ -208,7 +215,7 @@ pub fn step(
     let waiting = buffers.results.len();
     let done = cite_entry(claim, table[index], buffers)?;
     if done && waiting < buffers.results.len() {
-        buffers.results.keep(index);
+        buffers.results.cache_last(index);
     }
     Ok(done)
 }
@@ -230,7 +237,7 @@ pub fn step_at(
     requires kept { AreKeptLists claim.now.frames.now.statements claim.now.frames.now.names buffers.old.kept.lists.items }
     ensures about { buffers.new.results.about ≡ claim.now.pairs }
     ensures goes { (labels : List Name) → AreEntries claim.now.frames.now.statements claim.now.at labels (viewed (option_map (λ v. v.now) view.entry) ++ table.now)
-        → IfOk result (λ ok. GoesOn ok claim.now.frames.now.statements claim.now.at claim.now.frames.now.names table.now (item_of labels number) buffers.old.results.results buffers.new.results.results) }
+        → IfOk result (λ ok. StepsWithTable ok claim.now.frames.now.statements claim.now.at claim.now.frames.now.names table.now (item_of labels number) buffers.old.results.results buffers.new.results.results) }
     ensures stays { IfOk result (λ ok. Stays ok buffers.old.results.results buffers.new.results.results) }
     ensures kept { OnOk result (AreKeptLists claim.now.frames.now.statements claim.now.frames.now.names buffers.new.kept.lists.items) }
 {
@@ -258,7 +265,7 @@ fn step_many(
     requires kept { AreKeptLists claim.now.frames.now.statements claim.now.frames.now.names buffers.old.kept.lists.items }
     ensures about { buffers.new.results.about ≡ claim.now.pairs }
     ensures goes { (labels : List Name) → AreEntries claim.now.frames.now.statements claim.now.at labels (map Hypothesis view.now ++ table.now)
-        → IfOk result (λ ok. GoesOn ok claim.now.frames.now.statements claim.now.at claim.now.frames.now.names table.now (item_of labels number) buffers.old.results.results buffers.new.results.results) }
+        → IfOk result (λ ok. StepsWithTable ok claim.now.frames.now.statements claim.now.at claim.now.frames.now.names table.now (item_of labels number) buffers.old.results.results buffers.new.results.results) }
     ensures stays { IfOk result (λ ok. Stays ok buffers.old.results.results buffers.new.results.results) }
     ensures kept { OnOk result (AreKeptLists claim.now.frames.now.statements claim.now.frames.now.names buffers.new.kept.lists.items) }
 {

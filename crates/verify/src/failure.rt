@@ -4,7 +4,7 @@ ghost use Rattle.std.specs.Prelude.{◌≡◌, ◌++◌, List, length, IfOk, IfS
 ghost use Rattle.mm_lex.specs.Alphabet.{Name};
 ghost use Rattle.mm_read.specs.declared.stmt.Stmt.{Stmt as Statement};
 ghost use Rattle.proof_code.specs.ItemNumbers.{items_of};
-ghost use Rattle.verify.specs.Goes.{IsReady, behind};
+ghost use Rattle.verify.specs.StepsByNumber.{IsReady, behind};
 ghost use Rattle.verify.specs.LabelTable.{AreEntries, viewed};
 ghost use Rattle.verify.specs.Right.{IsProvable, IsRight};
 ghost use Rattle.verify.specs.Stops.{IsFirstFailure, StopsAt};
@@ -13,7 +13,7 @@ use crate::citation::{Buffers, Claim, step_at};
 use crate::kept_lists::KeptLists;
 use crate::label_table::{LabelEntry, fill_table};
 use crate::results::Results;
-use frame::{Frames, Gathered, MandatoryView};
+use frame::{FrameBuffers, Frames, MandatoryView};
 use proof_code::Items;
 use std::alloc::{AllocError, Global};
 use subst::Remaining;
@@ -78,7 +78,7 @@ pub fn first_failure(
     let mut table = Vec::new(alloc);
     fill_table(frames, at, parts.labels, &mut table)?;
     let mut buffers = Buffers {
-        gathered: Gathered::new(alloc),
+        frame_buffers: FrameBuffers::new(alloc),
         kept: KeptLists::new(alloc),
         remaining: Remaining::new(alloc),
         results: Results::new(alloc),

@@ -13,7 +13,7 @@ ghost use Rattle.verify.specs.KeptLists.{AreKeptLists, AreListsOf, AreMadeOf, Is
 
 use crate::pair_places::{PairPlace, PairPlaces};
 use entries::buffer_part::between;
-use entries::{BufferPart, Cited, Groups, Hypotheses, number_of};
+use entries::{AssertionView, BufferPart, Groups, Hypotheses, number_of};
 use std::alloc::{AllocError, Global};
 use std::collections::BTreeMap;
 use std::marker::Model;
@@ -31,9 +31,9 @@ pub struct AssertionLists {
     /// The position of the assertion.
     position: usize,
     /// The typecode of each hypothesis.
-    heads: Vec<u32>,
+    typecodes: Vec<u32>,
     /// Each hypothesis as one number.
-    asked: Vec<u32>,
+    required: Vec<u32>,
     /// The variables of the lists, one list after another.
     places: Vec<u32>,
     /// The lists.
@@ -48,7 +48,7 @@ impl Model for AssertionLists {
 
     ghost Value = { Lists };
 
-    ghost view = { λ a. record { position = a.position; heads = a.heads.items; asked = map told a.asked.items; groups = cut a.places.items a.groups.items } };
+    ghost view = { λ a. record { position = a.position; typecodes = a.typecodes.items; required = map told a.required.items; groups = cut a.places.items a.groups.items } };
 
     ghost invariant = { λ a. AreSpansIn (length a.places.items) a.groups.items };
 }
@@ -61,38 +61,38 @@ impl AssertionLists {
     fn of(
         alloc: Global,
         position: usize,
-        cited: &Cited<'_>,
+        cited: &AssertionView<'_>,
         pairs: &mut PairPlaces,
     ) -> Result<AssertionLists, AllocError>
         ensures { IfOk result (AreMadeOf position cited.now) }
     {
-        let mut heads = Vec::new(alloc);
-        heads.extend_from_slice(cited.heads)?;
-        let mut asked = Vec::new(alloc);
-        copy_hypotheses(&cited.hypotheses, &mut asked)?;
+        let mut typecodes = Vec::new(alloc);
+        typecodes.extend_from_slice(cited.typecodes)?;
+        let mut required = Vec::new(alloc);
+        copy_hypotheses(&cited.hypotheses, &mut required)?;
         pairs.begin(&cited.hypotheses)?;
         let mut places = Vec::new(alloc);
         let mut groups = Vec::new(alloc);
         copy_groups(&cited.groups, pairs, &mut places, &mut groups)?;
         Ok(AssertionLists {
             position,
-            heads,
-            asked,
+            typecodes,
+            required,
             places,
             groups,
         })
     }
 
     /// Returns the parts of the assertion, whose expression is given.
-    pub fn cited<'a>(&'a self, conclusion: &'a [u32]) -> Cited<'a>
-        ensures heads { result.heads.now ≡ self.now.heads }
-        ensures asked { result.hypotheses ≡ self.now.asked }
+    pub fn cited<'a>(&'a self, conclusion: &'a [u32]) -> AssertionView<'a>
+        ensures typecodes { result.typecodes.now ≡ self.now.typecodes }
+        ensures required { result.hypotheses ≡ self.now.required }
         ensures conclusion { result.conclusion.now ≡ conclusion.now }
         ensures groups { result.groups ≡ self.now.groups }
     {
-        Cited {
-            heads: &self.heads,
-            hypotheses: Hypotheses::new(&self.asked),
+        AssertionView {
+            typecodes: &self.typecodes,
+            hypotheses: Hypotheses::new(&self.required),
             conclusion,
             groups: Groups::new(&self.groups, &self.places),
         }
@@ -100,7 +100,7 @@ impl AssertionLists {
 
     /// Returns how many numbers there are.
     fn size(&self) -> usize {
-        let hypotheses = self.heads.len().saturating_mul(2);
+        let hypotheses = self.typecodes.len().saturating_mul(2);
         let groups = self.groups.len().saturating_mul(2);
         hypotheses
             .saturating_add(groups)
@@ -109,12 +109,12 @@ impl AssertionLists {
 }
 
 /// Appends the hypotheses, each as one number.
-fn copy_hypotheses(hypotheses: &Hypotheses<'_>, asked: &mut Vec<u32>) -> Result<(), AllocError>
-    requires { asked.old.items ≡ [] }
-    ensures { OnOk result (map told asked.new.items ≡ hypotheses.now) }
+fn copy_hypotheses(hypotheses: &Hypotheses<'_>, required: &mut Vec<u32>) -> Result<(), AllocError>
+    requires { required.old.items ≡ [] }
+    ensures { OnOk result (map told required.new.items ≡ hypotheses.now) }
 {
     for index in 0..hypotheses.len() {
-        asked.push(number_of(hypotheses.get(index))?)?;
+        required.push(number_of(hypotheses.get(index))?)?;
     }
     Ok(())
 }
@@ -133,8 +133,8 @@ fn copy_groups(
 {
     for index in 0..from.len() {
         let group = from.get(index);
-        let noted = pairs.look_up(group)?;
-        if noted && is_covered(&Groups::new(groups, places), group, pairs) {
+        let recorded = pairs.look_up(group)?;
+        if recorded && is_covered(&Groups::new(groups, places), group, pairs) {
             continue;
         }
         pairs.note(groups.len());
@@ -293,7 +293,7 @@ impl KeptLists {
     /// Makes and keeps the lists of an assertion, and returns their index. If many numbers are kept, it begins anew.
     ///
     /// Errors: an allocation fails. Cost: that of `AssertionLists::of`.
-    pub fn keep(&mut self, position: usize, cited: &Cited<'_>) -> Result<usize, AllocError>
+    pub fn keep(&mut self, position: usize, cited: &AssertionView<'_>) -> Result<usize, AllocError>
         ensures kept { OnOk result ((S : Database) (names : List Name) → AreKeptLists S names self.old.lists.items
             → ((lists : Lists) → AreMadeOf position cited.now lists → (s : Statement) → stmt_at S position ≡ Some s → AreListsOf S names lists s) → AreKeptLists S names self.new.lists.items) }
         ensures index { IfOk result (λ i. IsAt self.new.lists.items i position) }

@@ -4,7 +4,7 @@ ghost use Rattle.std.specs.Prelude.{take, ℕ, ◌≡◌, suc, ◌<◌, ◌≤�
 ghost use Rattle.mm_read.specs.declared.stmt.Stmt.{Stmt as Statement};
 ghost use Rattle.frame.specs.AtPosition.{AreLegal};
 ghost use Rattle.frame.specs.Below.{AllBelow, AreBelow};
-ghost use Rattle.frame.specs.Disjoint.{are_groups_apart};
+ghost use Rattle.frame.specs.Disjoint.{are_groups_disjoint};
 ghost use Rattle.frame.specs.Substitution.{code_apply, images_of_names};
 ghost use Rattle.names.specs.Codes.{AreDistinct, decode};
 ghost use Rattle.std.specs.Map.{lookup};
@@ -43,9 +43,9 @@ pub struct Results {
 }
 
 impl Model for Results {
-    ghost use Rattle.verify.specs.ResultPlaces.{AreHeld, Held, held};
+    ghost use Rattle.verify.specs.ResultPlaces.{AreHeld, HeldResults, held};
 
-    ghost Value = { Held };
+    ghost Value = { HeldResults };
 
     ghost view = { λ a. held a.symbols a.images a.stack.items a.saved.items a.weight a.cache.about };
 
@@ -114,13 +114,13 @@ impl Results {
         self.symbols.extend(expr)?;
         self.weight += expr.len();
         let place = place_between(start, self.symbols.len());
-        self.cache.note_expr(pairs, &self.symbols, expr, place)?;
+        self.cache.record_expr(pairs, &self.symbols, expr, place)?;
         self.stack.push(place)?;
         Ok(true)
     }
 
     /// Keeps the last result for the label with that number.
-    pub fn keep(&mut self, label: usize)
+    pub fn cache_last(&mut self, label: usize)
         requires { label < length self.old.results.saved }
         ensures about { self.new.about ≡ self.old.about }
         ensures keeps { Keeps self.old.results self.new.results label }
@@ -182,20 +182,20 @@ impl Results {
     #[inline(always)]
     pub fn read_images(
         &mut self,
-        heads: &[u32],
+        typecodes: &[u32],
         hypotheses: &Hypotheses<'_>,
     ) -> Result<Option<usize>, AllocError>
-        requires same { length heads.now ≡ length hypotheses.now }
+        requires same { length typecodes.now ≡ length hypotheses.now }
         requires count { length hypotheses.now ≤ length self.old.results.stack }
         requires different { AreDifferent hypotheses.now }
         ensures about { self.new.about ≡ self.old.about }
         ensures same { self.new.results ≡ self.old.results }
-        ensures read { IfOk result (λ r. Reads (is_some r) heads.now hypotheses.now (top (length hypotheses.now) self.old.results.stack) self.new.images) }
+        ensures read { IfOk result (λ r. Reads (is_some r) typecodes.now hypotheses.now (top (length hypotheses.now) self.old.results.stack) self.new.images) }
         ensures floats { IfOk result (λ r. IfSome r (AreFront hypotheses.now)) }
     {
         let places = &self.stack[self.stack.len() - hypotheses.len()..];
         let symbols = self.symbols.as_slice();
-        read_off(&mut self.images, symbols, heads, hypotheses, places)
+        read_off(&mut self.images, symbols, typecodes, hypotheses, places)
     }
 
     /// Returns whether the last results are the expressions of the `$e`, before which `front` `$f` stand, with the images
@@ -203,7 +203,7 @@ impl Results {
     ///
     /// Cost: the symbols that agree; for each long `$e` that of `shortened`.
     #[inline(always)]
-    pub fn fits(
+    pub fn hypotheses_match(
         &self,
         frames: &Frames,
         hypotheses: &Hypotheses<'_>,
@@ -298,7 +298,7 @@ impl Results {
         requires over { AreOver pairs.now.names self.old.images }
         requires below { AllBelow (length pairs.now.names) groups.now }
         ensures same { self.new ≡ self.old }
-        ensures disjoint { IfOk result (λ ok. ok ≡ are_groups_apart pairs.now.statements (images_of_names pairs.now.names self.old.images) (map (decode pairs.now.names) groups.now)) }
+        ensures disjoint { IfOk result (λ ok. ok ≡ are_groups_disjoint pairs.now.statements (images_of_names pairs.now.names self.old.images) (map (decode pairs.now.names) groups.now)) }
     {
         self.cache
             .are_groups_disjoint(pairs, groups, &self.symbols, &self.images)
@@ -331,7 +331,7 @@ impl Results {
         let place = place_between(start, self.symbols.len());
         self.weight += self.symbols.len() - start;
         self.cache
-            .note_result(pairs, &self.symbols, &self.images, expr, place)?;
+            .record_result(pairs, &self.symbols, &self.images, expr, place)?;
         put_behind(&mut self.stack, keep, place)?;
         Ok(true)
     }
@@ -413,21 +413,21 @@ fn put_behind(
     Ok(())
 }
 
-/// Sets the image of a variable to a result without its first symbol, if this is the one asked for.
+/// Sets the image of a variable to a result without its first symbol, if this is the required one.
 #[inline(always)]
 fn read_one(
     images: &mut ImageRanges,
     symbols: &[u32],
-    head: u32,
+    typecode: u32,
     variable: u32,
     place: SymbolRange,
 ) -> Result<bool, AllocError>
     requires { place.end ≤ length symbols.now }
-    ensures begins { IfOk result (λ ok. IsTrue ok ↔ BeginsWith symbols.now head place) }
+    ensures begins { IfOk result (λ ok. IsTrue ok ↔ BeginsWith symbols.now typecode place) }
     ensures set { IfOk result (λ ok. IsTrue ok → (y : ℕ) → lookup (nat_eq y) images.new ≡ (if y == variable then Some (tail_of place) else lookup (nat_eq y) images.old)) }
     ensures inside { (n : ℕ) → place.end ≤ n → AreInside n images.old → AreInside n images.new }
 {
-    if place.start >= place.end || symbols[place.start as usize] != head {
+    if place.start >= place.end || symbols[place.start as usize] != typecode {
         return Ok(false);
     }
     let behind = SymbolRange {
@@ -444,34 +444,34 @@ fn read_one(
 fn read_more(
     images: &mut ImageRanges,
     symbols: &[u32],
-    head: u32,
+    typecode: u32,
     variable: u32,
     place: SymbolRange,
 ) -> Result<bool, AllocError>
     requires { place.end ≤ length symbols.now }
-    ensures begins { IfOk result (λ ok. IsTrue ok ↔ BeginsWith symbols.now head place) }
+    ensures begins { IfOk result (λ ok. IsTrue ok ↔ BeginsWith symbols.now typecode place) }
     ensures set { IfOk result (λ ok. IsTrue ok → (y : ℕ) → lookup (nat_eq y) images.new ≡ (if y == variable then Some (tail_of place) else lookup (nat_eq y) images.old)) }
     ensures inside { (n : ℕ) → place.end ≤ n → AreInside n images.old → AreInside n images.new }
 {
-    read_one(images, symbols, head, variable, place)
+    read_one(images, symbols, typecode, variable, place)
 }
 
 /// Sets the images of the variables of the `$f` that stand before all other hypotheses, and returns how many these are;
-/// `None` if a result begins with another symbol than the one asked for.
+/// `None` if a result begins with another symbol than the required one.
 #[inline(always)]
 fn read_front(
     images: &mut ImageRanges,
     symbols: &[u32],
-    heads: &[u32],
+    typecodes: &[u32],
     hypotheses: &Hypotheses<'_>,
     places: &[SymbolRange],
 ) -> Result<Option<usize>, AllocError>
     requires same { length places.now ≡ length hypotheses.now }
-    requires heads { length heads.now ≡ length hypotheses.now }
+    requires typecodes { length typecodes.now ≡ length hypotheses.now }
     requires within { AreWithin (length symbols.now) places.now }
     requires different { AreDifferent hypotheses.now }
     requires none { images.old ≡ [] }
-    ensures read { IfOk result (λ r. MatchOption r (IsMistyped symbols.now heads.now hypotheses.now places.now) (λ n. ReadTo n symbols.now heads.now hypotheses.now places.now images.new)) }
+    ensures read { IfOk result (λ r. MatchOption r (IsMistyped symbols.now typecodes.now hypotheses.now places.now) (λ n. ReadTo n symbols.now typecodes.now hypotheses.now places.now images.new)) }
     ensures floats { IfOk result (λ r. IfSome r (AreFront hypotheses.now)) }
     ensures inside { (n : ℕ) → AreWithin n places.now → AreInside n images.new }
 {
@@ -479,7 +479,7 @@ fn read_front(
         let Hypothesis::Float(variable) = hypotheses.get(k) else {
             return Ok(Some(k));
         };
-        if !read_one(images, symbols, heads[k], variable, places[k])? {
+        if !read_one(images, symbols, typecodes[k], variable, places[k])? {
             return Ok(None);
         }
     }
@@ -487,32 +487,32 @@ fn read_front(
 }
 
 /// Sets the images of the variables of all `$f`, and no other, to their results without the first symbols, and returns how
-/// many `$f` stand before all other hypotheses; `None` if a result begins with another symbol than the one asked for.
+/// many `$f` stand before all other hypotheses; `None` if a result begins with another symbol than the required one.
 ///
 /// Errors: an allocation fails. Cost: a step for each hypothesis.
 #[inline(always)]
 pub fn read_off(
     images: &mut ImageRanges,
     symbols: &[u32],
-    heads: &[u32],
+    typecodes: &[u32],
     hypotheses: &Hypotheses<'_>,
     places: &[SymbolRange],
 ) -> Result<Option<usize>, AllocError>
     requires same { length places.now ≡ length hypotheses.now }
-    requires heads { length heads.now ≡ length hypotheses.now }
+    requires typecodes { length typecodes.now ≡ length hypotheses.now }
     requires within { AreWithin (length symbols.now) places.now }
     requires different { AreDifferent hypotheses.now }
-    ensures ok { IfOk result (λ r. ReadsAll (is_some r) (length hypotheses.now) symbols.now heads.now hypotheses.now places.now images.new) }
+    ensures ok { IfOk result (λ r. ReadsAll (is_some r) (length hypotheses.now) symbols.now typecodes.now hypotheses.now places.now images.new) }
     ensures floats { IfOk result (λ r. IfSome r (AreFront hypotheses.now)) }
     ensures inside { (n : ℕ) → AreWithin n places.now → AreInside n images.new }
 {
     images.clear();
-    let Some(front) = read_front(images, symbols, heads, hypotheses, places)? else {
+    let Some(front) = read_front(images, symbols, typecodes, hypotheses, places)? else {
         return Ok(None);
     };
     for k in front.saturating_add(1)..hypotheses.len() {
         if let Hypothesis::Float(variable) = hypotheses.get(k) {
-            if !read_more(images, symbols, heads[k], variable, places[k])? {
+            if !read_more(images, symbols, typecodes[k], variable, places[k])? {
                 return Ok(None);
             }
         }

@@ -6,7 +6,7 @@ use Rattle.entries.specs.declared.layout.Layout.{Layout}
 use Rattle.entries.specs.declared.layout.TheConstants.{COUNTS}
 use Rattle.entries.specs.declared.entries.Stored.{Stored}
 use Rattle.entries.specs.declared.statement_record.StatementRecord.{StatementRecord}
-use Rattle.entries.specs.declared.head.Background.{Background}
+use Rattle.entries.specs.declared.entry_header.StateBefore.{StateBefore}
 use Rattle.entries.specs.declared.kind.Kind.{Kind}
 use Rattle.entries.specs.declared.buffer_part.BufferPart.{BufferPart}
 use Rattle.entries.specs.declared.parts.AssertionParts.{AssertionParts}
@@ -19,8 +19,8 @@ use Rattle.entries.specs.Stored.Spans.{cut, AreSpansIn}
 -- the parts of so many hypotheses, symbols, groups and variables of groups, one after the other
 abbrev pub laid : ℕ → ℕ → ℕ → ℕ → ℕ → Layout
 laid from h s g p = record {
-  heads = from;
-  asked = from + h;
+  typecodes = from;
+  required = from + h;
   symbols = from + h + h;
   hypotheses = from + h + h + s;
   places = from + h + h + s + h;
@@ -42,7 +42,7 @@ has_parts p = nat_lt 0 (length p.hypotheses.now + length p.groups.now)
 
 -- the numbers of a statement
 abbrev pub run_of : Bool → AssertionParts → List ℕ
-run_of true p = ((((counts_of p ++ p.heads.now) ++ p.asked.now) ++ p.symbols.now) ++ p.hypotheses.now) ++ p.places.now
+run_of true p = ((((counts_of p ++ p.typecodes.now) ++ p.required.now) ++ p.symbols.now) ++ p.hypotheses.now) ++ p.places.now
 run_of false p = p.symbols.now
 
 abbrev pub record_by : Kind → Bool → Bool → ℕ → ℕ → StatementRecord
@@ -61,8 +61,8 @@ body_by r run spans at = record {
   assertion = record {
     whole = r.whole;
     hypotheses = slice_range run at.hypotheses at.places;
-    asked = map told (slice_range run at.asked at.symbols);
-    heads = slice_range run at.heads at.asked;
+    required = map told (slice_range run at.required at.symbols);
+    typecodes = slice_range run at.typecodes at.required;
     groups = cut (slice_range run at.places at.end) spans;
   };
 }
@@ -70,8 +70,8 @@ body_by r run spans at = record {
 abbrev pub body_of : StatementRecord → List ℕ → List BufferPart → Body
 body_of r run spans = body_by r run spans (layout_in r.has_parts run)
 
-abbrev pub with_background : Body → Background → Entry
-with_background b k = record { kind = b.kind; label = k.label; names = k.names; links = k.links; symbols = b.symbols; assertion = b.assertion }
+abbrev pub with_state_before : Body → StateBefore → Entry
+with_state_before b k = record { kind = b.kind; label = k.label; names = k.names; last_active = k.last_active; symbols = b.symbols; assertion = b.assertion }
 
 -- ---- all statements
 
@@ -95,10 +95,10 @@ bodies_of numbers groups [] = []
 bodies_of numbers groups (r ∷ rs) = body_of r (run_by numbers r (slice_get rs 0)) (spans_by groups r (slice_get rs 0)) ∷ bodies_of numbers groups rs
 
 -- the statements, each with what was there before it
-abbrev pub with_backgrounds : List Body → List Background → List Entry
-with_backgrounds [] ks = []
-with_backgrounds (b ∷ bs) [] = []
-with_backgrounds (b ∷ bs) (k ∷ ks) = with_background b k ∷ with_backgrounds bs ks
+abbrev pub with_states_before : List Body → List StateBefore → List Entry
+with_states_before [] ks = []
+with_states_before (b ∷ bs) [] = []
+with_states_before (b ∷ bs) (k ∷ ks) = with_state_before b k ∷ with_states_before bs ks
 
 -- a statement's numbers are within the buffer, as many as it says
 pub record IsPlaced (numbers : List ℕ) (r : StatementRecord) (next : Option StatementRecord) : Type 0 where
@@ -128,8 +128,8 @@ pub record ArePacked (numbers : List ℕ) (groups : List BufferPart) (rs : List 
 
 -- the parts stand one after the other
 pub record IsOrdered (at : Layout) : Type 0 where
-  pub heads : at.heads ≤ at.asked
-  pub asked : at.asked ≤ at.symbols
+  pub typecodes : at.typecodes ≤ at.required
+  pub required : at.required ≤ at.symbols
   pub symbols : at.symbols ≤ at.hypotheses
   pub hypotheses : at.hypotheses ≤ at.places
   pub places : at.places ≤ at.end
@@ -139,4 +139,4 @@ pub record IsStored (found : Option Entry) (s : Stored) : Type 0 where
   pub ordered : IsOrdered s.at
   pub whole : s.at.end ≡ length s.numbers.now
   pub grouped : AreSpansIn (s.at.end - s.at.places) s.groups.now
-  pub entry : found ≡ Some (with_background (body_by s.kept s.numbers.now s.groups.now s.at) s.before)
+  pub entry : found ≡ Some (with_state_before (body_by s.kept s.numbers.now s.groups.now s.at) s.before)

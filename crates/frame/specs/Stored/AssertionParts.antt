@@ -3,10 +3,10 @@ use Rattle.std.specs.Prelude.{◌≡◌, ℕ, ◌-◌, ◌==◌, Bool, true, fal
 use Rattle.frame.specs.Words.{has_name, Stmt, Expr, Database, expr_of, active, is_essential, Hypothesis, Kind, Float, Ess, Axiom, Prove, Entry, Assertion}
 use Rattle.mm_read.specs.declared.stmt.Stmt.TheVariants as stmt
 use Rattle.frame.specs.FrameOf.{hypotheses}
-use Rattle.entries.specs.declared.cited_parts.Hypothesis.TheVariants as hypothesis
+use Rattle.entries.specs.declared.assertion_view.Hypothesis.TheVariants as hypothesis
 use Rattle.std.specs.List.{list_any}
-use Rattle.frame.specs.Cited.{head_of}
-use Rattle.frame.specs.Links.{actives, is_disj}
+use Rattle.frame.specs.AssertionView.{typecode_of}
+use Rattle.frame.specs.LastActive.{actives, is_disj}
 
 -- ---- the parts of an assertion, by numbers
 
@@ -23,8 +23,8 @@ abbrev pub typed : List Hypothesis → List ℕ → List ℕ
 typed hs codes = filter (is_typed hs) codes
 
 -- those that were recorded
-abbrev pub noted_in : List ℕ → List ℕ → List ℕ
-noted_in ns codes = filter (λ c. list_any (λ n. n == c) ns) codes
+abbrev pub recorded_in : List ℕ → List ℕ → List ℕ
+recorded_in ns codes = filter (λ c. list_any (λ n. n == c) ns) codes
 
 abbrev pub option_symbols : Option Entry → List ℕ
 option_symbols None = []
@@ -43,20 +43,20 @@ abbrev pub groups_by : List Hypothesis → List (List ℕ) → List (List ℕ)
 groups_by hs lists = filter has_two (map (typed hs) lists)
 
 -- the typecode of the statement at a position
-abbrev pub head_at : List Entry → ℕ → ℕ
-head_at es p = head_of (symbols_at es p)
+abbrev pub typecode_at : List Entry → ℕ → ℕ
+typecode_at es p = typecode_of (symbols_at es p)
 
 -- the hypothesis at a position as one number
-abbrev pub asked_by : ℕ → Kind → List ℕ → Hypothesis
-asked_by p Float codes = hypothesis.Float (get_or codes 1 0)
-asked_by p kind codes = hypothesis.Essential p
+abbrev pub required_by : ℕ → Kind → List ℕ → Hypothesis
+required_by p Float codes = hypothesis.Float (get_or codes 1 0)
+required_by p kind codes = hypothesis.Essential p
 
-abbrev pub option_asked : ℕ → Option Entry → Hypothesis
-option_asked p None = hypothesis.Essential p
-option_asked p (Some e) = asked_by p e.kind e.symbols
+abbrev pub option_required : ℕ → Option Entry → Hypothesis
+option_required p None = hypothesis.Essential p
+option_required p (Some e) = required_by p e.kind e.symbols
 
-abbrev pub asked_at : List Entry → ℕ → Hypothesis
-asked_at es p = option_asked p (slice_get es (p - 1))
+abbrev pub required_at : List Entry → ℕ → Hypothesis
+required_at es p = option_required p (slice_get es (p - 1))
 
 -- a `$f` of a symbol of the expression
 abbrev pub is_float_in : Expr → Stmt → Bool
@@ -74,9 +74,9 @@ kept_with whole S s = if whole then hypotheses S s else floats_in S (expr_of s)
 -- the statement s, which stands after the first statements S, is kept with the parts d
 pub record IsKeptAs (es : List Entry) (S : Database) (s : Stmt) (d : Assertion) : Type 0 where
   pub hypotheses_kept : d.hypotheses ≡ kept_with d.whole S s
-  pub asked_kept : d.asked ≡ map (asked_at es) d.hypotheses
-  pub heads_kept : d.heads ≡ map (head_at es) d.hypotheses
-  pub groups_kept : d.whole ≡ true → d.groups ≡ groups_by d.asked (map (λ q. symbols_at es q.0) (actives is_disj S))
+  pub required_kept : d.required ≡ map (required_at es) d.hypotheses
+  pub typecodes_kept : d.typecodes ≡ map (typecode_at es) d.hypotheses
+  pub groups_kept : d.whole ≡ true → d.groups ≡ groups_by d.required (map (λ q. symbols_at es q.0) (actives is_disj S))
   pub own_kept : is_essential s ≡ true → d.whole ≡ false
 
 -- a statement that is kept with hypotheses

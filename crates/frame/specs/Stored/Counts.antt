@@ -1,10 +1,10 @@
 -- Numbers that stand for names, and what one more entry changes. The code's own form: no public clause cites it.
 use Rattle.std.specs.Prelude.{◌≡◌, ℕ, ◌<◌, ◌^◌, ◌==◌, true, false, if◌then◌else◌, List, [], ◌∷◌, ◌++◌, length, map, take, Option, Some, None}
 use Rattle.std.specs.List.{list_any}
-use Rattle.frame.specs.Words.{Name, Stmt, is_open, is_close, symbols_of, labels_of, Links, Kind, Open, Close, Const, Var, Disj, Float, Ess, Axiom, Prove, Entry, Extends}
+use Rattle.frame.specs.Words.{Name, Stmt, is_open, is_close, symbols_of, labels_of, LastActive, Kind, Open, Close, Const, Var, Disj, Float, Ess, Axiom, Prove, Entry, Extends}
 use Rattle.mm_read.specs.declared.stmt.Stmt.TheVariants as stmt
 use Rattle.frame.specs.declared.storage.Symbol.{Symbol}
-use Rattle.frame.specs.declared.storage.Stock.{Stock}
+use Rattle.frame.specs.declared.storage.Storage.{Storage}
 use Rattle.frame.specs.Below.{AreBelow}
 use Rattle.frame.specs.Stored.Labels.{is_label_kind}
 use Rattle.frame.specs.Stored.EntryMeanings.{stmt_of, names_in, declared_by, with_last}
@@ -59,13 +59,13 @@ kind_of (stmt.Ess label expr) = Ess
 kind_of (stmt.Axiom label expr) = Axiom
 kind_of (stmt.Prove label expr proof) = Prove
 
--- the links after a statement of a kind at a position, if it is no `$}`
-abbrev pub next_links : Links → ℕ → Kind → Links
-next_links l at Open = record { block = at; essential = l.essential; variable = l.variable; disjoint = l.disjoint }
-next_links l at Ess = record { block = l.block; essential = at; variable = l.variable; disjoint = l.disjoint }
-next_links l at Var = record { block = l.block; essential = l.essential; variable = at; disjoint = l.disjoint }
-next_links l at Disj = record { block = l.block; essential = l.essential; variable = l.variable; disjoint = at }
-next_links l at kind = l
+-- the `LastActive` after a statement of a kind at a position, if it is no `$}`
+abbrev pub next_last_active : LastActive → ℕ → Kind → LastActive
+next_last_active l at Open = record { block = at; essential = l.essential; variable = l.variable; disjoint = l.disjoint }
+next_last_active l at Ess = record { block = l.block; essential = at; variable = l.variable; disjoint = l.disjoint }
+next_last_active l at Var = record { block = l.block; essential = l.essential; variable = at; disjoint = l.disjoint }
+next_last_active l at Disj = record { block = l.block; essential = l.essential; variable = l.variable; disjoint = at }
+next_last_active l at kind = l
 
 -- the effect of one more entry on the last declarations of a symbol
 abbrev pub with_declared : Kind → List ℕ → ℕ → ℕ → Symbol → Symbol
@@ -76,12 +76,12 @@ abbrev pub with_entry : Entry → ℕ → ℕ → Symbol → Symbol
 with_entry e at c x = with_declared e.kind e.symbols at c x
 
 -- there is room for the numbers of names: fewer than 2^31, and each with its declarations
-pub record HasRoom (k : Stock) : Type 0 where
+pub record HasRoom (k : Storage) : Type 0 where
   pub count : length k.symbols.items ≡ length (names_in k)
   pub few : length (names_in k) < 2 ^ 31
 
--- more names and positions at the end; the entries and the links stay
-pub record Grown (old new : Stock) : Type 0 where
+-- more names and positions at the end; the entries and the `LastActive` stay
+pub record Grown (old new : Storage) : Type 0 where
   pub numbering : Extends old.numbering new.numbering
   pub symbols : AreZeroBehind old.symbols.items new.symbols.items
   pub positions : Extends old.positions.items new.positions.items
@@ -90,10 +90,10 @@ pub record Grown (old new : Stock) : Type 0 where
   pub entries : new.entries ≡ old.entries
   pub disjoints : new.disjoints ≡ old.disjoints
   pub variables : new.variables ≡ old.variables
-  pub links : new.links ≡ old.links
+  pub last_active : new.last_active ≡ old.last_active
 
 -- the storage with more names and positions at the end: cut back it is as before
-pub record IsBehind (old new : Stock) : Type 0 where
+pub record IsBehind (old new : Storage) : Type 0 where
   pub numbering : Extends old.numbering new.numbering
   pub symbols : AreZeroBehind old.symbols.items new.symbols.items
   pub positions : Extends old.positions.items new.positions.items
@@ -102,4 +102,4 @@ pub record IsBehind (old new : Stock) : Type 0 where
   pub entries : new.entries ≡ old.entries
   pub disjoints : KeepsUntil (length old.entries) old.disjoints new.disjoints
   pub variables : KeepsUntil (length old.entries) old.variables new.variables
-  pub links : new.links ≡ old.links
+  pub last_active : new.last_active ≡ old.last_active

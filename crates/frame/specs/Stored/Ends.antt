@@ -2,7 +2,7 @@
 use Rattle.std.specs.Prelude.{◌≡◌, ℕ, zero, suc, ◌+◌, true, List, [], ◌∷◌, length, take, drop, get_or, slice_get, slice_set, Some}
 use Rattle.frame.specs.Words.{Stmt, Database, is_open, Entry, Kind, Close}
 use Rattle.mm_read.specs.declared.stmt.Stmt.TheVariants as stmt
-use Rattle.frame.specs.Links.{last_active}
+use Rattle.frame.specs.LastActive.{last_active_of_kind}
 use Rattle.frame.specs.Stored.Counts.{kind_of}
 
 -- the position of the `$}` that ends the block in which the statements stand, where d blocks more are open and the first of them
@@ -35,4 +35,4 @@ with_end kind block at ends = ends
 pub record AreBlocks (entries : List Entry) (S : Database) : Type 0 where
   pub count : length entries ≡ length S
   pub kinds : (i : ℕ) (e : Entry) (s : Stmt) → slice_get entries i ≡ Some e → slice_get S i ≡ Some s → e.kind ≡ kind_of s
-  pub blocks : (i : ℕ) (e : Entry) → slice_get entries i ≡ Some e → e.links.block ≡ last_active is_open (take i S)
+  pub blocks : (i : ℕ) (e : Entry) → slice_get entries i ≡ Some e → e.last_active.block ≡ last_active_of_kind is_open (take i S)

@@ -5,7 +5,7 @@ use Rattle.frame.specs.Words.{Name, Stmt, Expr, Database, stmt_at, before, label
 use Rattle.mm_read.specs.declared.stmt.Stmt.TheVariants as stmt
 use Rattle.scope.specs.Legal.{IsLegal}
 use Rattle.frame.specs.declared.storage.Symbol.{Symbol}
-use Rattle.frame.specs.declared.storage.Stock.{Stock}
+use Rattle.frame.specs.declared.storage.Storage.{Storage}
 use Rattle.frame.specs.Parts.{Numbered}
 
 -- a statement by its kind, its label and its names
@@ -24,16 +24,16 @@ abbrev pub stmt_of : List Name → List Name → Entry → Stmt
 stmt_of names labels e = stmt_by e.kind (name_at labels e.label) (decode names e.symbols)
 
 -- the symbols and the labels of a storage, by number
-abbrev pub names_in : Stock → List Name
+abbrev pub names_in : Storage → List Name
 names_in k = declared_symbols k.numbering
 
-abbrev pub labels_in : Stock → List Name
+abbrev pub labels_in : Storage → List Name
 labels_in k = declared_labels k.numbering
 
-abbrev pub statements_of : Stock → Database
+abbrev pub statements_of : Storage → Database
 statements_of k = map (stmt_of (names_in k) (labels_in k)) k.entries
 
-abbrev pub numbered : Stock → Numbered
+abbrev pub numbered : Storage → Numbered
 numbered k = record { statements = statements_of k; names = names_in k }
 
 -- where the labels stand

@@ -5,7 +5,7 @@ use Rattle.entries.specs.PositionSets.{set_at}
 use Rattle.frame.specs.Words.{Database, Entry}
 use Rattle.frame.specs.declared.given_sets.KeptSet.{KeptSet}
 use Rattle.frame.specs.declared.given_sets.GivenSets.{GivenSets}
-use Rattle.frame.specs.declared.storage.Stock.{Stock}
+use Rattle.frame.specs.declared.storage.Storage.{Storage}
 use Rattle.frame.specs.Stored.EntryMeanings.{statements_of}
 use Rattle.frame.specs.Stored.Hypotheses.{AreThose, IsGiven}
 use Rattle.frame.specs.Stored.Whole.{AreStored}
@@ -38,7 +38,7 @@ pub record AreGivenSets (g : GivenSets) (es : List Entry) (S : Database) : Type 
   pub each : (i : ℕ) (k : KeptSet) → slice_get g.kept.items i ≡ Some k → IsKeptSet g.sets g.kept.items es S i k
 
 -- the storage, and what is kept by each of its statements
-pub record AreFrames (k : Stock) (g : GivenSets) : Type 0 where
+pub record AreFrames (k : Storage) (g : GivenSets) : Type 0 where
   pub stored : AreStored k
   pub sets : AreGivenSets g k.entries (statements_of k)
   pub count : length g.kept.items ≡ length k.entries

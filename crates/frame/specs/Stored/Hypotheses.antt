@@ -3,9 +3,9 @@ use Rattle.std.specs.Prelude.{◌≡◌, ℕ, ◌+◌, ◌-◌, ◌≤◌, ◌==
 use Rattle.frame.specs.Words.{Database, is_active, is_essential, Kind, Float, Ess, Entry, Assertion}
 use Rattle.std.specs.List.{list_any}
 use Rattle.entries.specs.PositionSets.{Ascends}
-use Rattle.frame.specs.Links.{actives, is_disj}
+use Rattle.frame.specs.LastActive.{actives, is_disj}
 use Rattle.frame.specs.Stored.EntryMeanings.{floats, last_where}
-use Rattle.frame.specs.Stored.AssertionParts.{symbols_at, groups_by, head_at, asked_at}
+use Rattle.frame.specs.Stored.AssertionParts.{symbols_at, groups_by, typecode_at, required_at}
 
 -- ---- how the mandatory hypotheses are found: the `$f` of the symbols of the assertion and of the active `$e`, and these
 
@@ -85,12 +85,12 @@ AreHypotheses es (p ∷ ps) = ((e : Entry) × (1 ≤ p) × (slice_get es (p - 1)
 -- the hypotheses have their kinds and typecodes, and, where they are all, the groups are the disjoint variables by the `$d`
 -- after S
 pub record AreDescribed (es : List Entry) (S : Database) (d : Assertion) : Type 0 where
-  pub asked_made : d.asked ≡ map (asked_at es) d.hypotheses
-  pub heads_made : d.heads ≡ map (head_at es) d.hypotheses
-  pub groups_made : d.whole ≡ true → d.groups ≡ groups_by d.asked (map (λ q. symbols_at es q.0) (actives is_disj S))
+  pub required_made : d.required ≡ map (required_at es) d.hypotheses
+  pub typecodes_made : d.typecodes ≡ map (typecode_at es) d.hypotheses
+  pub groups_made : d.whole ≡ true → d.groups ≡ groups_by d.required (map (λ q. symbols_at es q.0) (actives is_disj S))
 
 -- an assertion after the statements S has these hypotheses, of which all is said
-pub record IsSpread (es : List Entry) (S : Database) (ps : List ℕ) (d : Assertion) : Type 0 where
+pub record IsFilledFrom (es : List Entry) (S : Database) (ps : List ℕ) (d : Assertion) : Type 0 where
   pub is_whole : d.whole ≡ true
   pub same : d.hypotheses ≡ ps
   pub described : AreDescribed es S d

@@ -1,4 +1,4 @@
--- The frame of one assertion, as it is gathered from what stands.
+-- The frame of one assertion, as it is collected from what stands.
 -- The code's own form: no public clause cites it.
 use Rattle.std.specs.Prelude.{◌≡◌, ℕ, Bool, true, false, ◌&&◌, ◌||◌, List, map, filter}
 use Rattle.frame.specs.Words.{Name, has_name, Stmt, Expr, Database, separated, expr_of, is_essential, is_variable}
@@ -7,8 +7,8 @@ use Rattle.scope.specs.declared.standing.Standing.{Standing}
 use Rattle.frame.specs.FrameOf.{is_mandatory, separates}
 
 -- the variables of the expression beside the others
-abbrev pub AreNoted : Database → List Name → List Name → Expr → Type 0
-AreNoted S old new expr = (x : Name) → has_name x new ≡ (has_name x old || (is_variable S x && has_name x expr))
+abbrev pub AreRecorded : Database → List Name → List Name → Expr → Type 0
+AreRecorded S old new expr = (x : Name) → has_name x new ≡ (has_name x old || (is_variable S x && has_name x expr))
 
 -- the mandatory variables of an assertion
 abbrev pub AreMandatory : Database → Stmt → List Name → Type 0
@@ -24,8 +24,8 @@ asks used (Ess label expr) = true
 asks used (Float label constant variable) = has_name variable used
 asks used other = false
 
-abbrev pub asked : List Name → List Standing → List ℕ
-asked used standing = map (λ e. e.at) (filter (λ e. asks used e.stmt) standing)
+abbrev pub required : List Name → List Standing → List ℕ
+required used standing = map (λ e. e.at) (filter (λ e. asks used e.stmt) standing)
 
 -- those of the names that are among the variables
 abbrev pub among : List Name → List Name → List Name

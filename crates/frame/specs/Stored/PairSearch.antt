@@ -4,19 +4,19 @@
 use Rattle.std.specs.Prelude.{◌≡◌, ℕ, ◌<◌, ◌≤◌, ◌==◌, Bool, false, List, length}
 use Rattle.std.specs.List.{list_any}
 use Rattle.frame.specs.Words.{name_at, AreDistinct, before}
-use Rattle.frame.specs.declared.storage.Stock.{Stock}
+use Rattle.frame.specs.declared.storage.Storage.{Storage}
 use Rattle.frame.specs.FrameOf.{is_pair}
-use Rattle.frame.specs.Links.{is_disj}
+use Rattle.frame.specs.LastActive.{is_disj}
 use Rattle.frame.specs.Stored.EntryMeanings.{names_in, statements_of}
 use Rattle.frame.specs.Stored.Stacks.{AreOfKind, has_code}
 use Rattle.frame.specs.Stored.Whole.{AreStored}
 
 -- x and y stand together in a `$d` that is active at the position
-abbrev pub are_pair : Stock → ℕ → ℕ → ℕ → Bool
+abbrev pub are_pair : Storage → ℕ → ℕ → ℕ → Bool
 are_pair k at x y = is_pair (before (statements_of k) at) (name_at (names_in k) x) (name_at (names_in k) y)
 
 -- two numbers of names are sought at a position
-pub record AreSought (k : Stock) (at x y : ℕ) : Type 0 where
+pub record AreSought (k : Storage) (at x y : ℕ) : Type 0 where
   pub stored : AreStored k
   pub distinct : AreDistinct (names_in k)
   pub above : 1 ≤ at
@@ -26,7 +26,7 @@ pub record AreSought (k : Stock) (at x y : ℕ) : Type 0 where
   pub differ : (x == y) ≡ false
 
 -- the `$d` that are left decide
-pub record IsLeft (k : Stock) (at x y : ℕ) (left : List ℕ) : Type 0 where
+pub record IsLeft (k : Storage) (at x y : ℕ) (left : List ℕ) : Type 0 where
   pub sought : AreSought k at x y
   pub of_kind : AreOfKind is_disj (statements_of k) left
   pub rest : are_pair k at x y ≡ list_any (has_code k.entries y) left

@@ -3,9 +3,9 @@
 use Rattle.std.specs.Prelude.{◌≡◌, ℕ, zero, suc, ◌+◌, ◌-◌, ◌≤◌, ◌==◌, Bool, true, if◌then◌else◌, List, [], ◌∷◌, length, take, slice_get, Some}
 use Rattle.std.specs.List.{list_any}
 use Rattle.entries.specs.Histories.{StackVersion, AreUntil, history, kept_until, stack_at}
-use Rattle.frame.specs.Words.{Stmt, Database, Entry, Links, Kind, Close, Disj, Var}
+use Rattle.frame.specs.Words.{Stmt, Database, Entry, LastActive, Kind, Close, Disj, Var}
 use Rattle.frame.specs.declared.stacks.NextStatement.{NextStatement}
-use Rattle.frame.specs.Links.{actives, is_disj, is_var}
+use Rattle.frame.specs.LastActive.{actives, is_disj, is_var}
 use Rattle.frame.specs.Stored.AssertionParts.{symbols_at}
 
 -- the statement at a position has the symbol c
@@ -43,9 +43,9 @@ abbrev pub kind_test : Kind → Stmt → Bool
 kind_test Disj s = is_disj s
 kind_test kind s = is_var s
 
-abbrev pub link_by : Kind → Links → ℕ
-link_by Disj l = l.disjoint
-link_by kind l = l.variable
+abbrev pub last_by_kind : Kind → LastActive → ℕ
+last_by_kind Disj l = l.disjoint
+last_by_kind kind l = l.variable
 
 -- a `$}` goes back to where its block opened
 abbrev pub opening : ℕ → ℕ
@@ -59,7 +59,7 @@ with_top codes at hs c = if list_any (λ x. c == x) codes then at ∷ stack_at (
 abbrev pub latest_of : Kind → Kind → NextStatement → List (List StackVersion) → ℕ → List ℕ
 latest_of Disj Disj x hs c = with_top x.codes.now x.at hs c
 latest_of Var Var x hs c = with_top x.codes.now x.at hs c
-latest_of of Close x hs c = stack_at (history hs c) (opening x.links.block)
+latest_of of Close x hs c = stack_at (history hs c) (opening x.last_active.block)
 latest_of of kind x hs c = stack_at (history hs c) x.at
 
 -- the versions of each number until n are the earlier ones

@@ -1,10 +1,10 @@
 -- The storage of a database. The code's own form: no public clause cites it.
 use Rattle.std.specs.Prelude.{◌≡◌, ℕ, ◌<◌, ◌^◌, true, List, length, map, take, slice_get, Some}
-use Rattle.frame.specs.Words.{Name, Stmt, stays_open, symbols_of, labels_of, Links, Assertion, Entry, Kind}
-use Rattle.entries.specs.declared.head.Head.{Head}
+use Rattle.frame.specs.Words.{Name, Stmt, stays_open, symbols_of, labels_of, LastActive, Assertion, Entry, Kind}
+use Rattle.entries.specs.declared.entry_header.EntryHeader.{EntryHeader}
 use Rattle.frame.specs.declared.storage.Symbol.{Symbol}
-use Rattle.frame.specs.declared.storage.Stock.{Stock}
-use Rattle.frame.specs.Links.{is_disj, is_var, links_of}
+use Rattle.frame.specs.declared.storage.Storage.{Storage}
+use Rattle.frame.specs.LastActive.{is_disj, is_var, last_active_of}
 use Rattle.frame.specs.Stored.EntryMeanings.{stmt_of, names_in, labels_in, statements_of, positions_from, AreAllLegal, symbol_of, replaced_of}
 use Rattle.frame.specs.Stored.Counts.{AreNumbered, KeepsCounts, kind_of}
 use Rattle.frame.specs.Stored.Naming.{naming_of}
@@ -14,9 +14,9 @@ use Rattle.frame.specs.Stored.Ends.{AreEnds}
 use Rattle.frame.specs.Stored.Stacks.{AreStacks, kind_test}
 
 -- the storage of a database
-pub record AreKept (names labels : List Name) (positions : List ℕ) (symbols : List Symbol) (replaced : List ℕ) (entries : List Entry) (links : Links) : Type 0 where
-  pub last : links ≡ links_of (map (stmt_of names labels) entries)
-  pub linked : (i : ℕ) (e : Entry) → slice_get entries i ≡ Some e → e.links ≡ links_of (take i (map (stmt_of names labels) entries))
+pub record AreKept (names labels : List Name) (positions : List ℕ) (symbols : List Symbol) (replaced : List ℕ) (entries : List Entry) (last_active : LastActive) : Type 0 where
+  pub last : last_active ≡ last_active_of (map (stmt_of names labels) entries)
+  pub linked : (i : ℕ) (e : Entry) → slice_get entries i ≡ Some e → e.last_active ≡ last_active_of (take i (map (stmt_of names labels) entries))
   pub stays : stays_open 0 (map (stmt_of names labels) entries) ≡ true
   pub legal : AreAllLegal (map (stmt_of names labels) entries)
   pub names_kept : names ≡ symbols_of (map (stmt_of names labels) entries)
@@ -30,33 +30,33 @@ pub record AreKept (names labels : List Name) (positions : List ℕ) (symbols : 
   pub few : length names < 2 ^ 31
   pub parts_kept : (i : ℕ) (e : Entry) → slice_get entries i ≡ Some e → has_parts e.kind ≡ true → IsKeptAs entries (take i (map (stmt_of names labels) entries)) (stmt_of names labels e) e.assertion
 
-pub record AreStored (k : Stock) : Type 0 where
-  pub kept : AreKept (names_in k) (labels_in k) k.positions.items k.symbols.items k.replaced.items k.entries k.links
+pub record AreStored (k : Storage) : Type 0 where
+  pub kept : AreKept (names_in k) (labels_in k) k.positions.items k.symbols.items k.replaced.items k.entries k.last_active
   pub numbered : k.numbering ≡ naming_of (statements_of k)
   pub ended : AreEnds k.ends.items (statements_of k)
   pub disjoints : AreStacks is_disj k.disjoints k.entries (statements_of k)
   pub variables : AreStacks is_var k.variables k.entries (statements_of k)
 
 -- the stacks of a kind are those of a storage with these entries, after which this is active
-pub record IsWalked (of : Kind) (entries : List Entry) (links : Links) (hs : List (List StackVersion)) : Type 0 where
-  pub storage : Stock
+pub record IsWalked (of : Kind) (entries : List Entry) (last_active : LastActive) (hs : List (List StackVersion)) : Type 0 where
+  pub storage : Storage
   pub stored : AreStored storage
   pub entries_are : entries ≡ storage.entries
-  pub links_are : links ≡ storage.links
+  pub last_active_are : last_active ≡ storage.last_active
   pub stacks : AreStacks (kind_test of) hs entries (statements_of storage)
 
 -- the header of the next statement
-pub record IsHead (k : Stock) (s : Stmt) (h : Head) : Type 0 where
+pub record IsEntryHeader (k : Storage) (s : Stmt) (h : EntryHeader) : Type 0 where
   pub kind : h.kind ≡ kind_of s
   pub label : h.before.label ≡ length (labels_in k)
   pub names : h.before.names ≡ length (names_in k)
-  pub links : h.before.links ≡ k.links
+  pub last_active : h.before.last_active ≡ k.last_active
 
-abbrev pub IsKeptOf : Stock → Stmt → Assertion → Type 0
+abbrev pub IsKeptOf : Storage → Stmt → Assertion → Type 0
 IsKeptOf k s d = IsKeptAs k.entries (statements_of k) s d
 
 -- the parts that were found of the statement s; each hypothesis has its kind and its typecode
-pub record IsDraftOf (k : Stock) (s : Stmt) (d : Assertion) : Type 0 where
-  pub paired : length d.asked ≡ length d.hypotheses
-  pub headed : length d.heads ≡ length d.hypotheses
+pub record ArePartsFor (k : Storage) (s : Stmt) (d : Assertion) : Type 0 where
+  pub paired : length d.required ≡ length d.hypotheses
+  pub headed : length d.typecodes ≡ length d.hypotheses
   pub kept : has_parts (kind_of s) ≡ true → IsKeptOf k s d

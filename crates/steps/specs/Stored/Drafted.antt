@@ -11,7 +11,7 @@ use Rattle.mm_lex.specs.Alphabet.{Name}
 use Rattle.mm_read.specs.Statements.{Database}
 use Rattle.frame.specs.Below.{AreBelow}
 use Rattle.frame.specs.Substitution.{CodeImages, code_apply}
-use Rattle.entries.specs.declared.cited_parts.Cited.{Cited}
+use Rattle.entries.specs.declared.assertion_view.AssertionView.{AssertionView}
 use Rattle.proof_code.specs.declared.item.Item.{Item}
 use Rattle.subst.specs.declared.symbol_range.SymbolRange.{SymbolRange}
 use Rattle.subst.specs.SymbolRanges.{seen_at}
@@ -20,7 +20,7 @@ use Rattle.verify.specs.ResultPlaces.{below, top}
 use Rattle.verify.specs.Machine.{State, Steps}
 use Rattle.steps.specs.declared.table_draft.PlacedStep.{PlacedStep}
 use Rattle.steps.specs.declared.table_draft.TableDraft.{TableDraft}
-use Rattle.steps.specs.StepTable.{Step, Progress, progress, Notes}
+use Rattle.steps.specs.StepTable.{Step, Progress, progress, RecordsItem}
 use Rattle.steps.specs.Rows.{Row, no_row, steps_of, expr_in, AreRows}
 
 -- ---- steps found again
@@ -69,7 +69,7 @@ CanDo S at names old item = (st : State) × (next : State) × IsTied names old s
 
 -- where a run does the item, it was recorded, and the results of the run are the expressions of the rows
 abbrev pub IsDone : Database → ℕ → List Name → TableDraft → Item → TableDraft → Type 0
-IsDone S at names old item new = (st next : State) → IsTied names old st → Steps S at st item next → Notes S at (progress_of old) item (progress_of new) × IsTied names new next
+IsDone S at names old item new = (st next : State) → IsTied names old st → Steps S at st item next → RecordsItem S at (progress_of old) item (progress_of new) × IsTied names new next
 
 -- the code of the row at a place
 abbrev pub codes_in : TableDraft → ℕ → List ℕ
@@ -126,10 +126,10 @@ GivesHypothesis old new position e =
     let step : Step = record { position = position; taken = [] } in Finds old new step old.stack.items ⊎ Makes old new step old.stack.items e
 
 -- an assertion takes as many results as it has hypotheses, and its images are read off them
-abbrev pub GivesAssertion : TableDraft → TableDraft → ℕ → Cited → Type 0
+abbrev pub GivesAssertion : TableDraft → TableDraft → ℕ → AssertionView → Type 0
 GivesAssertion old new position cited =
     let n = length cited.hypotheses in
     let step : Step = record { position = position; taken = top n old.stack.items } in
     Finds old new step (below n old.stack.items)
-    ⊎ ((ρ : CodeImages) × AreRead cited.heads.now cited.hypotheses (map (codes_in old) (top n old.stack.items)) ρ
+    ⊎ ((ρ : CodeImages) × AreRead cited.typecodes.now cited.hypotheses (map (codes_in old) (top n old.stack.items)) ρ
     × Makes old new step (below n old.stack.items) (code_apply ρ cited.conclusion.now))

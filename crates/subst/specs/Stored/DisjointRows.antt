@@ -18,7 +18,7 @@ pub record IsRowAt (ws : List RowWord) (place index k : ℕ) : Type 0 where
   pub place_same : (get_or ws k no_row).place ≡ place
   pub index_same : (get_or ws k no_row).index ≡ index
 
--- q is noted to be disjoint from p
+-- q is recorded to be disjoint from p
 pub record HasFact (ws : List RowWord) (p q : ℕ) : Type 0 where
   pub word : ℕ
   pub there : word < length ws
@@ -32,7 +32,7 @@ pub record IsFact (v : Numbered) (f : Places) (p q : ℕ) : Type 0 where
   pub place : q < length f.variables
   pub kept : is_kept v f p q ≡ true
 
--- what is noted is so
+-- what is recorded is so
 pub record AreFacts (v : Numbered) (f : Places) (ws : List RowWord) : Type 0 where
   pub each : (p q : ℕ) → HasFact ws p q → IsFact v f p q
 
@@ -42,8 +42,8 @@ pub record ArePairs (v : Numbered) (list : List ℕ) : Type 0 where
       (x y : ℕ) → IsAmong (length list) list x → IsAmong (length list) list y → (x ≡ y → ⊥)
       → is_pair v.statements (name_at v.names x) (name_at v.names y) ≡ true
 
--- the places of the word may be noted besides
-pub record NotesWord (old new : List RowWord) (p : ℕ) (w : PlaceWord) : Type 0 where
+-- the places of the word may be recorded besides
+pub record RecordsWord (old new : List RowWord) (p : ℕ) (w : PlaceWord) : Type 0 where
   pub only : (r q : ℕ) → HasFact new r q → HasFact old r q ⊎ ((r ≡ p) × HasBit w q)
 
 -- the variable at p is disjoint from those of the word, or not from one of them

@@ -5,11 +5,11 @@ use Rattle.std.specs.Prelude.{ℕ, List}
 use Rattle.frame.specs.Parts.{Numbered}
 use Rattle.subst.specs.declared.disjoint_tables.DisjointTables.{DisjointTables}
 use Rattle.subst.specs.Stored.DisjointRows.{AreFacts}
-use Rattle.subst.specs.Stored.ImageVariables.{AreNoted}
+use Rattle.subst.specs.Stored.ImageVariables.{AreImagesRecorded}
 use Rattle.subst.specs.Stored.VariablePlaces.{ArePlaced}
 
 -- what they hold is so
 pub record AreTables (v : Numbered) (symbols : List ℕ) (t : DisjointTables) : Type 0 where
   pub placed : ArePlaced v t.variables
-  pub noted : AreNoted v t.variables symbols t.images
+  pub recorded : AreImagesRecorded v t.variables symbols t.images
   pub facts : AreFacts v t.variables t.rows

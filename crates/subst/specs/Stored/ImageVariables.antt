@@ -14,7 +14,7 @@ use Rattle.subst.specs.declared.image_variables.LongImage.{LongImage}
 use Rattle.subst.specs.Stored.PlaceSets.{AddsSymbols, HasBit, HasPlace, no_word}
 use Rattle.subst.specs.Stored.VariablePlaces.{Places, ArePlacesOf, IsAmong}
 
-pub record Noted : Type 0 where
+pub record RecordedImages : Type 0 where
   pub words : List PlaceWord
   pub list : List PlaceWord
   pub kept : ℕ
@@ -35,47 +35,47 @@ pub record IsRangeOf (v : Numbered) (f : Places) (words : List PlaceWord) (r : W
   pub high : r.end ≤ length words
   pub are : ArePlacesOf v f (IsIn words r) (IsAmong (length image) image)
 
--- what was noted of a long image
+-- what was recorded of a long image
 pub record IsLong (v : Numbered) (f : Places) (symbols : List ℕ) (words : List PlaceWord) (kept : ℕ) (e : LongImage) : Type 0 where
   pub low : e.image.start ≤ e.image.end
   pub high : e.image.end ≤ length symbols
   pub within : e.words.end ≤ kept
   pub range : IsRangeOf v f words e.words (seen_at symbols e.image)
 
-pub record AreNoted (v : Numbered) (f : Places) (symbols : List ℕ) (n : Noted) : Type 0 where
+pub record AreImagesRecorded (v : Numbered) (f : Places) (symbols : List ℕ) (n : RecordedImages) : Type 0 where
   pub kept : n.kept ≤ length n.words
   pub long : All (IsLong v f symbols n.words n.kept) n.long
 
--- what was noted in this citation
-pub record AreRead (v : Numbered) (f : Places) (symbols : List ℕ) (images : List (ℕ × SymbolRange)) (n : Noted) : Type 0 where
+-- what was recorded in this citation
+pub record AreRead (v : Numbered) (f : Places) (symbols : List ℕ) (images : List (ℕ × SymbolRange)) (n : RecordedImages) : Type 0 where
   pub each : All (λ (e : ReadImage). IsRangeOf v f n.words e.words (code_image (images_at symbols images) e.symbol)) n.read
 
 -- ---- what the calls change
 
 -- words are added at the end, and the list may be another
-abbrev pub KeepsMost : Noted → Noted → Type 0
+abbrev pub KeepsMost : RecordedImages → RecordedImages → Type 0
 KeepsMost old new = (more : List PlaceWord) × (list : List PlaceWord) × (new ≡ record { words = old.words ++ more; list = list; kept = old.kept; read = old.read; long = old.long })
 
 -- the list may be another
-abbrev pub KeepsRest : Noted → Noted → Type 0
+abbrev pub KeepsRest : RecordedImages → RecordedImages → Type 0
 KeepsRest old new = (list : List PlaceWord) × (new ≡ record { words = old.words; list = list; kept = old.kept; read = old.read; long = old.long })
 
 -- the list stands at the end, in this range
-pub record Appends (old new : Noted) (r : WordRange) : Type 0 where
+pub record Appends (old new : RecordedImages) (r : WordRange) : Type 0 where
   pub whole : new ≡ record { words = old.words ++ old.list; list = old.list; kept = old.kept; read = old.read; long = old.long }
   pub range : r ≡ record { start = length old.words; end = length (old.words ++ old.list) }
 
 -- the list has the places of the variables of an image besides
-abbrev pub AddsImage : Numbered → Places → Noted → Noted → List ℕ → Type 0
+abbrev pub AddsImage : Numbered → Places → RecordedImages → RecordedImages → List ℕ → Type 0
 AddsImage v f old new image = AddsSymbols v f (HasPlace old.list) (HasPlace new.list) (length image) image
 
--- the image of a symbol may be noted besides
-abbrev pub KeepsImage : Noted → Noted → ℕ → WordRange → Type 0
+-- the image of a symbol may be recorded besides
+abbrev pub KeepsImage : RecordedImages → RecordedImages → ℕ → WordRange → Type 0
 KeepsImage old new x r = (new ≡ old) ⊎ (new ≡ record { words = old.words; list = old.list; kept = old.kept; read = old.read ++ (record { symbol = x; words = r }) ∷ []; long = old.long })
 
--- the list may be noted as that of a long image
-abbrev pub NotesImage : Noted → Noted → SymbolRange → Type 0
-NotesImage old new image =
+-- the list may be recorded as that of a long image
+abbrev pub RecordsImage : RecordedImages → RecordedImages → SymbolRange → Type 0
+RecordsImage old new image =
     KeepsMost old new
     ⊎ ((list : List PlaceWord)
     × (new ≡ record { words = old.words ++ old.list; list = list; kept = length (old.words ++ old.list); read = old.read; long = old.long ++ (record { image = image; words = record { start = length old.words; end = length (old.words ++ old.list) } }) ∷ [] }))

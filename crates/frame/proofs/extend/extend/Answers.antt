@@ -6,55 +6,55 @@ use Rattle.frame.proofs.BackLemmas.{walked-disj, walked-var}
 use Rattle.frame.proofs.StackLemmas.{disjoints-next, variables-next}
 use Rattle.frame.specs.declared.stacks.NextStatement.{NextStatement}
 use Rattle.entries.specs.Histories.{history, kept_until}
-use Rattle.entries.specs.declared.head.Head.{Head}
+use Rattle.entries.specs.declared.entry_header.EntryHeader.{EntryHeader}
 use Rattle.frame.proofs.extend.extend.Goals as goal
 use Rattle.frame.proofs.extend.extend.Goals.{In-Some}
 
 pub declare_next-requires-clause-free : goal.declare_next-requires-clause-free
 declare_next-requires-clause-free c =
-    let k = c.args.stock.now in
+    let k = c.args.storage.now in
     may-declare (statements_of k) c.args.stmt.now k.numbering c.requires.legal (stored-naming k c.requires.stored).told
 
-abbrev head : In-Some → Head
-head c = record { kind = c.kind-kind.result; before = record { label = c.in_ok-place.field-0; names = c.symbol_count.result; links = c.args.stock.now.links } }
+abbrev header : In-Some → EntryHeader
+header c = record { kind = c.kind-kind.result; before = record { label = c.in_ok-place.field-0; names = c.symbol_count.result; last_active = c.args.storage.now.last_active } }
 
-entered : (c : In-Some) → IsEntered c.args.stock.now c.declare_next.new.stock c.args.stmt.now (head c) c.find_numbers.new.noted c.declare_next.new.noted
+entered : (c : In-Some) → IsEntered c.args.storage.now c.declare_next.new.storage c.args.stmt.now (header c) c.find_numbers.new.recorded c.declare_next.new.recorded
 entered c = record {
   stored = c.requires.stored;
   legal = c.requires.legal;
-  head = record { kind = c.kind-kind.ensures; label = c.in_ok-place.ensures ∙ c.label_count.ensures; names = c.symbol_count.ensures; links = refl };
+  header = record { kind = c.kind-kind.ensures; label = c.in_ok-place.ensures ∙ c.label_count.ensures; names = c.symbol_count.ensures; last_active = refl };
   declared = c.in_ok-declare_next.ensures.numbering;
-  noted = c.find_numbers.ensures;
-  noted_after = c.in_ok-declare_next.ensures.noted;
+  recorded = c.find_numbers.ensures;
+  recorded_after = c.in_ok-declare_next.ensures.recorded;
 }
 
-below : (c : In-Some) → AreBelow (length c.declare_next.new.stock.symbols.items) c.in-Some.codes.now
+below : (c : In-Some) → AreBelow (length c.declare_next.new.storage.symbols.items) c.in-Some.codes.now
 below c =
     subst (λ n. AreBelow n c.in-Some.codes.now) (sym c.in_ok-declare_next.ensures.room.count)
-    (entered-below c.args.stock.now c.declare_next.new.stock c.args.stmt.now (head c) c.find_numbers.new.noted c.declare_next.new.noted c.in-Some.codes.now (entered c) c.in-Some.ensures.numbers)
+    (entered-below c.args.storage.now c.declare_next.new.storage c.args.stmt.now (header c) c.find_numbers.new.recorded c.declare_next.new.recorded c.in-Some.codes.now (entered c) c.in-Some.ensures.numbers)
 
-pub note_replaced-requires : goal.note_replaced-requires
-note_replaced-requires c =
-    subst (λ xs. AreBelow (length xs) c.declared-declared.result.now) (sym c.deref.ensures.value) (c.declared-declared.ensures.below _ (below (goal.at.note_replaced-requires c).In-Some))
+pub record_replaced-requires : goal.record_replaced-requires
+record_replaced-requires c =
+    subst (λ xs. AreBelow (length xs) c.declared-declared.result.now) (sym c.deref.ensures.value) (c.declared-declared.ensures.below _ (below (goal.at.record_replaced-requires c).In-Some))
 
-pub note_active-requires-clause-disjoints : goal.note_active-requires-clause-disjoints
-note_active-requires-clause-disjoints c =
+pub record_active-requires-clause-disjoints : goal.record_active-requires-clause-disjoints
+record_active-requires-clause-disjoints c =
     let g = c.in_ok-declare_next.ensures.grown in
-    rw c.list.ensures (walked-disj c.args.stock.now c.declare_next.new.stock.entries c.declare_next.new.stock.links c.declare_next.new.stock.disjoints c.requires.stored g.entries g.links g.disjoints)
+    rw c.list.ensures (walked-disj c.args.storage.now c.declare_next.new.storage.entries c.declare_next.new.storage.last_active c.declare_next.new.storage.disjoints c.requires.stored g.entries g.last_active g.disjoints)
 
-pub note_active-requires-clause-variables : goal.note_active-requires-clause-variables
-note_active-requires-clause-variables c =
+pub record_active-requires-clause-variables : goal.record_active-requires-clause-variables
+record_active-requires-clause-variables c =
     let g = c.in_ok-declare_next.ensures.grown in
-    rw c.list.ensures (walked-var c.args.stock.now c.declare_next.new.stock.entries c.declare_next.new.stock.links c.declare_next.new.stock.variables c.requires.stored g.entries g.links g.variables)
+    rw c.list.ensures (walked-var c.args.storage.now c.declare_next.new.storage.entries c.declare_next.new.storage.last_active c.declare_next.new.storage.variables c.requires.stored g.entries g.last_active g.variables)
 
 pub declare-requires : goal.declare-requires
 declare-requires c = c.declared-declared.ensures.below _ (below (goal.at.declare-requires c).In-Some)
 
-pub note_end-requires : goal.note_end-requires
-note_end-requires c =
-    let k = c.args.stock.now in
+pub record_end-requires : goal.record_end-requires
+record_end-requires c =
+    let k = c.args.storage.now in
     let g = c.in_ok-declare_next.ensures.grown in
-    block-within k c.declare_next.new.stock.links.block c.push.new.self.items c.requires.stored (ap (λ l. l.block) g.links)
+    block-within k c.declare_next.new.storage.last_active.block c.push.new.self.items c.requires.stored (ap (λ l. l.block) g.last_active)
     (c.in_ok-push.ensures.items ∙ ap (λ v. v.items ++ 0 ∷ []) g.ends)
 
 any-err : {T E P : Type 0} (r : Result T E) → P → OnErr r P
@@ -64,54 +64,54 @@ any-err (Err e) p = p
 pub returns-in_err-push-clause-behind : goal.returns-in_err-push-clause-behind
 returns-in_err-push-clause-behind c =
     let g = c.in_ok-declare_next.ensures.grown in
-    any-err {P = IsBehind c.args.stock.now _} c.from_residual-in_err-push.result (record {
+    any-err {P = IsBehind c.args.storage.now _} c.from_residual-in_err-push.result (record {
       numbering = g.numbering;
       symbols = g.symbols;
       positions = g.positions;
-      replaced = subst (λ v. Extends v.items c.note_replaced.new.replaced.items) g.replaced c.note_replaced.ensures.behind;
+      replaced = subst (λ v. Extends v.items c.record_replaced.new.replaced.items) g.replaced c.record_replaced.ensures.behind;
       ends = ([], c.in_err-push.ensures.items ∙ (ap (λ v. v.items) g.ends ∙ sym (append-nil _)));
       entries = g.entries;
-      disjoints = λ d. ap (λ hs. kept_until (length c.args.stock.now.entries) (history hs d)) g.disjoints;
-      variables = λ d. ap (λ hs. kept_until (length c.args.stock.now.entries) (history hs d)) g.variables;
-      links = g.links;
+      disjoints = λ d. ap (λ hs. kept_until (length c.args.storage.now.entries) (history hs d)) g.disjoints;
+      variables = λ d. ap (λ hs. kept_until (length c.args.storage.now.entries) (history hs d)) g.variables;
+      last_active = g.last_active;
     })
 
 pub returns : goal.returns
 returns c =
-    let k = c.args.stock.now in
+    let k = c.args.storage.now in
     let s = bare c.args.stmt.now in
-    let h = head (goal.at.returns c).In-Some in
-    let new = c.declare_next.new.stock in
+    let h = header (goal.at.returns c).In-Some in
+    let new = c.declare_next.new.storage in
     let codes = c.in-Some.codes.now in
     let told = c.in_ok-declare_next.ensures in
     let e = entered (goal.at.returns c).In-Some in
-    let a = c.enter_parts.new.draft in
-    let kept : has_parts h.kind ≡ true → IsKeptOf k s a = λ own. c.in_ok-enter_parts.ensures.kept (ap has_parts (sym e.head.kind) ∙ own) in
-    let extended : IsExtended k new c.args.stmt.now h a codes c.kind-kind.result (c.len-at.result + 1) c.declare.new.symbols.items c.note_replaced.new.replaced.items c.push-2.new.self c.links_after-links.result = record {
+    let a = c.fill_parts.new.buffers in
+    let kept : has_parts h.kind ≡ true → IsKeptOf k s a = λ own. c.in_ok-fill_parts.ensures.kept (ap has_parts (sym e.header.kind) ∙ own) in
+    let extended : IsExtended k new c.args.stmt.now h a codes c.kind-kind.result (c.len-at.result + 1) c.declare.new.symbols.items c.record_replaced.new.replaced.items c.push-2.new.self c.last_active_after-last_active.result = record {
       grown = told.grown;
       room = told.room;
       positions = told.positions;
       kept = kept;
-      of_kind = c.kind-kind.ensures ∙ sym e.head.kind;
+      of_kind = c.kind-kind.ensures ∙ sym e.header.kind;
       place = omega (arith, c.len-at.ensures.len);
-      noted = λ x reads. rw (← c.declared-declared.ensures.declared) (c.in_ok-note_replaced.ensures.noted x (subst (λ xs. ReadsAs xs x) (sym c.deref.ensures.value) reads));
+      recorded = λ x reads. rw (← c.declared-declared.ensures.declared) (c.in_ok-record_replaced.ensures.recorded x (subst (λ xs. ReadsAs xs x) (sym c.deref.ensures.value) reads));
       each = λ k x g. rw (← c.declared-declared.ensures.declared) (c.declare.ensures.each k x g);
       count = c.declare.ensures.count;
       pushed = rw (c.parts.ensures.symbols, c.parts.ensures.assertion) at c.in_ok-push-2.ensures.added;
-      linked = c.links_after-links.ensures s (sym c.kind-kind.ensures);
+      linked = c.last_active_after-last_active.ensures s (sym c.kind-kind.ensures);
     } in
     let statements = pushed-statements e c.in-Some.ensures.numbers extended in
-    let x : NextStatement = record { kind = c.kind-kind.result; codes = c.in-Some.codes; at = c.in_ok-place-2.field-0; links = new.links } in
+    let x : NextStatement = record { kind = c.kind-kind.result; codes = c.in-Some.codes; at = c.in_ok-place-2.field-0; last_active = new.last_active } in
     let place : x.at ≡ length k.entries + 1 = omega (arith, c.in_ok-place-2.ensures, c.len-at.ensures.len) in
     let entries : c.push-2.new.self ≡ k.entries ++ made h codes a ∷ [] = extended.pushed ∙ ap (λ q. q ++ made h codes a ∷ []) told.grown.entries in
     record {
       stored = record {
         kept = kept-pushed e c.in-Some.ensures.numbers extended;
         numbered = numbered-pushed k new c.args.stmt.now _ c.requires.stored told.numbering statements;
-        ended = ends-next k s _ c.kind-kind.result new.links.block (c.len-at.result + 1) c.push.new.self.items c.note_end.new.ends.items c.requires.stored c.kind-kind.ensures (ap (λ l. l.block) told.grown.links)
-            (omega (arith, c.len-at.ensures.len)) (c.in_ok-push.ensures.items ∙ ap (λ v. v.items ++ 0 ∷ []) told.grown.ends) c.note_end.ensures statements;
-        disjoints = disjoints-next k s (made h codes a) x c.requires.stored place refl c.kind-kind.ensures told.grown.links new.disjoints c.note_active.new.disjoints c.push-2.new.self _ entries statements told.grown.disjoints c.in_ok-note_active.ensures.disjoints;
-        variables = variables-next k s (made h codes a) x c.requires.stored place refl c.kind-kind.ensures told.grown.links new.variables c.note_active.new.variables c.push-2.new.self _ entries statements told.grown.variables c.in_ok-note_active.ensures.variables;
+        ended = ends-next k s _ c.kind-kind.result new.last_active.block (c.len-at.result + 1) c.push.new.self.items c.record_end.new.ends.items c.requires.stored c.kind-kind.ensures (ap (λ l. l.block) told.grown.last_active)
+            (omega (arith, c.len-at.ensures.len)) (c.in_ok-push.ensures.items ∙ ap (λ v. v.items ++ 0 ∷ []) told.grown.ends) c.record_end.ensures statements;
+        disjoints = disjoints-next k s (made h codes a) x c.requires.stored place refl c.kind-kind.ensures told.grown.last_active new.disjoints c.record_active.new.disjoints c.push-2.new.self _ entries statements told.grown.disjoints c.in_ok-record_active.ensures.disjoints;
+        variables = variables-next k s (made h codes a) x c.requires.stored place refl c.kind-kind.ensures told.grown.last_active new.variables c.record_active.new.variables c.push-2.new.self _ entries statements told.grown.variables c.in_ok-record_active.ensures.variables;
       };
       added = statements;
       numbers = added-numbers e c.in-Some.ensures.numbers extended;

@@ -8,11 +8,11 @@ any-err (Err e) p = p
 
 pub returns-then-is_err-clause-stored : goal.returns-then-is_err-clause-stored
 returns-then-is_err-clause-stored c =
-    let old = c.args.stock.now in
-    let mid = c.extend-result.new.stock in
+    let old = c.args.storage.now in
+    let mid = c.extend-result.new.storage in
     let behind = on-err c.extend-result.result (IsBehind old mid) (sym c.is_err.ensures.value ∙ c.if-is_err.true) c.extend-result.ensures.behind in
     let cut = c.roll_back.ensures in
-    back-stored old mid c.roll_back.new.stock c.requires.stored (record {
+    back-stored old mid c.roll_back.new.storage c.requires.stored (record {
       behind = behind;
       numbering_cut = cut.names ∙ ap (λ n. take n mid.numbering) c.len-names.ensures;
       symbols_cut = cut.symbols;
@@ -22,12 +22,12 @@ returns-then-is_err-clause-stored c =
       entries_cut = cut.entries;
       disjoints_cut = cut.disjoints;
       variables_cut = cut.variables;
-      links_cut = cut.links;
+      last_active_cut = cut.last_active;
     })
 
 pub returns-then-is_err-clause-same_entries : goal.returns-then-is_err-clause-same_entries
 returns-then-is_err-clause-same_entries c =
-    let old = c.args.stock.now in
-    let mid = c.extend-result.new.stock in
+    let old = c.args.storage.now in
+    let mid = c.extend-result.new.storage in
     let behind = on-err c.extend-result.result (IsBehind old mid) (sym c.is_err.ensures.value ∙ c.if-is_err.true) c.extend-result.ensures.behind in
     any-err c.extend-result.result (c.roll_back.ensures.entries ∙ behind.entries)

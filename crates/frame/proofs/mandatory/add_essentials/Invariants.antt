@@ -5,8 +5,8 @@ use Rattle.frame.proofs.mandatory.add_essentials.Given as goal
 
 abbrev pub invariant-loop-essential : goal.invariant-loop-essential
 invariant-loop-essential l = record {
-  at : IsAt is_essential l.stock l.essential;
-  left : HasLeft (IsWith l.stock.entries) (map (λ q. q.0) (actives is_essential (before (statements_of l.stock) l.fn.at))) (map (λ q. q.0) (walked is_essential l.stock l.essential)) l.fn.list.items l.list.items;
+  at : IsAt is_essential l.storage l.essential;
+  left : HasLeft (IsWith l.storage.entries) (map (λ q. q.0) (actives is_essential (before (statements_of l.storage) l.fn.at))) (map (λ q. q.0) (walked is_essential l.storage l.essential)) l.fn.list.items l.list.items;
 }
 
 abbrev pub decreases-loop-essential : goal.decreases-loop-essential

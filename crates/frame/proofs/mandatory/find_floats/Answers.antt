@@ -1,10 +1,10 @@
 use Rattle.frame.proofs.Words.{subst, arith, length, inr, ⊎_elim, drop_all, drop_more, names_in, In}
-use Rattle.frame.proofs.ApartLemmas.{below-at}
+use Rattle.frame.proofs.ActiveDisjointLemmas.{below-at}
 use Rattle.frame.proofs.CollectLemmas.{left-step, left-ordered, those-by}
 use Rattle.frame.proofs.mandatory.find_floats.Goals as goal
 
 pub add_float-requires-clause-code : goal.add_float-requires-clause-code
-add_float-requires-clause-code c = below-at (length (names_in c.args.stock.now)) c.args.codes.now c.loop-code.code-index 0 c.requires.codes (omega arith)
+add_float-requires-clause-code c = below-at (length (names_in c.args.storage.now)) c.args.codes.now c.loop-code.code-index 0 c.requires.codes (omega arith)
 
 pub loop-code-preserved : goal.loop-code-preserved
 loop-code-preserved c = record {

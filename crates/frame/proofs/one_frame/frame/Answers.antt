@@ -1,5 +1,5 @@
-use Rattle.frame.proofs.Words.{◌∙◌, ap, AreMandatory, asked, groups_among}
-use Rattle.frame.proofs.OneFrameLemmas.{asked-hypotheses, groups-mandatory, same-parts}
+use Rattle.frame.proofs.Words.{◌∙◌, ap, AreMandatory, required, groups_among}
+use Rattle.frame.proofs.OneFrameLemmas.{required-hypotheses, groups-mandatory, same-parts}
 use Rattle.frame.proofs.one_frame.frame.Goals as goal
 
 pub returns : goal.returns
@@ -8,6 +8,6 @@ returns c =
     let s = c.args.stmt.now in
     let used = c.in_ok-used.used in
     let m : AreMandatory S s used = c.in_ok-used.ensures in
-    same-parts (c.in_ok-hypotheses.ensures ∙ (ap (asked used) c.standing.ensures ∙ asked-hypotheses S s used m))
+    same-parts (c.in_ok-hypotheses.ensures ∙ (ap (required used) c.standing.ensures ∙ required-hypotheses S s used m))
     (c.in_ok-groups.ensures ∙ (ap (groups_among used) c.standing-2.ensures ∙ groups-mandatory S s used m))
     (c.in_ok-conclusion.ensures ∙ c.expression.ensures)

@@ -1,5 +1,5 @@
-use Rattle.frame.proofs.Words.{◌≡◌, ◌++◌, drop, asked}
+use Rattle.frame.proofs.Words.{◌≡◌, ◌++◌, drop, required}
 use Rattle.frame.proofs.one_frame.mandatory_hypotheses.Given as goal
 
 abbrev pub invariant-loop-entry : goal.invariant-loop-entry
-invariant-loop-entry l = l.list.items ++ asked l.used (drop l.entry-index l.standing) ≡ asked l.used l.standing
+invariant-loop-entry l = l.list.items ++ required l.used (drop l.entry-index l.standing) ≡ required l.used l.standing

@@ -3,4 +3,4 @@ use Rattle.frame.proofs.pair_memo.search.Given as goal
 
 -- the `$d` that are left decide
 abbrev pub invariant-loop : goal.invariant-loop
-invariant-loop l = IsLeft l.stock l.at l.x l.y l.left
+invariant-loop l = IsLeft l.storage l.at l.x l.y l.left

@@ -4,7 +4,7 @@ use Rattle.frame.proofs.pair_memo.search_on.Given as goal
 
 -- the `$d` that are left decide
 abbrev pub invariant-loop-position : goal.invariant-loop-position
-invariant-loop-position l = IsLeft l.stock l.at l.x l.y l.left
+invariant-loop-position l = IsLeft l.storage l.at l.x l.y l.left
 
 abbrev pub decreases-loop-position : goal.decreases-loop-position
 decreases-loop-position l = length l.left

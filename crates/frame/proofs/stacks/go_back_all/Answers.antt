@@ -5,31 +5,31 @@ use Rattle.frame.proofs.BackLemmas.{back-start, back-within, walk-until, walk-ke
 use Rattle.frame.proofs.stacks.go_back_all.Goals as goal
 
 pub loop-last-init : goal.loop-last-init
-loop-last-init c = back-start c.args.of c.args.entries.now c.args.next.now.links c.max-before.result c.args.next.now.at c.args.histories.now c.requires.place c.link-last.result c.requires.walked c.link-last.ensures
+loop-last-init c = back-start c.args.of c.args.entries.now c.args.next.now.last_active c.max-before.result c.args.next.now.at c.args.histories.now c.requires.place c.last_of_kind-last.result c.requires.walked c.last_of_kind-last.ensures
 
 pub entry-entry-requires : goal.entry-entry-requires
 entry-entry-requires c =
-    let w = back-within c.args.of c.args.entries.now c.args.next.now.links c.max-before.result c.args.next.now.at c.args.histories.now c.requires.place c.loop-last.last c.loop-last.histories c.loop-last.invariant in
+    let w = back-within c.args.of c.args.entries.now c.args.next.now.last_active c.max-before.result c.args.next.now.at c.args.histories.now c.requires.place c.loop-last.last c.loop-last.histories c.loop-last.invariant in
     omega (arith, w, c.loop-last-test.true)
 
 pub go_back_each-requires : goal.go_back_each-requires
 go_back_each-requires c =
-    walk-until c.args.of c.args.entries.now c.args.next.now.links c.max-before.result c.args.next.now.at c.args.histories.now c.requires.place c.loop-last.last c.loop-last.histories c.loop-last.invariant
+    walk-until c.args.of c.args.entries.now c.args.next.now.last_active c.max-before.result c.args.next.now.at c.args.histories.now c.requires.place c.loop-last.last c.loop-last.histories c.loop-last.invariant
 
 pub returns-in_err-go_back_each-clause-kept : goal.returns-in_err-go_back_each-clause-kept
 returns-in_err-go_back_each-clause-kept c = λ d.
     c.in_err-go_back_each.ensures.kept (c.args.next.now.at - 1) (omega (arith, c.requires.place)) d
-    ∙ walk-kept c.args.of c.args.entries.now c.args.next.now.links c.max-before.result c.args.next.now.at c.args.histories.now c.requires.place c.loop-last.last c.loop-last.histories c.loop-last.invariant d
+    ∙ walk-kept c.args.of c.args.entries.now c.args.next.now.last_active c.max-before.result c.args.next.now.at c.args.histories.now c.requires.place c.loop-last.last c.loop-last.histories c.loop-last.invariant d
 
 pub loop-last-smaller : goal.loop-last-smaller
 loop-last-smaller c =
-    let s = back-smaller c.args.of c.args.entries.now c.args.next.now.links c.max-before.result c.args.next.now.at c.args.histories.now c.requires.place c.loop-last.last c.loop-last.histories c.loop-last.invariant
+    let s = back-smaller c.args.of c.args.entries.now c.args.next.now.last_active c.max-before.result c.args.next.now.at c.args.histories.now c.requires.place c.loop-last.last c.loop-last.histories c.loop-last.invariant
     (seen c.entry-entry.result c.entry-entry.ensures.0) c.loop-last-test.true c.entry-entry.ensures.1 in
-    omega (arith, s, c.link-last-in-loop-last.ensures)
+    omega (arith, s, c.last_of_kind-last-in-loop-last.ensures)
 
 pub loop-last-preserved : goal.loop-last-preserved
 loop-last-preserved c =
-    rw c.link-last-in-loop-last.ensures (back-step c.args.of c.args.entries.now c.args.next.now.links c.max-before.result c.args.next.now.at c.args.histories.now c.requires.place c.loop-last.last c.loop-last.histories c.loop-last.invariant
+    rw c.last_of_kind-last-in-loop-last.ensures (back-step c.args.of c.args.entries.now c.args.next.now.last_active c.max-before.result c.args.next.now.at c.args.histories.now c.requires.place c.loop-last.last c.loop-last.histories c.loop-last.invariant
     (seen c.entry-entry.result c.entry-entry.ensures.0) c.loop-last-test.true c.entry-entry.ensures.1 c.go_back_each.new.histories c.in_ok-go_back_each.ensures.changed)
 
 opens : (b n : ℕ) → n ≡ max b 1 → n ≡ opening b
@@ -38,9 +38,9 @@ opens (suc b) n e = omega (arith, e)
 
 pub returns-clause-next : goal.returns-clause-next
 returns-clause-next c =
-    back-end c.args.of c.args.entries.now c.args.next.now.links c.max-before.result c.args.next.now.at c.args.histories.now c.requires.place c.loop-last.last c.loop-last.histories c.loop-last.invariant
-    c.loop-last-test.false (opens c.args.next.now.links.block c.max-before.result c.max-before.ensures)
+    back-end c.args.of c.args.entries.now c.args.next.now.last_active c.max-before.result c.args.next.now.at c.args.histories.now c.requires.place c.loop-last.last c.loop-last.histories c.loop-last.invariant
+    c.loop-last-test.false (opens c.args.next.now.last_active.block c.max-before.result c.max-before.ensures)
 
 pub returns-clause-kept : goal.returns-clause-kept
 returns-clause-kept c =
-    walk-kept c.args.of c.args.entries.now c.args.next.now.links c.max-before.result c.args.next.now.at c.args.histories.now c.requires.place c.loop-last.last c.loop-last.histories c.loop-last.invariant
+    walk-kept c.args.of c.args.entries.now c.args.next.now.last_active c.max-before.result c.args.next.now.at c.args.histories.now c.requires.place c.loop-last.last c.loop-last.histories c.loop-last.invariant

@@ -23,8 +23,8 @@ conclude-requires-clause-count c s e =
     let base = c.len-there.result - length c.args.mandatory.now in let stack = c.args.results.now.results.stack in
     let all = c.len-there.ensures in let few = c.if-there-takes.false in
     let copied = ap length (ap codes c.as_slice.ensures.value ∙ c.in_ok-taken.ensures) in
-    let same = length-map c.as_slice.result.now (λ v. v.items) in let cut = length-drop base stack in let asked = ap length (c.requires.mandatory s e) in
-    omega (arith, all, few, copied, same, cut, asked)
+    let same = length-map c.as_slice.result.now (λ v. v.items) in let cut = length-drop base stack in let required = ap length (c.requires.mandatory s e) in
+    omega (arith, all, few, copied, same, cut, required)
 
 pub returns : goal.returns
 returns c labels s e =
@@ -36,9 +36,9 @@ returns c labels s e =
     let whole : map (decode names) stack ≡ map (decode names) (take base stack) ++ map (decode names) (drop base stack) =
     ap (map (decode names)) (sym (take-append-drop base stack)) ∙ map-append (decode names) (take base stack) (drop base stack) in
     let all = c.len-there.ensures in let few = c.if-there-takes.false in
-    let same = length-map (drop base stack) (decode names) in let cut = length-drop base stack in let asked = ap length (c.requires.mandatory s e) in
+    let same = length-map (drop base stack) (decode names) in let cut = length-drop base stack in let required = ap length (c.requires.mandatory s e) in
     wrong_fails S names c.args.at c.args.a s (named_behind c.args.frames.now labels c.args.results.now) (map (decode names) (take base stack)) (map (decode names) (drop base stack)) c.in-Wrong.fault
-    c.requires.results.light whole (omega (arith, all, few, same, cut, asked)) c.requires.earlier has (c.requires.legal.bound c.args.a s has).variable
+    c.requires.results.light whole (omega (arith, all, few, same, cut, required)) c.requires.earlier has (c.requires.legal.bound c.args.a s has).variable
     (subst (λ w. IsWrong S names c.args.at c.args.a s (map (decode names) (drop base stack)) (SYMBOLS_LIMIT - w) c.in-Wrong.fault) c.weight-room.ensures
     (subst (λ rs. IsWrong S names c.args.at c.args.a s rs (SYMBOLS_LIMIT - c.weight-room.result) c.in-Wrong.fault) by_names (rw c.in-Wrong.is at (c.in_ok-fault.ensures.told s e))))
 

@@ -1,6 +1,6 @@
 use Rattle.std.proofs.Common.{◌≡◌, ◌<◌, ◌∙◌, subst, sym, ap, refl, drop, ◌+◌, ◌++◌, length, List, ℕ, arith}
 use Rattle.std.proofs.lemmas.Option.{get_or_from_slice_get, slice_get_within}
-use Rattle.entries.specs.declared.cited_parts.Hypothesis.TheVariants.{Float}
+use Rattle.entries.specs.declared.assertion_view.Hypothesis.TheVariants.{Float}
 use Rattle.frame.specs.Below.{AreBelow}
 use Rattle.reasons.specs.Stored.Vectors.{codes, code_images, AreImages}
 use Rattle.reasons.specs.ReadImages.{codes_read}

@@ -2,9 +2,9 @@ use Rattle.std.proofs.Common.{◌≡◌, ◌∙◌, ap, sym, subst, ◌++◌, �
 use Rattle.mm_lex.specs.Alphabet.{Name, has_name, name_eq}
 use Rattle.std.proofs.lemmas.Bool.{or_right}
 use Rattle.scope.specs.Kinds.{declared_symbols, is_symbol_kind, is_label_kind, kind_in, with_kinds}
-use Rattle.scope.specs.Stored.Noted.{AreNoted}
+use Rattle.scope.specs.Stored.SymbolNumbers.{AreRecorded}
 use Rattle.scope.proofs.AcceptLemmas.{with_kinds-more}
-use Rattle.scope.proofs.SymbolNameLemmas.{names_that-append, label_free, noted-later, noted-more}
+use Rattle.scope.proofs.SymbolNameLemmas.{names_that-append, label_free, recorded-later, recorded-more}
 use Rattle.scope.proofs.declare.declare_symbols.Goals as goal
 
 pub loop-symbol-preserved : goal.loop-symbol-preserved
@@ -21,10 +21,10 @@ loop-symbol-preserved c =
       rest = ap (λ ns. with_kinds ns kind rest) done ∙ (ap (with_kinds names kind) (sym c.in-Some.ensures.steps) ∙ i.rest);
       free = λ y h. subst (λ ns. is_label_kind (kind_in ns y) ≡ false) (sym done) (label_free names kind x y c.requires.symbol (i.free y (ap (has_name y) c.in-Some.ensures.steps ∙ or_right (name_eq y x) (has_name y rest) h)));
       more = (i.more.0 ++ one.0, done ∙ (one.1 ∙ (ap (λ ns. ns ++ one.0) i.more.1 ∙ append_assoc c.args.names.now i.more.0 one.0)));
-      noted = (
-        i.noted.0 ++ x ∷ [],
-        append_assoc i.noted.0 (x ∷ []) rest ∙ (ap (λ r. i.noted.0 ++ r) (sym c.in-Some.ensures.steps) ∙ i.noted.1),
-        noted-more (declared_symbols c.declare_symbol.new.names) i.noted.0 x c.in_ok-number.number c.loop-symbol.noted c.note.new.self c.in_ok-number.ensures.number c.note.ensures
-            (subst (λ (N : List Name). AreNoted N i.noted.0 c.loop-symbol.noted) (sym later) (noted-later (declared_symbols names) (declared_symbols one.0) i.noted.0 c.loop-symbol.noted i.noted.2)),
+      recorded = (
+        i.recorded.0 ++ x ∷ [],
+        append_assoc i.recorded.0 (x ∷ []) rest ∙ (ap (λ r. i.recorded.0 ++ r) (sym c.in-Some.ensures.steps) ∙ i.recorded.1),
+        recorded-more (declared_symbols c.declare_symbol.new.names) i.recorded.0 x c.in_ok-number.number c.loop-symbol.recorded c.record_number.new.self c.in_ok-number.ensures.number c.record_number.ensures
+            (subst (λ (N : List Name). AreRecorded N i.recorded.0 c.loop-symbol.recorded) (sym later) (recorded-later (declared_symbols names) (declared_symbols one.0) i.recorded.0 c.loop-symbol.recorded i.recorded.2)),
       );
     }

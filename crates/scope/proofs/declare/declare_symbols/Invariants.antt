@@ -9,5 +9,5 @@ invariant-loop-symbol l = record {
   rest : with_kinds l.names l.kind l.symbol-iterator ≡ with_kinds l.initial.names l.kind l.symbols;
   free : (x : Name) → has_name x l.symbol-iterator ≡ true → is_label_kind (kind_in l.names x) ≡ false;
   more : (more : Declared) × (l.names ≡ l.initial.names ++ more);
-  noted : AreDone (declared_symbols l.names) l.symbols l.symbol-iterator l.noted;
+  recorded : AreDone (declared_symbols l.names) l.symbols l.symbol-iterator l.recorded;
 }

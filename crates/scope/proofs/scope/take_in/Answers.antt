@@ -2,14 +2,14 @@ use Rattle.std.proofs.Common.{◌∙◌, ap, sym, subst, length, take, ◌++◌,
 use Rattle.scope.specs.Active.{bare}
 use Rattle.scope.specs.Kinds.{Declared, IsNumberingOf}
 use Rattle.scope.specs.Standing.{stands_at, standing_of}
-use Rattle.scope.specs.Declares.{IsNotedBy}
-use Rattle.scope.specs.Stored.Noted.{AreNoted}
+use Rattle.scope.specs.Declares.{IsRecordedBy}
+use Rattle.scope.specs.Stored.SymbolNumbers.{AreRecorded}
 use Rattle.scope.specs.Symbols.{symbols_after, symbols_in, AreNumbers, AreVariableNumbers}
 use Rattle.mm_lex.specs.Alphabet.{Name}
 use Rattle.mm_read.specs.declared.stmt.Stmt.{Stmt}
 use Rattle.mm_read.specs.declared.stmt.Stmt.TheVariants.{Open, Close, Const, Var, Disj, Float, Ess, Axiom, Prove}
 use Rattle.scope.proofs.BareLemmas.{declared_with-bare, legal-bare}
-use Rattle.scope.proofs.DeclaredLemmas.{may-declare, numbering-after, noted-after}
+use Rattle.scope.proofs.DeclaredLemmas.{may-declare, numbering-after, recorded-after}
 use Rattle.scope.proofs.StandingLemmas.{standing-after, stands-bare}
 use Rattle.scope.proofs.scope.take_in.Goals as goal
 
@@ -31,9 +31,9 @@ asked symbols (Prove label expr proof) numbers are = tt
 pub accept-requires-clause-numbers : goal.accept-requires-clause-numbers
 accept-requires-clause-numbers c =
     let S = c.args.rules.now.statements in let s = c.args.stmt.now in
-    asked (symbols_after S s) s c.in-Some.numbers.now (subst (λ (o : Option (List ℕ)). AreNoted (symbols_after S s) (symbols_in s) o) c.in-Some.ensures.numbers
-    (noted-after S s c.args.names.now c.args.noted.now c.declare_names.new.noted c.requires.legal c.requires.numbering
-    (subst (λ (names : Declared). IsNotedBy names s c.args.noted.now c.declare_names.new.noted) c.in_ok-declare_names.ensures.names c.in_ok-declare_names.ensures.noted) c.requires.noted))
+    asked (symbols_after S s) s c.in-Some.numbers.now (subst (λ (o : Option (List ℕ)). AreRecorded (symbols_after S s) (symbols_in s) o) c.in-Some.ensures.numbers
+    (recorded-after S s c.args.names.now c.args.recorded.now c.declare_names.new.recorded c.requires.legal c.requires.numbering
+    (subst (λ (names : Declared). IsRecordedBy names s c.args.recorded.now c.declare_names.new.recorded) c.in_ok-declare_names.ensures.names c.in_ok-declare_names.ensures.recorded) c.requires.recorded))
 
 pub returns-clause-numbering : goal.returns-clause-numbering
 returns-clause-numbering c =

@@ -8,13 +8,13 @@ cited-requires c =
     let s = c.args.shown.now in
     (bare s.statement.now, has_assertion s.statements.now s.frames.now.statements s.at s.statement.now c.requires.shown.same c.requires.shown.stands c.requires.assertion)
 
-pub gather-requires : goal.gather-requires
-gather-requires c =
+pub fill_buffers-requires : goal.fill_buffers-requires
+fill_buffers-requires c =
     let s = c.args.shown.now in
     (bare s.statement.now, has_assertion s.statements.now s.frames.now.statements s.at s.statement.now c.requires.shown.same c.requires.shown.stands c.requires.assertion)
 
-pub gathered-whole-requires-clause-assertion : goal.gathered-whole-requires-clause-assertion
-gathered-whole-requires-clause-assertion c =
+pub cited_from-whole-requires-clause-assertion : goal.cited_from-whole-requires-clause-assertion
+cited_from-whole-requires-clause-assertion c =
     let s = c.args.shown.now in
     (bare s.statement.now, has_assertion s.statements.now s.frames.now.statements s.at s.statement.now c.requires.shown.same c.requires.shown.stands c.requires.assertion)
 
@@ -31,5 +31,5 @@ returns c =
     let s = c.args.shown.now in
     let there = stands_bare s.statements.now s.frames.now.statements s.at s.statement.now c.requires.shown.same c.requires.shown.stands in
     on_ok c.push_groups-2.result
-    (groups_are s.statements.now s.frames.now.statements s.at s.statement.now c.requires.shown.same c.requires.shown.stands s.frames.now.names _ _ _ (c.gathered-whole.ensures (bare s.statement.now) there).groups)
+    (groups_are s.statements.now s.frames.now.statements s.at s.statement.now c.requires.shown.same c.requires.shown.stands s.frames.now.names _ _ _ (c.cited_from-whole.ensures (bare s.statement.now) there).groups)
     c.push_groups-2.ensures

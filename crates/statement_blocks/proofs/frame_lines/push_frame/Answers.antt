@@ -16,5 +16,5 @@ returns c =
     let there = stands_bare s.statements.now s.frames.now.statements s.at s.statement.now c.requires.shown.same c.requires.shown.stands in
     on_ok c.push_disjoint.result
     (frame_is s.statements.now s.frames.now.statements s.at s.statement.now c.requires.shown.same c.requires.shown.stands _ _ _ _
-      (c.as_slice.ensures.value ∙ c.in_ok-mandatory.ensures.listed (bare s.statement.now) there) c.in_ok-push_hypotheses.ensures)
+    (c.as_slice.ensures.value ∙ c.in_ok-mandatory.ensures.listed (bare s.statement.now) there) c.in_ok-push_hypotheses.ensures)
     c.push_disjoint.ensures

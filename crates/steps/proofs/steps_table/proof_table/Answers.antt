@@ -18,13 +18,13 @@ loop-number-init c = (
   ),
 )
 
-pub note-requires-clause-place : goal.note-requires-clause-place
-note-requires-clause-place c =
+pub record_item-requires-clause-place : goal.record_item-requires-clause-place
+record_item-requires-clause-place c =
     let r = c.loop-number.invariant.2.3 in
     stands-within c.args.frames.now.statements c.args.at r.stmt r.stands
 
-pub note-requires-clause-can : goal.note-requires-clause-can
-note-requires-clause-can c =
+pub record_item-requires-clause-can : goal.record_item-requires-clause-can
+record_item-requires-clause-can c =
     let i = c.loop-number.invariant.2 in (
       i.0,
       subst (ArePositions c.args.frames.now.statements i.0) (sym c.deref.ensures.value) i.1,
@@ -35,13 +35,13 @@ pub loop-number-preserved : goal.loop-number-preserved
 loop-number-preserved c =
     let i = c.loop-number.invariant.2 in (
       c.loop-number.invariant.0,
-      c.in_ok-note.ensures.draft,
+      c.in_ok-record_item.ensures.draft,
       (
         i.0,
         i.1,
         i.2,
-        reached-next c.args.frames.now.statements c.args.at c.args.frames.now.names i.0 c.parts-parts.result.numbers.now c.loop-number.number-index c.loop-number.draft c.note.new.draft c.loop-number-test.true i.3
-            (c.in_ok-note.ensures.done i.0 (subst (ArePositions c.args.frames.now.statements i.0) (sym c.deref.ensures.value) i.1)),
+        reached-next c.args.frames.now.statements c.args.at c.args.frames.now.names i.0 c.parts-parts.result.numbers.now c.loop-number.number-index c.loop-number.draft c.record_item.new.draft c.loop-number-test.true i.3
+            (c.in_ok-record_item.ensures.done i.0 (subst (ArePositions c.args.frames.now.statements i.0) (sym c.deref.ensures.value) i.1)),
       ),
     )
 

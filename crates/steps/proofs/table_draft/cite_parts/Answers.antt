@@ -37,7 +37,7 @@ conclude-requires-clause-typed c =
     let taken = c.deref-4.ensures.value ∙ (c.in_ok-taken.ensures.tail ∙ (ap (λ l. drop (l - c.len-2.result) stack) lens ∙ ap (λ m. drop (length stack - m) stack) c.len-2.ensures)) in
     let places = c.deref-5.ensures.value ∙ (c.in_ok-fill_places.ensures ∙ (ap (λ ps. map (place_in ps) c.deref-4.result.now) c.deref-3.ensures.value ∙ ap (map (place_in d.placed.items)) taken)) in
     let seen = ap (map (seen_at d.symbols)) places ∙ exprs-seen d.symbols d.placed.items (top n stack) (below-drop _ _ stack c.requires.held.stack_below) in
-    subst (λ es. IsTyped (get_or c.args.cited.now.heads.now k 0) (get_or es k [])) (sym seen) (c.requires.typed k x kind)
+    subst (λ es. IsTyped (get_or c.args.cited.now.typecodes.now k 0) (get_or es k [])) (sym seen) (c.requires.typed k x kind)
 
 pub returns : goal.returns
 returns c =
@@ -54,7 +54,7 @@ returns c =
     on_ok_weaker c.add_step.result
     (λ h. inr (
       r.0,
-      subst (λ es. AreRead c.args.cited.now.heads.now c.args.cited.now.hypotheses es r.0) seen r.1,
+      subst (λ es. AreRead c.args.cited.now.typecodes.now c.args.cited.now.hypotheses es r.0) seen r.1,
       record {
         made = record { position = c.args.position; taken = c.in_ok-taken.taken; place = c.in_ok-place.place };
         is_position = refl;

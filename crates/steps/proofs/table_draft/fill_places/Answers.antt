@@ -1,5 +1,5 @@
 use Rattle.std.proofs.Common.{◌∷◌, ◌++◌, [], map, take, sym, ◌∙◌, ap}
-use Rattle.frame.proofs.ApartLemmas.{below-at}
+use Rattle.frame.proofs.ActiveDisjointLemmas.{below-at}
 use Rattle.steps.specs.Stored.Drafted.{place_in}
 use Rattle.steps.proofs.DraftLemmas.{map-more}
 use Rattle.steps.proofs.table_draft.fill_places.Goals as goal

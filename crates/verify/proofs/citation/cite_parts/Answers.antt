@@ -1,16 +1,16 @@
-use Rattle.verify.proofs.Words.{◌≡◌, ℕ, ◌<◌, ◌↔◌, Bool, true, false, is_some, IsTrue, List, length, map, arith, sym, ap, ◌∙◌, subst, IfOk-weaker, Name, Database, AreDistinct, decode, AllBelow, AreBelow, are_groups_apart, CodeImages, images_of_names, AreOver, Hypothesis, Reads, DoFit, Results, below, top, Adds}
-use Rattle.verify.proofs.MandatoryAsked.{asked-lengths, asked-different, asked-standing}
+use Rattle.verify.proofs.Words.{◌≡◌, ℕ, ◌<◌, ◌↔◌, Bool, true, false, is_some, IsTrue, List, length, map, arith, sym, ap, ◌∙◌, subst, IfOk-weaker, Name, Database, AreDistinct, decode, AllBelow, AreBelow, are_groups_disjoint, CodeImages, images_of_names, AreOver, Hypothesis, Reads, DoFit, Results, below, top, Adds}
+use Rattle.verify.proofs.RequiredHypotheses.{required-lengths, required-different, required-standing}
 use Rattle.verify.proofs.CitationLemmas.{over-read, has-cited, not-cited}
 use Rattle.verify.proofs.citation.cite_parts.Goals as goal
 
 -- which of the two it was
-reads-as : (ok b : Bool) (heads : List ℕ) (hs : List Hypothesis) (rs : List (List ℕ)) (σ : CodeImages) → ok ≡ b → Reads ok heads hs rs σ → Reads b heads hs rs σ
-reads-as ok b heads hs rs σ e r = subst (λ v. Reads v heads hs rs σ) e r
+reads-as : (ok b : Bool) (typecodes : List ℕ) (hs : List Hypothesis) (rs : List (List ℕ)) (σ : CodeImages) → ok ≡ b → Reads ok typecodes hs rs σ → Reads b typecodes hs rs σ
+reads-as ok b typecodes hs rs σ e r = subst (λ v. Reads v typecodes hs rs σ) e r
 
-apart-by : (result : Bool) (D E : Database) (m n : List Name) (σ : CodeImages) (gs : List (List ℕ)) (b : Bool) → D ≡ E → m ≡ n → result ≡ are_groups_apart D (images_of_names m σ) (map (decode m) gs) → result ≡ b
-    → are_groups_apart E (images_of_names n σ) (map (decode n) gs) ≡ b
-apart-by result D E m n σ gs b p q e f =
-    ap (λ v. are_groups_apart v (images_of_names n σ) (map (decode n) gs)) (sym p) ∙ (ap (λ v. are_groups_apart D (images_of_names v σ) (map (decode v) gs)) (sym q) ∙ (sym e ∙ f))
+disjoint-by : (result : Bool) (D E : Database) (m n : List Name) (σ : CodeImages) (gs : List (List ℕ)) (b : Bool) → D ≡ E → m ≡ n → result ≡ are_groups_disjoint D (images_of_names m σ) (map (decode m) gs) → result ≡ b
+    → are_groups_disjoint E (images_of_names n σ) (map (decode n) gs) ≡ b
+disjoint-by result D E m n σ gs b p q e f =
+    ap (λ v. are_groups_disjoint v (images_of_names n σ) (map (decode n) gs)) (sym p) ∙ (ap (λ v. are_groups_disjoint D (images_of_names v σ) (map (decode v) gs)) (sym q) ∙ (sym e ∙ f))
 
 fit-as : (b : Bool) (S : Database) (names : List Name) (σ : CodeImages) (hs : List Hypothesis) (stack stack' : List (List ℕ)) → stack ≡ stack'
     → IsTrue b ↔ DoFit S (images_of_names names σ) hs (map (decode names) (top (length hs) stack)) → IsTrue b ↔ DoFit S (images_of_names names σ) hs (map (decode names) (top (length hs) stack'))
@@ -20,16 +20,16 @@ adds-as : (ok : Bool) (old old' new : Results ℕ) (m n : ℕ) (e : List ℕ) �
 adds-as ok old old' new m n e same count h = subst (λ (v : Results ℕ). Adds ok v new (below n v.stack) e) same (subst (λ k. Adds ok old new (below k old.stack) e) count h)
 
 pub read_images-requires-clause-same : goal.read_images-requires-clause-same
-read_images-requires-clause-same c = let l = asked-lengths _ _ _ _ _ (c.requires.cited c.requires.may.assertion.0 c.requires.may.assertion.1.0).asked in l.0 ∙ sym l.1
+read_images-requires-clause-same c = let l = required-lengths _ _ _ _ _ (c.requires.cited c.requires.may.assertion.0 c.requires.may.assertion.1.0).required in l.0 ∙ sym l.1
 
 pub read_images-requires-clause-different : goal.read_images-requires-clause-different
-read_images-requires-clause-different c = asked-different _ _ _ c.requires.may.assertion.0 _ _ (c.requires.may.ready.legal.bound _ c.requires.may.assertion.0 c.requires.may.assertion.1) (c.requires.cited c.requires.may.assertion.0 c.requires.may.assertion.1.0).asked
+read_images-requires-clause-different c = required-different _ _ _ c.requires.may.assertion.0 _ _ (c.requires.may.ready.legal.bound _ c.requires.may.assertion.0 c.requires.may.assertion.1) (c.requires.cited c.requires.may.assertion.0 c.requires.may.assertion.1.0).required
 
-pub fits-requires-clause-standing : goal.fits-requires-clause-standing
-fits-requires-clause-standing c = asked-standing _ _ _ _ _ (c.requires.cited c.requires.may.assertion.0 c.requires.may.assertion.1.0).asked
+pub hypotheses_match-requires-clause-standing : goal.hypotheses_match-requires-clause-standing
+hypotheses_match-requires-clause-standing c = required-standing _ _ _ _ _ (c.requires.cited c.requires.may.assertion.0 c.requires.may.assertion.1.0).required
 
-pub fits-requires-clause-over : goal.fits-requires-clause-over
-fits-requires-clause-over c = over-read _ _ _ _ c.requires.may c.args.cited.now c.requires.cited c.read_images.new.self.images (let h = c.if-count-len.false in omega (arith, h, c.len.ensures)) (reads-as _ true _ _ _ _ (ap is_some c.in-Some.is) c.in_ok-front.ensures.read)
+pub hypotheses_match-requires-clause-over : goal.hypotheses_match-requires-clause-over
+hypotheses_match-requires-clause-over c = over-read _ _ _ _ c.requires.may c.args.cited.now c.requires.cited c.read_images.new.self.images (let h = c.if-count-len.false in omega (arith, h, c.len.ensures)) (reads-as _ true _ _ _ _ (ap is_some c.in-Some.is) c.in_ok-front.ensures.read)
 
 pub are_disjoint-requires-clause-over : goal.are_disjoint-requires-clause-over
 are_disjoint-requires-clause-over c = subst (λ v. AreOver v c.read_images.new.self.images) (sym c.requires.may.ready.names) (over-read _ _ _ _ c.requires.may c.args.cited.now c.requires.cited c.read_images.new.self.images (let h = c.if-count-len.false in omega (arith, h, c.len.ensures)) (reads-as _ true _ _ _ _ (ap is_some c.in-Some.is) c.in_ok-front.ensures.read))
@@ -52,13 +52,13 @@ returns-then-not-fits-clause-goes c =
 pub returns-then-not-branch-clause-goes : goal.returns-then-not-branch-clause-goes
 returns-then-not-branch-clause-goes c =
     not-cited _ _ _ _ c.requires.may c.args.cited.now c.requires.cited c.are_disjoint.new.self.results
-    (λ f m. (let e : true ≡ false = sym (m.apart c.read_images.new.self.images (reads-as _ true _ _ _ _ (ap is_some c.in-Some.is) c.in_ok-front.ensures.read)) ∙ apart-by _ _ _ _ _ c.read_images.new.self.images c.args.cited.now.groups _ c.requires.may.ready.active c.requires.may.ready.names c.in_ok-are_disjoint.ensures.disjoint c.if-not-branch.true in cc))
+    (λ f m. (let e : true ≡ false = sym (m.disjoint c.read_images.new.self.images (reads-as _ true _ _ _ _ (ap is_some c.in-Some.is) c.in_ok-front.ensures.read)) ∙ disjoint-by _ _ _ _ _ c.read_images.new.self.images c.args.cited.now.groups _ c.requires.may.ready.active c.requires.may.ready.names c.in_ok-are_disjoint.ensures.disjoint c.if-not-branch.true in cc))
 
 pub returns-clause-goes : goal.returns-clause-goes
 returns-clause-goes c =
     IfOk-weaker c.apply.result _ _
     (λ ok adds. has-cited _ _ _ _ c.requires.may c.args.cited.now c.requires.cited ok _ c.read_images.new.self.images (let h = c.if-count-len.false in omega (arith, h, c.len.ensures)) (reads-as _ true _ _ _ _ (ap is_some c.in-Some.is) c.in_ok-front.ensures.read) ((fit-as _ _ _ _ _ _ _ (ap (λ (v : Results ℕ). v.stack) c.in_ok-front.ensures.same) c.fits.ensures).0 c.if-not-fits.false)
-    (apart-by _ _ _ _ _ c.read_images.new.self.images c.args.cited.now.groups _ c.requires.may.ready.active c.requires.may.ready.names c.in_ok-are_disjoint.ensures.disjoint c.if-not-branch.false)
+    (disjoint-by _ _ _ _ _ c.read_images.new.self.images c.args.cited.now.groups _ c.requires.may.ready.active c.requires.may.ready.names c.in_ok-are_disjoint.ensures.disjoint c.if-not-branch.false)
     (adds-as ok c.read_images.new.self.results _ _ _ _ _ c.in_ok-front.ensures.same c.len-count.ensures adds)) (rw (c.shortened-conclusion.ensures.same, c.are_disjoint.ensures.same) at c.apply.ensures.adds)
 
 pub are_disjoint-requires-clause-below : goal.are_disjoint-requires-clause-below

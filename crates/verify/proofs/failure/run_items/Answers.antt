@@ -1,4 +1,4 @@
-use Rattle.verify.proofs.Words.{◌≡◌, Bool, true, false, Result, Ok, IfOk, get_or, length, map, take, arith, sym, subst, refl, IfOk-at_ok, item_of, behind, GoesOn, Stays, ap}
+use Rattle.verify.proofs.Words.{◌≡◌, Bool, true, false, Result, Ok, IfOk, get_or, length, map, take, arith, sym, subst, refl, IfOk-at_ok, item_of, behind, StepsWithTable, Stays, ap}
 use Rattle.verify.proofs.StepLemmas.{start-known, start-behind, Reached, reached-start, reached-step, items-more}
 use Rattle.verify.proofs.StopLemmas.{stops-at, stops-end}
 use Rattle.verify.specs.KeptLists.{AreKeptLists}
@@ -21,7 +21,7 @@ pub loop-done-preserved : goal.loop-done-preserved
 loop-done-preserved c = (
   c.loop-done.invariant.0,
   (went c.step_at.result c.in_ok-step_at.field-0 true
-      (λ v. GoesOn v c.args.claim.now.frames.now.statements c.args.claim.now.at c.args.claim.now.frames.now.names c.args.table.now (item_of c.requires.entries.0 (get_or c.args.numbers.now c.loop-done.done 0)) c.loop-done.buffers.results.results c.step_at.new.buffers.results.results)
+      (λ v. StepsWithTable v c.args.claim.now.frames.now.statements c.args.claim.now.at c.args.claim.now.frames.now.names c.args.table.now (item_of c.requires.entries.0 (get_or c.args.numbers.now c.loop-done.done 0)) c.loop-done.buffers.results.results c.step_at.new.buffers.results.results)
       (c.step_at.ensures.goes c.requires.entries.0 c.requires.entries.1) c.in_ok-step_at.was c.if-not-branch.false).1 refl,
   λ labels are.
       subst (λ is. Reached c.args.claim.now.frames.now.statements c.args.claim.now.frames.now.names c.args.claim.now.at c.loop-done.invariant.0 is (behind (length c.args.table.now) c.step_at.new.buffers.results.results)) (sym (items-more labels c.args.numbers.now c.loop-done.done c.loop-done-test.true))
@@ -29,7 +29,7 @@ loop-done-preserved c = (
       (map (item_of labels) (take c.loop-done.done c.args.numbers.now)) (item_of labels (get_or c.args.numbers.now c.loop-done.done 0))
       (behind (length c.args.table.now) c.loop-done.buffers.results.results) (behind (length c.args.table.now) c.step_at.new.buffers.results.results) (c.loop-done.invariant.2 labels are)
       (went c.step_at.result c.in_ok-step_at.field-0 true
-      (λ v. GoesOn v c.args.claim.now.frames.now.statements c.args.claim.now.at c.args.claim.now.frames.now.names c.args.table.now (item_of labels (get_or c.args.numbers.now c.loop-done.done 0)) c.loop-done.buffers.results.results c.step_at.new.buffers.results.results)
+      (λ v. StepsWithTable v c.args.claim.now.frames.now.statements c.args.claim.now.at c.args.claim.now.frames.now.names c.args.table.now (item_of labels (get_or c.args.numbers.now c.loop-done.done 0)) c.loop-done.buffers.results.results c.step_at.new.buffers.results.results)
       (c.step_at.ensures.goes labels are) c.in_ok-step_at.was c.if-not-branch.false).0),
   c.step_at.ensures.about,
   c.in_ok-step_at.ensures.kept,
@@ -41,7 +41,7 @@ returns-then-not-branch c = λ labels are.
     stops-at S names at c.loop-done.invariant.0 labels c.args.numbers.now c.loop-done.done
     (behind (length table) c.loop-done.buffers.results.results) (behind (length table) c.step_at.new.buffers.results.results) (behind (length table) c.step_at.new.buffers.results.results)
     c.loop-done-test.true (c.loop-done.invariant.2 labels are)
-    (went c.step_at.result c.in_ok-step_at.field-0 false (λ v. GoesOn v S at names table (item_of labels (get_or c.args.numbers.now c.loop-done.done 0)) c.loop-done.buffers.results.results c.step_at.new.buffers.results.results)
+    (went c.step_at.result c.in_ok-step_at.field-0 false (λ v. StepsWithTable v S at names table (item_of labels (get_or c.args.numbers.now c.loop-done.done 0)) c.loop-done.buffers.results.results c.step_at.new.buffers.results.results)
     (c.step_at.ensures.goes labels are) c.in_ok-step_at.was c.if-not-branch.true).0
     (ap (behind (length table)) (went c.step_at.result c.in_ok-step_at.field-0 false (λ v. Stays v c.loop-done.buffers.results.results c.step_at.new.buffers.results.results) c.step_at.ensures.stays c.in_ok-step_at.was c.if-not-branch.true))
 

@@ -3,4 +3,4 @@ use Rattle.entries.specs.Hypotheses.{told}
 use Rattle.verify.proofs.kept_lists.copy_hypotheses.Given as goal
 
 abbrev pub invariant-loop-index : goal.invariant-loop-index
-invariant-loop-index l = map told l.asked.items ≡ take l.index l.hypotheses
+invariant-loop-index l = map told l.required.items ≡ take l.index l.hypotheses

@@ -6,7 +6,7 @@ use Rattle.verify.proofs.results.read_off.Goals as goal
 
 pub loop-k-init : goal.loop-k-init
 loop-k-init c =
-    let read = subst (λ r. MatchOption r (IsMistyped c.args.symbols.now c.args.heads.now c.args.hypotheses.now c.args.places.now) (λ n. ReadTo n c.args.symbols.now c.args.heads.now c.args.hypotheses.now c.args.places.now c.read_front.new.images)) c.in-Some.is c.in_ok-front.ensures.read in
+    let read = subst (λ r. MatchOption r (IsMistyped c.args.symbols.now c.args.typecodes.now c.args.hypotheses.now c.args.places.now) (λ n. ReadTo n c.args.symbols.now c.args.typecodes.now c.args.hypotheses.now c.args.places.now c.read_front.new.images)) c.in-Some.is c.in_ok-front.ensures.read in
     let front = subst (λ r. IfSome r (AreFront c.args.hypotheses.now)) c.in-Some.is c.in_ok-front.ensures.floats in
     (front-next _ _ _ _ _ _ (omega (arith, front.within, c.len-k-end.type_inv, c.len-k-end.ensures)) front c.saturating_add-k.ensures _ read, c.read_front.ensures.inside)
 
@@ -24,7 +24,7 @@ returns-then-not-branch-clause-inside c n w = c.read_more.ensures.inside n (plac
 
 pub loop-k-preserved : goal.loop-k-preserved
 loop-k-preserved c =
-    let P : ℕ → List (ℕ × SymbolRange) → Type 0 = λ n v. ReadTo n c.args.symbols.now c.args.heads.now c.args.hypotheses.now c.args.places.now v × ((m : ℕ) → AreWithin m c.args.places.now → AreInside m v) in
+    let P : ℕ → List (ℕ × SymbolRange) → Type 0 = λ n v. ReadTo n c.args.symbols.now c.args.typecodes.now c.args.hypotheses.now c.args.places.now v × ((m : ℕ) → AreWithin m c.args.places.now → AreInside m v) in
     elim c.match-get.branch [
       | in-Float+in_ok-read_more+else-not-branch w ↦
           let float = c.get.ensures ∙ ap Some w.in-Float.is in

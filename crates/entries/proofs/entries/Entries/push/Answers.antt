@@ -1,4 +1,4 @@
-use Rattle.entries.proofs.Words.{◌∙◌, ap, sym, refl, arith, ◌+◌, ◌++◌, ◌∷◌, [], length, length-append, assertion_of, made, has_parts, run_of, bodies_of, with_background, with_backgrounds}
+use Rattle.entries.proofs.Words.{◌∙◌, ap, sym, refl, arith, ◌+◌, ◌++◌, ◌∷◌, [], length, length-append, assertion_of, made, has_parts, run_of, bodies_of, with_state_before, with_states_before}
 use Rattle.entries.proofs.AddedStatement.{on-ok, ok-weaker, bodies-push, packed-push, run-laid, run-body}
 use Rattle.entries.proofs.StatementRecordLemmas.{bodies-length, with-push}
 use Rattle.entries.proofs.entries.Entries.push.Goals as goal
@@ -8,11 +8,11 @@ invariant_of-self-else-is_err c =
     let s = c.self.inside in let m = c.add-added.new in let p = c.args.parts.now in
     let done = sym c.is_err.ensures.value ∙ c.if-is_err.false in
     let added = c.add-added.ensures in
-    let last = on-ok c.add-added.result _ done added.last in let background = on-ok c.add-added.result _ done added.background in (
-      packed-push s.numbers.items m.numbers.items s.groups.items m.groups.items s.records.items m.records.items c.args.head.kind (has_parts p) p.whole (run_of (has_parts p) p) p.groups.now
+    let last = on-ok c.add-added.result _ done added.last in let state_before = on-ok c.add-added.result _ done added.state_before in (
+      packed-push s.numbers.items m.numbers.items s.groups.items m.groups.items s.records.items m.records.items c.args.header.kind (has_parts p) p.whole (run_of (has_parts p) p) p.groups.now
           c.self.invariant.0 (on-ok c.add-added.result _ done added.added) (on-ok c.add-added.result _ done added.groups) last
           (run-laid p (has_parts p) c.requires refl) (omega (arith, c.len-count.ensures)),
-      ap length background ∙ (length-append s.backgrounds.items _ ∙ (ap (λ n. n + 1) c.self.invariant.1 ∙ (sym (length-append s.records.items _) ∙ sym (ap length last)))),
+      ap length state_before ∙ (length-append s.states_before.items _ ∙ (ap (λ n. n + 1) c.self.invariant.1 ∙ (sym (length-append s.records.items _) ∙ sym (ap length last)))),
     )
 
 pub returns-else-is_err-clause-added : goal.returns-else-is_err-clause-added
@@ -23,9 +23,9 @@ returns-else-is_err-clause-added c =
     let bodies = bodies_of s.numbers.items s.groups.items s.records.items in
     let last = on-ok c.add-added.result _ done added.last in
     ok-weaker c.add-added.result _ _
-    (λ numbers. ap (λ bs. with_backgrounds bs m.backgrounds.items) (bodies-push s.numbers.items m.numbers.items s.groups.items m.groups.items s.records.items m.records.items c.args.head.kind (has_parts p) p.whole (run_of (has_parts p) p) p.groups.now
+    (λ numbers. ap (λ bs. with_states_before bs m.states_before.items) (bodies-push s.numbers.items m.numbers.items s.groups.items m.groups.items s.records.items m.records.items c.args.header.kind (has_parts p) p.whole (run_of (has_parts p) p) p.groups.now
     c.self.invariant.0 numbers (on-ok c.add-added.result _ done added.groups) last)
-    ∙ (ap (with_backgrounds _) (on-ok c.add-added.result _ done added.background)
-    ∙ (with-push bodies s.backgrounds.items _ c.args.head.before (c.self.invariant.1 ∙ sym (bodies-length s.numbers.items s.groups.items s.records.items))
-    ∙ (ap (λ b. with_backgrounds bodies s.backgrounds.items ++ with_background b c.args.head.before ∷ []) (run-body c.args.head.kind p (length s.numbers.items) (length s.groups.items) (has_parts p) c.requires refl)
-    ∙ ap (λ es. es ++ made c.args.head p.symbols.now (assertion_of p) ∷ []) c.self.view_is)))) added.added
+    ∙ (ap (with_states_before _) (on-ok c.add-added.result _ done added.state_before)
+    ∙ (with-push bodies s.states_before.items _ c.args.header.before (c.self.invariant.1 ∙ sym (bodies-length s.numbers.items s.groups.items s.records.items))
+    ∙ (ap (λ b. with_states_before bodies s.states_before.items ++ with_state_before b c.args.header.before ∷ []) (run-body c.args.header.kind p (length s.numbers.items) (length s.groups.items) (has_parts p) c.requires refl)
+    ∙ ap (λ es. es ++ made c.args.header p.symbols.now (assertion_of p) ∷ []) c.self.view_is)))) added.added

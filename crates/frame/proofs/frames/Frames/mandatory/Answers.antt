@@ -1,11 +1,11 @@
 use Rattle.frame.proofs.Words.{◌≡◌, ◌∙◌, ◌-◌, ap, sym, subst, take, true, ◌++◌, same_Some, before, hypotheses, AreWith, statements_of, ok-weaker}
-use Rattle.frame.proofs.CitedLemmas.{all-legal, is-there}
-use Rattle.frame.proofs.GatheredHypotheses.{kept-by, mandatory-own}
+use Rattle.frame.proofs.AssertionViewLemmas.{all-legal, is-there}
+use Rattle.frame.proofs.BufferedHypotheses.{kept-by, mandatory-own}
 use Rattle.frame.proofs.frames.Frames.mandatory.Goals as goal
 
 pub returns-then-is_whole-clause-listed : goal.returns-then-is_whole-clause-listed
 returns-then-is_whole-clause-listed c = λ s h.
-    let k = c.self.inside.stock in let stands = rw (← c.self.view_is) at c.requires.assertion.1 in
+    let k = c.self.inside.storage in let stands = rw (← c.self.view_is) at c.requires.assertion.1 in
     let t = is-there k c.args.a c.requires.assertion.0 c.self.invariant.stored stands in
     let whole = sym (c.is_whole.ensures t.1 t.2.got) ∙ c.if-is_whole.true in
     let list = c.in_ok-extend_from_slice.ensures.items ∙ (ap (λ xs. xs ++ c.hypotheses.result.now) c.requires.empty ∙ c.hypotheses.ensures t.1 t.2.got) in
@@ -14,7 +14,7 @@ returns-then-is_whole-clause-listed c = λ s h.
 
 pub returns-else-is_whole-clause-listed : goal.returns-else-is_whole-clause-listed
 returns-else-is_whole-clause-listed c = λ s h.
-    let k = c.self.inside.stock in let stands = rw (← c.self.view_is) at c.requires.assertion.1 in
+    let k = c.self.inside.storage in let stands = rw (← c.self.view_is) at c.requires.assertion.1 in
     let t = is-there k c.args.a c.requires.assertion.0 c.self.invariant.stored stands in
     let own = sym (c.is_whole.ensures t.1 t.2.got) ∙ c.if-is_whole.false in
     let list = c.in_ok-extend_from_slice.ensures.items ∙ (ap (λ xs. xs ++ c.hypotheses.result.now) c.requires.empty ∙ c.hypotheses.ensures t.1 t.2.got) in
@@ -25,10 +25,10 @@ returns-else-is_whole-clause-listed c = λ s h.
     c.add.ensures)
 
 pub returns-then-is_whole-clause-legal : goal.returns-then-is_whole-clause-legal
-returns-then-is_whole-clause-legal c = rw (← c.self.view_is) (all-legal c.self.inside.stock c.self.invariant.stored)
+returns-then-is_whole-clause-legal c = rw (← c.self.view_is) (all-legal c.self.inside.storage c.self.invariant.stored)
 
 pub returns-else-is_whole-clause-legal : goal.returns-else-is_whole-clause-legal
-returns-else-is_whole-clause-legal c = rw (← c.self.view_is) (all-legal c.self.inside.stock c.self.invariant.stored)
+returns-else-is_whole-clause-legal c = rw (← c.self.view_is) (all-legal c.self.inside.storage c.self.invariant.stored)
 
 pub returns-in_err-extend_from_slice-clause-legal : goal.returns-in_err-extend_from_slice-clause-legal
-returns-in_err-extend_from_slice-clause-legal c = rw (← c.self.view_is) (all-legal c.self.inside.stock c.self.invariant.stored)
+returns-in_err-extend_from_slice-clause-legal c = rw (← c.self.view_is) (all-legal c.self.inside.storage c.self.invariant.stored)

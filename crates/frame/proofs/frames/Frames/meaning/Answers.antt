@@ -4,7 +4,7 @@ use Rattle.frame.proofs.frames.Frames.meaning.Goals as goal
 
 pub returns-in-Axiom : goal.returns-in-Axiom
 returns-in-Axiom c =
-    let k = c.self.inside.stock in
+    let k = c.self.inside.storage in
     let e = seen c.entry.result c.entry.ensures.0 in
     rw (← c.self.view_is) (stmt_of (names_in k) (labels_in k) e, (entry-stands (names_in k) (labels_in k) k.entries c.args.i e (omega (arith, c.if-i-eq0.false)) c.entry.ensures.1, entry-assertion (names_in k) (labels_in k) e c.in-Axiom.is), c.if-i-at.false)
 
@@ -13,7 +13,7 @@ clash b e h = false≢true (sym e ∙ h)
 
 pub returns-in_default : goal.returns-in_default
 returns-in_default c = λ s h.
-    let k = c.self.inside.stock in
+    let k = c.self.inside.storage in
     let e = seen c.entry.result c.entry.ensures.0 in
     let none = neither (names_in k) (labels_in k) e c.in_default.not-Float c.in_default.not-Ess c.in_default.not-Axiom c.in_default.not-Prove in
     let same = is-entry (names_in k) (labels_in k) k.entries c.args.i e s (omega (arith, c.if-i-eq0.false)) c.entry.ensures.1 (rw (← c.self.view_is) at h) in
@@ -21,7 +21,7 @@ returns-in_default c = λ s h.
 
 pub returns-then-is_active_at : goal.returns-then-is_active_at
 returns-then-is_active_at c =
-    let k = c.self.inside.stock in
+    let k = c.self.inside.storage in
     let e = seen c.entry.result c.entry.ensures.0 in
     let s = stmt_of (names_in k) (labels_in k) e in
     let stands = entry-stands (names_in k) (labels_in k) k.entries c.args.i e (omega (arith, c.if-i-eq0.false)) c.entry.ensures.1 in
@@ -34,7 +34,7 @@ returns-then-is_active_at c =
 
 pub returns-else-is_active_at : goal.returns-else-is_active_at
 returns-else-is_active_at c = λ s h.
-    let k = c.self.inside.stock in
+    let k = c.self.inside.storage in
     let e = seen c.entry.result c.entry.ensures.0 in
     let same = is-entry (names_in k) (labels_in k) k.entries c.args.i e s (omega (arith, c.if-i-eq0.false)) c.entry.ensures.1 (rw (← c.self.view_is) at h) in (
       λ q. clash _ (sym c.is_active_at.ensures ∙ c.if-is_active_at.false) (rw (← c.self.view_is) at q.active),

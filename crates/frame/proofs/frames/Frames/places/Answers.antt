@@ -3,12 +3,12 @@ use Rattle.entries.specs.SymbolPlaces.{ArePlacesOf}
 use Rattle.frame.specs.ExprPlaces.{AreExprPlaces}
 use Rattle.frame.proofs.StoredReading.{two-of, entry-expr, is-entry}
 use Rattle.frame.proofs.StoredOneMore.{numbered-at}
-use Rattle.frame.proofs.GatheredHypotheses.{some-map}
+use Rattle.frame.proofs.BufferedHypotheses.{some-map}
 use Rattle.frame.proofs.frames.Frames.places.Goals as goal
 
 pub returns-then-has_label : goal.returns-then-has_label
 returns-then-has_label c = λ s h.
-    let k = c.self.inside.stock in
+    let k = c.self.inside.storage in
     let e = seen c.entry-entry.result c.entry-entry.ensures.0 in
     let g = c.entry-entry.ensures.1 in
     rw (← c.self.view_is)

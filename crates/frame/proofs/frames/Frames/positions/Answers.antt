@@ -1,4 +1,4 @@
-use Rattle.frame.proofs.CitedLemmas.{all-legal}
+use Rattle.frame.proofs.AssertionViewLemmas.{all-legal}
 use Rattle.frame.proofs.PositionLemmas.{positions-more}
 use Rattle.frame.proofs.frames.Frames.positions.Goals as goal
 
@@ -8,7 +8,7 @@ loop-label-preserved c =
     c.loop-label.invariant c.in_ok-push.ensures.items c.position.ensures
 
 pub returns-in_err-push-clause-legal : goal.returns-in_err-push-clause-legal
-returns-in_err-push-clause-legal c = rw (← c.self.view_is) (all-legal c.self.inside.stock c.self.invariant.stored)
+returns-in_err-push-clause-legal c = rw (← c.self.view_is) (all-legal c.self.inside.storage c.self.invariant.stored)
 
 pub returns-clause-legal : goal.returns-clause-legal
-returns-clause-legal c = rw (← c.self.view_is) (all-legal c.self.inside.stock c.self.invariant.stored)
+returns-clause-legal c = rw (← c.self.view_is) (all-legal c.self.inside.storage c.self.invariant.stored)

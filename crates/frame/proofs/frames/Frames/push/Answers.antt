@@ -4,7 +4,7 @@ use Rattle.frame.proofs.frames.Frames.push.Goals as goal
 
 pub returns-clause-names : goal.returns-clause-names
 returns-clause-names c =
-    let old = c.self.inside.stock in let new = c.grow.new.stock in
+    let old = c.self.inside.storage in let new = c.grow.new.storage in
     rw (← c.self.view_is)
     (names-later c.grow.result (statements_of old) (bare c.args.stmt.now) (statements_of new) (names_in old) (names_in new) c.self.invariant.stored.kept.names_kept c.grow.ensures.kept.stored.kept.names_kept
     c.grow.ensures.added c.grow.ensures.same)

@@ -4,7 +4,7 @@ use Rattle.frame.proofs.frames.Frames.shorten.Goals as goal
 
 pub invariant_of-self : goal.invariant_of-self
 invariant_of-self c =
-    let k = c.self.inside.stock in let new = c.cut.new.stock in let g = c.truncate.new.self in
+    let k = c.self.inside.storage in let new = c.cut.new.storage in let g = c.truncate.new.self in
     let t = c.truncate.ensures k.entries (statements_of k) c.self.invariant.sets c.self.invariant.count in
     record {
       stored = c.cut.ensures.stored;

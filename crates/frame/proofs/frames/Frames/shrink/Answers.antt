@@ -4,7 +4,7 @@ use Rattle.frame.proofs.frames.Frames.shrink.Goals as goal
 pub invariant_of-self : goal.invariant_of-self
 invariant_of-self c =
     let e = c.shrink_lists.ensures in
-    let shrunk : IsShrunk c.self.inside.stock c.shrink_lists.new.stock = record {
+    let shrunk : IsShrunk c.self.inside.storage c.shrink_lists.new.storage = record {
       numbering = e.numbering;
       positions = e.positions;
       symbols = e.symbols;
@@ -13,6 +13,6 @@ invariant_of-self c =
       entries = e.entries;
       disjoints = e.disjoints;
       variables = e.variables;
-      links = e.links;
+      last_active = e.last_active;
     } in
-    frames-shrunk c.self.inside.stock c.shrink_lists.new.stock c.self.inside.given c.shrink.new.self c.self.invariant shrunk c.shrink.ensures.sets c.shrink.ensures.kept
+    frames-shrunk c.self.inside.storage c.shrink_lists.new.storage c.self.inside.given c.shrink.new.self c.self.invariant shrunk c.shrink.ensures.sets c.shrink.ensures.kept

@@ -5,7 +5,7 @@ use Rattle.frame.proofs.pairs.Pairs.has_by_memo.Goals as goal
 
 pub search-requires : goal.search-requires
 search-requires c =
-    let k = c.self.inside.stock.now in
+    let k = c.self.inside.storage.now in
     let differ : nat_eq c.args.x c.args.y ≡ false = let h = c.if-x-y.false in grind (arith, h) in
     let both = rw (← c.self.view_is) at c.requires in
     let s : AreSought k c.self.inside.at c.args.x c.args.y = record { stored = c.self.invariant.0; distinct = c.self.invariant.1; above = c.self.invariant.2; within = c.self.invariant.3; first = both.0; second = both.1; differ = differ } in
@@ -13,7 +13,7 @@ search-requires c =
 
 pub search-requires-else-len : goal.search-requires-else-len
 search-requires-else-len c =
-    let k = c.self.inside.stock.now in
+    let k = c.self.inside.storage.now in
     let differ : nat_eq c.args.x c.args.y ≡ false = let h = c.if-x-y.false in grind (arith, h) in
     let both = rw (← c.self.view_is) at c.requires in
     let s : AreSought k c.self.inside.at c.args.x c.args.y = record { stored = c.self.invariant.0; distinct = c.self.invariant.1; above = c.self.invariant.2; within = c.self.invariant.3; first = both.0; second = both.1; differ = differ } in
@@ -24,7 +24,7 @@ returns-then-len c = rw (← c.self.view_is) c.search.ensures
 
 pub returns-else-len : goal.returns-else-len
 returns-else-len c =
-    let k = c.self.inside.stock.now in
+    let k = c.self.inside.storage.now in
     let differ : nat_eq c.args.x c.args.y ≡ false = let h = c.if-x-y.false in grind (arith, h) in
     let both = rw (← c.self.view_is) at c.requires in
     let s : AreSought k c.self.inside.at c.args.x c.args.y = record { stored = c.self.invariant.0; distinct = c.self.invariant.1; above = c.self.invariant.2; within = c.self.invariant.3; first = both.0; second = both.1; differ = differ } in

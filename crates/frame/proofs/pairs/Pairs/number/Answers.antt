@@ -14,7 +14,7 @@ where_none None f p = f p
 
 pub returns-clause-number : goal.returns-clause-number
 returns-clause-number c =
-    let k = c.self.inside.stock.now in
+    let k = c.self.inside.storage.now in
     let x = c.args.name.now in
     let own = stored-naming k c.self.invariant.0 in
     is-code c.symbol_number.result (names_in k) x c.self.invariant.1 c.symbol_number.ensures.found
@@ -23,7 +23,7 @@ returns-clause-number c =
 
 pub returns-clause-unnamed : goal.returns-clause-unnamed
 returns-clause-unnamed c =
-    let k = c.self.inside.stock.now in
+    let k = c.self.inside.storage.now in
     let x = c.args.name.now in
     let own = stored-naming k c.self.invariant.0 in
     where_none c.symbol_number.result

@@ -5,13 +5,13 @@ use Rattle.frame.proofs.pairs.Pairs.row.Goals as goal
 
 pub new-requires-clause-disjoints : goal.new-requires-clause-disjoints
 new-requires-clause-disjoints c =
-    let k = c.self.inside.stock.now in
+    let k = c.self.inside.storage.now in
     let at = c.self.inside.at in
     stack-of-kind k c.self.invariant.0 c.self.invariant.1 (at - 1) c.args.x c.stack.result (omega (arith, c.self.invariant.3)) (c.stack.ensures ∙ ap (stack_at (history k.disjoints c.args.x)) (omega (arith, c.self.invariant.2)))
 
 pub returns : goal.returns
 returns c =
-    let k = c.self.inside.stock.now in
+    let k = c.self.inside.storage.now in
     let at = c.self.inside.at in
     let lt = rw (← c.self.view_is) at c.requires in
     rw (← c.self.view_is, c.new.ensures) (record {

@@ -12,5 +12,5 @@ invariant-loop-symbol l = record {
   symbols : list_all (λ x. is_constant l.self.statements x || is_variable l.self.statements x) l.expr ≡ list_all (λ x. is_constant l.self.statements x || is_variable l.self.statements x) l.symbol-iterator;
   leading : starts_with_constant l.self.statements l.expr ≡ is_constant_sort l.leader;
   typing : are_typed l.self.statements l.expr ≡ (l.typed && are_typed l.self.statements l.symbol-iterator);
-  noted : AreDone (symbols_of l.self.statements) l.expr l.symbol-iterator l.noted;
+  recorded : AreDone (symbols_of l.self.statements) l.expr l.symbol-iterator l.recorded;
 }

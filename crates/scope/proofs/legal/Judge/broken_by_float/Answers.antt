@@ -10,6 +10,6 @@ returns-clause-rule c =
     let S = c.args.self.now.statements in let l = c.args.label.now in let k = c.args.constant.now in let v = c.args.variable.now in
     let new : not (was_symbol S l || was_label S l) ≡ true = ap (λ x. not (was_symbol S x || was_label S x)) (sym c.as_bytes.ensures.bytes) ∙ (sym c.is_fresh.ensures ∙ c.if-not-is_fresh.false) in
     c.broken_by_sorts.ensures
-    ∙ sym (float-sorts S l k v c.sort_and_note-first.result c.sort_and_note-second.result new
-    (subst (λ (x : Name). IsSort S x c.sort_and_note-first.result) c.as_bytes-2.ensures.bytes c.sort_and_note-first.ensures.sort)
-    (subst (λ (x : Name). IsSort S x c.sort_and_note-second.result) c.as_bytes-3.ensures.bytes c.sort_and_note-second.ensures.sort))
+    ∙ sym (float-sorts S l k v c.sort_and_record-first.result c.sort_and_record-second.result new
+    (subst (λ (x : Name). IsSort S x c.sort_and_record-first.result) c.as_bytes-2.ensures.bytes c.sort_and_record-first.ensures.sort)
+    (subst (λ (x : Name). IsSort S x c.sort_and_record-second.result) c.as_bytes-3.ensures.bytes c.sort_and_record-second.ensures.sort))

@@ -5,7 +5,7 @@ use Rattle.mm_read.specs.Statements.{Database}
 use Rattle.scope.specs.Accepted.{Accepted}
 use Rattle.scope.specs.Active.{active_variables, typed_variables, is_variable, has_float}
 use Rattle.names.specs.Codes.{numbers_in}
-use Rattle.scope.specs.Kinds.{Declared, kind_in, names_as, Tells, TellsAll, IsNumberOf}
+use Rattle.scope.specs.Kinds.{Declared, kind_in, names_as, MatchesKind, MatchesKinds, IsNumberOf}
 use Rattle.scope.specs.Symbols.{symbols_of}
 use Rattle.scope.specs.Sorts.{IsSort, sort_by}
 use Rattle.scope.specs.declared.numbering.NameKind.{NameKind}
@@ -18,8 +18,8 @@ use Rattle.names.proofs.CodesLemmas.{code-at, found-number}
 use Rattle.scope.proofs.legal.Judge.look_up.Goals as goal
 
 -- the kind of a name by the numbering tells its declarations in the statements
-tells : (S : Database) (names : Declared) (x : Name) (k : Option NameKind) → TellsAll S names → k ≡ kind_in names x → Tells S x k
-tells S names x k told is = subst (λ (k : Option NameKind). Tells S x k) (sym is) (told x)
+tells : (S : Database) (names : Declared) (x : Name) (k : Option NameKind) → MatchesKinds S names → k ≡ kind_in names x → MatchesKind S x k
+tells S names x k told is = subst (λ (k : Option NameKind). MatchesKind S x k) (sym is) (told x)
 
 pub returns-in-Some-default-Constant-clause-sort : goal.returns-in-Some-default-Constant-clause-sort
 returns-in-Some-default-Constant-clause-sort c =
@@ -40,7 +40,7 @@ returns-in-None-clause-sort c =
     (no-sort S x (tells S c.self.inside.names.now x None c.self.invariant.told c.in-None.ensures.kind))
 
 -- the sort of a variable by its number
-variable : (S : Database) (x : Name) (n : ℕ) (r : Sort) → Tells S x (Some Variable) → IsNumberOf (symbols_of S) x n
+variable : (S : Database) (x : Name) (n : ℕ) (r : Sort) → MatchesKind S x (Some Variable) → IsNumberOf (symbols_of S) x n
     → r ≡ sort_by (list_any (λ m. m == n) (numbers_in (symbols_of S) (active_variables S))) (list_any (λ m. m == n) (numbers_in (symbols_of S) (typed_variables S))) → IsSort S x r
 variable S x n r t number is =
     let found = found-number (symbols_of S) x n (sym (code-at (symbols_of S) x n (symbols-distinct S) number.0 number.1)) in

@@ -1,7 +1,7 @@
 use Rattle.std.proofs.Common.{◌≡◌, ◌+◌, ◌∙◌, ap, sym, subst, arith, length, length-append, rules, vec_len}
 use Rattle.std.specs.Prelude.{◌++◌, ◌∷◌, [], cond}
 use Rattle.std.proofs.lemmas.List.{map-append}
-use Rattle.scope.specs.Kinds.{Declared, kind_in, with_their, names_as, declared_symbols, IsNumberOf, is_symbol_kind, is_labelling}
+use Rattle.scope.specs.Kinds.{Declared, kind_in, zip_kinds, names_as, declared_symbols, IsNumberOf, is_symbol_kind, is_labelling}
 use Rattle.scope.proofs.AcceptLemmas.{ok_of}
 use Rattle.scope.proofs.EntryLemmas.{places-count, new-number}
 use Rattle.scope.proofs.KindsLemmas.{none-kind, their-push, length-seen}
@@ -74,13 +74,13 @@ number_at-requires c =
     let len = c.len-before.ensures in
     omega (arith, few, are, same, is, len)
 
-seen : (c : After-number_at) → with_their c.add.new.self (kinds_of c.push_entry-added.new.entries.items) ≡ c.args.self.now ++ (c.args.name.now, c.args.kind) ∷ []
+seen : (c : After-number_at) → zip_kinds c.add.new.self (kinds_of c.push_entry-added.new.entries.items) ≡ c.args.self.now ++ (c.args.name.now, c.args.kind) ∷ []
 seen c =
     let a = c.self.inside in
     let e : CountedKind = record { kind = c.args.kind; before = c.len-before.result } in
     let entries = ok_of c.push_entry-added.result (sym c.if-is_err.ensures.value) c.push_entry-added.ensures.entries in
-    ap (λ names. with_their names (kinds_of c.push_entry-added.new.entries.items)) c.in_ok-place.ensures.ok
-    ∙ (ap (with_their (a.names ++ c.args.name.now ∷ [])) (ap kinds_of entries ∙ map-append (λ e. e.kind) a.entries.items (e ∷ []))
+    ap (λ names. zip_kinds names (kinds_of c.push_entry-added.new.entries.items)) c.in_ok-place.ensures.ok
+    ∙ (ap (zip_kinds (a.names ++ c.args.name.now ∷ [])) (ap kinds_of entries ∙ map-append (λ e. e.kind) a.entries.items (e ∷ []))
     ∙ (their-push a.names (kinds_of a.entries.items) c.args.name.now c.args.kind (kinds-length a.names a.entries.items c.self.invariant.same)
     ∙ ap (λ r. r ++ (c.args.name.now, c.args.kind) ∷ []) c.self.view_is))
 

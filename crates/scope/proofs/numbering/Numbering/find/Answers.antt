@@ -1,6 +1,6 @@
 use Rattle.std.proofs.Common.{◌∙◌, ap, sym, subst, arith, ℕ}
 use Rattle.std.specs.Prelude.{slice_get}
-use Rattle.scope.specs.Kinds.{Declared, names_as, kind_in, with_their, IsNumberOf}
+use Rattle.scope.specs.Kinds.{Declared, names_as, kind_in, zip_kinds, IsNumberOf}
 use Rattle.scope.specs.Stored.KindCounts.{kinds_of}
 use Rattle.names.proofs.CodesLemmas.{code-name, unknown-number}
 use Rattle.scope.proofs.KindsLemmas.{kind-none}
@@ -25,7 +25,7 @@ pub returns-in-Some-clause-number : goal.returns-in-Some-clause-number
 returns-in-Some-clause-number c =
     let a = c.self.inside in
     subst (λ (names : Declared). IsNumberOf (names_as c.entry_at-entry.result.kind names) c.args.name.now c.number_at.result) c.self.view_is
-    (subst (λ (n : ℕ). IsNumberOf (names_as c.entry_at-entry.result.kind (with_their a.names (kinds_of a.entries.items))) c.args.name.now n) (sym c.number_at.ensures)
+    (subst (λ (n : ℕ). IsNumberOf (names_as c.entry_at-entry.result.kind (zip_kinds a.names (kinds_of a.entries.items))) c.args.name.now n) (sym c.number_at.ensures)
     (number-of-entry a.names a.entries.items c.self.invariant.same c.self.invariant.counted c.entry_at-entry.result c.args.name.now c.in-Some.place (sym c.in-Some.ensures.code)
     (ap (λ es. slice_get es c.in-Some.place) (sym c.as_slice.ensures.value) ∙ c.entry_at-entry.ensures)))
 

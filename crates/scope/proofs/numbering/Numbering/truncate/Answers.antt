@@ -1,7 +1,7 @@
 use Rattle.std.proofs.Common.{◌∙◌, ap, sym, subst, arith, length, take}
 use Rattle.std.specs.Prelude.{slice_get}
 use Rattle.std.proofs.lemmas.List.{take-map, take_all}
-use Rattle.scope.specs.Kinds.{with_their, declared_symbols, declared_labels, is_symbol_kind, is_labelling}
+use Rattle.scope.specs.Kinds.{zip_kinds, declared_symbols, declared_labels, is_symbol_kind, is_labelling}
 use Rattle.scope.proofs.KindsLemmas.{their-take, length-seen}
 use Rattle.scope.specs.Stored.KindCounts.{kinds_of, AreCounted, places_that}
 use Rattle.scope.proofs.KindCountLemmas.{kinds-length, counted-take, take-same, places-take}
@@ -25,14 +25,14 @@ overflow_sub-len c =
 pub returns : goal.returns
 returns c =
     let a = c.self.inside in
-    ap (λ names. with_their names (kinds_of c.truncate-2.new.self.items)) c.truncate.ensures
-    ∙ (ap (with_their (take c.args.len a.names)) (ap kinds_of c.truncate-2.ensures.items ∙ sym (take-map (λ e. e.kind) c.args.len a.entries.items))
+    ap (λ names. zip_kinds names (kinds_of c.truncate-2.new.self.items)) c.truncate.ensures
+    ∙ (ap (zip_kinds (take c.args.len a.names)) (ap kinds_of c.truncate-2.ensures.items ∙ sym (take-map (λ e. e.kind) c.args.len a.entries.items))
     ∙ (their-take c.args.len a.names (kinds_of a.entries.items) (kinds-length a.names a.entries.items c.self.invariant.same) ∙ ap (take c.args.len) c.self.view_is))
 
 pub invariant_of-self : goal.invariant_of-self
 invariant_of-self c =
     let a = c.self.inside in
-    let D = take c.args.len (with_their a.names (kinds_of a.entries.items)) in
+    let D = take c.args.len (zip_kinds a.names (kinds_of a.entries.items)) in
     let len = c.len.ensures in let within = c.if-len.false in
     let at = ap (λ es. slice_get es c.args.len) (sym c.as_slice.ensures.value) ∙ c.entry_at-before.ensures in
     let symbols = symbols-before a.names a.entries.items c.self.invariant.same c.self.invariant.counted c.entry_at-before.result c.args.len at in

@@ -3,8 +3,8 @@ use Rattle.std.proofs.lemmas.Result.{IfOk-weaker}
 use Rattle.subst.proofs.GroupLemmas.{groups-named}
 use Rattle.subst.proofs.disjoint_cache.DisjointCache.ask.Goals as goal
 
-pub returns-clause-apart : goal.returns-clause-apart
-returns-clause-apart c =
+pub returns-clause-disjoint : goal.returns-clause-disjoint
+returns-clause-disjoint c =
     let v = c.args.pairs.now in
     IfOk-weaker c.are_groups_disjoint.result _ _ (λ ok e. e ∙ groups-named v.names c.requires.distinct v.statements (images_at c.args.symbols.now c.args.images.now) c.args.groups.now c.requires.below)
     (rw c.as_slice-symbols.ensures.symbols at c.are_groups_disjoint.ensures.disjoint)

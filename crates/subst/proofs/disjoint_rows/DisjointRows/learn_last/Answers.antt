@@ -7,18 +7,18 @@ pub loop-list-init : goal.loop-list-init
 loop-list-init c = (c.requires.placed, grows-own c.args.variables.now, c.requires.facts, pairs-own c.args.pairs.now _ c.copy-before.ensures)
 
 pub learn_list-requires-clause-below : goal.learn_list-requires-clause-below
-learn_list-requires-clause-below c = rw (← c.take_last.ensures.names ∙ c.loop-list.invariant.3.names) c.in-Some.ensures.below
+learn_list-requires-clause-below c = rw (← c.pop_disjoint.ensures.names ∙ c.loop-list.invariant.3.names) c.in-Some.ensures.below
 
 pub learn_list-requires-clause-pairs : goal.learn_list-requires-clause-pairs
 learn_list-requires-clause-pairs c =
-    list-pairs c.args.pairs.now c.loop-list.before c.take_last.new.self c.in-Some.list.now c.loop-list.invariant.3 c.in-Some.ensures.pairs (rw (← c.take_last.ensures.names ∙ c.loop-list.invariant.3.names) c.in-Some.ensures.below)
+    list-pairs c.args.pairs.now c.loop-list.before c.pop_disjoint.new.self c.in-Some.list.now c.loop-list.invariant.3 c.in-Some.ensures.pairs (rw (← c.pop_disjoint.ensures.names ∙ c.loop-list.invariant.3.names) c.in-Some.ensures.below)
 
 pub loop-list-preserved : goal.loop-list-preserved
 loop-list-preserved c = (
   c.learn_list.ensures.placed,
   grows-twice _ _ _ c.loop-list.invariant.1 c.learn_list.ensures.grows,
   c.learn_list.ensures.facts,
-  pairs-fewer c.args.pairs.now c.loop-list.before c.take_last.new.self c.in-Some.list.now c.loop-list.invariant.3 c.in-Some.ensures.pairs c.take_last.ensures.names,
+  pairs-fewer c.args.pairs.now c.loop-list.before c.pop_disjoint.new.self c.in-Some.list.now c.loop-list.invariant.3 c.in-Some.ensures.pairs c.pop_disjoint.ensures.names,
 )
 
 pub returns-in_err-learn_list-clause-grows : goal.returns-in_err-learn_list-clause-grows

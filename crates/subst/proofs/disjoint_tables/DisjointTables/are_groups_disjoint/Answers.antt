@@ -1,5 +1,5 @@
-use Rattle.subst.proofs.Words.{◌-◌, arith, length, sym, refl, ◌∙◌, images_at, image_named, are_numbers_apart}
-use Rattle.subst.proofs.ImageVariableLemmas.{most-own, noted-begin, noted-most, read-none}
+use Rattle.subst.proofs.Words.{◌-◌, arith, length, sym, refl, ◌∙◌, images_at, image_named, are_numbers_disjoint}
+use Rattle.subst.proofs.ImageVariableLemmas.{most-own, recorded-begin, recorded-most, read-none}
 use Rattle.subst.proofs.GroupLemmas.{below-group, group-goes_on, group-repeated, group-stops}
 use Rattle.subst.proofs.disjoint_tables.DisjointTables.are_groups_disjoint.Goals as goal
 
@@ -7,7 +7,7 @@ pub returns-in_err-learn-clause-tables : goal.returns-in_err-learn-clause-tables
 returns-in_err-learn-clause-tables c =
     let t = c.requires.tables in
     let n = c.args.self.now.images in
-    record { placed = c.learn.ensures.placed; noted = noted-most c.args.pairs.now c.args.self.now.variables c.learn.new.variables c.args.symbols.now n n c.learn.ensures.grows (most-own n) t.noted; facts = c.learn.ensures.facts }
+    record { placed = c.learn.ensures.placed; recorded = recorded-most c.args.pairs.now c.args.self.now.variables c.learn.new.variables c.args.symbols.now n n c.learn.ensures.grows (most-own n) t.recorded; facts = c.learn.ensures.facts }
 
 pub loop-i-init : goal.loop-i-init
 loop-i-init c =
@@ -15,8 +15,8 @@ loop-i-init c =
     let v = c.args.pairs.now in
     let n = c.args.self.now.images in
     let f = c.learn.new.variables in
-    let noted = noted-most v c.args.self.now.variables f c.args.symbols.now n n c.learn.ensures.grows (most-own n) t.noted in (
-      record { placed = c.learn.ensures.placed; noted = rw c.begin.ensures (noted-begin v f c.args.symbols.now n noted); facts = c.learn.ensures.facts },
+    let recorded = recorded-most v c.args.self.now.variables f c.args.symbols.now n n c.learn.ensures.grows (most-own n) t.recorded in (
+      record { placed = c.learn.ensures.placed; recorded = rw c.begin.ensures (recorded-begin v f c.args.symbols.now n recorded); facts = c.learn.ensures.facts },
       rw c.begin.ensures (read-none v f c.args.symbols.now c.args.images.now _ refl),
       refl,
     )
@@ -26,14 +26,14 @@ is_group_disjoint-requires-clause-below c = below-group (length c.args.pairs.now
 
 pub returns-then-not-branch-clause-disjoint : goal.returns-then-not-branch-clause-disjoint
 returns-then-not-branch-clause-disjoint c =
-    sym (group-stops (are_numbers_apart c.args.pairs.now.statements (image_named c.args.pairs.now.names (images_at c.args.symbols.now c.args.images.now))) c.args.groups.now c.loop-i.i c.get.result.now c.get.ensures
+    sym (group-stops (are_numbers_disjoint c.args.pairs.now.statements (image_named c.args.pairs.now.names (images_at c.args.symbols.now c.args.images.now))) c.args.groups.now c.loop-i.i c.get.result.now c.get.ensures
     (sym c.in_ok-is_group_disjoint.ensures.disjoint ∙ c.if-not-branch.true))
 
 pub loop-i-preserved : goal.loop-i-preserved
 loop-i-preserved c = (
   c.is_group_disjoint.ensures.tables,
   c.is_group_disjoint.ensures.read,
-  group-goes_on (are_numbers_apart c.args.pairs.now.statements (image_named c.args.pairs.now.names (images_at c.args.symbols.now c.args.images.now))) c.args.groups.now c.loop-i.i c.get.result.now c.get.ensures
+  group-goes_on (are_numbers_disjoint c.args.pairs.now.statements (image_named c.args.pairs.now.names (images_at c.args.symbols.now c.args.images.now))) c.args.groups.now c.loop-i.i c.get.result.now c.get.ensures
       c.loop-i.invariant.2 (sym c.in_ok-is_group_disjoint.ensures.disjoint ∙ c.if-not-branch.false),
 )
 
@@ -42,5 +42,5 @@ loop-i-preserved-then-is_repeated c = (
   c.loop-i.invariant.0,
   c.loop-i.invariant.1,
   (let same = c.is_repeated.ensures c.if-is_repeated.true in
-      group-repeated (are_numbers_apart c.args.pairs.now.statements (image_named c.args.pairs.now.names (images_at c.args.symbols.now c.args.images.now))) c.args.groups.now c.loop-i.i (c.loop-i.i - 1) (omega (arith, same.0)) (omega arith) same.1 c.loop-i.invariant.2),
+      group-repeated (are_numbers_disjoint c.args.pairs.now.statements (image_named c.args.pairs.now.names (images_at c.args.symbols.now c.args.images.now))) c.args.groups.now c.loop-i.i (c.loop-i.i - 1) (omega (arith, same.0)) (omega arith) same.1 c.loop-i.invariant.2),
 )

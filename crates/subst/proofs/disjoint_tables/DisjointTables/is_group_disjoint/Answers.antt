@@ -2,7 +2,7 @@ use Rattle.subst.proofs.Words.{sym, ◌∙◌, length, subst, below-at, images_a
 use Rattle.subst.proofs.VariablePlaceLemmas.{places-below, places-same}
 use Rattle.subst.proofs.DisjointRowLemmas.{facts-grown}
 use Rattle.subst.proofs.ImageVariableLemmas.{listed-in}
-use Rattle.subst.proofs.GroupLemmas.{IsInImages, images-more, next-apart, next-clash, held-clash, pairwise-more, pairwise-end, repeat-images, repeat-pairwise}
+use Rattle.subst.proofs.GroupLemmas.{IsInImages, images-more, next-disjoint, next-clash, held-clash, pairwise-more, pairwise-end, repeat-images, repeat-pairwise}
 use Rattle.subst.proofs.disjoint_tables.DisjointTables.is_group_disjoint.Goals as goal
 use Rattle.subst.proofs.disjoint_tables.DisjointTables.is_group_disjoint.Goals.{then-branch+in_ok-add_words, else-branch+else-not-contains}
 
@@ -12,7 +12,7 @@ image_of-requires-clause-number c = below-at (length c.args.pairs.now.names) c.a
 pub returns-in_err-range-clause-tables : goal.returns-in_err-range-clause-tables
 returns-in_err-range-clause-tables c = record {
   placed = c.image_of.ensures.placed;
-  noted = c.image_of.ensures.noted;
+  recorded = c.image_of.ensures.recorded;
   facts = facts-grown c.args.pairs.now c.loop-index.self.variables c.image_of.new.variables c.loop-index.self.rows c.image_of.ensures.grows c.loop-index.invariant.0.facts;
 }
 
@@ -63,15 +63,15 @@ loop-index-preserved c =
           let told = rw w.if-branch.true at c.in_ok-are_disjoint.ensures.tells in
           let adds = subst (AddsWords set w.add_words.new.self) c.words_in-words.ensures w.in_ok-add_words.ensures in
           rw w.self-is (
-            record { placed = placed; noted = c.image_of.ensures.noted; facts = c.are_disjoint.ensures.facts },
+            record { placed = placed; recorded = c.image_of.ensures.recorded; facts = c.are_disjoint.ensures.facts },
             c.image_of.ensures.read,
             images-more v f placed σ group n words r set first own w.add_words.new.self adds,
-            pairwise-more v.statements image group n l.invariant.3 (next-apart v f placed σ group n words r set first own (subst (λ xs. TellsEach v f xs set true) c.words_in-words.ensures told)),
+            pairwise-more v.statements image group n l.invariant.3 (next-disjoint v f placed σ group n words r set first own (subst (λ xs. TellsEach v f xs set true) c.words_in-words.ensures told)),
           )
       | else-branch+else-not-contains w ↦
           let any = sym w.contains.ensures ∙ w.if-not-contains.false in
           rw w.self-is (
-            record { placed = placed; noted = c.image_of.ensures.noted; facts = c.are_disjoint.ensures.facts },
+            record { placed = placed; recorded = c.image_of.ensures.recorded; facts = c.are_disjoint.ensures.facts },
             c.image_of.ensures.read,
             repeat-images v f σ group n (HasPlace set) any first,
             repeat-pairwise v.statements image group n any l.invariant.3,

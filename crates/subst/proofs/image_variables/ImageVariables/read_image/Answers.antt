@@ -17,7 +17,7 @@ returns-in-Some-find_long-clause-rest c = most-own c.args.self.now
 pub returns-in-Some-find_long-clause-range : goal.returns-in-Some-find_long-clause-range
 returns-in-Some-find_long-clause-range c =
     let found = c.in-Some-find_long.ensures in
-    let long = long-range c.args.pairs.now c.args.variables.now c.args.symbols.now c.args.self.now c.in-Some.place c.in-Some-find_long.range c.requires.noted found.0 found.1 found.2 in
+    let long = long-range c.args.pairs.now c.args.variables.now c.args.symbols.now c.args.self.now c.in-Some.place c.in-Some-find_long.range c.requires.recorded found.0 found.1 found.2 in
     rw (image-some c.args.symbols.now c.args.images.now c.args.symbol c.in-Some.place (sym c.get.ensures ∙ c.in-Some.is)) long.range
 
 pub returns-in-None-clause-range : goal.returns-in-None-clause-range

@@ -1,6 +1,6 @@
 use Rattle.verify.proofs.Words.{◌≡◌, ℕ, ◌+◌, ◌-◌, ◌≤◌, ◌++◌, [], ◌∷◌, Bool, true, false, List, length, arith, refl, sym, subst, ap, ◌∙◌, length-append, weight_limit, Name, AreBelow, AreInside, AreOver, SymbolRange, code_apply, code_image, image-more, images_at, inside-more, seen-last}
 use Rattle.subst.specs.Stored.Written.{Appends}
-use Rattle.verify.proofs.ResultPlaceLemmas.{apply-kept, apply-seen, apply-cut, grown-kept, new-place, noted-more}
+use Rattle.verify.proofs.ResultPlaceLemmas.{apply-kept, apply-seen, apply-cut, grown-kept, new-place, recorded-more}
 use Rattle.verify.proofs.results.Results.apply.Goals as goal
 
 appended : (ok : Bool) (room : ℕ) (old new e : List ℕ) → ok ≡ true → Appends ok room old new e → (new ≡ old ++ e) × (length e ≤ room)
@@ -27,42 +27,42 @@ over-more : (xs ys zs : List ℕ) (ps : List (ℕ × SymbolRange)) (names : List
 over-more xs ys zs ps names inside same over n less =
     subst (AreBelow (length names)) (sym (ap (λ s. code_image (images_at s ps) n) same ∙ image-more xs ys ps n inside)) (over n less)
 
-pub note_result-requires-clause-about : goal.note_result-requires-clause-about
-note_result-requires-clause-about c = ap (λ v. v.about) c.self.view_is ∙ c.requires.about
+pub record_result-requires-clause-about : goal.record_result-requires-clause-about
+record_result-requires-clause-about c = ap (λ v. v.about) c.self.view_is ∙ c.requires.about
 
-pub note_result-requires-clause-over : goal.note_result-requires-clause-over
-note_result-requires-clause-over c = noted-more _ _ _ _ c.self.invariant.noted (appended _ _ _ _ _ c.if-not-branch.false c.in_ok-add_applied.ensures.ok).0
+pub record_result-requires-clause-over : goal.record_result-requires-clause-over
+record_result-requires-clause-over c = recorded-more _ _ _ _ c.self.invariant.recorded (appended _ _ _ _ _ c.if-not-branch.false c.in_ok-add_applied.ensures.ok).0
 
-pub note_result-requires-clause-named : goal.note_result-requires-clause-named
-note_result-requires-clause-named c =
+pub record_result-requires-clause-named : goal.record_result-requires-clause-named
+record_result-requires-clause-named c =
     over-more c.self.inside.symbols _ _ c.self.inside.images c.args.pairs.now.names c.self.invariant.kept.images_inside (appended _ _ _ _ _ c.if-not-branch.false c.in_ok-add_applied.ensures.ok).0
     (subst (AreOver c.args.pairs.now.names) (sym (ap (λ v. v.images) c.self.view_is)) c.requires.over)
 
-pub note_result-requires-clause-inside : goal.note_result-requires-clause-inside
-note_result-requires-clause-inside c =
+pub record_result-requires-clause-inside : goal.record_result-requires-clause-inside
+record_result-requires-clause-inside c =
     let g = appended _ _ _ _ _ c.if-not-branch.false c.in_ok-add_applied.ensures.ok in
     inside-more (length c.self.inside.symbols) _ c.self.inside.images (omega (arith, ap length g.0, length-append c.self.inside.symbols (code_apply (images_at c.self.inside.symbols c.self.inside.images) c.args.expr.now))) c.self.invariant.kept.images_inside
 
-pub note_result-requires-clause-place : goal.note_result-requires-clause-place
-note_result-requires-clause-place c =
+pub record_result-requires-clause-place : goal.record_result-requires-clause-place
+record_result-requires-clause-place c =
     new-place c.self.inside.symbols _ _ c.place_between-place.result (appended _ _ _ _ _ c.if-not-branch.false c.in_ok-add_applied.ensures.ok).0
     (c.place_between-place.ensures.0 ∙ c.len-start.ensures.len) (c.place_between-place.ensures.1 ∙ c.len-2.ensures.len)
 
-pub note_result-requires-clause-whole : goal.note_result-requires-clause-whole
-note_result-requires-clause-whole c =
+pub record_result-requires-clause-whole : goal.record_result-requires-clause-whole
+record_result-requires-clause-whole c =
     let g = appended _ _ _ _ _ c.if-not-branch.false c.in_ok-add_applied.ensures.ok in
     seen-last c.self.inside.symbols _ _ c.place_between-place.result g.0 (c.place_between-place.ensures.0 ∙ c.len-start.ensures.len) (c.place_between-place.ensures.1 ∙ c.len-2.ensures.len)
     ∙ sym (applied-more c.self.inside.symbols _ _ c.self.inside.images c.args.expr.now c.self.invariant.kept.images_inside g.0)
 
-pub invariant_of-self-in_err-note_result : goal.invariant_of-self-in_err-note_result
-invariant_of-self-in_err-note_result c =
+pub invariant_of-self-in_err-record_result : goal.invariant_of-self-in_err-record_result
+invariant_of-self-in_err-record_result c =
     let g = appended _ _ _ _ _ c.if-not-branch.false c.in_ok-add_applied.ensures.ok in
     let more = grown c.self.inside.symbols _ _ c.len-start.result c.len-3.result g.0 c.len-start.ensures.len c.len-3.ensures.len in
     record {
       kept =
           grown-kept c.self.inside.symbols _ _ c.self.inside.images c.self.inside.stack.items c.self.inside.saved.items c.self.inside.weight _ c.self.invariant.kept g.0
           (ap (λ n. c.self.inside.weight + n) more) (end_light c.self.inside.weight _ c.len-start.result c.len-3.result _ (omega (arith, c.min-room.ensures)) c.self.invariant.kept.light more g.1);
-      noted = c.note_result.ensures.over;
+      recorded = c.record_result.ensures.over;
     }
 
 pub invariant_of-self-in_err-put_behind : goal.invariant_of-self-in_err-put_behind
@@ -74,7 +74,7 @@ invariant_of-self-in_err-put_behind c =
           apply-cut c.self.inside.symbols _ _ c.self.inside.images c.self.inside.stack.items c.self.inside.saved.items _ c.self.inside.weight _ (c.len.result - c.args.r) c.self.invariant.kept g.0
           c.in_err-put_behind.ensures.err
           (ap (λ n. c.self.inside.weight + n) more) (end_light c.self.inside.weight _ c.len-start.result c.len-3.result _ (omega (arith, c.min-room.ensures)) c.self.invariant.kept.light more g.1);
-      noted = c.note_result.ensures.over;
+      recorded = c.record_result.ensures.over;
     }
 
 pub invariant_of-self-2 : goal.invariant_of-self-2
@@ -86,7 +86,7 @@ invariant_of-self-2 c =
           apply-kept c.self.inside.symbols _ _ c.self.inside.images c.self.inside.stack.items c.self.inside.saved.items _ c.self.inside.weight _ (c.len.result - c.args.r) c.place_between-place.result c.self.invariant.kept g.0
           (c.place_between-place.ensures.0 ∙ c.len-start.ensures.len) (c.place_between-place.ensures.1 ∙ c.len-2.ensures.len) c.in_ok-put_behind.ensures.ok
           (ap (λ n. c.self.inside.weight + n) more) (end_light c.self.inside.weight _ c.len-start.result c.len-3.result _ (omega (arith, c.min-room.ensures)) c.self.invariant.kept.light more g.1);
-      noted = c.note_result.ensures.over;
+      recorded = c.record_result.ensures.over;
     }
 
 pub returns-clause-adds : goal.returns-clause-adds

@@ -7,5 +7,5 @@ invariant_of-self-2 c = record {
   kept =
       kept-mark c.self.inside.symbols c.self.inside.images c.self.inside.stack.items c.self.inside.saved.items _ c.self.inside.weight c.in-Some.field-0.now (length c.self.inside.stack.items - 1) c.self.invariant.kept
       (ap (λ s. slice_get s (length s - 1)) (sym c.deref.ensures.value) ∙ sym c.in-Some.ensures.value) c.in_ok-push.ensures.items;
-  noted = c.self.invariant.noted;
+  recorded = c.self.invariant.recorded;
 }

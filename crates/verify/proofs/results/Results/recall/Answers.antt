@@ -14,7 +14,7 @@ returns-then-len-self-clause-finds c = rw (← c.self.view_is) (
 pub invariant_of-self-then-len-eq0 : goal.invariant_of-self-then-len-eq0
 invariant_of-self-then-len-eq0 c = record {
   kept = kept-recall _ _ _ _ _ _ _ _ _ c.self.invariant.kept (omega (arith, c.if-index-len.false, c.len.ensures)) c.index-place.ensures c.in_ok-push.ensures.items (omega arith) c.self.invariant.kept.light;
-  noted = c.self.invariant.noted;
+  recorded = c.self.invariant.recorded;
 }
 
 pub returns-then-len-eq0-clause-finds : goal.returns-then-len-eq0-clause-finds
@@ -26,7 +26,7 @@ returns-then-len-eq0-clause-finds c = rw (← c.self.view_is) (
 pub invariant_of-self-2 : goal.invariant_of-self-2
 invariant_of-self-2 c = record {
   kept = kept-recall _ _ _ _ _ _ _ _ _ c.self.invariant.kept (omega (arith, c.if-index-len.false, c.len.ensures)) c.index-place.ensures c.in_ok-push-2.ensures.items (omega arith) (let h = c.if-len-self.false in let l = c.self.invariant.kept.light in omega (arith, h, l));
-  noted = c.self.invariant.noted;
+  recorded = c.self.invariant.recorded;
 }
 
 pub returns-clause-finds : goal.returns-clause-finds

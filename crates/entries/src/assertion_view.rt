@@ -1,0 +1,100 @@
+//! The parts of a cited assertion that a verifier reads.
+ghost use Rattle.std.specs.Prelude.{◌≡◌, ◌<◌, length, map, slice_get, Some, IfOk};
+ghost use Rattle.entries.specs.Hypotheses.{told};
+
+use crate::buffer_part::item;
+use crate::groups::Groups;
+use std::alloc::AllocError;
+use std::marker::Model;
+
+/// The typecode of an expression that has no symbols. No symbol has this number.
+pub const NO_TYPECODE: u32 = u32::MAX;
+
+/// Numbers from this one on tell a `$e` by its position, lower ones a `$f` by its variable.
+pub const ESSENTIALS: u32 = 0x8000_0000;
+
+/// A mandatory hypothesis, by numbers of symbols.
+#[derive(Clone, Copy, Debug, Drop, PartialEq, Eq)]
+pub enum Hypothesis {
+    /// A `$f`: the number of its variable.
+    Float(u32),
+    /// A `$e`: its position.
+    Essential(u32),
+}
+
+/// Returns the hypothesis as one number. A variable or a position that does not fit beside the other kind is reported as a
+/// failed allocation.
+pub fn number_of(hypothesis: Hypothesis) -> Result<u32, AllocError>
+    ensures { IfOk result (λ n. told n ≡ hypothesis) }
+{
+    match hypothesis {
+        Hypothesis::Float(variable) if variable < ESSENTIALS => Ok(variable),
+        Hypothesis::Essential(position) if position < ESSENTIALS => Ok(ESSENTIALS + position),
+        _ => Err(AllocError),
+    }
+}
+
+/// Hypotheses, each as one number. Contracts see the list of the hypotheses.
+#[derive(Drop)]
+pub struct Hypotheses<'a> {
+    numbers: &'a [u32],
+}
+
+impl<'a> Model for Hypotheses<'a> {
+    ghost use Rattle.std.specs.Prelude.{List, map};
+    ghost use Rattle.{entries.specs.declared.assertion_view.Hypothesis.Hypothesis, entries.specs.Hypotheses.told};
+
+    ghost Value = { List Hypothesis };
+
+    ghost view = { λ a. map told a.numbers.now };
+}
+
+impl<'a> Hypotheses<'a> {
+    /// Returns the hypotheses that these numbers tell.
+    pub fn new(numbers: &'a [u32]) -> Hypotheses<'a>
+        ensures { result ≡ map told numbers.now }
+    {
+        Hypotheses { numbers }
+    }
+
+    /// Returns how many there are.
+    pub fn len(&self) -> usize
+        ensures { result ≡ length self.now }
+    {
+        self.numbers.len()
+    }
+
+    /// Returns the hypothesis at an index, from 0.
+    #[inline(always)]
+    pub fn get(&self, index: usize) -> Hypothesis
+        requires { index < length self.now }
+        ensures { slice_get self.now index ≡ Some result }
+    {
+        hypothesis_of(item(self.numbers, index))
+    }
+}
+
+/// Returns the hypothesis that a number tells.
+#[inline(always)]
+fn hypothesis_of(number: u32) -> Hypothesis
+    ensures { result ≡ told number }
+{
+    if number < ESSENTIALS {
+        Hypothesis::Float(number)
+    } else {
+        Hypothesis::Essential(number - ESSENTIALS)
+    }
+}
+
+/// An assertion by numbers of symbols.
+#[derive(Drop)]
+pub struct AssertionView<'a> {
+    /// The typecode of each mandatory hypothesis, in order.
+    pub typecodes: &'a [u32],
+    /// The hypotheses, in order.
+    pub hypotheses: Hypotheses<'a>,
+    /// Its expression.
+    pub conclusion: &'a [u32],
+    /// The variables whose images must be disjoint, each two of a group.
+    pub groups: Groups<'a>,
+}

@@ -1,0 +1,29 @@
+//! The state before a statement, kept beside its parts.
+use crate::kind::Kind;
+use crate::last_active::LastActive;
+
+/// The state before a statement.
+#[derive(Clone, Copy, Drop)]
+pub struct StateBefore {
+    /// How many labels there were: the number of its own, where it has one.
+    pub label: u32,
+    /// How many names there were.
+    pub names: u32,
+    /// The last active statements.
+    pub last_active: LastActive,
+}
+
+/// A statement's kind, and the state before it.
+#[derive(Clone, Copy, Drop)]
+pub struct EntryHeader {
+    pub kind: Kind,
+    pub before: StateBefore,
+}
+
+/// A statement that is kept: its kind, the state before it, and the numbers of its symbols.
+#[derive(Clone, Copy, Drop)]
+pub struct EntryRef<'a> {
+    pub kind: Kind,
+    pub before: StateBefore,
+    pub symbols: &'a [u32],
+}

@@ -1,5 +1,0 @@
-use Rattle.frame.proofs.OneFrameLemmas.{noted}
-use Rattle.frame.proofs.one_frame.note.Goals as goal
-
-pub returns : goal.returns
-returns c = λ x. noted c.args.used.now c.code.new.self x c.args.name.now c.in_ok-code.field-0 c.in_ok-code.ensures.name.1 c.in_ok-code.ensures.known c.in_ok-code.ensures.fresh

@@ -1,0 +1,56 @@
+-- The parts of an assertion by numbers: each mandatory hypothesis has its typecode and one number.
+-- Metamath, 4.2.6: a citation of an assertion needs results for its mandatory hypotheses.
+-- The code keeps these parts by the assertion; the expression of a `$e` is read where the `$e` stands.
+use Rattle.std.specs.Prelude.{◌≡◌, ℕ, ◌<◌, List, [], ◌∷◌, length, map, Some}
+use Rattle.frame.specs.Words.{Name, Stmt, Expr, Database, stmt_at, before, expr_of, name_at, decode, Hypothesis, Assertion}
+use Rattle.mm_read.specs.declared.stmt.Stmt.TheVariants as stmt
+use Rattle.entries.specs.declared.assertion_view.Hypothesis.TheVariants.{Float, Essential}
+use Rattle.entries.specs.declared.assertion_view.AssertionView.{AssertionView}
+use Rattle.entries.specs.declared.assertion_view.TheConstants.{NO_TYPECODE}
+use Rattle.frame.specs.FrameOf.{hypotheses, mandatory_groups}
+use Rattle.frame.specs.Below.{AreBelow, AllBelow}
+
+-- the first of the numbers
+abbrev pub typecode_of : List ℕ → ℕ
+typecode_of [] = NO_TYPECODE
+typecode_of (c ∷ codes) = c
+
+-- the number stands for the typecode
+abbrev pub IsTypecode : List Name → ℕ → Expr → Type 0
+IsTypecode names h [] = h ≡ NO_TYPECODE
+IsTypecode names h (x ∷ e) = (h < length names) × (name_at names h ≡ x)
+
+-- the statement at p is this hypothesis
+abbrev pub IsOf : List Name → ℕ → Stmt → Hypothesis → Type 0
+IsOf names p (stmt.Float label constant variable) (Float x) = (x < length names) × (name_at names x ≡ variable)
+IsOf names p (stmt.Ess label expr) (Essential q) = q ≡ p
+IsOf names p s h = ⊥
+
+-- the hypothesis at p, by its typecode and its number
+pub record IsRequired (S : Database) (names : List Name) (p typecode : ℕ) (h : Hypothesis) : Type 0 where
+  pub stmt : Stmt
+  pub stands : stmt_at S p ≡ Some stmt
+  pub first : IsTypecode names typecode (expr_of stmt)
+  pub is : IsOf names p stmt h
+
+abbrev pub AreRequired : Database → List Name → List ℕ → List ℕ → List Hypothesis → Type 0
+AreRequired S names [] [] [] = Unit {0}
+AreRequired S names (p ∷ ps) (typecode ∷ typecodes) (h ∷ hs) = IsRequired S names p typecode h × AreRequired S names ps typecodes hs
+AreRequired S names ps typecodes hs = ⊥
+
+-- these lists are made of the assertion s at a
+pub record AreListsOf (S : Database) (names : List Name) (a : ℕ) (g : Assertion) (s : Stmt) : Type 0 where
+  pub required : AreRequired S names (hypotheses (before S a) s) g.typecodes g.required
+  pub groups : map (decode names) g.groups ≡ mandatory_groups (before S a) s
+  pub groups_below : AllBelow (length names) g.groups
+
+abbrev pub AreBuffersOf : Database → List Name → ℕ → Assertion → Type 0
+AreBuffersOf S names a g = (s : Stmt) → stmt_at S a ≡ Some s → AreListsOf S names a g s
+
+-- the parts of the assertion s at a
+pub record IsViewOf (S : Database) (names : List Name) (a : ℕ) (s : Stmt) (c : AssertionView) : Type 0 where
+  pub required : AreRequired S names (hypotheses (before S a) s) c.typecodes.now c.hypotheses
+  pub conclusion : decode names c.conclusion.now ≡ expr_of s
+  pub conclusion_below : AreBelow (length names) c.conclusion.now
+  pub groups : map (decode names) c.groups ≡ mandatory_groups (before S a) s
+  pub groups_below : AllBelow (length names) c.groups

@@ -1,0 +1,31 @@
+//! Images that are disjoint by the `$d` active at a position.
+ghost use Rattle.std.specs.Prelude.{◌≡◌, length};
+ghost use Rattle.{names.specs.Codes.decode, frame.specs.Below.AreBelow, frame.specs.Disjoint.are_disjoint};
+
+use crate::pairs::{Pairs, contains};
+
+impl<'a> Pairs<'a> {
+    /// Returns whether each variable of the one list and each of the other are different and stand together in an
+    /// active `$d`.
+    ///
+    /// A variable that stands earlier in its list is passed over. Does not allocate. Cost: for each pair of a variable
+    /// from each list that of `has`, and the symbols before each variable in its list.
+    pub fn are_disjoint(&self, left: &[u32], right: &[u32]) -> bool
+        requires left { AreBelow (length self.now.names) left.now }
+        requires right { AreBelow (length self.now.names) right.now }
+        ensures { result ≡ are_disjoint self.now.statements (decode self.now.names left.now) (decode self.now.names right.now) }
+    {
+        for i in 0..left.len() {
+            let x = left[i];
+            if self.variable(x) && !contains(&left[..i], x) {
+                for k in 0..right.len() {
+                    let y = right[k];
+                    if self.variable(y) && !contains(&right[..k], y) && !self.has(x, y) {
+                        return false;
+                    }
+                }
+            }
+        }
+        true
+    }
+}

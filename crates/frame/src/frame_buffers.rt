@@ -1,0 +1,95 @@
+//! Buffers for the parts of an assertion.
+ghost use Rattle.std.specs.Prelude.{◌≡◌, length, false};
+ghost use Rattle.{entries.specs.Entries.AreShapedParts, entries.specs.Entries.assertion_of, entries.specs.Entries.partless};
+
+use entries::{AssertionParts, BufferPart};
+use scope::Stack;
+use std::alloc::Global;
+use std::marker::Model;
+
+/// The mandatory hypotheses and groups of an assertion, in buffers that serve one after another.
+///
+/// Contracts see them as an assertion is kept.
+#[derive(Drop)]
+pub struct FrameBuffers {
+    /// Whether the parts are whole, or only those that the assertion adds to what is active.
+    pub(crate) whole: bool,
+    /// The symbols whose `$f` was looked for, and then the variables of the hypotheses.
+    pub(crate) recorded: Stack,
+    /// The positions of its hypotheses, in order.
+    pub(crate) hypotheses: Vec<u32>,
+    /// Each hypothesis as one number.
+    pub(crate) required: Vec<u32>,
+    /// The typecode of each.
+    pub(crate) typecodes: Vec<u32>,
+    /// The variables whose images must be disjoint, one group after another.
+    pub(crate) places: Vec<u32>,
+    /// The groups.
+    pub(crate) groups: Vec<BufferPart>,
+}
+
+impl Model for FrameBuffers {
+    ghost use Rattle.std.specs.Prelude.{length, map};
+    ghost use Rattle.{entries.specs.Entries.Assertion, entries.specs.Hypotheses.told, entries.specs.Stored.Spans.cut, entries.specs.Stored.Spans.AreSpansIn};
+
+    ghost Value = { Assertion };
+
+    ghost view = { λ a. record { whole = a.whole; hypotheses = a.hypotheses.items; required = map told a.required.items; typecodes = a.typecodes.items; groups = cut a.places.items a.groups.items } };
+
+    ghost invariant = { λ a. AreSpansIn (length a.places.items) a.groups.items };
+}
+
+impl FrameBuffers {
+    /// Returns empty buffers.
+    pub fn new(alloc: Global) -> FrameBuffers {
+        FrameBuffers {
+            whole: false,
+            recorded: Stack::new(alloc),
+            hypotheses: Vec::new(alloc),
+            required: Vec::new(alloc),
+            typecodes: Vec::new(alloc),
+            places: Vec::new(alloc),
+            groups: Vec::new(alloc),
+        }
+    }
+
+    /// Returns the kept form of a statement with these symbols.
+    pub(crate) fn parts<'a>(&'a self, symbols: &'a [u32]) -> AssertionParts<'a>
+        requires required { length self.now.required ≡ length self.now.hypotheses }
+        requires typecodes { length self.now.typecodes ≡ length self.now.hypotheses }
+        ensures shaped { AreShapedParts result }
+        ensures symbols { result.symbols.now ≡ symbols.now }
+        ensures assertion { assertion_of result ≡ self.now }
+    {
+        AssertionParts {
+            whole: self.whole,
+            symbols,
+            hypotheses: &self.hypotheses,
+            required: &self.required,
+            typecodes: &self.typecodes,
+            places: &self.places,
+            groups: &self.groups,
+        }
+    }
+
+    /// Returns how many numbers the parts have when they are kept.
+    pub(crate) fn size(&self) -> usize {
+        let hypotheses = self.hypotheses.len().saturating_mul(3);
+        let groups = self.groups.len().saturating_mul(2);
+        hypotheses
+            .saturating_add(groups)
+            .saturating_add(self.places.len())
+    }
+
+    /// Empties the buffers, which keep their room.
+    pub(crate) fn clear(&mut self)
+        ensures { self.new ≡ partless false }
+    {
+        self.whole = false;
+        self.hypotheses.clear();
+        self.required.clear();
+        self.typecodes.clear();
+        self.places.clear();
+        self.groups.clear();
+    }
+}

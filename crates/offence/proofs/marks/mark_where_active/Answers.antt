@@ -1,9 +1,0 @@
-use Rattle.std.proofs.Common.{◌≡◌, ◌==◌, ◌&&◌, false, sym, ap, rules}
-use Rattle.offence.specs.Search.{meets}
-use Rattle.offence.proofs.MarksLemmas.{marked-none}
-use Rattle.offence.proofs.marks.mark_where_active.Goals as goal
-
-pub returns-else-closed-eq0 : goal.returns-else-closed-eq0
-returns-else-closed-eq0 c =
-    let closed : (c.args.closed == 0) ≡ false = search rules in
-    sym (marked-none (λ x. c.args.closed == 0 && meets c.args.part x c.args.stmt.now) c.args.mark (λ x. ap (λ b. b && meets c.args.part x c.args.stmt.now) closed) c.args.names.now c.args.marks.now)

@@ -1,7 +1,0 @@
-use Rattle.std.proofs.Common.{◌≡◌, drop}
-use Rattle.std.specs.List.{list_any}
-use Rattle.offence.specs.Search.{meets}
-use Rattle.offence.proofs.search.find.Given as goal
-
-abbrev pub invariant-loop-i : goal.invariant-loop-i
-invariant-loop-i l = list_any (meets l.part l.name) l.earlier ≡ list_any (meets l.part l.name) (drop l.i l.earlier)

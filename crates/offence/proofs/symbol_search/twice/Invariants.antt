@@ -1,9 +1,0 @@
-use Rattle.std.proofs.Common.{◌≡◌, ◌++◌}
-use Rattle.names.specs.Codes.{AreDistinct}
-use Rattle.offence.proofs.symbol_search.twice.Given as goal
-
-abbrev pub invariant-loop-word : goal.invariant-loop-word
-invariant-loop-word l = record {
-  split : l.names ++ l.word-iterator ≡ l.words;
-  distinct : AreDistinct l.names;
-}

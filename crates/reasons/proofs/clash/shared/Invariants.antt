@@ -1,9 +1,0 @@
-use Rattle.std.proofs.Common.{◌≡◌, drop}
-use Rattle.names.specs.Codes.{decode}
-use Rattle.frame.specs.Disjoint.{are_apart}
-use Rattle.reasons.proofs.clash.shared.Given as goal
-
-abbrev pub invariant-loop-one : goal.invariant-loop-one
-invariant-loop-one l =
-    are_apart l.pairs.statements (decode l.pairs.names l.left) (decode l.pairs.names l.right)
-    ≡ are_apart l.pairs.statements (decode l.pairs.names (drop l.one-index l.left)) (decode l.pairs.names l.right)

@@ -1,0 +1,3 @@
+pub mod SearchLemmas
+pub mod MarksLemmas
+pub mod ViolationLemmas

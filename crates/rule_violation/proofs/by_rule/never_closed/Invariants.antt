@@ -1,0 +1,9 @@
+use Rattle.std.proofs.Common.{◌≡◌, ◌+◌, ◌≤◌, length, drop}
+use Rattle.rule_violation.specs.Search.{closed_behind}
+use Rattle.rule_violation.proofs.by_rule.never_closed.Given as goal
+
+abbrev pub invariant-loop-i : goal.invariant-loop-i
+invariant-loop-i l = record {
+  closed : l.closed ≡ closed_behind (drop l.i l.statements);
+  few : l.closed + l.i ≤ length l.statements;
+}

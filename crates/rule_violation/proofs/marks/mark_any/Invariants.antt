@@ -1,0 +1,9 @@
+use Rattle.std.proofs.Common.{◌≡◌, drop}
+use Rattle.std.specs.List.{list_any}
+use Rattle.rule_violation.specs.Marks.{marked}
+use Rattle.rule_violation.specs.Search.{meets}
+use Rattle.rule_violation.proofs.marks.mark_any.Given as goal
+
+abbrev pub invariant-loop-i : goal.invariant-loop-i
+invariant-loop-i l =
+    marked (λ x. list_any (meets l.part x) (drop l.i l.earlier)) l.mark l.names l.marks ≡ marked (λ x. list_any (meets l.part x) l.earlier) l.mark l.names l.initial.marks

@@ -1,0 +1,11 @@
+use Rattle.std.proofs.Common.{◌≡◌, false, sym, rules}
+use Rattle.mm_lex.specs.Alphabet.{has_name}
+use Rattle.scope.specs.Active.{constants}
+use Rattle.mm_lex.specs.Alphabet.{Name}
+use Rattle.rule_violation.proofs.MarksLemmas.{marked-none}
+use Rattle.rule_violation.proofs.marks.mark_constants.Goals as goal
+
+pub returns-in_default : goal.returns-in_default
+returns-in_default c =
+    let none : (x : Name) → has_name x (constants c.args.stmt.now) ≡ false = λ x. search rules in
+    sym (marked-none (λ x. has_name x (constants c.args.stmt.now)) c.args.mark none c.args.names.now c.args.marks.now)

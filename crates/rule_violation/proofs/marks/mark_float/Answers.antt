@@ -1,0 +1,10 @@
+use Rattle.std.proofs.Common.{◌≡◌, false, sym, rules}
+use Rattle.scope.specs.Active.{is_float_of}
+use Rattle.mm_lex.specs.Alphabet.{Name}
+use Rattle.rule_violation.proofs.MarksLemmas.{marked-none}
+use Rattle.rule_violation.proofs.marks.mark_float.Goals as goal
+
+pub returns-in_default : goal.returns-in_default
+returns-in_default c =
+    let none : (x : Name) → is_float_of x c.args.stmt.now ≡ false = λ x. search rules in
+    sym (marked-none (λ x. is_float_of x c.args.stmt.now) c.args.mark none c.args.names.now c.args.marks.now)

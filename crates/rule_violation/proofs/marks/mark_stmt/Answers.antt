@@ -1,0 +1,23 @@
+use Rattle.std.proofs.Common.{◌∙◌, sym, ap, refl, ◌||◌}
+use Rattle.mm_lex.specs.Alphabet.{has_name}
+use Rattle.scope.specs.Active.{label_of, has_label, constants, variables}
+use Rattle.rule_violation.specs.Marks.{marked}
+use Rattle.rule_violation.specs.Search.{meets}
+use Rattle.rule_violation.proofs.MarksLemmas.{marked-both, marked-three}
+use Rattle.rule_violation.proofs.marks.mark_stmt.Goals as goal
+
+pub returns-in-Named : goal.returns-in-Named
+returns-in-Named c =
+    let s = c.args.stmt.now in let v = c.args.mark in let names = c.args.names.now in let marks = c.args.marks.now in
+    c.mark_variables.ensures
+    ∙ (ap (marked (λ x. has_name x (variables s)) v names) (c.mark_constants.ensures ∙ ap (marked (λ x. has_name x (constants s)) v names) c.mark_label.ensures)
+    ∙ (marked-three (λ x. has_label x (label_of s)) (λ x. has_name x (constants s)) (λ x. has_name x (variables s)) v names marks
+    ∙ ap (λ p. marked (λ x. meets p x s) v names marks) (sym c.in-Named.is)))
+
+pub returns-in-Fixed : goal.returns-in-Fixed
+returns-in-Fixed c =
+    let s = c.args.stmt.now in let v = c.args.mark in let names = c.args.names.now in let marks = c.args.marks.now in
+    c.mark_constants-in-Fixed.ensures
+    ∙ (ap (marked (λ x. has_name x (constants s)) v names) c.mark_label-in-Fixed.ensures
+    ∙ (marked-both (λ x. has_name x (constants s)) (λ x. has_label x (label_of s)) (λ x. has_label x (label_of s) || has_name x (constants s)) v (λ x. refl) names marks
+    ∙ ap (λ p. marked (λ x. meets p x s) v names marks) (sym c.in-Fixed.is)))

@@ -1,0 +1,7 @@
+use Rattle.std.proofs.Common.{◌≡◌}
+use Rattle.mm_lex.specs.Alphabet.{has_name}
+use Rattle.rule_violation.specs.Marks.{marked}
+use Rattle.rule_violation.proofs.marks.mark_words.Given as goal
+
+abbrev pub invariant-loop-word : goal.invariant-loop-word
+invariant-loop-word l = marked (λ x. has_name x l.word-iterator) l.mark l.names l.marks ≡ marked (λ x. has_name x l.words) l.mark l.names l.initial.marks

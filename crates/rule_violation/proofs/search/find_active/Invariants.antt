@@ -1,0 +1,12 @@
+use Rattle.std.proofs.Common.{◌≡◌, ◌+◌, ◌≤◌, false, drop, length}
+use Rattle.std.specs.List.{list_any}
+use Rattle.scope.specs.Active.{active_from}
+use Rattle.rule_violation.specs.Search.{meets, closed_behind}
+use Rattle.rule_violation.proofs.search.find_active.Given as goal
+
+abbrev pub invariant-loop-i : goal.invariant-loop-i
+invariant-loop-i l = record {
+  none : list_any (λ p. meets l.part l.name p.1) (active_from (l.i + 1) (drop l.i l.earlier)) ≡ false;
+  closed : l.closed ≡ closed_behind (drop l.i l.earlier);
+  few : l.closed + l.i ≤ length l.earlier;
+}

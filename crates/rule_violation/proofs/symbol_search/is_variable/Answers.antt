@@ -1,0 +1,12 @@
+use Rattle.std.proofs.Common.{◌∙◌}
+use Rattle.std.specs.List.{list_any}
+use Rattle.scope.specs.Active.{active}
+use Rattle.rule_violation.specs.declared.search.Part.TheVariants as part
+use Rattle.rule_violation.specs.Search.{meets, IsActiveAt}
+use Rattle.rule_violation.proofs.SearchLemmas.{some_told, IsActiveAt-any}
+use Rattle.rule_violation.proofs.symbol_search.is_variable.Goals as goal
+
+pub returns : goal.returns
+returns c =
+    let t = meets part.Variable c.args.name.now in let S = c.args.earlier.now in
+    c.is_some.ensures ∙ some_told c.find_active.result (list_any (λ p. t p.1) (active S)) (λ i. IsActiveAt S i t) c.find_active.ensures (λ i h. IsActiveAt-any S i t h)

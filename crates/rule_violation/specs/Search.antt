@@ -1,0 +1,57 @@
+-- Earlier statements that have to do with a name, and those of them that are active.
+-- Source: Metamath, 4.2.8.
+-- The code goes back from the end and counts the blocks that are closed later; active is told as in the crate scope.
+use Rattle.std.specs.Prelude.{◌≡◌, ℕ, suc, ◌-◌, Bool, ◌||◌, ◌&&◌, not, List, [], ◌∷◌, drop, Some, slice_get, IsTrue}
+use Rattle.std.specs.List.{list_any}
+use Rattle.mm_lex.specs.Alphabet.{Name, has_name}
+use Rattle.mm_read.specs.declared.stmt.Stmt.{Stmt}
+use Rattle.mm_read.specs.declared.stmt.Stmt.TheVariants.{Open, Close}
+use Rattle.mm_read.specs.Statements.{Database}
+use Rattle.scope.specs.Active.{stmt_at, stays_open, constants, variables, label_of, has_label, is_float_of, is_constant, is_variable, has_float}
+use Rattle.rule_violation.specs.declared.symbol_search.Test.{Test}
+use Rattle.rule_violation.specs.declared.symbol_search.Test.TheVariants.{Named as Again, Taken, Unknown, Inactive, Untyped}
+use Rattle.rule_violation.specs.declared.search.Part.{Part}
+use Rattle.rule_violation.specs.declared.search.Part.TheVariants.{Named, Fixed, Constant, Variable, Float}
+
+-- whether the statement has the name in that part: as its label or among the symbols that it declares; as its label or a
+-- constant; as a constant; as a variable; as the variable of a `$f`
+abbrev pub meets : Part → Name → Stmt → Bool
+meets Named x s = has_label x (label_of s) || (has_name x (constants s) || has_name x (variables s))
+meets Fixed x s = has_label x (label_of s) || has_name x (constants s)
+meets Constant x s = has_name x (constants s)
+meets Variable x s = has_name x (variables s)
+meets Float x s = is_float_of x s
+
+-- the statement at i passes the test
+pub record IsAt (S : Database) (i : ℕ) (test : Stmt → Bool) : Type 0 where
+  pub stmt : Stmt
+  pub stands : stmt_at S i ≡ Some stmt
+  pub passes : IsTrue (test stmt)
+
+-- .. and is active after S
+pub record IsActiveAt (S : Database) (i : ℕ) (test : Stmt → Bool) : Type 0 where
+  pub at : IsAt S i test
+  pub stays : IsTrue (stays_open 0 (drop i S))
+
+-- how many `$}` close a block that was open before the statement and those after it, of which so many do
+abbrev pub closed_by : Stmt → ℕ → ℕ
+closed_by Open n = n - 1
+closed_by Close n = suc n
+closed_by s n = n
+
+abbrev pub closed_behind : Database → ℕ
+closed_behind [] = 0
+closed_behind (s ∷ S) = closed_by s (closed_behind S)
+
+-- the faults of a symbol after S
+abbrev pub fails : Database → Test → Name → Bool
+fails S Again x = list_any (meets Named x) S
+fails S Taken x = is_variable S x || list_any (meets Fixed x) S
+fails S Unknown x = not (is_constant S x || is_variable S x)
+fails S Inactive x = not (is_variable S x)
+fails S Untyped x = is_variable S x && not (has_float S x)
+
+-- the one of these names at an index, from 0, passes the test
+pub record IsSymbolAt (names : List Name) (test : Name → Bool) (index : ℕ) (name : Name) : Type 0 where
+  pub stands : slice_get names index ≡ Some name
+  pub passes : IsTrue (test name)

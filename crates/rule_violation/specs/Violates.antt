@@ -1,0 +1,79 @@
+-- Violations of rules, one for each of the ten.
+-- Source: Metamath, 4.2; the rules are those of the crate scope.
+-- The code looks for the first such symbol; here a violation is defined without the search for it.
+use Rattle.std.specs.Prelude.{◌≡◌, ℕ, ◌<◌, Bool, false, ◌⊎◌, List, [], ◌∷◌, Some, slice_get, IsTrue, IsFalse}
+use Rattle.mm_lex.specs.Alphabet.{Name}
+use Rattle.mm_read.specs.declared.stmt.Stmt.{Stmt}
+use Rattle.mm_read.specs.declared.stmt.Stmt.TheVariants.{Float, Ess, Axiom, Prove}
+use Rattle.mm_read.specs.Statements.{Database, Expr}
+use Rattle.scope.specs.declared.rule.Rule.{Rule}
+use Rattle.scope.specs.declared.rule.Rule.TheVariants.{G1, G2, G3, G4, G5, G6, G7, G8, G9, G10}
+use Rattle.scope.specs.Active.{constants, variables, separated, expr_of, label_of, is_constant, is_variable, has_float}
+use Rattle.scope.specs.Legal.{keeps}
+use Rattle.rule_violation.specs.declared.search.Part.TheVariants as part
+use Rattle.rule_violation.specs.declared.violation.RuleViolation.{RuleViolation}
+use Rattle.rule_violation.specs.declared.violation.RuleViolation.TheVariants.{Statement, Symbol, Twice, Earlier, Label}
+use Rattle.rule_violation.specs.Search.{meets, IsAt, IsActiveAt}
+
+-- the one of these symbols at an index, from 0, is so
+pub record Among (names : List Name) (index : ℕ) (P : Name → Type 0) : Type 0 where
+  pub name : Name
+  pub stands : slice_get names index ≡ Some name
+  pub is : P name
+
+-- the violation is a symbol that passes the test
+abbrev pub IsSymbolOf : List Name → (Name → Bool) → RuleViolation → Type 0
+IsSymbolOf names test (Symbol k) = Among names k (λ x. IsTrue (test x))
+IsSymbolOf names test w = ⊥
+
+-- the violation is a statement that carries or declares the label
+abbrev pub IsLabelOf : Database → Name → RuleViolation → Type 0
+IsLabelOf S x (Label i) = IsAt S i (meets part.Named x)
+IsLabelOf S x w = ⊥
+
+-- it stands at both places
+abbrev pub IsTwice : List Name → ℕ → ℕ → Type 0
+IsTwice names first second = (first < second) × Among names second (λ x. slice_get names first ≡ Some x)
+
+abbrev pub IsRepeated : List Name → RuleViolation → Type 0
+IsRepeated names (Twice first second) = IsTwice names first second
+IsRepeated names w = ⊥
+
+-- the expression of a `$e`, `$a` or `$p`
+abbrev pub typed_expr : Stmt → Expr
+typed_expr (Ess label expr) = expr
+typed_expr (Axiom label expr) = expr
+typed_expr (Prove label expr proof) = expr
+typed_expr s = []
+
+-- the variable that a `$f` types, after its constant
+abbrev pub float_expr : Stmt → Expr
+float_expr (Float label constant variable) = constant ∷ variable ∷ []
+float_expr s = []
+
+-- the statement breaks the rule after S by this
+abbrev pub Violates : Database → Stmt → Rule → RuleViolation → Type 0
+-- a `$c` inside a block, or a `$}` that closes none
+Violates S s G1 Statement = keeps S s G1 ≡ false
+Violates S s G10 Statement = keeps S s G10 ≡ false
+-- a constant that an earlier statement carries or declares, or that stands twice
+Violates S s G2 (Earlier k i) = Among (constants s) k (λ x. IsAt S i (meets part.Named x))
+Violates S s G2 (Twice j k) = IsTwice (constants s) j k
+-- a variable that an earlier statement carries or declares as a constant, or an active one as a variable, or that stands twice
+Violates S s G3 (Earlier k i) = Among (variables s) k (λ x. IsAt S i (meets part.Fixed x) ⊎ IsActiveAt S i (meets part.Variable x))
+Violates S s G3 (Twice j k) = IsTwice (variables s) j k
+-- the label, which an earlier statement carries or declares
+Violates S s G4 (Label i) = (x : Name) × (label_of s ≡ Some x) × IsAt S i (meets part.Named x)
+-- a symbol that is neither a constant nor an active variable
+Violates S s G5 (Symbol k) = Among (expr_of s) k (λ x. IsFalse (is_constant S x) × IsFalse (is_variable S x))
+-- the first symbol, which is no constant
+Violates S s G6 (Symbol k) = (k ≡ 0) × Among (expr_of s) k (λ x. IsFalse (is_constant S x))
+-- the second symbol of a `$f`, which is no active variable, or has that active `$f`
+Violates S s G7 (Symbol k) = (k ≡ 1) × Among (float_expr s) k (λ x. IsFalse (is_variable S x))
+Violates S s G7 (Earlier k i) = (k ≡ 1) × Among (float_expr s) k (λ x. IsActiveAt S i (meets part.Float x))
+-- a symbol of a `$d` that is no active variable, or that stands twice
+Violates S s G8 (Symbol k) = Among (separated s) k (λ x. IsFalse (is_variable S x))
+Violates S s G8 (Twice j k) = IsTwice (separated s) j k
+-- a variable that has no active `$f`
+Violates S s G9 (Symbol k) = Among (typed_expr s) k (λ x. IsTrue (is_variable S x) × IsFalse (has_float S x))
+Violates S s rule w = ⊥

@@ -1,0 +1,208 @@
+//! The violation of a rule.
+ghost use Rattle.std.specs.Prelude.{◌≡◌, ◌==◌, ◌&&◌, false, IfOk, IsSomeAnd, IfSome, MatchOption};
+ghost use Rattle.std.specs.List.{list_any};
+ghost use Rattle.scope.specs.Active.{is_open};
+ghost use Rattle.scope.specs.Legal.{keeps};
+ghost use Rattle.scope.specs.declared.rule.Rule.TheVariants as rule;
+ghost use Rattle.rule_violation.specs.Search.{meets, fails, IsActiveAt};
+ghost use Rattle.rule_violation.specs.declared.search.Part.TheVariants as part;
+ghost use Rattle.rule_violation.specs.Violates.{IsLabelOf, IsSymbolOf, Violates};
+
+use crate::search::{Part, closed_by, find, find_active};
+use crate::symbol_search::{Test, first, is_symbol, twice};
+use crate::violation::RuleViolation;
+use mm_lex::{Word, Words};
+use mm_read::Stmt;
+use scope::Rule;
+use std::alloc::{AllocError, Global};
+
+/// Returns what breaks the rule in a statement after the earlier ones, which does not keep it.
+///
+/// Cost: few passes over the earlier statements, with a look-up of each name that they have among those of the statement.
+pub fn violation_of(
+    alloc: Global,
+    earlier: &[Stmt],
+    stmt: &Stmt,
+    rule: Rule,
+) -> Result<Option<RuleViolation>, AllocError>
+    ensures { keeps earlier.now stmt.now rule ≡ false → IfOk result (λ violation. IsSomeAnd violation (Violates earlier.now stmt.now rule)) }
+{
+    match rule {
+        Rule::G1 => Ok(Some(RuleViolation::Statement)),
+        Rule::G2 => of_constants(alloc, earlier, stmt),
+        Rule::G3 => of_variables(alloc, earlier, stmt),
+        Rule::G4 => Ok(of_label(earlier, stmt)),
+        Rule::G5 => of_expression(alloc, earlier, stmt),
+        Rule::G6 => Ok(Some(RuleViolation::Symbol { symbol: 0 })),
+        Rule::G7 => Ok(of_float(earlier, stmt)),
+        Rule::G8 => of_disjoint(alloc, earlier, stmt),
+        Rule::G9 => of_typed(alloc, earlier, stmt),
+        Rule::G10 => Ok(Some(RuleViolation::Statement)),
+        Rule::Memory => Ok(None),
+    }
+}
+
+fn of_constants(
+    alloc: Global,
+    earlier: &[Stmt],
+    stmt: &Stmt,
+) -> Result<Option<RuleViolation>, AllocError>
+    ensures { keeps earlier.now stmt.now rule.G2 ≡ false → IfOk result (λ violation. IsSomeAnd violation (Violates earlier.now stmt.now rule.G2)) }
+{
+    let Stmt::Const(names) = stmt else {
+        return Ok(None);
+    };
+    let Some((symbol, name)) = first(alloc, earlier, names, Test::Named)? else {
+        return twice(alloc, names);
+    };
+    match find(earlier, Part::Named, name) {
+        Some(statement) => Ok(Some(RuleViolation::Earlier { symbol, statement })),
+        None => Ok(None),
+    }
+}
+
+fn of_variables(
+    alloc: Global,
+    earlier: &[Stmt],
+    stmt: &Stmt,
+) -> Result<Option<RuleViolation>, AllocError>
+    ensures { keeps earlier.now stmt.now rule.G3 ≡ false → IfOk result (λ violation. IsSomeAnd violation (Violates earlier.now stmt.now rule.G3)) }
+{
+    let Stmt::Var(names) = stmt else {
+        return Ok(None);
+    };
+    let Some((symbol, name)) = first(alloc, earlier, names, Test::Taken)? else {
+        return twice(alloc, names);
+    };
+    if let Some(statement) = find_active(earlier, Part::Variable, name) {
+        return Ok(Some(RuleViolation::Earlier { symbol, statement }));
+    }
+    match find(earlier, Part::Fixed, name) {
+        Some(statement) => Ok(Some(RuleViolation::Earlier { symbol, statement })),
+        None => Ok(None),
+    }
+}
+
+fn of_label(earlier: &[Stmt], stmt: &Stmt) -> Option<RuleViolation>
+    ensures { keeps earlier.now stmt.now rule.G4 ≡ false → IsSomeAnd result (Violates earlier.now stmt.now rule.G4) }
+{
+    match stmt {
+        Stmt::Float { label, .. } => carried(earlier, label),
+        Stmt::Ess { label, .. } => carried(earlier, label),
+        Stmt::Axiom { label, .. } => carried(earlier, label),
+        Stmt::Prove { label, .. } => carried(earlier, label),
+        _ => None,
+    }
+}
+
+/// Returns the first statement that carries or declares the label.
+fn carried(earlier: &[Stmt], label: &Word) -> Option<RuleViolation>
+    ensures { MatchOption result (list_any (meets part.Named label.now) earlier.now ≡ false) (IsLabelOf earlier.now label.now) }
+{
+    match find(earlier, Part::Named, label.as_bytes()) {
+        Some(statement) => Some(RuleViolation::Label { statement }),
+        None => None,
+    }
+}
+
+fn of_expression(
+    alloc: Global,
+    earlier: &[Stmt],
+    stmt: &Stmt,
+) -> Result<Option<RuleViolation>, AllocError>
+    ensures { keeps earlier.now stmt.now rule.G5 ≡ false → IfOk result (λ violation. IsSomeAnd violation (Violates earlier.now stmt.now rule.G5)) }
+{
+    match stmt {
+        Stmt::Float { constant, .. } => {
+            let symbol = usize::from(is_symbol(earlier, constant.as_bytes()));
+            Ok(Some(RuleViolation::Symbol { symbol }))
+        }
+        Stmt::Ess { expr, .. } => symbol_of(alloc, earlier, expr, Test::Unknown),
+        Stmt::Axiom { expr, .. } => symbol_of(alloc, earlier, expr, Test::Unknown),
+        Stmt::Prove { expr, .. } => symbol_of(alloc, earlier, expr, Test::Unknown),
+        _ => Ok(None),
+    }
+}
+
+/// Returns the first of the symbols with this fault.
+fn symbol_of(
+    alloc: Global,
+    earlier: &[Stmt],
+    names: &Words,
+    test: Test,
+) -> Result<Option<RuleViolation>, AllocError>
+    ensures { IfOk result (λ found. MatchOption found (list_any (fails earlier.now test) names.now ≡ false) (IsSymbolOf names.now (fails earlier.now test))) }
+{
+    match first(alloc, earlier, names, test)? {
+        Some((symbol, _)) => Ok(Some(RuleViolation::Symbol { symbol })),
+        None => Ok(None),
+    }
+}
+
+fn of_float(earlier: &[Stmt], stmt: &Stmt) -> Option<RuleViolation>
+    ensures { keeps earlier.now stmt.now rule.G7 ≡ false → IsSomeAnd result (Violates earlier.now stmt.now rule.G7) }
+{
+    let Stmt::Float { variable, .. } = stmt else {
+        return None;
+    };
+    match find_active(earlier, Part::Float, variable.as_bytes()) {
+        Some(statement) => Some(RuleViolation::Earlier {
+            symbol: 1,
+            statement,
+        }),
+        None => Some(RuleViolation::Symbol { symbol: 1 }),
+    }
+}
+
+fn of_disjoint(
+    alloc: Global,
+    earlier: &[Stmt],
+    stmt: &Stmt,
+) -> Result<Option<RuleViolation>, AllocError>
+    ensures { keeps earlier.now stmt.now rule.G8 ≡ false → IfOk result (λ violation. IsSomeAnd violation (Violates earlier.now stmt.now rule.G8)) }
+{
+    let Stmt::Disj(names) = stmt else {
+        return Ok(None);
+    };
+    match symbol_of(alloc, earlier, names, Test::Inactive)? {
+        Some(violation) => Ok(Some(violation)),
+        None => twice(alloc, names),
+    }
+}
+
+fn of_typed(
+    alloc: Global,
+    earlier: &[Stmt],
+    stmt: &Stmt,
+) -> Result<Option<RuleViolation>, AllocError>
+    ensures { keeps earlier.now stmt.now rule.G9 ≡ false → IfOk result (λ violation. IsSomeAnd violation (Violates earlier.now stmt.now rule.G9)) }
+{
+    match stmt {
+        Stmt::Ess { expr, .. } => symbol_of(alloc, earlier, expr, Test::Untyped),
+        Stmt::Axiom { expr, .. } => symbol_of(alloc, earlier, expr, Test::Untyped),
+        Stmt::Prove { expr, .. } => symbol_of(alloc, earlier, expr, Test::Untyped),
+        _ => Ok(None),
+    }
+}
+
+/// Returns the last `${` that no statement closes, by its position from 1.
+pub fn never_closed(statements: &[Stmt]) -> Option<usize>
+    ensures { IfSome result (λ i. IsActiveAt statements.now i is_open) }
+{
+    let mut closed = 0usize;
+    for i in (0..statements.len()).rev() {
+        let stmt = &statements[i];
+        if is_active_open(closed, stmt) {
+            return Some(i + 1);
+        }
+        closed = closed_by(stmt, closed);
+    }
+    None
+}
+
+/// Returns whether the statement is a `${` and active with so many blocks closed later.
+fn is_active_open(closed: usize, stmt: &Stmt) -> bool
+    ensures { result ≡ (closed == 0 && is_open stmt.now) }
+{
+    closed == 0 && matches!(stmt, Stmt::Open)
+}

@@ -1,0 +1,174 @@
+//! Many names marked in one pass over the statements.
+ghost use Rattle.std.specs.Prelude.{◌≡◌, ℕ, ◌+◌, ◌==◌, ◌&&◌, Some, None, [], IfOk, MatchOption, length, map, false, true, Bool};
+ghost use Rattle.std.specs.List.{list_any};
+ghost use Rattle.mm_lex.specs.Alphabet.{Name, has_name, name_eq};
+ghost use Rattle.names.specs.Codes.{AreNamed};
+ghost use Rattle.scope.specs.Active.{active, label_of, has_label, constants, variables, is_float_of};
+ghost use Rattle.rule_violation.specs.Marks.{marked};
+ghost use Rattle.rule_violation.specs.Search.{meets};
+
+use crate::search::{Part, closed_by};
+use mm_lex::Words;
+use mm_read::Stmt;
+use names::NameTable;
+use std::alloc::{AllocError, Global};
+
+/// Returns the words, each once.
+pub(crate) fn names_of(alloc: Global, words: &Words) -> Result<NameTable, AllocError>
+    ensures { IfOk result (λ names. AreNamed names words.now) }
+{
+    let mut names = NameTable::new(alloc);
+    for word in words.iter() {
+        names.code(alloc, word)?;
+    }
+    Ok(names)
+}
+
+/// Gives the mark to each name that an earlier statement has in that part.
+pub(crate) fn mark_any(
+    names: &NameTable,
+    earlier: &[Stmt],
+    part: Part,
+    mark: bool,
+    marks: &mut [bool],
+)
+    requires { length marks.old ≡ length names.now }
+    ensures { marks.new ≡ marked (λ x. list_any (meets part x) earlier.now) mark names.now marks.old }
+{
+    for i in 0..earlier.len() {
+        let stmt = &earlier[i];
+        mark_stmt(names, stmt, part, mark, marks);
+    }
+}
+
+/// Gives the mark to each name that an active statement has in that part.
+pub(crate) fn mark_active(
+    names: &NameTable,
+    earlier: &[Stmt],
+    part: Part,
+    mark: bool,
+    marks: &mut [bool],
+)
+    requires { length marks.old ≡ length names.now }
+    ensures { marks.new ≡ marked (λ x. list_any (λ p. meets part x p.1) (active earlier.now)) mark names.now marks.old }
+{
+    let mut closed = 0usize;
+    for i in (0..earlier.len()).rev() {
+        let stmt = &earlier[i];
+        mark_where_active(closed, names, stmt, part, mark, marks);
+        closed = closed_by(stmt, closed);
+    }
+}
+
+/// Gives the mark to each name that one statement has in that part, if it is active with so many blocks closed later.
+fn mark_where_active(
+    closed: usize,
+    names: &NameTable,
+    stmt: &Stmt,
+    part: Part,
+    mark: bool,
+    marks: &mut [bool],
+)
+    requires { length marks.old ≡ length names.now }
+    ensures { marks.new ≡ marked (λ x. closed == 0 && meets part x stmt.now) mark names.now marks.old }
+{
+    if closed == 0 {
+        mark_stmt(names, stmt, part, mark, marks);
+    }
+}
+
+/// Gives the mark to each name that the statement has in that part.
+fn mark_stmt(names: &NameTable, stmt: &Stmt, part: Part, mark: bool, marks: &mut [bool])
+    requires { length marks.old ≡ length names.now }
+    ensures { marks.new ≡ marked (λ x. meets part x stmt.now) mark names.now marks.old }
+{
+    match part {
+        Part::Named => {
+            mark_label(names, stmt, mark, marks);
+            mark_constants(names, stmt, mark, marks);
+            mark_variables(names, stmt, mark, marks);
+        }
+        Part::Fixed => {
+            mark_label(names, stmt, mark, marks);
+            mark_constants(names, stmt, mark, marks);
+        }
+        Part::Constant => mark_constants(names, stmt, mark, marks),
+        Part::Variable => mark_variables(names, stmt, mark, marks),
+        Part::Float => mark_float(names, stmt, mark, marks),
+    }
+}
+
+fn mark_label(names: &NameTable, stmt: &Stmt, mark: bool, marks: &mut [bool])
+    requires { length marks.old ≡ length names.now }
+    ensures { marks.new ≡ marked (λ x. has_label x (label_of stmt.now)) mark names.now marks.old }
+{
+    match stmt {
+        Stmt::Float { label, .. } => mark_word(names, label.as_bytes(), mark, marks),
+        Stmt::Ess { label, .. } => mark_word(names, label.as_bytes(), mark, marks),
+        Stmt::Axiom { label, .. } => mark_word(names, label.as_bytes(), mark, marks),
+        Stmt::Prove { label, .. } => mark_word(names, label.as_bytes(), mark, marks),
+        _ => {}
+    }
+}
+
+fn mark_constants(names: &NameTable, stmt: &Stmt, mark: bool, marks: &mut [bool])
+    requires { length marks.old ≡ length names.now }
+    ensures { marks.new ≡ marked (λ x. has_name x (constants stmt.now)) mark names.now marks.old }
+{
+    match stmt {
+        Stmt::Const(words) => mark_words(names, words, mark, marks),
+        _ => {}
+    }
+}
+
+fn mark_variables(names: &NameTable, stmt: &Stmt, mark: bool, marks: &mut [bool])
+    requires { length marks.old ≡ length names.now }
+    ensures { marks.new ≡ marked (λ x. has_name x (variables stmt.now)) mark names.now marks.old }
+{
+    match stmt {
+        Stmt::Var(words) => mark_words(names, words, mark, marks),
+        _ => {}
+    }
+}
+
+fn mark_float(names: &NameTable, stmt: &Stmt, mark: bool, marks: &mut [bool])
+    requires { length marks.old ≡ length names.now }
+    ensures { marks.new ≡ marked (λ x. is_float_of x stmt.now) mark names.now marks.old }
+{
+    match stmt {
+        Stmt::Float { variable, .. } => mark_word(names, variable.as_bytes(), mark, marks),
+        _ => {}
+    }
+}
+
+/// Gives the mark to each of the words that is among the names.
+fn mark_words(names: &NameTable, words: &Words, mark: bool, marks: &mut [bool])
+    requires { length marks.old ≡ length names.now }
+    ensures { marks.new ≡ marked (λ x. has_name x words.now) mark names.now marks.old }
+{
+    for word in words.iter() {
+        mark_word(names, word, mark, marks);
+    }
+}
+
+fn mark_word(names: &NameTable, word: &[u8], mark: bool, marks: &mut [bool])
+    requires { length marks.old ≡ length names.now }
+    ensures { marks.new ≡ marked (λ x. name_eq x word.now) mark names.now marks.old }
+{
+    match names.find(word) {
+        Some(code) => marks[code] = mark,
+        None => {}
+    }
+}
+
+/// Returns the mark of a name.
+pub(crate) fn mark_of(names: &NameTable, marks: &[bool], name: &[u8]) -> bool
+    requires count { length marks.now ≡ length names.now }
+    requires named { has_name name.now names.now ≡ true }
+    ensures { (t : Name → Bool) → marks.now ≡ map t names.now → result ≡ t name.now }
+{
+    match names.find(name) {
+        Some(code) => marks[code],
+        None => false,
+    }
+}

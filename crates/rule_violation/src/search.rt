@@ -1,0 +1,140 @@
+//! Earlier statements that have to do with a name.
+ghost use Rattle.std.specs.Prelude.{◌≡◌, ◌+◌, ◌<◌, ◌^◌, ◌==◌, ◌&&◌, ◌||◌, false, MatchOption};
+ghost use Rattle.std.specs.List.{list_any};
+ghost use Rattle.mm_lex.specs.Alphabet.{has_name, name_eq};
+ghost use Rattle.scope.specs.Active.{active, label_of, has_label, constants, variables, is_float_of};
+ghost use Rattle.rule_violation.specs.Search.{meets, closed_by, IsAt, IsActiveAt};
+
+use mm_lex::{Word, Words};
+use mm_read::Stmt;
+
+/// How a statement may have to do with a name.
+#[derive(Clone, Copy, Drop)]
+pub(crate) enum Part {
+    /// It carries or declares it.
+    Named,
+    /// It carries it, or declares it as a constant.
+    Fixed,
+    /// It declares it as a constant.
+    Constant,
+    /// It declares it as a variable.
+    Variable,
+    /// It is its `$f`.
+    Float,
+}
+
+/// Returns the first statement that has to do with the name, by its position from 1.
+pub(crate) fn find(earlier: &[Stmt], part: Part, name: &[u8]) -> Option<usize>
+    ensures { MatchOption result (list_any (meets part name.now) earlier.now ≡ false)
+        (λ i. IsAt earlier.now i (meets part name.now)) }
+{
+    for i in 0..earlier.len() {
+        let stmt = &earlier[i];
+        if meets(stmt, part, name) {
+            return Some(i + 1);
+        }
+    }
+    None
+}
+
+/// Returns the last active statement that has to do with the name, by its position from 1.
+pub(crate) fn find_active(earlier: &[Stmt], part: Part, name: &[u8]) -> Option<usize>
+    ensures { MatchOption result (list_any (λ p. meets part name.now p.1) (active earlier.now) ≡ false)
+        (λ i. IsActiveAt earlier.now i (meets part name.now)) }
+{
+    let mut closed = 0usize;
+    for i in (0..earlier.len()).rev() {
+        let stmt = &earlier[i];
+        if is_active_match(closed, stmt, part, name) {
+            return Some(i + 1);
+        }
+        closed = closed_by(stmt, closed);
+    }
+    None
+}
+
+/// Returns whether the statement has to do with the name and is active with so many blocks closed later.
+fn is_active_match(closed: usize, stmt: &Stmt, part: Part, name: &[u8]) -> bool
+    ensures { result ≡ (closed == 0 && meets part name.now stmt.now) }
+{
+    closed == 0 && meets(stmt, part, name)
+}
+
+/// Returns how many blocks that were open before the statement are closed by it or after it.
+pub(crate) fn closed_by(stmt: &Stmt, closed: usize) -> usize
+    requires { closed + 1 < 2 ^ 64 }
+    ensures { result ≡ closed_by stmt.now closed }
+{
+    match stmt {
+        Stmt::Open => closed.saturating_sub(1),
+        Stmt::Close => closed + 1,
+        _ => closed,
+    }
+}
+
+/// Returns whether the statement has to do with the name.
+fn meets(stmt: &Stmt, part: Part, name: &[u8]) -> bool
+    ensures { result ≡ meets part name.now stmt.now }
+{
+    match part {
+        Part::Named => {
+            carries(stmt, name) || has_constant(stmt, name) || has_variable(stmt, name)
+        }
+        Part::Fixed => carries(stmt, name) || has_constant(stmt, name),
+        Part::Constant => has_constant(stmt, name),
+        Part::Variable => has_variable(stmt, name),
+        Part::Float => is_float_of(stmt, name),
+    }
+}
+
+fn carries(stmt: &Stmt, name: &[u8]) -> bool
+    ensures { result ≡ has_label name.now (label_of stmt.now) }
+{
+    match stmt {
+        Stmt::Float { label, .. } => is(label, name),
+        Stmt::Ess { label, .. } => is(label, name),
+        Stmt::Axiom { label, .. } => is(label, name),
+        Stmt::Prove { label, .. } => is(label, name),
+        _ => false,
+    }
+}
+
+fn has_constant(stmt: &Stmt, name: &[u8]) -> bool
+    ensures { result ≡ has_name name.now (constants stmt.now) }
+{
+    match stmt {
+        Stmt::Const(names) => has(names, name),
+        _ => false,
+    }
+}
+
+fn has_variable(stmt: &Stmt, name: &[u8]) -> bool
+    ensures { result ≡ has_name name.now (variables stmt.now) }
+{
+    match stmt {
+        Stmt::Var(names) => has(names, name),
+        _ => false,
+    }
+}
+
+fn is_float_of(stmt: &Stmt, name: &[u8]) -> bool
+    ensures { result ≡ is_float_of name.now stmt.now }
+{
+    match stmt {
+        Stmt::Float { variable, .. } => is(variable, name),
+        _ => false,
+    }
+}
+
+fn is(word: &Word, name: &[u8]) -> bool
+    ensures { result ≡ name_eq name.now word.now }
+{
+    name == word.as_bytes()
+}
+
+/// Returns whether the name is among these.
+fn has(names: &Words, name: &[u8]) -> bool
+    ensures { result ≡ has_name name.now names.now }
+{
+    names.iter().any(|other| name == other)
+}

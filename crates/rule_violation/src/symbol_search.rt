@@ -1,0 +1,141 @@
+//! The first symbol of a list that passes a test, and the first that stands twice.
+ghost use Rattle.std.specs.Prelude.{◌≡◌, ℕ, Bool, ◌||◌, false, true, IfOk, MatchOption, map, replicate, length};
+ghost use Rattle.std.specs.List.{list_any};
+ghost use Rattle.mm_lex.specs.Alphabet.{Name};
+ghost use Rattle.names.specs.Codes.{AreNamed};
+ghost use Rattle.scope.specs.Active.{is_constant, is_variable};
+ghost use Rattle.scope.specs.Legal.{all_different};
+ghost use Rattle.rule_violation.specs.Marks.{is_wrong_unseen};
+ghost use Rattle.rule_violation.specs.Search.{fails, IsSymbolAt};
+ghost use Rattle.rule_violation.specs.Violates.{IsRepeated};
+
+use crate::marks::{mark_active, mark_any, mark_of, names_of};
+use crate::search::{Part, find, find_active};
+use crate::violation::RuleViolation;
+use mm_lex::Words;
+use mm_read::Stmt;
+use names::NameTable;
+use std::alloc::{AllocError, Global};
+
+/// A fault of a symbol.
+#[derive(Clone, Copy, Drop)]
+pub(crate) enum Test {
+    /// An earlier statement carries or declares it.
+    Named,
+    /// It may not be declared as a variable.
+    Taken,
+    /// It is neither a constant nor an active variable.
+    Unknown,
+    /// It is no active variable.
+    Inactive,
+    /// It is a variable and has no active `$f`.
+    Untyped,
+}
+
+/// Returns the first of the words with this fault, and its index.
+///
+/// Cost: one or two passes over the statements, with a look-up of each name that they have.
+pub(crate) fn first<'a>(
+    alloc: Global,
+    earlier: &[Stmt],
+    words: &'a Words,
+    test: Test,
+) -> Result<Option<(usize, &'a [u8])>, AllocError>
+    ensures { IfOk result (λ found. MatchOption found (list_any (fails earlier.now test) words.entry.now ≡ false)
+        (λ r. IsSymbolAt words.entry.now (fails earlier.now test) r.0 r.1.now)) }
+{
+    let names = names_of(alloc, words)?;
+    let mut marks = vec![in alloc; is_wrong_unseen(test); names.len()]?;
+    mark_wrong(&names, earlier, test, &mut marks);
+    Ok(first_marked(&names, &marks, words))
+}
+
+/// Returns whether a name that no statement has has this fault.
+fn is_wrong_unseen(test: Test) -> bool
+    ensures { result ≡ is_wrong_unseen test }
+{
+    matches!(test, Test::Unknown | Test::Inactive)
+}
+
+/// Marks the names with this fault.
+fn mark_wrong(names: &NameTable, earlier: &[Stmt], test: Test, marks: &mut [bool])
+    requires { marks.old ≡ replicate (length names.now) (is_wrong_unseen test) }
+    ensures { marks.new ≡ map (fails earlier.now test) names.now }
+{
+    match test {
+        Test::Named => mark_any(names, earlier, Part::Named, true, marks),
+        Test::Taken => {
+            mark_any(names, earlier, Part::Fixed, true, marks);
+            mark_active(names, earlier, Part::Variable, true, marks);
+        }
+        Test::Unknown => {
+            mark_any(names, earlier, Part::Constant, false, marks);
+            mark_active(names, earlier, Part::Variable, false, marks);
+        }
+        Test::Inactive => mark_active(names, earlier, Part::Variable, false, marks),
+        Test::Untyped => {
+            mark_active(names, earlier, Part::Variable, true, marks);
+            mark_active(names, earlier, Part::Float, false, marks);
+        }
+    }
+}
+
+/// Returns the first of the words that has a mark, and its index.
+fn first_marked<'a>(
+    names: &NameTable,
+    marks: &[bool],
+    words: &'a Words,
+) -> Option<(usize, &'a [u8])>
+    requires count { length marks.now ≡ length names.now }
+    requires named { AreNamed names.now words.now }
+    ensures { (t : Name → Bool) → marks.now ≡ map t names.now
+        → MatchOption result (list_any t words.entry.now ≡ false) (λ r. IsSymbolAt words.entry.now t r.0 r.1.now) }
+{
+    let mut left = words.iter();
+    for index in 0..words.len() {
+        let Some(name) = left.next() else {
+            return None;
+        };
+        if mark_of(names, marks, name) {
+            return Some((index, name));
+        }
+    }
+    None
+}
+
+/// Returns whether the name is a constant or an active variable.
+pub(crate) fn is_symbol(earlier: &[Stmt], name: &[u8]) -> bool
+    ensures { result ≡ (is_constant earlier.now name.now || is_variable earlier.now name.now) }
+{
+    is_constant(earlier, name) || is_variable(earlier, name)
+}
+
+fn is_constant(earlier: &[Stmt], name: &[u8]) -> bool
+    ensures { result ≡ is_constant earlier.now name.now }
+{
+    find(earlier, Part::Constant, name).is_some()
+}
+
+fn is_variable(earlier: &[Stmt], name: &[u8]) -> bool
+    ensures { result ≡ is_variable earlier.now name.now }
+{
+    find_active(earlier, Part::Variable, name).is_some()
+}
+
+/// Returns the first word that stands twice.
+pub(crate) fn twice(alloc: Global, words: &Words) -> Result<Option<RuleViolation>, AllocError>
+    ensures { IfOk result (λ found. MatchOption found (all_different words.now ≡ true) (IsRepeated words.now)) }
+{
+    let mut names = NameTable::new(alloc);
+    for word in words.iter() {
+        let index = names.len();
+        let first = names.code(alloc, word)?;
+        if first < index {
+            return Ok(Some(RuleViolation::Twice {
+                first,
+                second: index,
+            }));
+        }
+    }
+    Ok(None)
+}

@@ -1,0 +1,21 @@
+-- The numbers of a statement's symbols, where they were recorded while it was judged.
+-- Source: this project's form.
+-- The code keeps them in one buffer; here they are an option.
+use Rattle.std.specs.Prelude.{◌≡◌, ℕ, ◌==◌, Bool, true, not, ◌&&◌, List, [], ◌∷◌, ◌++◌, Option, Some, option_map, IfSome}
+use Rattle.std.specs.List.{list_any}
+use Rattle.mm_lex.specs.Alphabet.{Name}
+use Rattle.mm_read.specs.Statements.{Expr}
+use Rattle.scope.specs.Symbols.{AreNumbers}
+
+-- the recorded numbers stand for these symbols
+abbrev pub AreRecorded : List Name → Expr → Option (List ℕ) → Type 0
+AreRecorded symbols xs recorded = IfSome recorded (λ numbers. AreNumbers symbols xs numbers)
+
+-- they are those before and one more, where numbers are still recorded
+abbrev pub IsAppended : ℕ → Option (List ℕ) → Option (List ℕ) → Type 0
+IsAppended n old new = IfSome new (λ numbers. Some numbers ≡ option_map (λ ns. ns ++ n ∷ []) old)
+
+-- no number stands twice
+abbrev pub numbers_differ : List ℕ → Bool
+numbers_differ [] = true
+numbers_differ (n ∷ ns) = not (list_any (λ m. m == n) ns) && numbers_differ ns

@@ -1,0 +1,72 @@
+//! The numbers of a statement's symbols, recorded while it is judged.
+ghost use Rattle.std.specs.Prelude.{◌≡◌, None, Some, [], IfSome, is_some};
+ghost use Rattle.scope.specs.Stored.SymbolNumbers.{IsAppended};
+
+use std::alloc::Global;
+use std::marker::Model;
+
+/// Numbers of symbols, or nothing while they are not recorded. Contracts see an option.
+///
+/// The buffer is kept from statement to statement.
+#[derive(Drop)]
+pub struct SymbolNumbers {
+    numbers: Vec<u32>,
+    whole: bool,
+}
+
+impl Model for SymbolNumbers {
+    ghost use Rattle.std.specs.Prelude.{ℕ, List, Option, Some, None, if◌then◌else◌};
+
+    ghost Value = { Option (List ℕ) };
+
+    ghost view = { λ a. if a.whole then Some a.numbers.items else None };
+}
+
+impl SymbolNumbers {
+    /// Returns an empty buffer; nothing is recorded until it begins.
+    pub fn new(alloc: Global) -> SymbolNumbers
+        ensures { result ≡ None }
+    {
+        SymbolNumbers {
+            numbers: Vec::new(alloc),
+            whole: false,
+        }
+    }
+
+    /// Begins with no numbers.
+    pub fn begin(&mut self)
+        ensures { self.new ≡ Some [] }
+    {
+        self.numbers.clear();
+        self.whole = true;
+    }
+
+    /// Discards the recorded numbers.
+    pub fn forget(&mut self)
+        ensures { self.new ≡ None }
+    {
+        self.whole = false;
+    }
+
+    /// Records one more number. If an allocation fails, the recorded numbers are discarded.
+    #[inline(always)]
+    pub fn record_number(&mut self, number: u32)
+        ensures { IsAppended number self.old self.new }
+    {
+        if self.whole && self.numbers.push(number).is_err() {
+            self.whole = false;
+        }
+    }
+
+    /// Returns the numbers, if they were recorded.
+    pub fn numbers(&self) -> Option<&[u32]>
+        ensures some { is_some result ≡ is_some self.now }
+        ensures numbers { IfSome result (λ numbers. self.now ≡ Some numbers.now) }
+    {
+        if self.whole {
+            Some(self.numbers.as_slice())
+        } else {
+            None
+        }
+    }
+}

@@ -1,0 +1,87 @@
+use Rattle.subst.proofs.Words.{◌≡◌, ◌-◌, ◌∷◌, ◌++◌, [], false, Option, Some, None, List, ℕ, length, drop, take, take_all, get_or, ap, refl, sym, ◌∙◌, subst, below-at, code_apply, code_image, images_at, seen_at, AddsImage, HasPlace, SymbolRange}
+use Rattle.std.specs.Prelude.{is_some}
+use Rattle.frame.proofs.SymbolNumberLemmas.{below-take}
+use Rattle.subst.proofs.WrittenImages.{apply-take}
+use Rattle.subst.proofs.ImageRangesLemmas.{image-none}
+use Rattle.subst.proofs.DisjointRowLemmas.{facts-grown}
+use Rattle.subst.proofs.ImageVariableLemmas.{recorded-begin, recorded-most, rest-most, rest-own, rest-twice}
+use Rattle.subst.proofs.PlaceSetLemmas.{symbols-joined, symbols-none}
+use Rattle.subst.proofs.GroupLemmas.{below-drop}
+use Rattle.subst.proofs.DisjointTableLemmas.{rest_of, some-range, tables-recorded, whole-rest}
+use Rattle.subst.proofs.disjoint_tables.DisjointTables.record_result.Goals as goal
+
+not-some : {A : Type 0} (o : Option A) → is_some o ≡ false → o ≡ None
+not-some (Some x) e = cc
+not-some None e = refl
+
+-- the result, by its first symbol and the images of the others
+seen-first : (symbols : List ℕ) (images : List (ℕ × SymbolRange)) (e : List ℕ) (p : SymbolRange) (x : ℕ) (rest : List ℕ) → seen_at symbols p ≡ code_apply (images_at symbols images) e → e ≡ x ∷ rest → code_image (images_at symbols images) x ≡ x ∷ []
+    → seen_at symbols p ≡ x ∷ code_apply (images_at symbols images) rest
+seen-first symbols images e p x rest whole first own = whole ∙ (ap (code_apply (images_at symbols images)) first ∙ ap (λ i. i ++ code_apply (images_at symbols images) rest) own)
+
+pub loop-symbol-init : goal.loop-symbol-init
+loop-symbol-init c =
+    let t = c.requires.tables in (
+      record { placed = t.placed; recorded = rw c.begin.ensures (recorded-begin c.args.pairs.now c.args.self.now.variables c.args.symbols.now c.args.self.now.images t.recorded); facts = t.facts },
+      rest-own c.begin.new.self,
+      symbols-none c.args.pairs.now c.args.self.now.variables (HasPlace c.begin.new.self.list) [],
+    )
+
+pub add_image-requires-clause-number : goal.add_image-requires-clause-number
+add_image-requires-clause-number c =
+    let n = length c.args.pairs.now.names in
+    let e = c.args.expr.now in
+    below-at n (rest_of e) c.loop-symbol.symbol-index 0 (below-take n (length e - 1) (drop 1 e) (below-drop n 1 e c.requires.below)) c.loop-symbol-test.true
+
+pub returns-in_err-add_image : goal.returns-in_err-add_image
+returns-in_err-add_image c =
+    let v = c.args.pairs.now in
+    let l = c.loop-symbol in
+    let t = l.invariant.0 in record {
+      placed = c.add_image.ensures.placed;
+      recorded = recorded-most v l.self.variables c.add_image.new.variables c.args.symbols.now l.self.images c.add_image.new.self c.add_image.ensures.grows (rest-most l.self.images c.add_image.new.self c.add_image.ensures.rest) t.recorded;
+      facts = facts-grown v l.self.variables c.add_image.new.variables l.self.rows c.add_image.ensures.grows t.facts;
+    }
+
+pub loop-symbol-preserved : goal.loop-symbol-preserved
+loop-symbol-preserved c =
+    let v = c.args.pairs.now in
+    let l = c.loop-symbol in
+    let t = l.invariant.0 in
+    let σ = images_at c.args.symbols.now c.args.images.now in
+    let rest = rest_of c.args.expr.now in
+    let n = l.symbol-index in
+    let g = c.add_image.new.variables in
+    let new = c.add_image.new.self in (
+      record {
+        placed = c.add_image.ensures.placed;
+        recorded = recorded-most v l.self.variables g c.args.symbols.now l.self.images new c.add_image.ensures.grows (rest-most l.self.images new c.add_image.ensures.rest) t.recorded;
+        facts = facts-grown v l.self.variables g l.self.rows c.add_image.ensures.grows t.facts;
+      },
+      rest-twice c.begin.new.self l.self.images new l.invariant.1 c.add_image.ensures.rest,
+      subst (AddsImage v g c.begin.new.self new) (sym (apply-take σ rest n c.loop-symbol-test.true))
+          (symbols-joined v l.self.variables g (HasPlace c.begin.new.self.list) (HasPlace l.self.images.list) (HasPlace new.list) (code_apply σ (take n rest)) (code_image σ (get_or rest n 0)) c.add_image.ensures.grows l.invariant.2 c.in_ok-add_image.ensures.added),
+    )
+
+pub behind_first-requires : goal.behind_first-requires
+behind_first-requires c =
+    let e = c.args.expr.now in
+    let x = get_or e 0 0 in
+    let own = image-none c.args.symbols.now c.args.images.now x (sym c.get.ensures ∙ not-some c.get.result (sym c.is_some.ensures ∙ c.if-is_some.false)) in
+    some-range c.args.symbols.now _ c.args.result_range x c.requires.range.0 c.requires.range.1
+    (seen-first c.args.symbols.now c.args.images.now e c.args.result_range x (rest_of e) c.requires.whole (whole-rest e (sym c.is_empty.ensures ∙ c.if-is_empty.false)) own)
+
+pub returns : goal.returns
+returns c =
+    let v = c.args.pairs.now in
+    let l = c.loop-symbol in
+    let σ = images_at c.args.symbols.now c.args.images.now in
+    let e = c.args.expr.now in
+    let x = get_or e 0 0 in
+    let rest = rest_of e in
+    let old = c.begin.new.self in
+    let own = image-none c.args.symbols.now c.args.images.now x (sym c.get.ensures ∙ not-some c.get.result (sym c.is_some.ensures ∙ c.if-is_some.false)) in
+    let all = take_all l.symbol-index rest c.loop-symbol-test.false in
+    let adds = subst (λ r. AddsImage v l.self.variables old l.self.images (code_apply σ r)) all l.invariant.2 in
+    tables-recorded v c.args.symbols.now l.self c.record_image.new.self c.args.result_range c.behind_first.result x (code_apply σ rest) l.invariant.0 (rw c.begin.ensures at adds) c.record_image.ensures c.requires.range.0 c.requires.range.1 c.behind_first.ensures.0 c.behind_first.ensures.1
+    (seen-first c.args.symbols.now c.args.images.now e c.args.result_range x rest c.requires.whole (whole-rest e (sym c.is_empty.ensures ∙ c.if-is_empty.false)) own)

@@ -1,0 +1,10 @@
+use Rattle.subst.proofs.Words.{take, code_apply, images_at, AddsImage, AreTables, KeepsRest}
+use Rattle.subst.proofs.DisjointTableLemmas.{rest_of}
+use Rattle.subst.proofs.disjoint_tables.DisjointTables.record_result.Given as goal
+
+-- the variables of the images so far were listed
+abbrev pub invariant-loop-symbol : goal.invariant-loop-symbol
+invariant-loop-symbol l =
+    AreTables l.pairs l.symbols l.self
+    × KeepsRest l.initial.self.images l.self.images
+    × AddsImage l.pairs l.self.variables l.initial.self.images l.self.images (code_apply (images_at l.symbols l.images) (take l.symbol-index (rest_of l.expr)))

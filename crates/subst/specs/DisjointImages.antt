@@ -1,0 +1,21 @@
+-- Images of numbers that are disjoint.
+-- Metamath, 4.2.6: no variable stands in two images of variables that a `$d` makes disjoint, and each pair of one variable from each has its own `$d`.
+-- The code goes by numbers; `are_groups_disjoint`, one number and one group at a time.
+use Rattle.std.specs.Prelude.{ℕ, Bool, ◌||◌, ◌==◌, List}
+use Rattle.std.specs.List.{list_all}
+use Rattle.subst.specs.Words.{Name, Expr, Database, decode, CodeImages, code_image, are_disjoint}
+
+-- the image of a number, by names
+abbrev pub image_named : List Name → CodeImages → ℕ → Expr
+image_named names σ n = decode names (code_image σ n)
+
+-- the numbers are one, or their images are disjoint
+abbrev pub are_two_disjoint : Database → (ℕ → Expr) → ℕ → ℕ → Bool
+are_two_disjoint D image k l = (k == l) || are_disjoint D (image k) (image l)
+
+-- the image of k is disjoint from those of the other numbers
+abbrev pub is_number_disjoint : Database → (ℕ → Expr) → List ℕ → ℕ → Bool
+is_number_disjoint D image group k = list_all (are_two_disjoint D image k) group
+
+abbrev pub are_numbers_disjoint : Database → (ℕ → Expr) → List ℕ → Bool
+are_numbers_disjoint D image group = list_all (is_number_disjoint D image group) group

@@ -1,0 +1,65 @@
+//! The disjoint variable condition for the images of one frame.
+ghost use Rattle.std.specs.Prelude.{◌≡◌};
+ghost use Rattle.frame.specs.Disjoint.{are_disjoint, are_groups_disjoint, is_group_disjoint};
+ghost use Rattle.frame.specs.Substitution.{image, images_of_names};
+ghost use Rattle.subst.specs.Images.{AreOver, is_image_disjoint};
+
+use crate::images::Subst;
+use frame::{Frame, Pairs};
+use mm_lex::Words;
+
+/// Returns whether the images meet the disjoint variable condition: for each two variables that the cited frame keeps
+/// distinct, no variable stands in both images, and each two variables, one from each, stand together in a `$d` that is
+/// active at the theorem.
+///
+/// Numbers stand for the names that they have at the theorem, in the images too.
+/// Cost: for each two variables that the frame keeps distinct, the size of their images and of the active `$d`, if one of
+/// these has the variables of both images; else, for each pair of a variable from each, the active `$d`.
+/// Source: Metamath, 4.2.6.
+pub fn disjoint(subst: &Subst, frame: &Frame, pairs: &Pairs<'_>) -> bool
+    requires { AreOver pairs.now.names subst.now }
+    ensures { result ≡ are_groups_disjoint pairs.now.statements (images_of_names pairs.now.names subst.now) frame.now.groups }
+{
+    let groups = frame.groups();
+    groups
+        .iter()
+        .all(|group| group_disjoint(subst, pairs, group))
+}
+
+/// Returns whether the images of each two of the variables are disjoint.
+fn group_disjoint(subst: &Subst, pairs: &Pairs<'_>, group: &Words) -> bool
+    requires { AreOver pairs.now.names subst.now }
+    ensures { result ≡ is_group_disjoint pairs.now.statements (images_of_names pairs.now.names subst.now) group.now }
+{
+    group
+        .iter()
+        .all(|x| variable_disjoint(subst, pairs, x, group))
+}
+
+/// Returns whether the image of x is disjoint from those of the others.
+fn variable_disjoint(subst: &Subst, pairs: &Pairs<'_>, x: &[u8], group: &Words) -> bool
+    requires { AreOver pairs.now.names subst.now }
+    ensures { result ≡ is_image_disjoint pairs.now.statements (images_of_names pairs.now.names subst.now) group.now x.now (image (images_of_names pairs.now.names subst.now) x.now) }
+{
+    group
+        .iter()
+        .all(|y| x == y || are_disjoint(subst, pairs, x, y))
+}
+
+/// Returns whether the images of two variables are disjoint.
+fn are_disjoint(subst: &Subst, pairs: &Pairs<'_>, x: &[u8], y: &[u8]) -> bool
+    requires { AreOver pairs.now.names subst.now }
+    ensures { result ≡ are_disjoint pairs.now.statements (image (images_of_names pairs.now.names subst.now) x.now) (image (images_of_names pairs.now.names subst.now) y.now) }
+{
+    let Some(left) = pairs.number(x) else {
+        return true;
+    };
+    let Some(right) = pairs.number(y) else {
+        return true;
+    };
+    let left_own = [left];
+    let right_own = [right];
+    let left = subst.image(left).unwrap_or(&left_own);
+    let right = subst.image(right).unwrap_or(&right_own);
+    pairs.are_disjoint(left, right)
+}

@@ -1,0 +1,71 @@
+-- What one item does to results of numbers, said over the names that they stand for.
+-- Metamath, 4.2.6 and appendix B; `Machine` over names.
+-- The code knows numbers alone; each has a name.
+use Rattle.std.specs.Prelude.{◌≡◌, ℕ, ◌<◌, ◌≤◌, Bool, true, false, IsTrue, List, [], length, map, drop, get_or}
+use Rattle.verify.specs.Words.{Name, Stmt, Expr, Database, before, AllBelow, Item, Cite}
+use Rattle.names.specs.Codes.{decode}
+use Rattle.verify.specs.declared.label_table.LabelEntry.{LabelEntry}
+use Rattle.verify.specs.declared.label_table.LabelEntry.TheVariants.{Nothing}
+use Rattle.verify.specs.LabelTable.{IsEntry}
+use Rattle.verify.specs.Machine.{Results, State, Cites, Steps}
+use Rattle.verify.specs.Right.{weight_limit}
+use Rattle.frame.specs.AtPosition.{AreLegal}
+use Rattle.frame.specs.FrameOf.{HasAssertion}
+use Rattle.frame.specs.Parts.{Numbered}
+use Rattle.verify.specs.declared.citation.Claim.{Claim}
+
+-- the results that the codes stand for
+abbrev pub named : List Name → Results ℕ → State
+named names st = record { stack = map (decode names) st.stack; saved = map (decode names) st.saved; weight = st.weight }
+
+-- each code has a name
+pub record AreNamed (names : List Name) (st : Results ℕ) : Type 0 where
+  pub stack_named : AllBelow (length names) st.stack
+  pub saved_named : AllBelow (length names) st.saved
+
+-- the item was done, or it cannot be done within the limit
+abbrev pub StepsByNumber : Bool → Database → ℕ → List Name → Item → Results ℕ → Results ℕ → Type 0
+StepsByNumber true S at names item old new = Steps S at (named names old) item (named names new) × AreNamed names new
+StepsByNumber false S at names item old new = (next : State) → Steps S at (named names old) item next → weight_limit < next.weight
+
+-- a label that names this was cited, or it cannot be within the limit
+abbrev pub HasCited : Database → ℕ → List Name → LabelEntry → Results ℕ → Results ℕ → Bool → Type 0
+HasCited S at names entry old new ok = ((label : Name) → IsEntry S at label entry → StepsByNumber ok S at names (Cite label) old new) × (IsTrue ok → new.saved ≡ old.saved)
+
+-- ---- results that are kept for the labels of the table, before those that were marked
+
+-- the results without them
+abbrev pub behind : ℕ → Results ℕ → Results ℕ
+behind n st = record { stack = st.stack; saved = drop n st.saved; weight = st.weight }
+
+-- what is kept for a label is nothing, or what its citation gives over any results, none of which it takes
+abbrev pub IsCached : Database → ℕ → List Name → LabelEntry → List ℕ → Type 0
+IsCached S at names entry e = 0 < length e → (label : Name) → IsEntry S at label entry → (stack : List Expr) → Cites S at label stack stack (decode names e)
+
+pub record AreCached (S : Database) (at : ℕ) (names : List Name) (table : List LabelEntry) (saved : List (List ℕ)) : Type 0 where
+  pub enough : length table ≤ length saved
+  pub each : (k : ℕ) → k < length table → IsCached S at names (get_or table k Nothing) (get_or saved k [])
+
+pub record AreKnown (S : Database) (at : ℕ) (names : List Name) (table : List LabelEntry) (st : Results ℕ) : Type 0 where
+  pub are_named : AreNamed names st
+  pub given : AreCached S at names table st.saved
+
+-- what an item does where the first results are kept for labels
+abbrev pub StepsWithTable : Bool → Database → ℕ → List Name → List LabelEntry → Item → Results ℕ → Results ℕ → Type 0
+StepsWithTable ok S at names table item old new = StepsByNumber ok S at names item (behind (length table) old) (behind (length table) new) × (IsTrue ok → AreKnown S at names table new)
+
+-- ---- what an item rests on
+
+-- legal statements, the pairs that are active at the statement, and results that are about these
+pub record IsReady (t : Claim) (about : Numbered) : Type 0 where
+  pub legal : AreLegal t.frames.now.statements t.frames.now.names
+  pub active : t.pairs.statements ≡ before t.frames.now.statements t.at
+  pub names : t.pairs.names ≡ t.frames.now.names
+  pub same : about ≡ t.pairs
+
+-- and an earlier assertion at a, over results whose codes have names
+pub record MayCite (t : Claim) (a : ℕ) (about : Numbered) (st : Results ℕ) : Type 0 where
+  pub ready : IsReady t about
+  pub named : AreNamed t.frames.now.names st
+  pub assertion : (s : Stmt) × HasAssertion t.frames.now.statements a s
+  pub earlier : a < t.at
