@@ -3,3 +3,13 @@ pub mod ReadItemsLemmas
 pub mod LetterNumberLemmas
 pub mod LetterLemmas
 pub mod TokenLemmas
+pub mod VectorLemmas
+pub mod ImagesLemmas
+pub mod NamedLemmas
+pub mod CitationFaultLemmas
+pub mod ViolationLemmas
+pub mod BesideLemmas
+pub mod ConcludedLemmas
+pub mod KeptRunLemmas
+pub mod RunItemLemmas
+pub mod StoppedLemmas

@@ -1,3 +1,10 @@
 pub mod Breaks
 pub mod LettersBefore
 pub mod Why
+pub mod ReadImages
+pub mod DisjointViolations
+pub mod CitationFaults
+pub mod Concluded
+pub mod Explained
+pub mod FirstFault
+pub mod Stored

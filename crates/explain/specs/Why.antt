@@ -8,7 +8,7 @@ use Rattle.mm_read.specs.Statements.{Database}
 use Rattle.proof_code.specs.Writes.{Writes}
 use Rattle.verify.specs.Proves.{mandatory_labels}
 use Rattle.verify.specs.Right.{IsProvable}
-use Rattle.reasons.specs.FirstFault.{IsFirstFault}
+use Rattle.explain.specs.FirstFault.{IsFirstFault}
 use Rattle.explain.specs.declared.why.WhyUnproved.{WhyUnproved}
 use Rattle.explain.specs.declared.why.WhyUnproved.TheVariants.{Code, Run}
 use Rattle.explain.specs.Breaks.{IsBreak}

@@ -1,14 +1,23 @@
 //! Why a proof is refused.
 //!
 //! `explain` returns the reason why the tokens of a `$p` do not prove it: the rule of proof code that they break, or the first
-//! fault of the run over the items that they write. It runs only after a refusal. Read `why`, `proof_fault`, `code`,
-//! `broken_letters`.
+//! fault of the run over the items that they write. It runs only after a refusal. `first_fault` has the verifier run over the
+//! items, and explains the one item that cannot be done by the results before it.
+//!
+//! Read `why`, `proof_fault`, `code`, `broken_letters`; then `reason`, `named_images`, `violation`, `named_citation`, `run`.
 #![tactic(auto)]
 
 mod broken_letters;
 mod code;
+mod named_citation;
+mod named_images;
 mod proof_fault;
+mod reason;
+mod run;
+mod violation;
 mod why;
 
 pub use proof_fault::explain;
+pub use reason::{Fault, Reason};
+pub use run::first_fault;
 pub use why::{CodeBreak, LetterBreak, LetterFault, WhyUnproved};

@@ -11,11 +11,11 @@ ghost use Rattle.verify.specs.Right.{IsProvable};
 ghost use Rattle.explain.specs.Why.{IsWhy};
 
 use crate::code::code_break;
+use crate::run::first_fault;
 use crate::why::WhyUnproved;
 use frame::Frames;
 use mm_lex::Words;
 use proof_code::{Items, is_compressed, normal, packed, written};
-use reasons::first_fault;
 use std::alloc::{AllocError, Global};
 use verify::{Answer, Checker};
 

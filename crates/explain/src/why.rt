@@ -1,7 +1,7 @@
 //! Why a `$p` is not proved.
 
+use crate::reason::Reason;
 use proof_code::Items;
-use reasons::Reason;
 
 /// Why the tokens of a `$p` do not prove it.
 #[derive(Drop)]

@@ -11,11 +11,10 @@ use crate::step_fault::push_fault;
 use crate::text_tokens::TextTokens;
 use crate::theorem::Theorem;
 use crate::written_lines::Page;
-use explain::{WhyUnproved, explain};
+use explain::{Fault, Reason, WhyUnproved, explain};
 use frame::Frames;
 use mm_read::{ReadFault, Stmt, read};
 use proof_code::Items;
-use reasons::{Fault, Reason};
 use std::alloc::Global;
 use unproved::Entered;
 

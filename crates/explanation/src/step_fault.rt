@@ -3,8 +3,8 @@
 use crate::expressions::push_expression;
 use crate::theorem::Theorem;
 use crate::written_lines::Page;
+use explain::Fault;
 use frame::Frames;
-use reasons::Fault;
 
 /// Writes the fault of the step.
 pub(crate) fn push_fault(

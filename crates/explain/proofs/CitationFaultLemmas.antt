@@ -1,0 +1,142 @@
+-- Hypotheses that require other results.
+use Rattle.std.proofs.Common.{◌≡◌, ℕ, ◌+◌, ◌<◌, List, [], ◌∷◌, ◌++◌, length, take, get_or, map, refl, sym, ◌∙◌, ap, subst, add-one, Some, slice_get}
+use Rattle.std.specs.Prelude.{Bool, true, false, not, bytes_eq}
+use Rattle.std.proofs.lemmas.Slice.Eq.{bytes_eq-Decides}
+use Rattle.std.specs.Global.{Vec}
+use Rattle.std.proofs.Math.Seq.{take-suc}
+use Rattle.std.proofs.lemmas.Option.{slice_get-get_or, slice_get_read}
+use Rattle.std.proofs.lemmas.List.{take-map, map_push}
+use Rattle.std.proofs.lemmas.Bool.{not-false, not-true, both_ways}
+use Rattle.mm_lex.specs.Alphabet.{Name}
+use Rattle.mm_read.specs.declared.stmt.Stmt.{Stmt}
+use Rattle.mm_read.specs.declared.stmt.Stmt.TheVariants as stmt
+use Rattle.mm_read.specs.Statements.{Database, Expr}
+use Rattle.scope.specs.Active.{stmt_at, expr_of}
+use Rattle.names.specs.Codes.{name_at, decode, AreDistinct}
+use Rattle.entries.specs.declared.assertion_view.Hypothesis.{Hypothesis}
+use Rattle.entries.specs.declared.assertion_view.Hypothesis.TheVariants as hypothesis
+use Rattle.frame.specs.Below.{AreBelow}
+use Rattle.frame.specs.AssertionView.{IsRequired, IsOf, IsTypecode}
+use Rattle.frame.specs.Substitution.{Images, CodeImages, code_apply, apply as applied}
+use Rattle.frame.specs.Citations.{expr_at, option_expr}
+use Rattle.explain.specs.declared.reason.Fault.{Fault}
+use Rattle.explain.specs.declared.reason.Fault.TheVariants.{Unknown, Inactive, Later, Few, Constant, Expression, Together, Heavy, Unmarked}
+use Rattle.explain.specs.Stored.Vectors.{named}
+use Rattle.scope.specs.Active.{before}
+use Rattle.frame.specs.FrameOf.{hypotheses}
+use Rattle.explain.specs.ReadImages.{images_read, named_images, AreVariables}
+use Rattle.explain.specs.CitationFaults.{asks, AllFit, IsOther, BeginsOther, IsOtherConstant, StartsOther, IsFloat, IsSaid, IsMismatch}
+use Rattle.explain.proofs.NamedLemmas.{apply_same}
+use Rattle.frame.proofs.FoundByNumber.{map-at, name_at-injective, decode-injective}
+
+-- the expression of the statement that stands there
+pub expr_is : (S : Database) (p : ℕ) (s : Stmt) → stmt_at S p ≡ Some s → expr_at S p ≡ expr_of s
+expr_is S p s e = ap option_expr e
+
+module _ (S : Database) (names : List Name) (σ : Images) (ps : List ℕ) (results : List (Vec ℕ)) (k : ℕ) (r : Vec ℕ)
+    (within : k < length ps) (inside : k < length results) (here : r ≡ get_or results k r)
+    (before : AllFit S σ (take k ps) (take k (named names results))) where
+  -- this result stands among the results by name
+  result_is : slice_get (named names results) k ≡ Some (decode names r.items)
+  result_is = map-at (λ v. decode names v.items) results k r (slice_get_read results (length results) k r refl inside here)
+
+  -- the results by name up to this one are those before it, and it
+  last_is : take (k + 1) (named names results) ≡ take k (named names results) ++ decode names r.items ∷ []
+  last_is =
+      take-map (λ v. decode names v.items) (k + 1) results
+      ∙ (ap (λ n. map (λ v. decode names v.items) (take n results)) (add-one k)
+      ∙ (ap (λ l. map (λ v. decode names v.items) l) (take-suc results k r inside ∙ ap (λ v. take k results ++ v ∷ []) (sym here))
+      ∙ (map_push (λ v. decode names v.items) (take k results) r
+      ∙ ap (λ l. l ++ decode names r.items ∷ []) (sym (take-map (λ v. decode names v.items) k results)))))
+
+  -- one hypothesis more has its result
+  pub fit_more : asks S σ (get_or ps k 0) ≡ decode names r.items → AllFit S σ (take (k + 1) ps) (take (k + 1) (named names results))
+  fit_more e =
+      ap (λ n. map (asks S σ) (take n ps)) (add-one k)
+      ∙ (ap (λ l. map (asks S σ) l) (take-suc ps k 0 within)
+      ∙ (map_push (asks S σ) (take k ps) (get_or ps k 0)
+      ∙ (ap (λ l. l ++ asks S σ (get_or ps k 0) ∷ []) before
+      ∙ (ap (λ x. take k (named names results) ++ x ∷ []) e ∙ sym last_is))))
+
+  -- or it requires another
+  pub other_here : (required : List ℕ) → AreDistinct names → AreBelow (length names) required → AreBelow (length names) r.items → decode names required ≡ asks S σ (get_or ps k 0) → (r.items ≡ required → ⊥)
+      → IsOther S σ ps (named names results) k (get_or ps k 0) (decode names required) (decode names r.items)
+  other_here required distinct low below is differ = record {
+    hypothesis = slice_get-get_or ps k 0 within;
+    result = result_is;
+    required_is = is;
+    differ = λ same. differ (decode-injective names r.items required distinct below low same);
+    before = before;
+  }
+
+-- the fault of the result
+module _ (S : Database) (names : List Name) (distinct : AreDistinct names) (p typecode : ℕ) (kind : Hypothesis) (is : IsRequired S names p typecode kind) where
+  -- an expression that does not begin with this number does not begin with its name
+  begins_other : (c : Name) (e : List ℕ) → typecode < length names → name_at names typecode ≡ c → AreBelow (length names) e → StartsOther typecode e → BeginsOther c (decode names e)
+  begins_other c [] h n below starts = tt
+  begins_other c (x ∷ e) h n below starts = λ same. starts (name_at-injective names x typecode distinct below.0 h (same ∙ sym n))
+
+  -- the result for a `$f` that begins with another number begins with another constant
+  pub other_constant : (e : List ℕ) → AreBelow (length names) e → IsFloat kind → StartsOther typecode e → IsOtherConstant (stmt_at S p) (decode names e)
+  other_constant e below float starts = subst (λ o. IsOtherConstant o (decode names e)) (sym is.stands) (by is.stmt kind is.first is.is float)
+    where
+      by : (s : Stmt) (h : Hypothesis) → IsTypecode names typecode (expr_of s) → IsOf names p s h → IsFloat h → IsOtherConstant (Some s) (decode names e)
+      by (stmt.Float l c v) h first of float = begins_other c e first.0 first.1 below starts
+      by (stmt.Ess l w) (hypothesis.Float x) first of float = absurd of
+      by (stmt.Ess l w) (hypothesis.Essential q) first of float = absurd float
+      by stmt.Open (hypothesis.Float x) first of float = absurd of
+      by stmt.Open (hypothesis.Essential q) first of float = absurd float
+      by stmt.Close (hypothesis.Float x) first of float = absurd of
+      by stmt.Close (hypothesis.Essential q) first of float = absurd float
+      by (stmt.Const w) (hypothesis.Float x) first of float = absurd of
+      by (stmt.Const w) (hypothesis.Essential q) first of float = absurd float
+      by (stmt.Var w) (hypothesis.Float x) first of float = absurd of
+      by (stmt.Var w) (hypothesis.Essential q) first of float = absurd float
+      by (stmt.Disj w) (hypothesis.Float x) first of float = absurd of
+      by (stmt.Disj w) (hypothesis.Essential q) first of float = absurd float
+      by (stmt.Axiom l w) (hypothesis.Float x) first of float = absurd of
+      by (stmt.Axiom l w) (hypothesis.Essential q) first of float = absurd float
+      by (stmt.Prove l w r) (hypothesis.Float x) first of float = absurd of
+      by (stmt.Prove l w r) (hypothesis.Essential q) first of float = absurd float
+
+-- the result that a hypothesis requires, by number
+pub required_is : (S : Database) (names : List Name) → AreDistinct names → (σ : CodeImages) → AreVariables (length names) σ → (p : ℕ) (s : Stmt) → stmt_at S p ≡ Some s
+    → (e : List ℕ) → decode names e ≡ expr_of s → AreBelow (length names) e → (required : List ℕ) → required ≡ code_apply σ e → decode names required ≡ asks S (named_images names σ) p
+required_is S names distinct σ variables p s stands e is below required same =
+    ap (decode names) same ∙ (apply_same names distinct σ e variables below ∙ ap (λ x. applied (named_images names σ) x) (is ∙ sym (expr_is S p s stands)))
+
+-- the fault is a mismatch
+pub mismatch_is : (S : Database) (names : List Name) (a : ℕ) (s : Stmt) (rs : List Expr) (kind : Hypothesis) (typecode p k : ℕ) (required there : Vec ℕ) (fault : Fault)
+    → IsSaid kind typecode a p required there fault
+    → IsOther S (images_read S (hypotheses (before S a) s) rs) (hypotheses (before S a) s) rs k p (decode names required.items) (decode names there.items)
+    → (IsFloat kind → StartsOther typecode there.items → IsOtherConstant (stmt_at S p) (decode names there.items))
+    → IsMismatch S names a s rs fault
+mismatch_is S names a s rs kind typecode p k required there Unknown said other constant = absurd said
+mismatch_is S names a s rs kind typecode p k required there (Inactive h) said other constant = absurd said
+mismatch_is S names a s rs kind typecode p k required there (Later h) said other constant = absurd said
+mismatch_is S names a s rs kind typecode p k required there (Few b t n) said other constant = absurd said
+mismatch_is S names a s rs kind typecode p k required there (Constant b q r) said other constant =
+    let ps = hypotheses (before S a) s in
+    let σ = images_read S ps rs in
+    let P : ℕ → Type 0 = λ p. (IsOther S σ ps rs k p (decode names required.items) (decode names there.items)) × IsOtherConstant (stmt_at S p) (decode names there.items) in
+    let at = subst P (sym said.1) (other, constant said.3 said.4) in
+    let Q : Vec ℕ → Type 0 = λ v. (IsOther S σ ps rs k q (decode names required.items) (decode names v.items)) × IsOtherConstant (stmt_at S q) (decode names v.items) in
+    let both = subst Q (sym said.2) at in
+    (said.0, (k, decode names required.items, both.0, both.1))
+mismatch_is S names a s rs kind typecode p k required there (Expression b q e r) said other constant =
+    let ps = hypotheses (before S a) s in
+    let σ = images_read S ps rs in
+    let at = subst (λ p. IsOther S σ ps rs k p (decode names required.items) (decode names there.items)) (sym said.1) other in
+    let next = subst (λ (v : Vec ℕ). IsOther S σ ps rs k q (decode names v.items) (decode names there.items)) (sym said.2) at in
+    (said.0, (k, subst (λ (v : Vec ℕ). IsOther S σ ps rs k q (decode names e.items) (decode names v.items)) (sym said.3) next))
+mismatch_is S names a s rs kind typecode p k required there (Together b x y u v) said other constant = absurd said
+mismatch_is S names a s rs kind typecode p k required there Heavy said other constant = absurd said
+mismatch_is S names a s rs kind typecode p k required there Unmarked said other constant = absurd said
+
+-- the result of a test of two lists
+pub not_ne : (b : Bool) (xs ys : List ℕ) → b ≡ not (bytes_eq xs ys) → b ≡ false → xs ≡ ys
+not_ne b xs ys e f = (bytes_eq-Decides xs ys).0 (not-false (bytes_eq xs ys) (sym e ∙ f))
+
+-- lists of which the test says that they differ are not equal
+pub is_ne : (b : Bool) (xs ys : List ℕ) → b ≡ not (bytes_eq xs ys) → b ≡ true → ys ≡ xs → ⊥
+is_ne b xs ys e f same = both_ways (bytes_eq xs ys) (not-true (bytes_eq xs ys) (sym e ∙ f)) ((bytes_eq-Decides xs ys).1 (sym same))

@@ -1,0 +1,91 @@
+-- What a citation gives, and what wrong results are.
+use Rattle.std.proofs.Common.{◌≡◌, ℕ, zero, suc, ◌+◌, ◌-◌, ◌<◌, ◌≤◌, Bool, true, List, [], ◌∷◌, ◌++◌, length, take, drop, arith, refl, sym, ◌∙◌, ap, subst, Some, None, Option, slice_get, IfOk, MatchOption, Result, Ok, Err, length-take, length-drop, take_all, ◌&&◌}
+use Rattle.std.specs.declared.alloc.AllocError.{AllocError}
+use Rattle.std.specs.Prelude.{IsTrue}
+use Rattle.std.specs.Global.{Vec}
+use Rattle.std.specs.List.{list_all}
+use Rattle.std.proofs.lemmas.List.{length-map}
+use Rattle.std.proofs.lemmas.Option.{same_Some}
+use Rattle.mm_lex.specs.Alphabet.{Name}
+use Rattle.mm_read.specs.declared.stmt.Stmt.{Stmt}
+use Rattle.mm_read.specs.declared.stmt.Stmt.TheVariants as stmt
+use Rattle.mm_read.specs.Statements.{Database, Expr}
+use Rattle.scope.specs.Active.{stmt_at, before, expr_of, is_variable, is_assertion}
+use Rattle.names.specs.Codes.{name_at, decode}
+use Rattle.frame.specs.FrameOf.{hypotheses, HasAssertion}
+use Rattle.frame.specs.Substitution.{apply as applied}
+use Rattle.frame.specs.Citations.{IsHypothesis}
+use Rattle.explain.specs.declared.reason.Fault.{Fault}
+use Rattle.explain.specs.declared.reason.Fault.TheVariants.{Unknown, Inactive, Later, Few, Constant, Expression, Together, Heavy, Unmarked}
+use Rattle.explain.specs.Stored.Vectors.{named}
+use Rattle.explain.specs.ReadImages.{image_at, images_read}
+use Rattle.explain.specs.Concluded.{AreTaken, images_of, IsWrong}
+use Rattle.explain.specs.Explained.{Gives, of_assertion}
+use Rattle.verify.specs.Machine.{State}
+use Rattle.explain.specs.FirstFault.{FailsAt}
+use Rattle.subst.specs.declared.buffer.TheConstants.{SYMBOLS_LIMIT}
+
+-- the images are images of variables
+variables_are : (S : Database) (V : Name → Bool) (ps : List ℕ) (rs : List Expr)
+    → ((k p : ℕ) (l c x : Name) → slice_get ps k ≡ Some p → stmt_at S p ≡ Some (stmt.Float l c x) → V x ≡ true)
+    → list_all (λ q. V q.0) (images_read S ps rs) ≡ true
+variables_are S V [] rs h = refl
+variables_are S V (p ∷ ps) [] h = refl
+variables_are S V (p ∷ ps) (e ∷ rs) h = one (stmt_at S p) refl (variables_are S V ps rs (λ k q l c x a b. h (suc k) q l c x a b))
+  where
+    one : (o : Option Stmt) → stmt_at S p ≡ o → list_all (λ q. V q.0) (images_read S ps rs) ≡ true → list_all (λ q. V q.0) (image_at o e ++ images_read S ps rs) ≡ true
+    one None at rest = rest
+    one (Some (stmt.Float l c x)) at rest = ap (λ b. b && list_all (λ q. V q.0) (images_read S ps rs)) (h zero p l c x refl at) ∙ rest
+    one (Some stmt.Open) at rest = rest
+    one (Some stmt.Close) at rest = rest
+    one (Some (stmt.Const w)) at rest = rest
+    one (Some (stmt.Var w)) at rest = rest
+    one (Some (stmt.Disj w)) at rest = rest
+    one (Some (stmt.Ess l w)) at rest = rest
+    one (Some (stmt.Axiom l w)) at rest = rest
+    one (Some (stmt.Prove l w r)) at rest = rest
+
+-- results that are taken give the conclusion
+pub gives_is : (S : Database) (at a : ℕ) (s : Stmt) (rs : List Expr) (stack below : List Expr) (e : Expr) → a < at → HasAssertion S a s
+    → ((k p : ℕ) (l c x : Name) → slice_get (hypotheses (before S a) s) k ≡ Some p → stmt_at S p ≡ Some (stmt.Float l c x) → is_variable (before S a) x ≡ true)
+    → AreTaken S at a s rs → stack ≡ below ++ rs → e ≡ applied (images_of S a s rs) (expr_of s) → Gives S at a s stack below e
+gives_is S at a s rs stack below e earlier stands variable taken whole is =
+    of_assertion (images_of S a s rs)
+    (record {
+      earlier = earlier;
+      stands = stands.0;
+      assertion = stands.1;
+      of_variables = variables_are S (is_variable (before S a)) (hypotheses (before S a) s) rs variable;
+      disjoint = taken.disjoint;
+    })
+    (whole ∙ ap (λ r. below ++ r) (sym taken.fit)) is
+
+-- wrong results are a fault
+pub wrong_fails : (S : Database) (names : List Name) (at a : ℕ) (s : Stmt) (h : State) (below rs : List Expr) (fault : Fault) → h.weight ≤ SYMBOLS_LIMIT → h.stack ≡ below ++ rs
+    → length rs ≡ length (hypotheses (before S a) s) → a < at → HasAssertion S a s
+    → ((k p : ℕ) (l c x : Name) → slice_get (hypotheses (before S a) s) k ≡ Some p → stmt_at S p ≡ Some (stmt.Float l c x) → is_variable (before S a) x ≡ true)
+    → IsWrong S names at a s rs (SYMBOLS_LIMIT - h.weight) fault → FailsAt S names at h a s fault
+wrong_fails S names at a s h below rs Unknown light whole count earlier stands variable wrong = absurd wrong
+wrong_fails S names at a s h below rs (Inactive i) light whole count earlier stands variable wrong = absurd wrong
+wrong_fails S names at a s h below rs (Later i) light whole count earlier stands variable wrong = absurd wrong
+wrong_fails S names at a s h below rs (Few b t n) light whole count earlier stands variable wrong = absurd wrong
+wrong_fails S names at a s h below rs (Constant b p r) light whole count earlier stands variable wrong = record { earlier = earlier; assertion = stands.1; below = below; results = rs; whole = whole; count = count; wrong = wrong }
+wrong_fails S names at a s h below rs (Expression b p q r) light whole count earlier stands variable wrong = record { earlier = earlier; assertion = stands.1; below = below; results = rs; whole = whole; count = count; wrong = wrong }
+wrong_fails S names at a s h below rs (Together b x y u v) light whole count earlier stands variable wrong = record { earlier = earlier; assertion = stands.1; below = below; results = rs; whole = whole; count = count; wrong = wrong }
+wrong_fails S names at a s h below rs Heavy light whole count earlier stands variable wrong =
+    record {
+      below = below;
+      result = applied (images_of S a s rs) (expr_of s);
+      gives = gives_is S at a s rs h.stack below (applied (images_of S a s rs) (expr_of s)) earlier stands variable wrong.0 whole refl;
+      heavy = let over = wrong.1 in omega (arith, light, over);
+    }
+wrong_fails S names at a s h below rs Unmarked light whole count earlier stands variable wrong = absurd wrong
+
+-- a statement that stands where an assertion stands is an assertion
+pub assertion_is : (S : Database) (a : ℕ) (r s : Stmt) → HasAssertion S a r → stmt_at S a ≡ Some s → HasAssertion S a s
+assertion_is S a r s has e = (e, subst (λ t. IsTrue (is_assertion t)) (same_Some r s (sym has.0 ∙ e)) has.1)
+
+-- a statement that stands where a hypothesis stands is that hypothesis, and has its expression
+pub hypothesis_is : (S : Database) (names : List Name) (at i : ℕ) (r s : Stmt) (e : List ℕ) → IsHypothesis S at i r → decode names e ≡ expr_of r → stmt_at S i ≡ Some s
+    → (IsHypothesis S at i s) × (decode names e ≡ expr_of s)
+hypothesis_is S names at i r s e is same stands = subst (λ t. (IsHypothesis S at i t) × (decode names e ≡ expr_of t)) (same_Some r s (sym is.stands ∙ stands)) (is, same)

@@ -1,0 +1,155 @@
+-- Images by number and images of names.
+use Rattle.std.proofs.Common.{◌≡◌, ℕ, zero, suc, ◌+◌, ◌<◌, Bool, true, false, cond, List, [], ◌∷◌, ◌++◌, length, drop, get_or, map, arith, refl, sym, ◌∙◌, ap, add-one, append_assoc, Some}
+use Rattle.std.specs.Prelude.{nat_eq}
+use Rattle.std.specs.Global.{Vec}
+use Rattle.mm_lex.specs.Alphabet.{Name, name_eq}
+use Rattle.mm_read.specs.declared.stmt.Stmt.{Stmt}
+use Rattle.mm_read.specs.declared.stmt.Stmt.TheVariants as stmt
+use Rattle.mm_read.specs.Statements.{Database}
+use Rattle.scope.specs.Active.{stmt_at}
+use Rattle.names.specs.Codes.{name_at, decode, AreDistinct}
+use Rattle.entries.specs.declared.assertion_view.Hypothesis.{Hypothesis}
+use Rattle.entries.specs.declared.assertion_view.Hypothesis.TheVariants.{Float, Essential}
+use Rattle.frame.specs.Below.{AreBelow}
+use Rattle.frame.specs.AssertionView.{AreRequired, IsOf}
+use Rattle.frame.specs.Substitution.{CodeImages, code_image, code_apply, image, apply}
+use Rattle.frame.proofs.KindWalk.{same-number}
+use Rattle.explain.specs.declared.named_images.Image.{Image}
+use Rattle.explain.specs.Stored.Vectors.{codes, code_images, named}
+use Rattle.explain.specs.ReadImages.{image_at, images_read, code_at, codes_read, named_images, AreVariables}
+use Rattle.subst.proofs.SubstitutionLemmas.{decode-append}
+
+decode-drop : (names : List Name) (e : List ℕ) → decode names (drop 1 e) ≡ drop 1 (decode names e)
+decode-drop names [] = refl
+decode-drop names (x ∷ e) = refl
+
+named-append : (names : List Name) (σ τ : CodeImages) → named_images names (σ ++ τ) ≡ named_images names σ ++ named_images names τ
+named-append names [] τ = refl
+named-append names (p ∷ σ) τ = ap (λ r. (name_at names p.0, decode names p.1) ∷ r) (named-append names σ τ)
+
+-- ---- putting images in, by number and by name
+
+module _ (names : List Name) (distinct : AreDistinct names) where
+  -- the image of a number, named, is the image of its name
+  pub image_same : (σ : CodeImages) (x : ℕ) → AreVariables (length names) σ → x < length names → decode names (code_image σ x) ≡ image (named_images names σ) (name_at names x)
+  image_same [] x h l = refl
+  image_same (p ∷ σ) x h l = by (nat_eq x p.0) refl (image_same σ x h.1 l)
+    where
+      same : nat_eq x p.0 ≡ name_eq (name_at names x) (name_at names p.0)
+      same = same-number names x p.0 distinct l h.0
+
+      by : (b : Bool) → nat_eq x p.0 ≡ b → decode names (code_image σ x) ≡ image (named_images names σ) (name_at names x)
+          → decode names (cond (nat_eq x p.0) p.1 (code_image σ x)) ≡ cond (name_eq (name_at names x) (name_at names p.0)) (decode names p.1) (image (named_images names σ) (name_at names x))
+      by true e rest = ap (λ b. decode names (cond b p.1 (code_image σ x))) e ∙ sym (ap (λ b. cond b (decode names p.1) (image (named_images names σ) (name_at names x))) (sym same ∙ e))
+      by false e rest = ap (λ b. decode names (cond b p.1 (code_image σ x))) e ∙ (rest ∙ sym (ap (λ b. cond b (decode names p.1) (image (named_images names σ) (name_at names x))) (sym same ∙ e)))
+
+  -- with images put in by number, a list is named as its names with the named images put in
+  pub apply_same : (σ : CodeImages) (e : List ℕ) → AreVariables (length names) σ → AreBelow (length names) e → decode names (code_apply σ e) ≡ apply (named_images names σ) (decode names e)
+  apply_same σ [] h l = refl
+  apply_same σ (x ∷ e) h l =
+      decode-append names (code_image σ x) (code_apply σ e)
+      ∙ (ap (λ r. r ++ decode names (code_apply σ e)) (image_same σ x h l.0) ∙ ap (λ r. image (named_images names σ) (name_at names x) ++ r) (apply_same σ e h l.1))
+
+-- ---- the images that are read
+
+-- one hypothesis reads the same off a result by number and by name
+image_is : (S : Database) (names : List Name) (p : ℕ) (s : Stmt) (h : Hypothesis) (e : List ℕ) → stmt_at S p ≡ Some s → IsOf names p s h
+    → (named_images names (code_at h e) ≡ image_at (stmt_at S p) (decode names e)) × AreVariables (length names) (code_at h e)
+image_is S names p (stmt.Float l c v) (Float x) e stands is =
+    (ap (λ y. (y, decode names (drop 1 e)) ∷ []) is.1 ∙ (ap (λ d. (v, d) ∷ []) (decode-drop names e) ∙ ap (λ o. image_at o (decode names e)) (sym stands)), (is.0, tt))
+image_is S names p (stmt.Ess l e') (Essential q) e stands is = (ap (λ o. image_at o (decode names e)) (sym stands), tt)
+image_is S names p (stmt.Float l c v) (Essential q) e stands is = absurd is
+image_is S names p (stmt.Ess l e') (Float x) e stands is = absurd is
+image_is S names p stmt.Open (Float x) e stands is = absurd is
+image_is S names p stmt.Open (Essential q) e stands is = absurd is
+image_is S names p stmt.Close (Float x) e stands is = absurd is
+image_is S names p stmt.Close (Essential q) e stands is = absurd is
+image_is S names p (stmt.Const w) (Float x) e stands is = absurd is
+image_is S names p (stmt.Const w) (Essential q) e stands is = absurd is
+image_is S names p (stmt.Var w) (Float x) e stands is = absurd is
+image_is S names p (stmt.Var w) (Essential q) e stands is = absurd is
+image_is S names p (stmt.Disj w) (Float x) e stands is = absurd is
+image_is S names p (stmt.Disj w) (Essential q) e stands is = absurd is
+image_is S names p (stmt.Axiom l w) (Float x) e stands is = absurd is
+image_is S names p (stmt.Axiom l w) (Essential q) e stands is = absurd is
+image_is S names p (stmt.Prove l w r) (Float x) e stands is = absurd is
+image_is S names p (stmt.Prove l w r) (Essential q) e stands is = absurd is
+
+variables-append : (n : ℕ) (σ τ : CodeImages) → AreVariables n σ → AreVariables n τ → AreVariables n (σ ++ τ)
+variables-append n [] τ h k = k
+variables-append n (p ∷ σ) τ h k = (h.0, variables-append n σ τ h.1 k)
+
+-- all hypotheses read the same off the results by number and by name
+pub images_are : (S : Database) (names : List Name) (ps typecodes : List ℕ) (hs : List Hypothesis) (es : List (List ℕ)) → AreRequired S names ps typecodes hs
+    → (named_images names (codes_read hs es) ≡ images_read S ps (map (decode names) es)) × AreVariables (length names) (codes_read hs es)
+images_are S names [] [] [] es required = (refl, tt)
+images_are S names [] (x ∷ typecodes) hs es required = absurd required
+images_are S names [] [] (h ∷ hs) es required = absurd required
+images_are S names (p ∷ ps) [] hs es required = absurd required
+images_are S names (p ∷ ps) (x ∷ typecodes) [] es required = absurd required
+images_are S names (p ∷ ps) (x ∷ typecodes) (h ∷ hs) [] required = (refl, tt)
+images_are S names (p ∷ ps) (x ∷ typecodes) (h ∷ hs) (e ∷ es) required =
+    let one = image_is S names p required.0.stmt h e required.0.stands required.0.is in
+    let rest = images_are S names ps typecodes hs es required.1 in (
+      named-append names (code_at h e) (codes_read hs es)
+          ∙ (ap (λ σ. σ ++ named_images names (codes_read hs es)) one.0 ∙ ap (λ τ. image_at (stmt_at S p) (decode names e) ++ τ) rest.0),
+      variables-append (length names) (code_at h e) (codes_read hs es) one.1 rest.1,
+    )
+
+-- ---- numbers that stand for the same names are the same
+
+-- ---- reading one result more
+
+-- the images left to read are those of this result and of those after it
+read_step : (kinds : List Hypothesis) (results : List (Vec ℕ)) (k : ℕ) (h : Hypothesis) → k < length kinds → k < length results
+    → get_or kinds k (Float 0) ≡ h → (r : Vec ℕ) → r ≡ get_or results k r
+    → codes_read (drop k kinds) (codes (drop k results)) ≡ code_at h r.items ++ codes_read (drop (suc k) kinds) (codes (drop (suc k) results))
+read_step [] results k h within inside is r here = absurd (omega (arith, within))
+read_step (x ∷ kinds) [] k h within inside is r here = absurd (omega (arith, inside))
+read_step (x ∷ kinds) (y ∷ results) zero h within inside is r here =
+    ap (λ z. code_at z y.items ++ codes_read kinds (codes results)) is ∙ ap (λ (v : Vec ℕ). code_at h v.items ++ codes_read kinds (codes results)) (sym here)
+read_step (x ∷ kinds) (y ∷ results) (suc k) h within inside is r here = read_step kinds results k h (omega (arith, within)) (omega (arith, inside)) is r here
+
+-- with the result of a `$f` added, the images read and those left to read are the same whole
+pub read_more : (kinds : List Hypothesis) (results : List (Vec ℕ)) (k x : ℕ) (old new : List Image) (image : Image) (whole : CodeImages) → k < length kinds → k < length results
+    → get_or kinds k (Float 0) ≡ Float x → (r : Vec ℕ) → r ≡ get_or results k r → image.variable ≡ x → image.symbols.items ≡ drop 1 r.items → new ≡ old ++ image ∷ []
+    → code_images old ++ codes_read (drop k kinds) (codes (drop k results)) ≡ whole
+    → code_images new ++ codes_read (drop (k + 1) kinds) (codes (drop (k + 1) results)) ≡ whole
+read_more kinds results k x old new image whole within inside is r here variable symbols added e =
+    let rest : CodeImages = codes_read (drop (suc k) kinds) (codes (drop (suc k) results)) in
+    let step = read_step kinds results k (Float x) within inside is r here in
+    let pair : ◌≡◌ {A = ℕ × List ℕ} (image.variable, image.symbols.items) (x, drop 1 r.items) = ap (λ v. (v, image.symbols.items)) variable ∙ ap (λ d. (x, d)) symbols in
+    ap (λ n. code_images new ++ codes_read (drop n kinds) (codes (drop n results))) (add-one k)
+    ∙ (ap (λ l. code_images l ++ rest) added
+    ∙ (ap (λ l. l ++ rest) (map-append old image)
+    ∙ (append_assoc (code_images old) ((image.variable, image.symbols.items) ∷ []) rest
+    ∙ (ap (λ p. code_images old ++ (p ∷ rest)) pair
+    ∙ (ap (λ l. code_images old ++ l) (sym step) ∙ e)))))
+  where
+    map-append : (old : List Image) (image : Image) → code_images (old ++ image ∷ []) ≡ code_images old ++ (image.variable, image.symbols.items) ∷ []
+    map-append [] image = refl
+    map-append (y ∷ old) image = ap (λ l. (y.variable, y.symbols.items) ∷ l) (map-append old image)
+
+-- the result of a `$e` gives no image
+pub read_skip : (kinds : List Hypothesis) (results : List (Vec ℕ)) (k : ℕ) (images : List Image) (whole : CodeImages) → k < length kinds → k < length results
+    → ((x : ℕ) → get_or kinds k (Float 0) ≡ Float x → ⊥)
+    → code_images images ++ codes_read (drop k kinds) (codes (drop k results)) ≡ whole
+    → code_images images ++ codes_read (drop (k + 1) kinds) (codes (drop (k + 1) results)) ≡ whole
+read_skip kinds results k images whole within inside not e =
+    ap (λ n. code_images images ++ codes_read (drop n kinds) (codes (drop n results))) (add-one k)
+    ∙ (ap (λ l. code_images images ++ l) (sym (go kinds results k within inside not)) ∙ e)
+  where
+    none : (h : Hypothesis) (e : List ℕ) → ((x : ℕ) → h ≡ Float x → ⊥) → code_at h e ≡ []
+    none (Float x) e not = absurd (not x refl)
+    none (Essential q) e not = refl
+
+    go : (kinds : List Hypothesis) (results : List (Vec ℕ)) (k : ℕ) → k < length kinds → k < length results → ((x : ℕ) → get_or kinds k (Float 0) ≡ Float x → ⊥)
+        → codes_read (drop k kinds) (codes (drop k results)) ≡ codes_read (drop (suc k) kinds) (codes (drop (suc k) results))
+    go [] results k within inside not = absurd (omega (arith, within))
+    go (x ∷ kinds) [] k within inside not = absurd (omega (arith, inside))
+    go (x ∷ kinds) (y ∷ results) zero within inside not = ap (λ l. l ++ codes_read kinds (codes results)) (none x y.items not)
+    go (x ∷ kinds) (y ∷ results) (suc k) within inside not = go kinds results k (omega (arith, within)) (omega (arith, inside)) not
+
+pub named-codes : (names : List Name) (vs : List (Vec ℕ)) → map (decode names) (codes vs) ≡ named names vs
+named-codes names [] = refl
+named-codes names (v ∷ vs) = ap (λ l. decode names v.items ∷ l) (named-codes names vs)

@@ -1,0 +1,119 @@
+-- Where the run over the items stops, as the first fault.
+use Rattle.std.specs.Prelude.{nat_lt}
+use Rattle.std.proofs.lemmas.Bool.Decides.{nat_tests}
+use Rattle.std.proofs.Common.{◌≡◌, ◌≢◌, Bool, true, false, ℕ, zero, suc, ◌+◌, ◌-◌, ◌<◌, ◌≤◌, List, [], ◌∷◌, ◌++◌, length, map, take, drop, get_or, arith, refl, sym, ◌∙◌, ap, subst, Option, Some, None, slice_get, length-drop}
+use Rattle.std.specs.Global.{Vec}
+use Rattle.mm_lex.specs.Alphabet.{Name}
+use Rattle.mm_read.specs.declared.stmt.Stmt.{Stmt}
+use Rattle.mm_read.specs.Statements.{Database, Expr}
+use Rattle.names.specs.Codes.{decode}
+use Rattle.scope.specs.Active.{stmt_at, expr_of}
+use Rattle.frame.specs.Citations.{Carries}
+use Rattle.proof_code.specs.declared.item.Item.{Item}
+use Rattle.proof_code.specs.declared.item.Item.TheVariants.{Cite, Recall, Mark}
+use Rattle.proof_code.specs.ItemNumbers.{item_of, items_of}
+use Rattle.explain.specs.declared.reason.Fault.{Fault}
+use Rattle.explain.specs.declared.reason.Fault.TheVariants.{Heavy, Unmarked, Unknown}
+use Rattle.explain.specs.declared.reason.Reason.{Reason}
+use Rattle.explain.specs.declared.reason.Reason.TheVariants as reason
+use Rattle.explain.specs.Explained.{Gives}
+use Rattle.explain.specs.FirstFault.{Fails, RunsWell, IsFirstFault, IsEnd}
+use Rattle.explain.proofs.RunItemLemmas.{mark_fails, recall_heavy, cite_stuck, recall_item, what_is, found-at}
+use Rattle.frame.specs.AtPosition.{IsPosition, ArePositions}
+use Rattle.verify.specs.StepsByNumber.{behind, named}
+use Rattle.verify.specs.Machine.{Results, State, start, IsSaved, Runs}
+use Rattle.verify.specs.Stops.{IsOther, IsStopped}
+use Rattle.verify.proofs.Words.{take_all, length-map, slice_get-get_or, slice_get_within, item-cite, get_or_default}
+use Rattle.std.proofs.lemmas.Option.{same_Some}
+use Rattle.subst.specs.declared.buffer.TheConstants.{SYMBOLS_LIMIT}
+
+module _ (S : Database) (names : List Name) (at : ℕ) (items : List Item) (k labels : ℕ) (st : Results ℕ) (stopped : IsStopped S at names items k labels st) where
+  -- the results before it, by name
+  abbrev pub held : State
+  held = named names (behind labels st)
+
+  -- the items before it run well
+  pub runs_well : RunsWell S at (take k items) held
+  runs_well = record { runs = stopped.stops.runs; light = stopped.light }
+
+  -- a mark of nothing
+  pub fails_mark : (what : Item) → slice_get items k ≡ Some what → Mark ≡ what → Fails S names at held what Unmarked
+  fails_mark what there same = subst (λ i. Fails S names at held i Unmarked) same (mark_fails S at held stopped.light (stopped.stops.stuck Mark (there ∙ ap Some (sym same))))
+
+  -- a recall of a saved result, or of none
+  pub fails_recall_heavy : (what : Item) (i : ℕ) → slice_get items k ≡ Some what → Recall (suc i) ≡ what → i < length st.saved - labels → Fails S names at held what Heavy
+  fails_recall_heavy what i there same less =
+      let l = length-drop labels st.saved in let m = length-map (drop labels st.saved) (decode names) in
+      subst (λ w. Fails S names at held w Heavy) same
+      (recall_heavy S at held stopped.light i (stopped.stops.stuck (Recall (suc i)) (there ∙ ap Some (sym same))) (omega (arith, l, m, less)))
+
+  pub fails_recall_none : (what : Item) (i : ℕ) → Recall (suc i) ≡ what → length st.saved - labels ≤ i → Fails S names at held what Unmarked
+  fails_recall_none what i same over =
+      let l = length-drop labels st.saved in let m = length-map (drop labels st.saved) (decode names) in
+      subst (λ w. Fails S names at held w Unmarked) same
+      (λ e saved. let w = slice_get_within (map (decode names) (drop labels st.saved)) i e saved in omega (arith, w, l, m, over))
+
+  pub fails_recall : (what : Item) (i : ℕ) (fault : Fault) → slice_get items k ≡ Some what → Recall (suc i) ≡ what
+      → (i < length st.saved - labels → fault ≡ Heavy) → (length st.saved - labels ≤ i → fault ≡ Unmarked) → Fails S names at held what fault
+  fails_recall what i fault there same marked unmarked = by (nat_lt i (length st.saved - labels)) refl
+    where
+      by : (b : Bool) → nat_lt i (length st.saved - labels) ≡ b → Fails S names at held what fault
+      by true e =
+          let less : i < length st.saved - labels = grind (arith, nat_tests) in
+          subst (Fails S names at held what) (sym (marked less)) (fails_recall_heavy what i there same less)
+      by false e =
+          let over : length st.saved - labels ≤ i = grind (arith, nat_tests) in
+          subst (Fails S names at held what) (sym (unmarked over)) (fails_recall_none what i same over)
+
+  -- a citation of a statement that gives a result passes the limit
+  pub cannot_cite : (label : Name) (i : ℕ) (r : Stmt) → slice_get items k ≡ Some (Cite label) → Carries S i r label
+      → (s : Stmt) (below : List Expr) (e : Expr) → stmt_at S i ≡ Some s → Gives S at i s held.stack below e → SYMBOLS_LIMIT < held.weight + length e
+  cannot_cite label i r there carries = cite_stuck S at held stopped.light label i r carries (stopped.stops.stuck (Cite label) there)
+
+  -- the fault of an item
+  pub first_at : (s : Stmt) (what : Item) (fault : Fault) → slice_get items k ≡ Some what → Fails S names at held what fault → IsFirstFault S names at s items (reason.Item k fault)
+  first_at s what fault there fails = (held, what, runs_well, there, fails)
+
+-- the fault of the end
+module _ (S : Database) (names : List Name) (at : ℕ) (items : List Item) (labels : ℕ) (st : Results ℕ) (s : Stmt) (stopped : IsStopped S at names items (length items) labels st) (other : IsOther names st s) where
+  whole : RunsWell S at items (held S names at items (length items) labels st stopped)
+  whole = subst (λ is. RunsWell S at is (held S names at items (length items) labels st stopped)) (take_all (length items) items (omega arith)) (runs_well S names at items (length items) labels st stopped)
+
+  pub first_end : (r : Reason) → IsEnd st.stack r → IsFirstFault S names at s items r
+  first_end (reason.Item k fault) is = absurd is
+  first_end (reason.Results count) is = (held S names at items (length items) labels st stopped, whole, is.0 ∙ sym (length-map st.stack (decode names)), is.1)
+  first_end (reason.Theorem proved) is =
+      (held S names at items (length items) labels st stopped, whole, ap (map (decode names)) is, λ same. other (ap (map (decode names)) is ∙ ap (λ e. e ∷ []) same))
+
+-- ---- items by their numbers
+
+module _ (labels : List Name) (numbers : List ℕ) (items : List Item) (k : ℕ) (is : items_of labels numbers ≡ items) where
+  pub number_within : k < length items → k < length numbers
+  number_within less = let l = length-map numbers (item_of labels) in let same = ap length is in omega (arith, less, l, same)
+
+  -- the item at an index
+  pub item_there : k < length items → slice_get items k ≡ Some (item_of labels (get_or numbers k 0))
+  item_there less =
+      let there = slice_get-get_or items k Mark less in
+      there ∙ ap Some (sym (what_is labels numbers items k (get_or items k Mark) is there (number_within less)))
+
+  pub mark_there : (what : Item) → slice_get items k ≡ Some what → k < length items → get_or numbers k 0 ≡ 0 → Mark ≡ what
+  mark_there what there less zero_is = ap (item_of labels) (sym zero_is) ∙ what_is labels numbers items k what is there (number_within less)
+
+  pub recall_there : (what : Item) (n : ℕ) → slice_get items k ≡ Some what → k < length items → n ≡ length labels → n < get_or numbers k 0 → Recall (suc (get_or numbers k 0 - n - 1)) ≡ what
+  recall_there what n there less same over =
+      ap (λ m. Recall (suc (get_or numbers k 0 - m - 1))) same ∙ (sym (recall_item labels (get_or numbers k 0) (omega (arith, same, over))) ∙ what_is labels numbers items k what is there (number_within less))
+
+  pub cite_there : k < length items → (get_or numbers k 0 ≡ 0 → ⊥) → get_or numbers k 0 ≤ length labels → slice_get items k ≡ Some (Cite (get_or labels (get_or numbers k 0 - 1) []))
+  cite_there less some within =
+      item_there less ∙ ap Some (item-cite labels (get_or numbers k 0) (get_or numbers k 0 - 1) (omega (arith, some)) (omega (arith, some, within)))
+
+-- what the label of an index names, by its position
+pub position_at : (S : Database) (labels : List Name) (positions : List (Option ℕ)) (k : ℕ) (d o : Option ℕ) → ArePositions S labels positions → k < length positions → o ≡ get_or positions k d → IsPosition S (get_or labels k []) o
+position_at S labels positions k d o are less is = subst (IsPosition S (get_or labels k [])) (get_or_default positions k None d less ∙ sym is) (found-at S labels positions k are less)
+
+-- one result
+pub one_result : (stack : List (List ℕ)) (e proved : List ℕ) → length stack ≡ 1 → slice_get stack 0 ≡ Some e → proved ≡ e → stack ≡ proved ∷ []
+one_result [] e proved one there same = absurd (omega (arith, one))
+one_result (x ∷ []) e proved one there same = ap (λ y. y ∷ []) (same_Some x e there ∙ sym same)
+one_result (x ∷ y ∷ r) e proved one there same = absurd (omega (arith, one))

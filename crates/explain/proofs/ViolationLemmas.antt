@@ -1,0 +1,72 @@
+-- Tests of all symbols of a list, one after another.
+use Rattle.std.proofs.Common.{◌≡◌, ℕ, zero, suc, ◌+◌, ◌<◌, ◌≤◌, Bool, true, false, not, ◌&&◌, ◌||◌, List, [], ◌∷◌, length, drop, get_or, map, arith, refl, sym, ◌∙◌, ap, add-one, Some, slice_get}
+use Rattle.mm_read.specs.Statements.{Database}
+use Rattle.frame.specs.Substitution.{Images}
+use Rattle.explain.specs.declared.violation.DisjointViolation.{DisjointViolation}
+use Rattle.explain.specs.DisjointViolations.{IsViolation, IsViolationIn}
+use Rattle.std.specs.Prelude.{nat_eq}
+use Rattle.std.specs.List.{list_all, list_any}
+use Rattle.std.proofs.Math.Seq.{drop-cons}
+use Rattle.std.proofs.Math.Bool.{or-true}
+use Rattle.mm_lex.specs.Alphabet.{Name, name_eq, has_name}
+use Rattle.names.specs.Codes.{name_at, decode}
+use Rattle.names.proofs.CodesLemmas.{name_same}
+
+module _ (names : List Name) (p : Name → Bool) (xs : List ℕ) (i : ℕ) where
+  -- an element that passes leaves the test to those after it
+  pub all_step : i < length xs → p (name_at names (get_or xs i 0)) ≡ true → list_all p (decode names (drop i xs)) ≡ list_all p (decode names (drop (i + 1) xs))
+  all_step inside e =
+      ap (λ l. list_all p (decode names l)) (drop-cons xs i 0 inside)
+      ∙ (ap (λ b. b && list_all p (decode names (drop (suc i) xs))) e ∙ ap (λ k. list_all p (decode names (drop k xs))) (sym (add-one i)))
+
+-- the name of each number of a list is among the names of the list
+pub has_at : (names : List Name) (xs : List ℕ) (i : ℕ) → i < length xs → has_name (name_at names (get_or xs i 0)) (decode names xs) ≡ true
+has_at names [] i h = absurd (omega (arith, h))
+has_at names (x ∷ xs) zero h = ap (λ b. b || has_name (name_at names x) (decode names xs)) (name_same (name_at names x))
+has_at names (x ∷ xs) (suc i) h =
+    let y = name_at names (get_or xs i 0) in
+    ap (λ b. name_eq y (name_at names x) || b) (has_at names xs i (omega (arith, h))) ∙ or-true (name_eq y (name_at names x))
+
+-- the test distinguishes numbers that are not equal
+pub numbers_differ : (m n : ℕ) → (n ≡ m → ⊥) → nat_eq m n ≡ false
+numbers_differ m n h = by (nat_eq m n) refl
+  where
+    by : (b : Bool) → nat_eq m n ≡ b → b ≡ false
+    by true e = absurd (h (grind (arith, e)))
+    by false e = refl
+
+-- ---- the lists
+
+module _ {A : Type 0} (p : List Name → Bool) (f : A → List Name) where
+  -- a list that passes leaves the test to those after it
+  pub groups_step : (xs : List A) (k : ℕ) (x : A) → slice_get xs k ≡ Some x → p (f x) ≡ true → list_all p (map f (drop k xs)) ≡ list_all p (map f (drop (k + 1) xs))
+  groups_step xs k x e h = go xs k e ∙ ap (λ n. list_all p (map f (drop n xs))) (sym (add-one k))
+    where
+      go : (xs : List A) (k : ℕ) → slice_get xs k ≡ Some x → list_all p (map f (drop k xs)) ≡ list_all p (map f (drop (suc k) xs))
+      go [] k e = cc
+      go (y ∷ xs) zero e = let same : y ≡ x = cc in ap (λ b. b && list_all p (map f xs)) (ap (λ z. p (f z)) same ∙ h)
+      go (y ∷ xs) (suc k) e = go xs k e
+
+  -- after the last list nothing is left to test
+  pub groups_end : (xs : List A) (k : ℕ) → length xs ≤ k → list_all p (map f (drop k xs)) ≡ true
+  groups_end [] zero h = refl
+  groups_end [] (suc k) h = refl
+  groups_end (x ∷ xs) zero h = absurd (omega (arith, h))
+  groups_end (x ∷ xs) (suc k) h = groups_end xs k (omega (arith, h))
+
+-- where one list passes, some list does
+any_group : {A : Type 0} (t : List Name → Bool) (f : A → List Name) (xs : List A) (k : ℕ) (x : A) → slice_get xs k ≡ Some x → t (f x) ≡ true → list_any t (map f xs) ≡ true
+any_group t f [] k x e h = cc
+any_group t f (y ∷ xs) zero x e h = let same : y ≡ x = cc in ap (λ b. b || list_any t (map f xs)) (ap (λ z. t (f z)) same ∙ h)
+any_group t f (y ∷ xs) (suc k) x e h = ap (λ b. t (f y) || b) (any_group t f xs k x e h) ∙ or-true (t (f y))
+
+-- a violation in one of the lists is a violation of the whole
+pub violation_is : (S : Database) (names : List Name) (σ : Images) (groups : List (List ℕ)) (k : ℕ) (group : List ℕ) (c : DisjointViolation) → slice_get groups k ≡ Some group
+    → IsViolationIn S names σ (decode names group) c → IsViolation S names σ (map (decode names) groups) c
+violation_is S names σ groups k group c e is =
+    let x = name_at names c.first in let y = name_at names c.second in
+    let any = any_group (λ g. has_name x g && has_name y g) (decode names) groups k group e (ap (λ b. b && has_name y (decode names group)) is.first ∙ is.second.second) in
+    record {
+      together = ap (λ b. not b && list_any (λ g. has_name x g && has_name y g) (map (decode names) groups)) is.second.differ ∙ any;
+      shared = is.second.shared;
+    }

@@ -1,0 +1,100 @@
+use Rattle.std.proofs.Common.{◌<◌, ◌≤◌, ◌∙◌, ℕ, List, ap, sym, subst, length, get_or, arith}
+use Rattle.std.proofs.lemmas.Option.{get_or_from_slice_get}
+use Rattle.scope.specs.Active.{before}
+use Rattle.scope.proofs.StatementPlaces.{stands-within}
+use Rattle.entries.specs.declared.assertion_view.Hypothesis.{Hypothesis}
+use Rattle.entries.specs.declared.assertion_view.Hypothesis.TheVariants.{Float}
+use Rattle.frame.specs.FrameOf.{hypotheses}
+use Rattle.explain.proofs.VectorLemmas.{required-at, required-typecodes, required-kinds}
+use Rattle.names.specs.Codes.{decode}
+use Rattle.frame.specs.Below.{AreBelow}
+use Rattle.frame.specs.AssertionView.{AreRequired, IsRequired}
+use Rattle.explain.specs.Stored.Vectors.{code_images, named}
+use Rattle.explain.specs.ReadImages.{named_images, images_read}
+use Rattle.explain.specs.CitationFaults.{IsOther}
+use Rattle.explain.proofs.VectorLemmas.{symbols-at}
+use Rattle.explain.proofs.ImagesLemmas.{apply-below}
+use Rattle.explain.proofs.CitationFaultLemmas.{fit_more, other_here, other_constant, mismatch_is, required_is, not_ne, is_ne}
+use Rattle.explain.proofs.named_citation.find_other.Goals as goal
+
+pub bounds-mandatory-k : goal.bounds-mandatory-k
+bounds-mandatory-k c =
+    let s = c.requires.assertion.0 in let e = c.requires.assertion.1.0 in
+    let same = ap length (c.requires.mandatory s e) in let count = c.requires.count s e in
+    omega (arith, same, count, c.loop-k-test.true)
+
+pub expr-requires : goal.expr-requires
+expr-requires c =
+    let s = c.requires.assertion.0 in let e = c.requires.assertion.1.0 in
+    let S = c.args.frames.now.statements in let cited = c.requires.cited s e in
+    let ps : List ℕ = hypotheses (before S c.args.a) s in
+    let d : Hypothesis = Float 0 in
+    let same = c.requires.mandatory s e in
+    let inside : c.loop-k.k < length ps = let count = c.requires.count s e in omega (arith, count, c.loop-k-test.true) in
+    let required = required-at S c.args.frames.now.names ps c.args.cited.now.typecodes.now c.args.cited.now.hypotheses c.loop-k.k d cited.required inside in
+    subst (λ xs. (1 ≤ get_or xs c.loop-k.k 0) × (get_or xs c.loop-k.k 0 ≤ length S)) (sym same) (stands-within S (get_or ps c.loop-k.k 0) required.stmt required.stands)
+
+pub get-requires : goal.get-requires
+get-requires c =
+    let s = c.requires.assertion.0 in let e = c.requires.assertion.1.0 in
+    let S = c.args.frames.now.statements in let cited = c.requires.cited s e in
+    let same = ap length (c.requires.mandatory s e) in
+    let count = required-kinds S c.args.frames.now.names (hypotheses (before S c.args.a) s) c.args.cited.now.typecodes.now c.args.cited.now.hypotheses cited.required in
+    let all = c.requires.count s e in omega (arith, all, count, c.loop-k-test.true)
+
+pub bounds-cited-k : goal.bounds-cited-k
+bounds-cited-k c =
+    let s = c.requires.assertion.0 in let e = c.requires.assertion.1.0 in
+    let S = c.args.frames.now.statements in let cited = c.requires.cited s e in
+    let same = ap length (c.requires.mandatory s e) in
+    let count = required-typecodes S c.args.frames.now.names (hypotheses (before S c.args.a) s) c.args.cited.now.typecodes.now c.args.cited.now.hypotheses cited.required in
+    let all = c.requires.count s e in omega (arith, all, count, c.loop-k-test.true)
+
+pub loop-k-preserved : goal.loop-k-preserved
+loop-k-preserved c =
+    let s = c.requires.assertion.0 in let e = c.requires.assertion.1.0 in
+    let S = c.args.frames.now.statements in let names = c.args.frames.now.names in let cited = c.requires.cited s e in
+    let hyps = c.args.mandatory.now in
+    let same = c.requires.mandatory s e in
+    let d : Hypothesis = Float 0 in
+    let within : c.loop-k.k < length hyps = let count = c.requires.count s e in let long = ap length same in omega (arith, count, long, c.loop-k-test.true) in
+    let all = subst (λ ps. AreRequired S names ps c.args.cited.now.typecodes.now c.args.cited.now.hypotheses) (sym same) cited.required in
+    let required = required-at S names hyps c.args.cited.now.typecodes.now c.args.cited.now.hypotheses c.loop-k.k d all within in
+    let told = rw c.in-Some.is at c.in_ok-required.ensures in
+    let is = required_is S names c.requires.legal.distinct (code_images c.args.images.now) (c.requires.read s e).1 (get_or hyps c.loop-k.k 0) required.stmt required.stands
+    c.expr.result.now (c.expr.ensures.same required.stmt required.stands) c.expr.ensures.codes c.in-Some.required.items told.0 in
+    fit_more S names (named_images names (code_images c.args.images.now)) hyps c.args.results.now c.loop-k.k c.index-results-k.result within c.loop-k-test.true c.index-results-k.is
+    c.loop-k.invariant (sym is ∙ ap (decode names) (sym c.as_slice.ensures.value ∙ (not_ne c.ne.result c.as_slice.result.now c.as_slice-result.result.now c.ne.ensures c.if-ne.false ∙ c.as_slice-result.ensures.value)))
+
+pub returns-then-ne : goal.returns-then-ne
+returns-then-ne c s e =
+    let S = c.args.frames.now.statements in let names = c.args.frames.now.names in let cited = c.requires.cited s e in
+    let n = length names in
+    let hyps = c.args.mandatory.now in
+    let same = c.requires.mandatory s e in
+    let d : Hypothesis = Float 0 in
+    let within : c.loop-k.k < length hyps = let count = c.requires.count s e in let long = ap length same in omega (arith, count, long, c.loop-k-test.true) in
+    let all = subst (λ ps. AreRequired S names ps c.args.cited.now.typecodes.now c.args.cited.now.hypotheses) (sym same) cited.required in
+    let kind = c.get.result in
+    let required = subst (IsRequired S names (get_or hyps c.loop-k.k 0) (get_or c.args.cited.now.typecodes.now c.loop-k.k 0)) (get_or_from_slice_get c.args.cited.now.hypotheses c.loop-k.k kind d c.get.ensures)
+    (required-at S names hyps c.args.cited.now.typecodes.now c.args.cited.now.hypotheses c.loop-k.k d all within) in
+    let told = rw c.in-Some.is at c.in_ok-required.ensures in
+    let is = required_is S names c.requires.legal.distinct (code_images c.args.images.now) (c.requires.read s e).1 (get_or hyps c.loop-k.k 0) required.stmt required.stands
+    c.expr.result.now (c.expr.ensures.same required.stmt required.stands) c.expr.ensures.codes c.in-Some.required.items told.0 in
+    let low = subst (λ xs. AreBelow n xs) (sym told.0) (apply-below n c.args.images.now c.expr.result.now c.requires.images c.expr.ensures.codes) in
+    let below = symbols-at n c.args.results.now c.loop-k.k c.index-results-k.result c.requires.symbols c.loop-k-test.true c.index-results-k.is in
+    let other = other_here S names (named_images names (code_images c.args.images.now)) hyps c.args.results.now c.loop-k.k c.index-results-k.result within c.loop-k-test.true c.index-results-k.is
+    c.loop-k.invariant c.in-Some.required.items c.requires.legal.distinct low below is
+    (λ same_items. is_ne c.ne.result c.as_slice.result.now c.as_slice-result.result.now c.ne.ensures c.if-ne.true (c.as_slice-result.ensures.value ∙ (same_items ∙ sym c.as_slice.ensures.value))) in
+    let copied = c.in_ok-result.ensures.items ∙ c.as_slice-result.ensures.value in
+    let rs = named names c.args.results.now in
+    let ps = hypotheses (before S c.args.a) s in
+    let p = get_or hyps c.loop-k.k 0 in
+    let read = images_read S ps rs in
+    let first = subst (λ σ. IsOther S σ hyps rs c.loop-k.k p (decode names c.in-Some.required.items) (decode names c.index-results-k.result.items)) (c.requires.read s e).0 other in
+    let second = subst (λ qs. IsOther S read qs rs c.loop-k.k p (decode names c.in-Some.required.items) (decode names c.index-results-k.result.items)) same first in
+    let third = subst (λ xs. IsOther S read ps rs c.loop-k.k p (decode names c.in-Some.required.items) (decode names xs)) (sym copied) second in
+    mismatch_is S names c.args.a s rs kind (get_or c.args.cited.now.typecodes.now c.loop-k.k 0) p c.loop-k.k c.in-Some.required c.in_ok-result.result c.other.result
+    c.other.ensures third
+    (λ float starts. other_constant S names c.requires.legal.distinct p (get_or c.args.cited.now.typecodes.now c.loop-k.k 0) kind required
+    c.in_ok-result.result.items (subst (λ xs. AreBelow n xs) (sym copied) below) float starts)

@@ -1,0 +1,6 @@
+use Rattle.std.proofs.Common.{◌≡◌, ◌++◌, drop}
+use Rattle.explain.specs.Stored.Vectors.{codes}
+use Rattle.explain.proofs.named_citation.last_results.Given as goal
+
+abbrev pub invariant-loop-k : goal.invariant-loop-k
+invariant-loop-k l = codes l.taken.items ++ drop l.k l.results.results.stack ≡ drop l.base l.results.results.stack

@@ -1,0 +1,10 @@
+use Rattle.std.proofs.Common.{◌≡◌, ◌≤◌, ◌++◌, drop, length}
+use Rattle.frame.specs.Substitution.{code_apply}
+use Rattle.explain.specs.Stored.Vectors.{code_images}
+use Rattle.explain.proofs.named_images.apply.Given as goal
+
+abbrev pub invariant-loop-symbol : goal.invariant-loop-symbol
+invariant-loop-symbol l = record {
+  whole : code_apply (code_images l.images) l.expr ≡ l.applied.items ++ code_apply (code_images l.images) (drop l.symbol-index l.expr);
+  fits : length l.applied.items ≤ l.room;
+}

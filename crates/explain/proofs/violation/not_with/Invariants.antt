@@ -1,0 +1,10 @@
+use Rattle.std.proofs.Common.{◌≡◌, drop}
+use Rattle.std.specs.List.{list_all}
+use Rattle.names.specs.Codes.{name_at, decode}
+use Rattle.explain.specs.DisjointViolations.{is_kept}
+use Rattle.explain.proofs.violation.not_with.Given as goal
+
+abbrev pub invariant-loop-other : goal.invariant-loop-other
+invariant-loop-other l =
+    list_all (is_kept l.pairs.statements (name_at l.pairs.names l.one)) (decode l.pairs.names l.right)
+    ≡ list_all (is_kept l.pairs.statements (name_at l.pairs.names l.one)) (decode l.pairs.names (drop l.other-index l.right))

@@ -1,0 +1,9 @@
+use Rattle.std.proofs.Common.{◌≡◌, drop}
+use Rattle.names.specs.Codes.{decode}
+use Rattle.frame.specs.Disjoint.{are_disjoint}
+use Rattle.explain.proofs.violation.shared.Given as goal
+
+abbrev pub invariant-loop-one : goal.invariant-loop-one
+invariant-loop-one l =
+    are_disjoint l.pairs.statements (decode l.pairs.names l.left) (decode l.pairs.names l.right)
+    ≡ are_disjoint l.pairs.statements (decode l.pairs.names (drop l.one-index l.left)) (decode l.pairs.names l.right)

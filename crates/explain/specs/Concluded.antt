@@ -1,0 +1,52 @@
+-- The outcome of a citation of an assertion, in place of results, one for each of its mandatory hypotheses.
+-- Source: Metamath, 4.2.6.
+-- The code reads the images off the results, tests them, and puts them into the assertion's expression.
+use Rattle.std.specs.Prelude.{◌≡◌, ℕ, ◌<◌, ◌≤◌, IsTrue, List, length}
+use Rattle.mm_lex.specs.Alphabet.{Name}
+use Rattle.mm_read.specs.declared.stmt.Stmt.{Stmt}
+use Rattle.mm_read.specs.Statements.{Expr, Database}
+use Rattle.scope.specs.Active.{before, expr_of}
+use Rattle.names.specs.Codes.{decode}
+use Rattle.frame.specs.Below.{AreBelow}
+use Rattle.frame.specs.FrameOf.{hypotheses, mandatory_groups}
+use Rattle.frame.specs.Substitution.{Images, apply as applied}
+use Rattle.frame.specs.Disjoint.{are_groups_disjoint}
+use Rattle.explain.specs.declared.reason.Fault.{Fault}
+use Rattle.explain.specs.declared.reason.Fault.TheVariants.{Together, Heavy, Constant, Expression}
+use Rattle.explain.specs.declared.named_citation.Concluded.{Concluded}
+use Rattle.explain.specs.declared.named_citation.Concluded.TheVariants.{Wrong, Right}
+use Rattle.explain.specs.ReadImages.{images_read}
+use Rattle.explain.specs.DisjointViolations.{IsViolation}
+use Rattle.explain.specs.CitationFaults.{AllFit, IsMismatch}
+
+-- the images that the results give
+abbrev pub images_of : Database → ℕ → Stmt → List Expr → Images
+images_of S a s rs = images_read S (hypotheses (before S a) s) rs
+
+-- each hypothesis requires the result that is there
+abbrev pub DoFit : Database → ℕ → Stmt → List Expr → Type 0
+DoFit S a s rs = AllFit S (images_of S a s rs) (hypotheses (before S a) s) rs
+
+-- .. and the images are disjoint
+pub record AreTaken (S : Database) (at a : ℕ) (s : Stmt) (rs : List Expr) : Type 0 where
+  pub fit : DoFit S a s rs
+  pub disjoint : IsTrue (are_groups_disjoint (before S at) (images_of S a s rs) (mandatory_groups (before S a) s))
+
+-- the fault of the results: the first mismatch; else two variables that are not disjoint; else there is no room
+abbrev pub IsWrong : Database → List Name → ℕ → ℕ → Stmt → List Expr → ℕ → Fault → Type 0
+IsWrong S names at a s rs room (Constant b p there) = IsMismatch S names a s rs (Constant b p there)
+IsWrong S names at a s rs room (Expression b p required there) = IsMismatch S names a s rs (Expression b p required there)
+IsWrong S names at a s rs room (Together b x y u v) =
+    (b ≡ a) × DoFit S a s rs
+    × IsViolation (before S at) names (images_of S a s rs) (mandatory_groups (before S a) s) (record { first = x; second = y; one = u; other = v })
+IsWrong S names at a s rs room Heavy = AreTaken S at a s rs × (room < length (applied (images_of S a s rs) (expr_of s)))
+IsWrong S names at a s rs room fault = ⊥
+
+-- the outcome of these results
+abbrev pub IsConcluded : Database → List Name → ℕ → ℕ → Stmt → List Expr → ℕ → Concluded → Type 0
+IsConcluded S names at a s rs room (Wrong fault) = IsWrong S names at a s rs room fault
+IsConcluded S names at a s rs room (Right e) = AreTaken S at a s rs × (decode names e.items ≡ applied (images_of S a s rs) (expr_of s)) × (length e.items ≤ room)
+
+abbrev pub IsBelow : ℕ → Concluded → Type 0
+IsBelow n (Wrong fault) = Unit {0}
+IsBelow n (Right e) = AreBelow n e.items

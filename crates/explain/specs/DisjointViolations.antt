@@ -1,0 +1,62 @@
+-- Two variables of an assertion whose images are not disjoint.
+-- Source: Metamath, 4.2.6 (the disjoint variable condition).
+-- The code tests images by number; here are names.
+use Rattle.std.specs.Prelude.{◌≡◌, ℕ, suc, ◌<◌, Bool, not, ◌||◌, List, length, take, drop, get_or, IsTrue, IsFalse}
+use Rattle.mm_lex.specs.Alphabet.{Name, name_eq, has_name}
+use Rattle.mm_read.specs.Statements.{Expr, Database}
+use Rattle.scope.specs.Active.{is_variable}
+use Rattle.names.specs.Codes.{name_at}
+use Rattle.frame.specs.FrameOf.{is_pair, together}
+use Rattle.frame.specs.Substitution.{Images, CodeImages, image, code_apply}
+use Rattle.frame.specs.Disjoint.{are_disjoint}
+use Rattle.explain.specs.declared.violation.DisjointViolation.{DisjointViolation}
+
+-- u and v need no `$d`, or have one
+abbrev pub is_kept : Database → Name → Name → Bool
+is_kept S u v = not (is_variable S u) || not (is_variable S v) || is_pair S u v
+
+-- two variables that no active `$d` has together, or one variable
+pub record IsUnpaired (S : Database) (u v : Name) : Type 0 where
+  pub first : IsTrue (is_variable S u)
+  pub second : IsTrue (is_variable S v)
+  pub disjoint : IsFalse (is_pair S u v)
+
+-- v of the expression
+pub record IsUnpairedIn (S : Database) (u v : Name) (f : Expr) : Type 0 where
+  pub stands : IsTrue (has_name v f)
+  pub unpaired : IsUnpaired S u v
+
+-- one of each expression
+pub record AreShared (S : Database) (u v : Name) (e f : Expr) : Type 0 where
+  pub first : IsTrue (has_name u e)
+  pub second : IsTrue (has_name v f)
+  pub unpaired : IsUnpaired S u v
+
+-- the image of x is disjoint from that of y, where y is another
+abbrev pub is_other_disjoint : Database → Images → Name → Name → Bool
+is_other_disjoint S σ x y = name_eq x y || are_disjoint S (image σ x) (image σ y)
+
+-- two variables that stand together in a list, with variables of their images
+pub record IsViolation (S : Database) (names : List Name) (σ : Images) (groups : List (List Name)) (c : DisjointViolation) : Type 0 where
+  pub together : IsTrue (together groups (name_at names c.first) (name_at names c.second))
+  pub shared : AreShared S (name_at names c.one) (name_at names c.other) (image σ (name_at names c.first)) (image σ (name_at names c.second))
+
+-- .. in this list, one of them being x
+pub record IsViolationWith (S : Database) (names : List Name) (σ : Images) (x : Name) (group : List Name) (c : DisjointViolation) : Type 0 where
+  pub first : name_at names c.first ≡ x
+  pub second : IsTrue (has_name (name_at names c.second) group)
+  pub differ : IsFalse (name_eq x (name_at names c.second))
+  pub shared : AreShared S (name_at names c.one) (name_at names c.other) (image σ x) (image σ (name_at names c.second))
+
+-- .. both in this list
+pub record IsViolationIn (S : Database) (names : List Name) (σ : Images) (group : List Name) (c : DisjointViolation) : Type 0 where
+  pub first : IsTrue (has_name (name_at names c.first) group)
+  pub second : IsViolationWith S names σ (name_at names c.first) group c
+
+-- x stands in the list, and these are the images of those before and after it, one after another
+pub record AreBeside (σ : CodeImages) (group : List ℕ) (x : ℕ) (before behind : List ℕ) : Type 0 where
+  pub place : ℕ
+  pub within : place < length group
+  pub here : get_or group place 0 ≡ x
+  pub front : before ≡ code_apply σ (take place group)
+  pub rest : behind ≡ code_apply σ (drop (suc place) group)

@@ -1,0 +1,89 @@
+-- The first fault of the run over the items of a proof: what fails at an item, or at the end, where all before it goes well.
+-- Source: Metamath, 4.2.6 and appendix B; the limit is this project's.
+-- The code stops at it.
+use Rattle.std.specs.Prelude.{◌≡◌, ◌≢◌, ℕ, ◌+◌, ◌-◌, ◌<◌, ◌≤◌, true, IsTrue, List, [], ◌∷◌, ◌++◌, length, take, Some, slice_get}
+use Rattle.std.specs.Global.{Vec}
+use Rattle.mm_lex.specs.Alphabet.{Name}
+use Rattle.mm_read.specs.declared.stmt.Stmt.{Stmt}
+use Rattle.mm_read.specs.Statements.{Expr, Database}
+use Rattle.scope.specs.Active.{before, expr_of, is_assertion}
+use Rattle.names.specs.Codes.{decode}
+use Rattle.frame.specs.FrameOf.{hypotheses}
+use Rattle.frame.specs.Citations.{Carries, IsHypothesis}
+use Rattle.proof_code.specs.declared.item.Item.{Item}
+use Rattle.proof_code.specs.declared.item.Item.TheVariants.{Cite, Recall, Mark}
+use Rattle.explain.specs.declared.reason.Fault.{Fault}
+use Rattle.explain.specs.declared.reason.Fault.TheVariants.{Unknown, Inactive, Later, Few, Constant, Expression, Together, Heavy, Unmarked}
+use Rattle.explain.specs.declared.reason.Reason.{Reason}
+use Rattle.explain.specs.declared.reason.Reason.TheVariants as reason
+use Rattle.subst.specs.declared.buffer.TheConstants.{SYMBOLS_LIMIT}
+use Rattle.explain.specs.Concluded.{IsWrong}
+use Rattle.explain.specs.Explained.{Gives}
+use Rattle.verify.specs.Machine.{State, start, IsSaved, Runs}
+
+-- the last results on the stack, one for each mandatory hypothesis of the earlier assertion s at a, are wrong
+pub record AreWrong (S : Database) (names : List Name) (at : ℕ) (h : State) (a : ℕ) (s : Stmt) (fault : Fault) : Type 0 where
+  pub earlier : a < at
+  pub assertion : IsTrue (is_assertion s)
+  pub below : List Expr
+  pub results : List Expr
+  pub whole : h.stack ≡ below ++ results
+  pub count : length results ≡ length (hypotheses (before S a) s)
+  pub wrong : IsWrong S names at a s results (SYMBOLS_LIMIT - h.weight) fault
+
+-- it gives a result that makes the proof too heavy
+pub record IsHeavy (S : Database) (at : ℕ) (h : State) (i : ℕ) (s : Stmt) : Type 0 where
+  pub below : List Expr
+  pub result : Expr
+  pub gives : Gives S at i s h.stack below result
+  pub heavy : SYMBOLS_LIMIT < h.weight + length result
+
+-- the fault where the statement s at i is cited
+abbrev pub FailsAt : Database → List Name → ℕ → State → ℕ → Stmt → Fault → Type 0
+FailsAt S names at h i s (Inactive j) = (j ≡ i) × (i < at) × (IsHypothesis S at i s → ⊥) × (is_assertion s ≡ true → ⊥)
+FailsAt S names at h i s (Later j) = (j ≡ i) × (at ≤ i)
+FailsAt S names at h i s (Few b takes there) = (b ≡ i) × (i < at) × IsTrue (is_assertion s) × (takes ≡ length (hypotheses (before S i) s)) × (there ≡ length h.stack) × (there < takes)
+FailsAt S names at h i s (Constant b p r) = AreWrong S names at h i s (Constant b p r)
+FailsAt S names at h i s (Expression b p q r) = AreWrong S names at h i s (Expression b p q r)
+FailsAt S names at h i s (Together b x y u v) = AreWrong S names at h i s (Together b x y u v)
+FailsAt S names at h i s Heavy = IsHeavy S at h i s
+FailsAt S names at h i s fault = ⊥
+
+-- the fault of an item: a label that no statement carries; the fault where its statement is cited; a recall of what is not
+-- marked, or too heavy; a mark of nothing
+abbrev pub FailsCited : Database → List Name → ℕ → State → Name → Fault → Type 0
+FailsCited S names at h label Unknown = (i : ℕ) (s : Stmt) → Carries S i s label → ⊥
+FailsCited S names at h label fault = (i : ℕ) × (s : Stmt) × Carries S i s label × FailsAt S names at h i s fault
+
+abbrev pub FailsRecalled : State → ℕ → Fault → Type 0
+FailsRecalled h k Unmarked = (e : Expr) → IsSaved h.saved k e → ⊥
+FailsRecalled h k Heavy = (e : Expr) × IsSaved h.saved k e × (SYMBOLS_LIMIT < h.weight + length e)
+FailsRecalled h k fault = ⊥
+
+abbrev pub FailsMarked : State → Fault → Type 0
+FailsMarked h Unmarked = h.stack ≡ []
+FailsMarked h fault = ⊥
+
+abbrev pub Fails : Database → List Name → ℕ → State → Item → Fault → Type 0
+Fails S names at h (Cite label) fault = FailsCited S names at h label fault
+Fails S names at h (Recall k) fault = FailsRecalled h k fault
+Fails S names at h Mark fault = FailsMarked h fault
+
+-- the items run to this, within the limit
+pub record RunsWell (S : Database) (at : ℕ) (items : List Item) (h : State) : Type 0 where
+  pub runs : Runs S at start items h
+  pub light : h.weight ≤ SYMBOLS_LIMIT
+
+-- the first fault of the run over the items of a proof of the statement s at `at`
+abbrev pub IsFirstFault : Database → List Name → ℕ → Stmt → List Item → Reason → Type 0
+IsFirstFault S names at s items (reason.Item k fault) =
+    (h : State) × (item : Item) × RunsWell S at (take k items) h × (slice_get items k ≡ Some item) × Fails S names at h item fault
+IsFirstFault S names at s items (reason.Results count) = (h : State) × RunsWell S at items h × (count ≡ length h.stack) × (count ≢ 1)
+IsFirstFault S names at s items (reason.Theorem proved) =
+    (h : State) × RunsWell S at items h × (h.stack ≡ decode names proved.items ∷ []) × (decode names proved.items ≢ expr_of s)
+
+-- the results at the end, by number, are not one, or this one
+abbrev pub IsEnd : List (List ℕ) → Reason → Type 0
+IsEnd stack (reason.Results count) = (count ≡ length stack) × (count ≢ 1)
+IsEnd stack (reason.Theorem proved) = stack ≡ proved.items ∷ []
+IsEnd stack r = ⊥

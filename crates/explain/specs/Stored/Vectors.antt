@@ -1,0 +1,38 @@
+-- Expressions kept as vectors of numbers that stand for names, and images of variables.
+-- Source: this project's form of keeping names; images are Metamath, 4.2.6.
+-- The code keeps a vector for each expression; the definitions of faults speak of names.
+use Rattle.std.specs.Prelude.{◌≡◌, ℕ, List, map, length, Some}
+use Rattle.std.specs.Global.{Vec}
+use Rattle.mm_lex.specs.Alphabet.{Name}
+use Rattle.mm_read.specs.declared.stmt.Stmt.{Stmt}
+use Rattle.mm_read.specs.Statements.{Expr, Database}
+use Rattle.scope.specs.Active.{stmt_at, before}
+use Rattle.frame.specs.FrameOf.{hypotheses}
+use Rattle.names.specs.Codes.{decode}
+use Rattle.frame.specs.Below.{AllBelow}
+use Rattle.frame.specs.Substitution.{CodeImages}
+use Rattle.explain.specs.declared.named_images.Image.{Image}
+
+-- the numbers of each of the expressions
+abbrev pub codes : List (Vec ℕ) → List (List ℕ)
+codes vs = map (λ v. v.items) vs
+
+-- the expressions
+abbrev pub named : List Name → List (Vec ℕ) → List Expr
+named names vs = map (λ v. decode names v.items) vs
+
+-- their numbers are those of names
+abbrev pub AreSymbols : ℕ → List (Vec ℕ) → Type 0
+AreSymbols n vs = AllBelow n (codes vs)
+
+-- the images by number
+abbrev pub code_images : List Image → CodeImages
+code_images images = map (λ i. (i.variable, i.symbols.items)) images
+
+-- their numbers are those of names
+abbrev pub AreImages : ℕ → List Image → Type 0
+AreImages n images = AllBelow n (map (λ i. i.symbols.items) images)
+
+-- the assertion at a has so many mandatory hypotheses
+abbrev pub CountIs : Database → ℕ → ℕ → Type 0
+CountIs S a count = (s : Stmt) → stmt_at S a ≡ Some s → count ≡ length (hypotheses (before S a) s)

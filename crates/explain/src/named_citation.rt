@@ -1,0 +1,259 @@
+//! One citation.
+ghost use Rattle.std.specs.Prelude.{◌≡◌, ℕ, ◌<◌, ◌≤◌, drop, length, IfOk, MatchOption, Some};
+ghost use Rattle.mm_read.specs.declared.stmt.Stmt.{Stmt as Statement};
+ghost use Rattle.frame.specs.Below.{AreBelow};
+ghost use Rattle.frame.specs.FrameOf.{HasAssertion, hypotheses};
+ghost use Rattle.frame.specs.AssertionView.{IsViewOf};
+ghost use Rattle.frame.specs.AtPosition.{AreLegal};
+ghost use Rattle.explain.specs.Stored.Vectors.{AreSymbols, AreImages, CountIs, codes, named};
+ghost use Rattle.explain.specs.CitationFaults.{IsSaid, IsMismatch, FitsAll, AreReadOff};
+ghost use Rattle.scope.specs.Active.{before, stmt_at};
+ghost use Rattle.explain.specs.Explained.{MayExplain, CannotCite, named_behind};
+ghost use Rattle.explain.specs.FirstFault.{FailsAt};
+ghost use Rattle.explain.specs.Concluded.{IsBelow, IsConcluded};
+ghost use Rattle.subst.specs.declared.buffer.TheConstants.{SYMBOLS_LIMIT};
+
+use crate::named_images::{Image, apply, read_images};
+use crate::reason::Fault;
+use crate::violation::find_violation;
+use entries::{AssertionView, Hypothesis};
+use frame::{FrameBuffers, Frames, Meaning};
+use std::alloc::{AllocError, Global};
+use subst::SYMBOLS_LIMIT;
+use verify::Results;
+
+/// Explains why the statement at a position cannot be cited, by the results before.
+///
+/// Errors: an allocation fails.
+pub fn cite(
+    alloc: Global,
+    frames: &Frames,
+    at: usize,
+    statement: usize,
+    results: &Results,
+) -> Result<Fault, AllocError>
+    requires place { (1 ≤ at) × (at ≤ length frames.now.statements) }
+    requires results { MayExplain frames.now results.now }
+    requires stuck { CannotCite frames.now at statement results.now }
+    ensures { (labels : ℕ) (s : Statement) → stmt_at frames.now.statements statement ≡ Some s
+        → IfOk result (FailsAt frames.now.statements frames.now.names at (named_behind frames.now labels results.now) statement s) }
+{
+    match frames.meaning(at, statement) {
+        Meaning::Hypothesis(_) => Ok(Fault::Heavy),
+        Meaning::Assertion => cite_assertion(alloc, frames, at, statement, results),
+        Meaning::Nothing if statement < at => Ok(Fault::Inactive {
+            hypothesis: statement,
+        }),
+        Meaning::Nothing => Ok(Fault::Later { statement }),
+    }
+}
+
+/// Explains why an earlier assertion cannot be cited.
+fn cite_assertion(
+    alloc: Global,
+    frames: &Frames,
+    at: usize,
+    a: usize,
+    results: &Results,
+) -> Result<Fault, AllocError>
+    requires place { (1 ≤ at) × (at ≤ length frames.now.statements) }
+    requires earlier { a < at }
+    requires assertion { (s : Statement) × HasAssertion frames.now.statements a s }
+    requires results { MayExplain frames.now results.now }
+    requires stuck { CannotCite frames.now at a results.now }
+    ensures { (labels : ℕ) (s : Statement) → stmt_at frames.now.statements a ≡ Some s
+        → IfOk result (FailsAt frames.now.statements frames.now.names at (named_behind frames.now labels results.now) a s) }
+{
+    let mut mandatory = Vec::new(alloc);
+    frames.mandatory(a, &mut mandatory)?;
+    let mut frame_buffers = FrameBuffers::new(alloc);
+    frames.fill_buffers(a, &mut frame_buffers)?;
+    let cited = frames.cited_from(a, &frame_buffers);
+    cite_parts(alloc, frames, at, a, mandatory.as_slice(), &cited, results)
+}
+
+/// Explains why an earlier assertion cannot be cited, by its mandatory hypotheses and its parts.
+fn cite_parts(
+    alloc: Global,
+    frames: &Frames,
+    at: usize,
+    a: usize,
+    mandatory: &[u32],
+    cited: &AssertionView<'_>,
+    results: &Results,
+) -> Result<Fault, AllocError>
+    requires legal { AreLegal frames.now.statements frames.now.names }
+    requires place { (1 ≤ at) × (at ≤ length frames.now.statements) }
+    requires earlier { a < at }
+    requires assertion { (s : Statement) × HasAssertion frames.now.statements a s }
+    requires mandatory { (s : Statement) → stmt_at frames.now.statements a ≡ Some s → mandatory.now ≡ hypotheses (before frames.now.statements a) s }
+    requires cited { (s : Statement) → stmt_at frames.now.statements a ≡ Some s → IsViewOf frames.now.statements frames.now.names a s cited.now }
+    requires results { MayExplain frames.now results.now }
+    requires stuck { CannotCite frames.now at a results.now }
+    ensures { (labels : ℕ) (s : Statement) → stmt_at frames.now.statements a ≡ Some s
+        → IfOk result (FailsAt frames.now.statements frames.now.names at (named_behind frames.now labels results.now) a s) }
+{
+    let there = results.len();
+    let takes = mandatory.len();
+    if there < takes {
+        return Ok(Fault::Few {
+            assertion: a,
+            takes,
+            there,
+        });
+    }
+    let taken = last_results(alloc, results, there - takes)?;
+    let room = SYMBOLS_LIMIT - results.weight();
+    match conclude(
+        alloc,
+        frames,
+        at,
+        a,
+        mandatory,
+        cited,
+        taken.as_slice(),
+        room,
+    )? {
+        Concluded::Wrong(fault) => Ok(fault),
+        Concluded::Right(_) => unreachable!(),
+    }
+}
+
+/// Returns a copy of each result from an index on.
+///
+/// Errors: an allocation fails. Cost: the symbols of these results.
+fn last_results(alloc: Global, results: &Results, base: usize) -> Result<Vec<Vec<u32>>, AllocError>
+    requires { base ≤ length results.now.results.stack }
+    ensures { IfOk result (λ taken. codes taken.items ≡ drop base results.now.results.stack) }
+{
+    let mut taken = Vec::new(alloc);
+    for k in base..results.len() {
+        taken.push(Vec::from_slice(alloc, results.get(k))?)?;
+    }
+    Ok(taken)
+}
+
+/// The outcome of a citation.
+#[derive(Drop)]
+pub(crate) enum Concluded {
+    /// The fault.
+    Wrong(Fault),
+    /// The result.
+    Right(Vec<u32>),
+}
+
+/// Returns the result of an assertion for these results, one for each of its hypotheses.
+fn conclude(
+    alloc: Global,
+    frames: &Frames,
+    at: usize,
+    a: usize,
+    mandatory: &[u32],
+    cited: &AssertionView<'_>,
+    results: &[Vec<u32>],
+    room: usize,
+) -> Result<Concluded, AllocError>
+    requires legal { AreLegal frames.now.statements frames.now.names }
+    requires place { (1 ≤ at) × (at ≤ length frames.now.statements) }
+    requires earlier { a < at }
+    requires assertion { (s : Statement) × HasAssertion frames.now.statements a s }
+    requires mandatory { (s : Statement) → stmt_at frames.now.statements a ≡ Some s → mandatory.now ≡ hypotheses (before frames.now.statements a) s }
+    requires cited { (s : Statement) → stmt_at frames.now.statements a ≡ Some s → IsViewOf frames.now.statements frames.now.names a s cited.now }
+    requires symbols { AreSymbols (length frames.now.names) results.now }
+    requires count { CountIs frames.now.statements a (length results.now) }
+    ensures below { IfOk result (IsBelow (length frames.now.names)) }
+    ensures told { (s : Statement) → stmt_at frames.now.statements a ≡ Some s
+        → IfOk result (IsConcluded frames.now.statements frames.now.names at a s (named frames.now.names results.now) room) }
+{
+    let images = read_images(alloc, &cited.hypotheses, results)?;
+    if let Some(fault) = find_other(alloc, frames, a, mandatory, cited, results, &images)? {
+        return Ok(Concluded::Wrong(fault));
+    }
+    let pairs = frames.active_pairs(at);
+    let violation = find_violation(alloc, &pairs, images.as_slice(), &cited.groups)?;
+    if let Some(violation) = violation {
+        return Ok(Concluded::Wrong(Fault::Together {
+            assertion: a,
+            first: violation.first,
+            second: violation.second,
+            one: violation.one,
+            other: violation.other,
+        }));
+    }
+    match apply(alloc, images.as_slice(), cited.conclusion, room)? {
+        Some(result) => Ok(Concluded::Right(result)),
+        None => Ok(Concluded::Wrong(Fault::Heavy)),
+    }
+}
+
+/// Returns the first hypothesis that requires another result than the one that stands there.
+fn find_other(
+    alloc: Global,
+    frames: &Frames,
+    a: usize,
+    mandatory: &[u32],
+    cited: &AssertionView<'_>,
+    results: &[Vec<u32>],
+    images: &[Image],
+) -> Result<Option<Fault>, AllocError>
+    requires legal { AreLegal frames.now.statements frames.now.names }
+    requires assertion { (s : Statement) × HasAssertion frames.now.statements a s }
+    requires mandatory { (s : Statement) → stmt_at frames.now.statements a ≡ Some s → mandatory.now ≡ hypotheses (before frames.now.statements a) s }
+    requires cited { (s : Statement) → stmt_at frames.now.statements a ≡ Some s → IsViewOf frames.now.statements frames.now.names a s cited.now }
+    requires symbols { AreSymbols (length frames.now.names) results.now }
+    requires images { AreImages (length frames.now.names) images.now }
+    requires count { CountIs frames.now.statements a (length results.now) }
+    requires read { AreReadOff frames.now a results.now images.now }
+    ensures { (s : Statement) → stmt_at frames.now.statements a ≡ Some s
+        → IfOk result (λ r. MatchOption r (FitsAll frames.now a s results.now) (IsMismatch frames.now.statements frames.now.names a s (named frames.now.names results.now))) }
+{
+    for k in 0..results.len() {
+        let hypothesis = mandatory[k] as usize;
+        let result = results[k].as_slice();
+        let Some(required) = apply(alloc, images, frames.expr(hypothesis), SYMBOLS_LIMIT)? else {
+            return Err(AllocError);
+        };
+        if required.as_slice() != result {
+            let result = Vec::from_slice(alloc, result)?;
+            return Ok(Some(other(
+                cited.hypotheses.get(k),
+                cited.typecodes[k],
+                a,
+                hypothesis,
+                required,
+                result,
+            )));
+        }
+    }
+    Ok(None)
+}
+
+/// Returns the fault of a result that is not the one that the hypothesis requires.
+fn other(
+    kind: Hypothesis,
+    typecode: u32,
+    assertion: usize,
+    hypothesis: usize,
+    required: Vec<u32>,
+    there: Vec<u32>,
+) -> Fault
+    ensures { IsSaid kind typecode assertion hypothesis required there result }
+{
+    let begins = match there.first() {
+        Some(first) => *first == typecode,
+        None => false,
+    };
+    if matches!(kind, Hypothesis::Float(_)) && !begins {
+        return Fault::Constant {
+            assertion,
+            hypothesis,
+            result: there,
+        };
+    }
+    Fault::Expression {
+        assertion,
+        hypothesis,
+        required,
+        result: there,
+    }
+}

@@ -1,0 +1,102 @@
+//! The first fault of a proof.
+ghost use Rattle.std.specs.Prelude.{◌≡◌, ◌-◌, ◌<◌, ◌≤◌, length, slice_get, IfOk, IfSome, MatchOption, Some};
+ghost use Rattle.mm_read.specs.declared.stmt.Stmt.{Stmt as Statement};
+ghost use Rattle.scope.specs.Active.{stmt_at};
+ghost use Rattle.proof_code.specs.declared.item.Item.{Item};
+ghost use Rattle.explain.specs.Explained.{named_behind};
+ghost use Rattle.explain.specs.FirstFault.{Fails, IsEnd, IsFirstFault};
+ghost use Rattle.explain.specs.declared.reason.Fault.TheVariants.{Heavy, Unmarked};
+ghost use Rattle.verify.specs.Right.{IsProvable, IsRight};
+ghost use Rattle.verify.specs.Stops.{IsOther, IsStopped};
+
+use crate::named_citation::cite;
+use crate::reason::{Fault, Reason};
+use frame::Frames;
+use proof_code::Items;
+use std::alloc::{AllocError, Global};
+use verify::{Failure, Results, first_failure};
+
+/// Returns the first fault of the run over the items of a proof of the `$p` at a position, or `None` if they are a right
+/// proof of it.
+///
+/// Errors: an allocation fails.
+/// Cost: that of `verify::check`, and for the one item that cannot be done the lengths of the results that it takes.
+pub fn first_fault(
+    alloc: Global,
+    frames: &Frames,
+    at: usize,
+    items: &Items,
+) -> Result<Option<Reason>, AllocError>
+    requires { (s : Statement) × IsProvable frames.now.statements at s }
+    ensures right { IfOk result (λ r. MatchOption r (IsRight frames.now.statements at items.now) (λ _. ¬ IsRight frames.now.statements at items.now)) }
+    ensures first { (s : Statement) → stmt_at frames.now.statements at ≡ Some s → IfOk result (λ r. IfSome r (IsFirstFault frames.now.statements frames.now.names at s items.now)) }
+{
+    let Some(failure) = first_failure(alloc, frames, at, items)? else {
+        return Ok(None);
+    };
+    match failure {
+        Failure::Item {
+            item,
+            labels,
+            results,
+        } => {
+            let fault = fault_at(alloc, frames, at, items, item, labels, &results)?;
+            Ok(Some(Reason::Item { item, fault }))
+        }
+        Failure::End { results } => Ok(Some(end(alloc, &results)?)),
+    }
+}
+
+/// Explains why an item cannot be done: 0 marks, a number up to the count of the labels cites, a greater one recalls.
+fn fault_at(
+    alloc: Global,
+    frames: &Frames,
+    at: usize,
+    items: &Items,
+    item: usize,
+    labels: usize,
+    results: &Results,
+) -> Result<Fault, AllocError>
+    requires place { (1 ≤ at) × (at ≤ length frames.now.statements) }
+    requires item { item < length items.now }
+    requires stopped { IsStopped frames.now.statements at frames.now.names items.now item labels results.now.results }
+    ensures { (what : Item) → slice_get items.now item ≡ Some what → IfOk result (Fails frames.now.statements frames.now.names at (named_behind frames.now labels results.now) what) }
+{
+    let parts = items.parts();
+    let number = parts.numbers[item] as usize;
+    if number == 0 {
+        return Ok(Fault::Unmarked);
+    }
+    let positions = frames.positions(parts.labels)?;
+    if number > positions.len() {
+        return Ok(recall_fault(results, labels, number - positions.len() - 1));
+    }
+    match positions[number - 1] {
+        Some(statement) => cite(alloc, frames, at, statement, results),
+        None => Ok(Fault::Unknown),
+    }
+}
+
+/// Returns the fault of a recall that cannot be made, by the index of the result behind those that are kept for labels.
+fn recall_fault(results: &Results, labels: usize, index: usize) -> Fault
+    ensures marked { index < length results.now.results.saved - labels → result ≡ Heavy }
+    ensures unmarked { length results.now.results.saved - labels ≤ index → result ≡ Unmarked }
+{
+    if index < results.saved_len().saturating_sub(labels) {
+        Fault::Heavy
+    } else {
+        Fault::Unmarked
+    }
+}
+
+/// Returns the fault of the results at the end, which are not the theorem's expression alone.
+fn end(alloc: Global, results: &Results) -> Result<Reason, AllocError>
+    ensures { IfOk result (IsEnd results.now.results.stack) }
+{
+    let count = results.len();
+    if count != 1 {
+        return Ok(Reason::Results { count });
+    }
+    let proved = Vec::from_slice(alloc, results.get(0))?;
+    Ok(Reason::Theorem { proved })
+}

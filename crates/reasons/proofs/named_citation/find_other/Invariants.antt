@@ -1,8 +1,0 @@
-use Rattle.std.proofs.Common.{take}
-use Rattle.reasons.specs.Stored.Vectors.{named, code_images}
-use Rattle.reasons.specs.ReadImages.{named_images}
-use Rattle.reasons.specs.CitationFaults.{AllFit}
-use Rattle.reasons.proofs.named_citation.find_other.Given as goal
-
-abbrev pub invariant-loop-k : goal.invariant-loop-k
-invariant-loop-k l = AllFit l.frames.statements (named_images l.frames.names (code_images l.images)) (take l.k l.mandatory) (take l.k (named l.frames.names l.results))

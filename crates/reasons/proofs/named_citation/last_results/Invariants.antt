@@ -1,6 +1,0 @@
-use Rattle.std.proofs.Common.{◌≡◌, ◌++◌, drop}
-use Rattle.reasons.specs.Stored.Vectors.{codes}
-use Rattle.reasons.proofs.named_citation.last_results.Given as goal
-
-abbrev pub invariant-loop-k : goal.invariant-loop-k
-invariant-loop-k l = codes l.taken.items ++ drop l.k l.results.results.stack ≡ drop l.base l.results.results.stack
