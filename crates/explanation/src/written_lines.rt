@@ -78,8 +78,9 @@ impl<'a> Page<'a> {
     /// Writes `LINE:COLUMN`, both counted in the text that is explained, after the name of the file and a colon if there is a
     /// name; or, before that text, which statement of the library stands there.
     pub(crate) fn push_place(&mut self, text: &[u8], offset: usize) {
+        let before = self.before;
         let within = offset.min(text.len());
-        if within < self.before {
+        if within < before {
             self.push(b"statement ");
             self.push_number(line_and_column(text, within).line);
             self.push(b" of the library");
@@ -89,8 +90,8 @@ impl<'a> Page<'a> {
             self.push(name.as_bytes());
             self.push(b":");
         }
-        let own = &text[self.before..];
-        let place = line_and_column(own, within - self.before);
+        let own = &text[before..];
+        let place = line_and_column(own, within - before);
         self.push_number(place.line);
         self.push(b":");
         self.push_number(place.column);
