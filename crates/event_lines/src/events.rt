@@ -6,7 +6,7 @@ ghost use Rattle.commands.specs.declared.script.TheConstants.{LINE_FEED};
 ghost use Rattle.event_lines.specs.EventLines.{Fits, events_text, event_text, history_text};
 ghost use Rattle.event_lines.specs.EventLines.{line_of, number_line};
 
-use crate::entries::push_offer;
+use crate::offers::push_offer;
 use commands::LINE_FEED;
 use net::Event;
 use numbers::push_number;

@@ -4,7 +4,7 @@
 //! events. `push_events` appends the text to an answer, after the count of its lines.
 #![tactic(auto)]
 
-mod entries;
+mod offers;
 mod events;
 #[cfg(test)]
 mod tests;
