@@ -4,8 +4,8 @@
 //! events. `push_events` appends the text to an answer, after the count of its lines.
 #![tactic(auto)]
 
-mod offers;
 mod events;
+mod offers;
 #[cfg(test)]
 mod tests;
 
