@@ -28,12 +28,7 @@ pub(crate) fn some_essential_has(
 {
     let mut positions = Vec::new(alloc);
     searched.frames.mandatory(at, &mut positions)?;
-    some_has(
-        alloc,
-        searched.statements,
-        pattern,
-        positions.as_slice(),
-    )
+    some_has(alloc, searched.statements, pattern, positions.as_slice())
 }
 
 /// Tells whether one of the statements at these positions is an `$e` with the pattern.
@@ -68,9 +63,5 @@ fn essential_has(
     if position == 0 || position > statements.len() {
         return Ok(false);
     }
-    has_in(
-        alloc,
-        pattern,
-        essential_expr(&statements[position - 1]),
-    )
+    has_in(alloc, pattern, essential_expr(&statements[position - 1]))
 }

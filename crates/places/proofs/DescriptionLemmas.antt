@@ -176,6 +176,7 @@ module _ (last : Name) (ws : List Name) (end : ends last ≡ true) where
       let both : (goes_on w ≡ true) × (list_all goes_on front ≡ true) = and_parts (goes_on w) (list_all goes_on front) on in
       let stays : ends w ≡ false = not_true (ends w) both.0 in
       ap (λ b. c ∷ picked b (front ++ (last ∷ ws)) comments) stays ∙ ap (λ l. c ∷ l) (pass_rest front comments both.1 (omega (arith, room)))
+
 -- symbols and labels end no statement
 on_of : (w : Name) → ends w ≡ false → goes_on w ≡ true
 on_of w e = ap (λ b. not b) e
@@ -219,7 +220,7 @@ one_of (Prove label expr proof) h =
       last = codes "$.";
       whole = ap (λ r. label ∷ codes "$p" ∷ r) (sym (append_assoc expr (codes "$=" ∷ proof) (codes "$." ∷ [])));
       on = label_on label (codes "$p" ∷ (expr ++ (codes "$=" ∷ proof))) parts.0
-        (list_all-append goes_on expr (codes "$=" ∷ proof) ∙ and_from (list_all goes_on expr) (list_all goes_on proof) (symbols_on expr (symbols_of expr parts.1)) (symbols_on proof both.1));
+          (list_all-append goes_on expr (codes "$=" ∷ proof) ∙ and_from (list_all goes_on expr) (list_all goes_on proof) (symbols_on expr (symbols_of expr parts.1)) (symbols_on proof both.1));
       end = refl;
     }
 

@@ -1,7 +1,7 @@
 //! If an allocation fails nothing is decided, and the same text submitted again has its verdict: run with each allocation refused
 //! in turn.
-use crate::text_entries::{entry, of_new, verdict_on};
 use crate::library_workers::by_workers;
+use crate::text_entries::{entry, of_new, verdict_on};
 use bytes::Bytes;
 use library::{Cause, Library, Verdict};
 use scope::Rule;

@@ -16,5 +16,5 @@ returns c =
     let s = c.args.searched.now in
     let there = stands_bare s.statements.now s.frames.now.statements c.args.at c.args.statement.now c.requires.same c.requires.stands in
     let are = listed s.statements.now s.frames.now.statements c.args.at c.args.statement.now c.requires.same c.requires.stands _
-      (c.as_slice.ensures.value ∙ c.in_ok-mandatory.ensures.listed (bare c.args.statement.now) there) in
+    (c.as_slice.ensures.value ∙ c.in_ok-mandatory.ensures.listed (bare c.args.statement.now) there) in
     subst (λ positions. IfOk c.some_has.result (λ is. IsTrue is ↔ SomeEssentialHas c.args.pattern.now s.statements.now positions)) are c.some_has.ensures
