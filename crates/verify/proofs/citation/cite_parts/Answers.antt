@@ -44,10 +44,10 @@ returns-in_default-clause-goes c =
     let r = reads-as _ false _ _ _ _ (ap is_some c.in_default.is) c.in_ok-front.ensures.read in
     not-cited _ _ _ _ c.requires.may c.args.cited.now c.requires.cited c.read_images.new.self.results (λ f m. r.3 (m.typed r.0 r.1 r.2))
 
-pub returns-then-not-fits-clause-goes : goal.returns-then-not-fits-clause-goes
-returns-then-not-fits-clause-goes c =
+pub returns-then-not-hypotheses_match-clause-goes : goal.returns-then-not-hypotheses_match-clause-goes
+returns-then-not-hypotheses_match-clause-goes c =
     not-cited _ _ _ _ c.requires.may c.args.cited.now c.requires.cited c.read_images.new.self.results
-    (λ f m. (let e = (fit-as _ _ _ _ _ _ _ (ap (λ (v : Results ℕ). v.stack) c.in_ok-front.ensures.same) c.fits.ensures).1 (m.fits c.read_images.new.self.images (reads-as _ true _ _ _ _ (ap is_some c.in-Some.is) c.in_ok-front.ensures.read)) in let t = c.if-not-fits.true in cc))
+    (λ f m. (let e = (fit-as _ _ _ _ _ _ _ (ap (λ (v : Results ℕ). v.stack) c.in_ok-front.ensures.same) c.hypotheses_match.ensures).1 (m.fits c.read_images.new.self.images (reads-as _ true _ _ _ _ (ap is_some c.in-Some.is) c.in_ok-front.ensures.read)) in let t = c.if-not-hypotheses_match.true in cc))
 
 pub returns-then-not-branch-clause-goes : goal.returns-then-not-branch-clause-goes
 returns-then-not-branch-clause-goes c =
@@ -57,7 +57,7 @@ returns-then-not-branch-clause-goes c =
 pub returns-clause-goes : goal.returns-clause-goes
 returns-clause-goes c =
     IfOk-weaker c.apply.result _ _
-    (λ ok adds. has-cited _ _ _ _ c.requires.may c.args.cited.now c.requires.cited ok _ c.read_images.new.self.images (let h = c.if-count-len.false in omega (arith, h, c.len.ensures)) (reads-as _ true _ _ _ _ (ap is_some c.in-Some.is) c.in_ok-front.ensures.read) ((fit-as _ _ _ _ _ _ _ (ap (λ (v : Results ℕ). v.stack) c.in_ok-front.ensures.same) c.fits.ensures).0 c.if-not-fits.false)
+    (λ ok adds. has-cited _ _ _ _ c.requires.may c.args.cited.now c.requires.cited ok _ c.read_images.new.self.images (let h = c.if-count-len.false in omega (arith, h, c.len.ensures)) (reads-as _ true _ _ _ _ (ap is_some c.in-Some.is) c.in_ok-front.ensures.read) ((fit-as _ _ _ _ _ _ _ (ap (λ (v : Results ℕ). v.stack) c.in_ok-front.ensures.same) c.hypotheses_match.ensures).0 c.if-not-hypotheses_match.false)
     (disjoint-by _ _ _ _ _ c.read_images.new.self.images c.args.cited.now.groups _ c.requires.may.ready.active c.requires.may.ready.names c.in_ok-are_disjoint.ensures.disjoint c.if-not-branch.false)
     (adds-as ok c.read_images.new.self.results _ _ _ _ _ c.in_ok-front.ensures.same c.len-count.ensures adds)) (rw (c.shortened-conclusion.ensures.same, c.are_disjoint.ensures.same) at c.apply.ensures.adds)
 

@@ -20,7 +20,7 @@ pub returns-then-waiting-len-clause-goes : goal.returns-then-waiting-len-clause-
 returns-then-waiting-len-clause-goes c = λ labels are.
     let found = rw c.in_default.is at c.in_ok-done.ensures.finds in
     let more = rw (c.len-waiting.ensures, c.len.ensures, found.1) at c.if-waiting-len.true in
-    rw c.if-done.true (kept-on _ _ _ c.requires.ready.legal c.args.table.now _ _ c.requires.known labels c.args.number (c.args.number - 1) _ (suc_back c.args.number c.if-number-eq0.false) are found.0 _ more c.keep.ensures.keeps
+    rw c.if-done.true (kept-on _ _ _ c.requires.ready.legal c.args.table.now _ _ c.requires.known labels c.args.number (c.args.number - 1) _ (suc_back c.args.number c.if-number-eq0.false) are found.0 _ more c.cache_last.ensures.keeps
     (rw (c.if-done.true, found.1) at c.in_ok-done-2.ensures.goes))
 
 pub returns-else-done-clause-goes : goal.returns-else-done-clause-goes
