@@ -29,11 +29,7 @@ pub fn run<
     };
     match answered {
         Ok(status) => status,
-        Err(fault) => {
-            let status = fault.print(output);
-            fault.tell(faults);
-            status
-        }
+        Err(fault) => fault.end(output, faults),
     }
 }
 

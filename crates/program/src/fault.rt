@@ -52,11 +52,25 @@ impl Fault {
             _ => 1,
         }
     }
-}
 
-impl Fault {
+    /// Prints that line, and on the standard error why the input or the output is at fault; returns
+    /// the exit status, as `print` does.
+    pub fn end<O: Write, F: Write>(&self, output: &mut O, faults: &mut F) -> u8 {
+        match (self.write(output), self) {
+            (Ok(()), Fault::BadLine { .. }) => 2,
+            (Ok(()), _) => {
+                self.tell(faults);
+                1
+            }
+            (Err(unwritten), _) => {
+                unwritten.tell(faults);
+                1
+            }
+        }
+    }
+
     /// Writes to the standard error why the input or the output is at fault, if it can be written.
-    pub fn tell<F: Write>(&self, faults: &mut F) {
+    fn tell<F: Write>(&self, faults: &mut F) {
         let words = match self {
             Fault::Input => b"standard input cannot be read\n".as_slice(),
             Fault::Output => b"standard output cannot be written\n".as_slice(),
