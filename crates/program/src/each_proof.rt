@@ -28,14 +28,23 @@ pub fn print_each<R: AllocGlobal + Threads + Sync, O: Write, F: Write>(
     output: &mut O,
     faults: &mut F,
 ) -> Result<u8, Fault> {
+    let entered = enter_text(rt.alloc(), text)?;
+    print_unproved(rt, text, &entered, output, faults)
+}
+
+/// Prints the same of the statements of a text.
+fn print_unproved<R: AllocGlobal + Threads + Sync, O: Write, F: Write>(
+    rt: &R,
+    text: NamedText<'_>,
+    entered: &Entered,
+    output: &mut O,
+    faults: &mut F,
+) -> Result<u8, Fault> {
     let alloc = rt.alloc();
-    let entered = enter_text(alloc, text)?;
     let unproved = entered.unproved(rt, Workers::offered(rt))?;
-    print(
-        output,
-        lines(alloc, &entered, unproved.as_slice())?.as_slice(),
-    )?;
-    explain_each(alloc, text, &entered, unproved.as_slice(), faults);
+    let lines = lines(alloc, entered, unproved.as_slice())?;
+    print(output, lines.as_slice())?;
+    explain_each(alloc, text, entered, unproved.as_slice(), faults);
     Ok(if unproved.is_empty() { 0 } else { 1 })
 }
 
