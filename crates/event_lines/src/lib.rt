@@ -6,7 +6,5 @@
 
 mod events;
 mod offers;
-#[cfg(test)]
-mod tests;
 
 pub use events::{event_lines, push_events};

@@ -1,7 +1,10 @@
 //! Tests from a submission to all replicas of what no row can say: slots and one node over plain numbers at their limits, keeps
-//! that fail at each of their calls, a gap in the log that each cell fills, and an application after a failed allocation.
+//! that fail at each of their calls, a gap in the log that each cell fills, an application after a failed
+//! allocation, and a history that its lines make again.
 #![tactic(auto)]
 
+#[cfg(test)]
+mod events_again;
 #[cfg(test)]
 mod failing_keeps;
 #[cfg(test)]

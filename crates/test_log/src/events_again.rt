@@ -1,7 +1,7 @@
 //! A history that is played again from its lines.
-use crate::{event_lines, push_events};
 use bytes::Bytes;
 use commands::{NodeLine, PlayLine, parse_script};
+use event_lines::{event_lines, push_events};
 use library::{Entry, Names, Submission};
 use net::{Event, StepFault};
 use std::alloc::Global;
