@@ -52,7 +52,7 @@ module _ (names : List Name) (distinct : AreDistinct names) where
 
 -- ---- the images that are read
 
--- one hypothesis reads the same off a result by number and by name
+-- one hypothesis reads the same from a result by number and by name
 image_is : (S : Database) (names : List Name) (p : ℕ) (s : Stmt) (h : Hypothesis) (e : List ℕ) → stmt_at S p ≡ Some s → IsOf names p s h
     → (named_images names (code_at h e) ≡ image_at (stmt_at S p) (decode names e)) × AreVariables (length names) (code_at h e)
 image_is S names p (stmt.Float l c v) (Float x) e stands is =
@@ -79,7 +79,7 @@ variables-append : (n : ℕ) (σ τ : CodeImages) → AreVariables n σ → AreV
 variables-append n [] τ h k = k
 variables-append n (p ∷ σ) τ h k = (h.0, variables-append n σ τ h.1 k)
 
--- all hypotheses read the same off the results by number and by name
+-- all hypotheses read the same from the results by number and by name
 pub images_are : (S : Database) (names : List Name) (ps typecodes : List ℕ) (hs : List Hypothesis) (es : List (List ℕ)) → AreRequired S names ps typecodes hs
     → (named_images names (codes_read hs es) ≡ images_read S ps (map (decode names) es)) × AreVariables (length names) (codes_read hs es)
 images_are S names [] [] [] es required = (refl, tt)

@@ -19,7 +19,7 @@ pub record Grows {V : Type 0} (k : ℕ) (l m : Ledger V) : Type 0 where
 pub grows_none : {V : Type 0} (k : ℕ) (l : Ledger V) → Grows k l l
 grows_none k l = record { begun = adds_none; promises = adds_none; proposals = adds_none; votes = adds_none }
 
--- two growths by one node, one after another, are one
+-- two additions by one node, one after another, are one
 pub grows_both : {V : Type 0} {k : ℕ} {l m n : Ledger V} → Grows k l m → Grows k m n → Grows k l n
 grows_both g h = record {
   begun = adds_both (λ x e. e) (λ x e. e) g.begun h.begun;

@@ -69,7 +69,7 @@ module _ {V : Type 0} (size : V → ℕ) (view now : NetView V) (seen : view ≡
   pub posts_at : (k : ℕ) (core : Core V) → k < length view.cores → core ≡ get_or view.cores k core → AllByRecursion (IsPost (length core.node.weights)) view.packets
   posts_at k core in_cores is = subst (λ (ws : List ℕ). AllByRecursion (IsPost (length ws)) view.packets) (sym (own_weights size view.taken view.cores view.packets h k core in_cores is)) h.posts
 
-  -- node k, once it has made its growths
+  -- node k, once it has made its additions
   module _ (k : ℕ) (core new : Core V) (in_cores : k < length view.cores) (is : core ≡ get_or view.cores k core) (same : new.node ≡ core.node) where
     abbrev left : NetView V
     left = record view { cores = set view.cores k new }

@@ -32,7 +32,7 @@ pub fn print_each<R: AllocGlobal + Threads + Sync, O: Write, F: Write>(
     print_unproved(rt, text, &entered, output, faults)
 }
 
-/// Prints the same of the statements of a text.
+/// Prints these lines and reasons for the statements of a text.
 fn print_unproved<R: AllocGlobal + Threads + Sync, O: Write, F: Write>(
     rt: &R,
     text: NamedText<'_>,

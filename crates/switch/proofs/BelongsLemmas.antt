@@ -25,7 +25,7 @@ module _ {V : Type 0} (size : V → ℕ) (w : World V) where
   there_delivered number None none = tt
   there_delivered number (Some p) some = there_at (Deliver number) p.to (ap (λ (o : Option (Packet V)). option_map (λ p. p.to) o) some) (λ n. Ok (on_packet n p)) (slice_get w.nodes p.to) refl
 
-  -- the same of each event, the limit of events aside
+  -- the same for each event, the limit of events aside
   there_happens_at : (e : Event V) → IfTaken (happens_at size w e) (λ x. IsOfNode w e)
   there_happens_at (Offer k v) = there_at (Offer k v) k refl (λ n. offered size n v) (slice_get w.nodes k) refl
   there_happens_at (Begin k) = there_at (Begin k) k refl begun (slice_get w.nodes k) refl

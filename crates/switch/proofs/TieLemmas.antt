@@ -24,7 +24,7 @@ module _ {V : Type 0} (size : V → ℕ) (now new : SwitchView V) (fault : StepF
   abbrev ActsAll : ℕ → Result ℕ StepFault → Type 0
   ActsAll k a = ForOk (world_of size now) (λ w. (view : StoreView V) → slice_get now.stores k ≡ Some view → (e : Option (Event V)) → view.standing ≡ down e → Revives size w now new k view e a)
 
-  -- the same of a restart of a node that is down
+  -- the same for a restart of a node that is down
   pub down_err : (k : ℕ) → ActsAll k (Err fault) → ActsAll k r
   down_err k acts = subst (λ (a : Result ℕ StepFault). ActsAll k a) (sym is) acts
 

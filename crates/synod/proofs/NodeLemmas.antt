@@ -17,7 +17,7 @@ begins_keeps {V} n is low =
 pub posts_kept : {V : Type 0} (nodes : ℕ) (step made : Stepped V) → made ≡ step → Keeps nodes step → AllByRecursion (IsPost nodes) made.posts
 posts_kept {V} nodes step made is keeps = subst (λ (s : Stepped V). AllByRecursion (IsPost nodes) s.posts) (sym is) keeps.posts
 
--- an answer where only a growth can be refused
+-- an answer where only an allocation can fail
 pub memory_posts : {V : Type 0} (nodes : ℕ) (core : Core V) (step : Stepped V) (inner : Result (Made V) AllocError) (answer : Result (Made V) Refusal)
     → IfOk inner (IsReadyFor core step) → ((made : Made V) → inner ≡ Ok made → answer ≡ Ok made) → ((failed : AllocError) → inner ≡ Err failed → answer ≡ Err Memory) → Keeps nodes step
     → IfOk answer (λ made. AllByRecursion (IsPost nodes) made.step.posts)

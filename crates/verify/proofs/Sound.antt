@@ -16,7 +16,7 @@ module _ (S : Database) (at : ℕ) where
     pub spelled : SpellsAll S at marked items kids after weight
     pub concluded : ConcludeAll S at kids es
 
-  -- one more derivation, behind the others
+  -- one more derivation, appended
   pushed : {marked between after : List Derivation} {front more_items : List Item} {t : Derivation} {front_weight more_weight : ℕ} (kids : Derivations) (below : List Expr) (e : Expr) (items : List Item) (weight : ℕ)
       → SpellsAll S at marked front kids between front_weight → ConcludeAll S at kids below → Spells S at between more_items t after more_weight → Concludes S at t e
       → items ≡ front ++ more_items → weight ≡ front_weight + more_weight → Stacked marked items (below ++ e ∷ []) after weight
