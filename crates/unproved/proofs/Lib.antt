@@ -1,2 +1,5 @@
 pub mod UnprovedLemmas
 pub mod AssumedLemmas
+pub mod PlainLemmas
+pub mod PlainRightLemmas
+pub mod AssumedGoodLemmas

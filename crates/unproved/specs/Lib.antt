@@ -1,2 +1,3 @@
 pub mod Unproved
 pub mod Stretches
+pub mod Laws

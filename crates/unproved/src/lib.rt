@@ -4,11 +4,13 @@
 //! that are not proved, in order, with any number of workers.
 //!
 //! Reading order: `entered` (statements with their frames), `stretch` (statements as jobs of a
-//! pool), `search` (all that are not proved).
+//! pool), `search` (all that are not proved), `laws`.
 #![tactic(auto)]
 
 mod entered;
+mod laws;
 mod search;
 mod stretch;
 
 pub use entered::Entered;
+pub use laws::assumed_statements_are_good;
