@@ -104,9 +104,9 @@ left S (x ∷ list) at s p =
 proved-else : (S : Database) (front end : ℕ) (list : List ℕ) (at : ℕ) → AreUnproved S front end list → front < at → at ≤ end → Avoids at list → StandsProved S at
 proved-else S front end [] at are above below avoids = are at above below
 proved-else S front end (x ∷ list) at are above below avoids = elim (cases_lt x at) [
-    inl more ↦ proved-else S x end list at are.4 more below avoids.1
+  | inl more ↦ proved-else S x end list at are.4 more below avoids.1
   | inr less ↦ elim (cases_lt at x) [
-      inl before ↦ are.3 at above before
+    | inl before ↦ are.3 at above before
     | inr same ↦ absurd (avoids.0 (omega (arith, less, same)))
   ]
 ]

@@ -113,8 +113,7 @@ module _ (S T : Database) (same : plains S ≡ plains T) where
           let w = stands-same S T same i p.0 p.1.stands in
           (w.0, hypothesis-same i p.0 w p.1, p.2 ∙ alike expr_of expr-plain w.0 p.0 w.2)
       concludes-same (apply a kids) e p =
-          let w = stands-same S T same a p.0 p.2.stands in
-          (
+          let w = stands-same S T same a p.0 p.2.stands in (
             w.0,
             p.1,
             instance-same a p.0 p.1 w p.2,
@@ -149,8 +148,7 @@ module _ (S T : Database) (same : plains S ≡ plains T) where
     -- a right proof is right among both
     pub right-same : (items : List Item) → IsRight S at items → IsRight T at items
     right-same items (t, d) =
-        let w = stands-same S T same at d.stmt d.stands in
-        (
+        let w = stands-same S T same at d.stmt d.stands in (
           t,
           record {
             stmt = w.0;
