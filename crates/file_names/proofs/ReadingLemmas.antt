@@ -107,7 +107,7 @@ spelled-numbered label p h fits same =
     let d = decimal-digits p fits in
     let first = (and_parts (is_ascii_digit d.first) (list_all is_ascii_digit d.rest) (sym (ap (list_all is_ascii_digit) d.is) ∙ d.digits)).0 in
     let read : label ≡ (if d.first == 46 then d.first else d.first - 32) ∷ read_by false d.rest =
-        sym (read-spelled label h) ∙ (ap (read_by false) same ∙ ap (λ ds. read_by false (43 ∷ ds)) d.is) in
+    sym (read-spelled label h) ∙ (ap (read_by false) same ∙ ap (λ ds. read_by false (43 ∷ ds)) d.is) in
     let all = ap (list_all is_label_byte) (sym read) ∙ (label-bytes label h).1 in
     let parts = and_parts (is_label_byte (if d.first == 46 then d.first else d.first - 32)) (list_all is_label_byte (read_by false d.rest)) all in
     true≢false (sym parts.0 ∙ no_label_byte d.first first)

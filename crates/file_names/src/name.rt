@@ -1,6 +1,7 @@
 //! The name of the file of an assertion.
 ghost use Rattle.std.specs.Prelude.{◌≡◌, ◌++◌, if◌then◌else◌, OnOk};
-ghost use Rattle.mm_lex.specs.Alphabet.{has_name};
+ghost use Rattle.std.specs.List.{list_any};
+ghost use Rattle.mm_lex.specs.Alphabet.{has_name, name_eq};
 ghost use Rattle.file_names.specs.FileNames.{escaped_byte, escaped, reserved, mark, is_spelled, spelled, numbered, file_name};
 
 use mm_lex::is_label;
@@ -97,7 +98,14 @@ fn push_mark(text: &mut Vec<u8>, label: &[u8]) -> Result<(), AllocError>
 fn is_reserved(label: &[u8]) -> bool
     ensures { result ≡ has_name label.now reserved }
 {
-    RESERVED.iter().any(|name| label == *name)
+    is_one_of(label, &RESERVED)
+}
+
+/// Tells whether the label is one of the names.
+fn is_one_of(label: &[u8], names: &[&[u8]]) -> bool
+    ensures { result ≡ list_any (λ name. name_eq label.now name.now) names.now }
+{
+    names.iter().any(|name| label == *name)
 }
 
 /// Appends the name of a position.
