@@ -1,0 +1,62 @@
+//! A folder that files are written into.
+ghost use Rattle.std.specs.Prelude.{ℕ, List, OnOk, ⊤};
+
+use std::alloc::AllocError;
+use std::io;
+
+/// Why a folder is not opened, or a file not written.
+#[derive(Debug, Drop, PartialEq, Eq)]
+pub enum FolderFault {
+    /// An allocation failed.
+    Memory,
+    /// The folder or the file cannot be made or written.
+    Refused,
+}
+
+impl From<AllocError> for FolderFault {
+    fn from(_error: AllocError) -> FolderFault {
+        FolderFault::Memory
+    }
+}
+
+impl From<io::Error> for FolderFault {
+    fn from(error: io::Error) -> FolderFault {
+        match error.kind() {
+            io::ErrorKind::OutOfMemory => FolderFault::Memory,
+            _ => FolderFault::Refused,
+        }
+    }
+}
+
+/// A folder that files are written into.
+pub trait Folder {
+    /// Relates the folder before a file is written, the name and the bytes of the file, and the folder
+    /// after it. The default says nothing.
+    ghost gains: { Self → List ℕ → List ℕ → Self → Type 0 } = { λ _ _ _ _. ⊤ };
+
+    /// Opens the folder at a path, which is made if it is not there.
+    ///
+    /// Errors: `Memory`; `Refused` if something else stands there, or it cannot be made.
+    fn open(&mut self, path: &str) -> Result<(), FolderFault>;
+
+    /// Writes a file with this name and these bytes into the folder, in place of one with the name.
+    ///
+    /// Errors: `Memory`, `Refused`; the folder has then no part of the file, and what stood there
+    /// before.
+    fn write(&mut self, name: &str, bytes: &[u8]) -> Result<(), FolderFault>
+        ensures { OnOk result (gains self.old name.now bytes.now self.new) };
+}
+
+/// No folder: each path is refused.
+#[derive(Clone, Copy)]
+pub struct NoFolder;
+
+impl Folder for NoFolder {
+    fn open(&mut self, _path: &str) -> Result<(), FolderFault> {
+        Err(FolderFault::Refused)
+    }
+
+    fn write(&mut self, _name: &str, _bytes: &[u8]) -> Result<(), FolderFault> {
+        Err(FolderFault::Refused)
+    }
+}

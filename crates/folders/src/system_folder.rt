@@ -1,0 +1,70 @@
+//! A folder of the file system.
+use crate::folder::{Folder, FolderFault};
+use std::alloc::AllocError;
+use std::fs::{self, File};
+use std::io::Write;
+use std::rt::Files;
+
+/// The name of a file that is not whole yet. It has no ending, so it is that of no page.
+const UNFINISHED: &str = "+unfinished";
+
+/// A folder of the file system. A file is written under another name, which it loses once it is
+/// whole; a symbolic link is not followed.
+#[derive(Drop)]
+pub struct SystemFolder<'a, R> {
+    rt: &'a R,
+    path: String,
+}
+
+impl<'a, R: Files + AllocGlobal> SystemFolder<'a, R> {
+    /// Returns the folder where the program runs. Does not allocate.
+    pub fn new(rt: &'a R) -> SystemFolder<'a, R> {
+        SystemFolder {
+            rt,
+            path: String::new(rt.alloc()),
+        }
+    }
+
+    /// Returns the path of the file with a name.
+    fn path_of(&self, name: &str) -> Result<String, AllocError> {
+        let mut path = String::new(self.rt.alloc());
+        path.push_str(self.path.as_str())?;
+        path.push_str("/")?;
+        path.push_str(name)?;
+        Ok(path)
+    }
+
+    /// Writes the bytes into a file under one name, and gives it another.
+    fn write_renamed(
+        &self,
+        mut file: R::File,
+        unfinished: &str,
+        path: &str,
+        bytes: &[u8],
+    ) -> Result<(), FolderFault> {
+        file.write_all(bytes)?;
+        Ok(fs::rename(self.rt, unfinished, path)?)
+    }
+}
+
+impl<'a, R: Files + AllocGlobal> Folder for SystemFolder<'a, R> {
+    fn open(&mut self, path: &str) -> Result<(), FolderFault> {
+        self.path = String::from_str(self.rt.alloc(), path)?;
+        match fs::metadata(self.rt, path) {
+            Ok(found) if found.is_dir() => Ok(()),
+            Ok(_) => Err(FolderFault::Refused),
+            Err(_) => Ok(fs::create_dir_all(self.rt, path)?),
+        }
+    }
+
+    fn write(&mut self, name: &str, bytes: &[u8]) -> Result<(), FolderFault> {
+        let unfinished = self.path_of(UNFINISHED)?;
+        let path = self.path_of(name)?;
+        let file = File::create_new(self.rt, unfinished.as_str())?;
+        let written = self.write_renamed(file, unfinished.as_str(), path.as_str(), bytes);
+        if written.is_err() {
+            let _ = fs::remove_file(self.rt, unfinished.as_str());
+        }
+        written
+    }
+}
