@@ -1,0 +1,37 @@
+-- The names of files that are made of labels.
+-- Source: this project's own form; the names of devices are those of Windows.
+-- The code adds byte by byte.
+use Rattle.std.specs.Prelude.{ℕ, ◌+◌, ◌==◌, nat_le, Bool, ◌&&◌, if◌then◌else◌, List, [], ◌∷◌, ◌++◌, length, codes, decimal, flat_map}
+use Rattle.std.specs.Char.{is_ascii_uppercase}
+use Rattle.mm_lex.specs.Alphabet.{Name, has_name, is_label}
+
+-- a capital letter as `+` and its small letter, a dot as `+.`, another byte as it stands
+abbrev pub escaped_byte : ℕ → List ℕ
+escaped_byte b = if is_ascii_uppercase b then 43 ∷ (b + 32) ∷ [] else if b == 46 then 43 ∷ b ∷ [] else b ∷ []
+
+abbrev pub escaped : Name → List ℕ
+escaped label = flat_map escaped_byte label
+
+-- labels whose names stand for something else: the list of all assertions, and devices
+abbrev pub reserved : List Name
+reserved = codes "index" ∷ codes "con" ∷ codes "prn" ∷ codes "aux" ∷ codes "nul" ∷ codes "com0" ∷ codes "com1" ∷ codes "com2" ∷ codes "com3" ∷ codes "com4"
+    ∷ codes "com5" ∷ codes "com6" ∷ codes "com7" ∷ codes "com8" ∷ codes "com9" ∷ codes "lpt0" ∷ codes "lpt1" ∷ codes "lpt2" ∷ codes "lpt3" ∷ codes "lpt4"
+    ∷ codes "lpt5" ∷ codes "lpt6" ∷ codes "lpt7" ∷ codes "lpt8" ∷ codes "lpt9" ∷ []
+
+-- a `+` after one of them
+abbrev pub mark : Name → List ℕ
+mark label = if has_name label reserved then codes "+" else []
+
+-- the name spells the label, which else is longer than 100 bytes
+abbrev pub is_spelled : Name → Bool
+is_spelled label = nat_le (length label) 100 && is_label label
+
+abbrev pub spelled : Name → List ℕ
+spelled label = escaped label ++ mark label
+
+abbrev pub numbered : ℕ → List ℕ
+numbered position = codes "+" ++ decimal position
+
+-- the name of the file of the assertion with this label at this position
+abbrev pub file_name : Name → ℕ → List ℕ
+file_name label position = (if is_spelled label then spelled label else numbered position) ++ codes ".html"

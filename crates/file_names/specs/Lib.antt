@@ -1,0 +1,2 @@
+pub mod FileNames
+pub mod Laws

@@ -1,0 +1,10 @@
+//! The names of the files of a site: one for each assertion, made of its label.
+//!
+//! Reading order: `name` (`push_file_name`), `laws`.
+#![tactic(auto)]
+
+mod laws;
+mod name;
+
+pub use laws::{names_differ, names_stay_in_a_folder};
+pub use name::{INDEX, STYLE, push_file_name};

@@ -1,0 +1,117 @@
+//! The name of the file of an assertion.
+ghost use Rattle.std.specs.Prelude.{◌≡◌, ◌++◌, if◌then◌else◌, OnOk};
+ghost use Rattle.std.specs.List.{list_any};
+ghost use Rattle.mm_lex.specs.Alphabet.{has_name, name_eq};
+ghost use Rattle.file_names.specs.FileNames.{escaped_byte, escaped, reserved, mark, is_spelled, spelled, numbered, file_name};
+
+use mm_lex::is_label;
+use numbers::push_number;
+use std::alloc::AllocError;
+
+/// The name of the file that lists all assertions.
+pub const INDEX: &str = "index.html";
+
+/// The name of the style sheet.
+pub const STYLE: &str = "style.css";
+
+/// How many bytes a label has at most that is spelled in a name.
+const LONGEST: usize = 100;
+
+/// The labels whose names a system keeps for devices, and that of the list of all assertions.
+const RESERVED: [&[u8]; 25] = [
+    b"index", b"con", b"prn", b"aux", b"nul", b"com0", b"com1", b"com2", b"com3", b"com4", b"com5",
+    b"com6", b"com7", b"com8", b"com9", b"lpt0", b"lpt1", b"lpt2", b"lpt3", b"lpt4", b"lpt5",
+    b"lpt6", b"lpt7", b"lpt8", b"lpt9",
+];
+
+/// Appends the name of the file of the assertion with a label at a position: the label, with `+`
+/// before a dot and in place of a capital letter, which is then small; `+` and the position if the
+/// label is longer than 100 bytes.
+///
+/// Errors: an allocation fails; what is in the text then is not specified. Cost: the length of the
+/// label. Source: this project's own form; the names of devices are those of Windows.
+pub fn push_file_name(text: &mut Vec<u8>, label: &[u8], position: usize) -> Result<(), AllocError>
+    ensures { OnOk result (text.new.items ≡ text.old.items ++ file_name label.now position) }
+{
+    push_front(text, label, position)?;
+    text.extend_from_slice(b".html")
+}
+
+/// Appends the name without its ending.
+fn push_front(text: &mut Vec<u8>, label: &[u8], position: usize) -> Result<(), AllocError>
+    ensures { OnOk result (text.new.items
+        ≡ text.old.items ++ (if is_spelled label.now then spelled label.now else numbered position)) }
+{
+    if is_spelled(label) {
+        push_spelled(text, label)
+    } else {
+        push_numbered(text, position)
+    }
+}
+
+/// Tells whether the name spells the label.
+fn is_spelled(label: &[u8]) -> bool
+    ensures { result ≡ is_spelled label.now }
+{
+    label.len() <= LONGEST && is_label(label)
+}
+
+/// Appends the name that spells a label.
+fn push_spelled(text: &mut Vec<u8>, label: &[u8]) -> Result<(), AllocError>
+    ensures { OnOk result (text.new.items ≡ text.old.items ++ spelled label.now) }
+{
+    push_escaped(text, label)?;
+    push_mark(text, label)
+}
+
+fn push_escaped(text: &mut Vec<u8>, label: &[u8]) -> Result<(), AllocError>
+    ensures { OnOk result (text.new.items ≡ text.old.items ++ escaped label.now) }
+{
+    for byte in label {
+        push_byte(text, *byte)?;
+    }
+    Ok(())
+}
+
+fn push_byte(text: &mut Vec<u8>, byte: u8) -> Result<(), AllocError>
+    ensures { OnOk result (text.new.items ≡ text.old.items ++ escaped_byte byte) }
+{
+    if byte.is_ascii_uppercase() {
+        text.extend_from_slice(&[b'+', byte + 32])
+    } else if byte == b'.' {
+        text.extend_from_slice(&[b'+', byte])
+    } else {
+        text.extend_from_slice(&[byte])
+    }
+}
+
+fn push_mark(text: &mut Vec<u8>, label: &[u8]) -> Result<(), AllocError>
+    ensures { OnOk result (text.new.items ≡ text.old.items ++ mark label.now) }
+{
+    if is_reserved(label) {
+        text.extend_from_slice(b"+")
+    } else {
+        text.extend_from_slice(b"")
+    }
+}
+
+fn is_reserved(label: &[u8]) -> bool
+    ensures { result ≡ has_name label.now reserved }
+{
+    is_one_of(label, &RESERVED)
+}
+
+/// Tells whether the label is one of the names.
+fn is_one_of(label: &[u8], names: &[&[u8]]) -> bool
+    ensures { result ≡ list_any (λ name. name_eq label.now name.now) names.now }
+{
+    names.iter().any(|name| label == *name)
+}
+
+/// Appends the name of a position.
+fn push_numbered(text: &mut Vec<u8>, position: usize) -> Result<(), AllocError>
+    ensures { OnOk result (text.new.items ≡ text.old.items ++ numbered position) }
+{
+    text.extend_from_slice(b"+")?;
+    push_number(text, position as u64)
+}
