@@ -1,5 +1,4 @@
 pub mod Escapes
-pub mod FileNames
 pub mod StepLines
 pub mod Pictures
 pub mod Notations

@@ -9,7 +9,7 @@ use Rattle.scope.specs.Active.{is_assertion, stmt_at}
 use Rattle.names.specs.Codes.{name_at}
 use Rattle.verify.specs.Proves.{label_or_none}
 use Rattle.proof_pages.specs.Escapes.{html_text}
-use Rattle.proof_pages.specs.FileNames.{file_name}
+use Rattle.file_names.specs.FileNames.{file_name}
 
 abbrev pub variable_html : ℕ → Name → List ℕ
 variable_html class name = codes "<var class=\"k" ++ decimal class ++ codes "\">" ++ html_text name ++ codes "</var>"
@@ -26,7 +26,7 @@ abbrev pub expr_html : List Name → List ℕ → List ℕ → List ℕ
 expr_html names classes expr = flat_map (symbol_html names classes) expr
 
 -- a label as a link to the file of the assertion that has it, which stands at this position
-abbrev pub link_start : Name → ℕ → List ℕ
+unfoldable pub link_start : Name → ℕ → List ℕ
 link_start label position = codes "<a href=\"" ++ file_name label position ++ codes "\">"
 
 abbrev pub page_link : Name → ℕ → List ℕ

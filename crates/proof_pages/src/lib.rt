@@ -1,9 +1,9 @@
 //! A proof for people: its steps as lines, as a picture for Graphviz, and as a page, alone or among the pages of a site.
 //!
 //! Every byte of a database goes into a page by `push_html`, and into a picture by `push_quoted`; only the name of a file, which
-//! `push_file_name` makes of a label, stands in a link as it is.
+//! `file_names` makes of a label, stands in a link as it is.
 //!
-//! Reading order: `escapes`, `step_lines`, `picture`, `writing`; `file_names`, `notation`, `rows`; `contents`, `colours`, `draft`,
+//! Reading order: `escapes`, `step_lines`, `picture`, `writing`; `notation`, `rows`; `contents`, `colours`, `draft`,
 //! `parted`, `style`, `opening`, `frame_part`, `proof_part`, `page`, `index`.
 #![tactic(auto)]
 
@@ -11,7 +11,6 @@ mod colours;
 mod contents;
 mod draft;
 mod escapes;
-mod file_names;
 mod frame_part;
 mod index;
 mod notation;
@@ -27,7 +26,6 @@ mod writing;
 
 pub use contents::{Neighbours, PageContents, ProofSteps};
 pub use escapes::{push_html, push_quoted};
-pub use file_names::{INDEX, STYLE, push_file_name};
 pub use index::write_index;
 pub use notation::{Notation, push_cited};
 pub use page::{write_page, write_site_page};

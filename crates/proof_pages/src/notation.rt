@@ -4,7 +4,7 @@ ghost use Rattle.verify.specs.Proves.{label_or_none};
 ghost use Rattle.proof_pages.specs.Notations.{variable_html, coloured, symbol_html, expr_html, link_start, page_link, label_html, cited_html};
 
 use crate::escapes::push_html;
-use crate::file_names::push_file_name;
+use file_names::push_file_name;
 use frame::{Frames, is_assertion};
 use mm_read::Stmt;
 use numbers::push_number;
