@@ -62,7 +62,7 @@ fn push_way(page: &mut Vec<u8>, draft: &Draft<'_>) -> Result<(), AllocError> {
     };
     page.extend_from_slice(b"<p class=\"legend\">")?;
     page.extend_from_slice(kind)?;
-    page.extend_from_slice(b" of <a href=\"index.html\">all statements</a></p>\n")
+    page.extend_from_slice(b". <a href=\"index.html\">All statements</a></p>\n")
 }
 
 /// Appends the description as it stands, if there is one.
