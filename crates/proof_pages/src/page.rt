@@ -62,11 +62,11 @@ fn write_contents<W: Write>(
         notation: Notation {
             statements: contents.statements,
             frames: contents.frames,
-            classes: &colours.classes,
+            classes: colours.classes.as_slice(),
             is_linked,
         },
-        typecodes: &colours.constants,
-        hypotheses: &hypotheses,
+        typecodes: colours.constants.as_slice(),
+        hypotheses: hypotheses.as_slice(),
         is_whole,
     };
     write_draft(alloc, out, &draft)

@@ -96,5 +96,7 @@ fn push_syntax(
 /// Appends the theorems whose proofs cite the assertion.
 pub fn push_users(page: &mut Vec<u8>, draft: &Draft<'_>) -> Result<(), AllocError> {
     page.extend_from_slice(b"<h2>Theorems that cite it</h2>\n")?;
-    push_labels(page, &draft.notation, draft.contents.neighbours.users)
+    let contents = draft.contents;
+    let users = contents.neighbours.users;
+    push_labels(page, &draft.notation, users)
 }
