@@ -114,7 +114,7 @@ fn push_groups(
     for index in 0..groups.len() {
         page.extend_from_slice(b"<li>")?;
         push_html_expr(page, notation, groups.get(index))?;
-        page.extend_from_slice(b"</li>\n")?;
+        page.extend_from_slice(b"\n")?;
     }
     page.extend_from_slice(b"</ul>\n")
 }

@@ -1,4 +1,4 @@
-//! Rows of tables, and lists of labels.
+//! Rows of tables, and lists of labels. End tags that HTML lets one omit are omitted.
 ghost use Rattle.std.specs.Prelude.{◌≡◌, ◌<◌, ◌++◌, length, get_or, flat_map, OnOk};
 ghost use Rattle.steps.specs.Rows.{no_row};
 ghost use Rattle.proof_pages.specs.TableRows.{link_html, row_start, taken_html, row_rest, step_html, item_html, list_html, labels_html};
@@ -48,9 +48,9 @@ fn push_taken(
     ensures { OnOk result (page.new.items ≡ page.old.items ++ taken_html mark.now place taken.now) }
 {
     push_place(page, place)?;
-    page.extend_from_slice(b"</td><td>")?;
+    page.extend_from_slice(b"<td>")?;
     push_links(page, mark, taken)?;
-    page.extend_from_slice(b"</td><td>")
+    page.extend_from_slice(b"<td>")
 }
 
 /// Appends a label and an expression, and ends the row.
@@ -65,9 +65,9 @@ pub fn push_row_rest(
         notation.now.classes.now position expr.now) }
 {
     push_cited(page, notation, position)?;
-    page.extend_from_slice(b"</td><td>")?;
+    page.extend_from_slice(b"<td>")?;
     push_html_expr(page, notation, expr)?;
-    page.extend_from_slice(b"</td></tr>\n")
+    page.extend_from_slice(b"\n")
 }
 
 /// Appends the step at a place as a row: its number, links to the rows of the steps that it takes, its label, its
@@ -100,7 +100,7 @@ fn push_item(
 {
     page.extend_from_slice(b"<li>")?;
     push_cited(page, notation, position as usize)?;
-    page.extend_from_slice(b"</li>\n")
+    page.extend_from_slice(b"\n")
 }
 
 fn push_items(
