@@ -21,7 +21,7 @@ pub fn push_frame(
 {
     push_hypotheses(alloc, page, draft)?;
     push_disjoint(alloc, page, draft)?;
-    push_legend(page, draft)
+    push_legend(page, &draft.notation)
 }
 
 /// Appends the `$e`, and folded the `$f`.
@@ -120,16 +120,17 @@ fn push_groups(
 }
 
 /// Appends which typecodes the colours stand for.
-fn push_legend(page: &mut Vec<u8>, draft: &Draft<'_>) -> Result<(), AllocError> {
-    if draft.typecodes.is_empty() {
+fn push_legend(page: &mut Vec<u8>, notation: &Notation<'_>) -> Result<(), AllocError> {
+    let colours = notation.colours;
+    if colours.constants.is_empty() {
         return Ok(());
     }
     page.extend_from_slice(b"<p class=\"legend\">Variables:")?;
     let mut class = 0u32;
-    for typecode in draft.typecodes {
+    for typecode in &colours.constants {
         class = class.saturating_add(1);
         page.extend_from_slice(b" ")?;
-        push_coloured(page, class, draft.notation.frames.symbol(*typecode))?;
+        push_coloured(page, class, notation.frames.symbol(*typecode))?;
     }
     page.extend_from_slice(b"</p>\n")
 }

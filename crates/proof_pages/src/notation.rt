@@ -3,6 +3,7 @@ ghost use Rattle.std.specs.Prelude.{◌≡◌, ◌++◌, Some, flat_map, OnOk};
 ghost use Rattle.verify.specs.Proves.{label_or_none};
 ghost use Rattle.proof_pages.specs.Notations.{first_html, variable_html, coloured, symbol_html, expr_html, link_start, page_link, label_html, cited_html};
 
+use crate::colours::Colours;
 use crate::escapes::push_html;
 use file_names::push_file_name;
 use frame::{Frames, is_assertion};
@@ -17,8 +18,8 @@ pub struct Notation<'a> {
     pub statements: &'a [Stmt],
     /// Their frames, which know the symbols.
     pub frames: &'a Frames,
-    /// The class of each symbol by number, 0 where it has none.
-    pub classes: &'a [u32],
+    /// The colours of its variables.
+    pub colours: &'a Colours,
     /// Whether the label of an assertion is a link to its page.
     pub is_linked: bool,
 }
@@ -62,9 +63,10 @@ fn push_html_symbol(
     symbol: u32,
 ) -> Result<(), AllocError>
     ensures { OnOk result (page.new.items ≡ page.old.items
-        ++ symbol_html notation.now.frames.now.names notation.now.classes.now symbol) }
+        ++ symbol_html notation.now.frames.now.names notation.now.colours.now.classes.items symbol) }
 {
-    let class = match notation.classes.get(symbol as usize) {
+    let colours = notation.colours;
+    let class = match colours.classes.get(symbol as usize) {
         Some(class) => *class,
         None => 0,
     };
@@ -79,7 +81,7 @@ pub fn push_html_expr(
     expr: &[u32],
 ) -> Result<(), AllocError>
     ensures { OnOk result (page.new.items ≡ page.old.items
-        ++ expr_html notation.now.frames.now.names notation.now.classes.now expr.now) }
+        ++ expr_html notation.now.frames.now.names notation.now.colours.now.classes.items expr.now) }
 {
     for symbol in expr {
         push_html_symbol(page, notation, *symbol)?;

@@ -62,10 +62,9 @@ fn write_contents<W: Write>(
         notation: Notation {
             statements: contents.statements,
             frames: contents.frames,
-            classes: colours.classes.as_slice(),
+            colours: &colours,
             is_linked,
         },
-        typecodes: colours.constants.as_slice(),
         hypotheses: hypotheses.as_slice(),
         is_whole,
     };

@@ -62,7 +62,7 @@ pub fn push_row_rest(
 ) -> Result<(), AllocError>
     ensures { OnOk result (page.new.items ≡ page.old.items
         ++ row_rest notation.now.is_linked notation.now.statements.now notation.now.frames.now.names
-        notation.now.classes.now position expr.now) }
+        notation.now.colours.now.classes.items position expr.now) }
 {
     push_cited(page, notation, position)?;
     page.extend_from_slice(b"<td>")?;
@@ -82,7 +82,7 @@ pub fn push_html_step(
     requires { place < length table.now }
     ensures { OnOk result (page.new.items ≡ page.old.items
         ++ step_html notation.now.is_linked notation.now.statements.now notation.now.frames.now.names
-        notation.now.classes.now mark.now place (get_or table.now place no_row)) }
+        notation.now.colours.now.classes.items mark.now place (get_or table.now place no_row)) }
 {
     push_row_start(page, mark, place)?;
     push_taken(page, mark, place, table.taken(place))?;
