@@ -11,11 +11,7 @@ use frame::FrameBuffers;
 use std::alloc::{AllocError, Global};
 
 /// Appends the mandatory hypotheses, the disjoint variables, and the colours of typecodes.
-pub fn push_frame(
-    alloc: Global,
-    page: &mut Vec<u8>,
-    draft: &Draft<'_>,
-) -> Result<(), AllocError>
+pub fn push_frame(alloc: Global, page: &mut Vec<u8>, draft: &Draft<'_>) -> Result<(), AllocError>
     requires { (s : Statement) × HasAssertion draft.now.contents.now.frames.now.statements
         draft.now.contents.now.at s }
 {
@@ -25,11 +21,7 @@ pub fn push_frame(
 }
 
 /// Appends the `$e`, and folded the `$f`.
-fn push_hypotheses(
-    alloc: Global,
-    page: &mut Vec<u8>,
-    draft: &Draft<'_>,
-) -> Result<(), AllocError> {
+fn push_hypotheses(alloc: Global, page: &mut Vec<u8>, draft: &Draft<'_>) -> Result<(), AllocError> {
     if draft.hypotheses.is_empty() {
         return Ok(());
     }
@@ -75,20 +67,11 @@ fn push_hypothesis(
     position: usize,
 ) -> Result<(), AllocError> {
     page.extend_from_slice(b"<tr><td>")?;
-    push_row_rest(
-        page,
-        notation,
-        position,
-        expr_at(notation.frames, position),
-    )
+    push_row_rest(page, notation, position, expr_at(notation.frames, position))
 }
 
 /// Appends the groups of variables each two of which must be disjoint.
-fn push_disjoint(
-    alloc: Global,
-    page: &mut Vec<u8>,
-    draft: &Draft<'_>,
-) -> Result<(), AllocError>
+fn push_disjoint(alloc: Global, page: &mut Vec<u8>, draft: &Draft<'_>) -> Result<(), AllocError>
     requires { (s : Statement) × HasAssertion draft.now.contents.now.frames.now.statements
         draft.now.contents.now.at s }
 {
@@ -97,7 +80,9 @@ fn push_disjoint(
         return push_groups(page, &draft.notation, &cited.groups);
     }
     let mut frame_buffers = FrameBuffers::new(alloc);
-    contents.frames.fill_buffers(contents.at, &mut frame_buffers)?;
+    contents
+        .frames
+        .fill_buffers(contents.at, &mut frame_buffers)?;
     let cited = contents.frames.cited_from(contents.at, &frame_buffers);
     push_groups(page, &draft.notation, &cited.groups)
 }

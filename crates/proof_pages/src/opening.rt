@@ -34,11 +34,7 @@ pub fn push_opening(page: &mut Vec<u8>, draft: &Draft<'_>) -> Result<(), AllocEr
     push_way(page, draft)?;
     push_description(page, contents.neighbours.description)?;
     page.extend_from_slice(b"<p class=\"expr\">")?;
-    push_html_expr(
-        page,
-        &draft.notation,
-        expr_at(contents.frames, contents.at),
-    )?;
+    push_html_expr(page, &draft.notation, expr_at(contents.frames, contents.at))?;
     page.extend_from_slice(b"</p>\n")
 }
 

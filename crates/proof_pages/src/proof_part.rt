@@ -86,9 +86,7 @@ fn push_syntax(
     if positions.is_empty() {
         return Ok(());
     }
-    page.extend_from_slice(
-        b"<details>\n<summary>Axioms of other typecodes (syntax)</summary>\n",
-    )?;
+    page.extend_from_slice(b"<details>\n<summary>Axioms of other typecodes (syntax)</summary>\n")?;
     push_labels(page, notation, positions)?;
     page.extend_from_slice(b"</details>\n")
 }

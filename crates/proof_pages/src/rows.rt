@@ -90,11 +90,7 @@ pub fn push_html_step(
 }
 
 /// Appends the label of the statement at a position as an item of a list.
-fn push_item(
-    page: &mut Vec<u8>,
-    notation: &Notation<'_>,
-    position: u32,
-) -> Result<(), AllocError>
+fn push_item(page: &mut Vec<u8>, notation: &Notation<'_>, position: u32) -> Result<(), AllocError>
     ensures { OnOk result (page.new.items ≡ page.old.items
         ++ item_html notation.now.is_linked notation.now.statements.now position) }
 {
