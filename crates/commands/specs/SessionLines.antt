@@ -8,8 +8,8 @@ use Rattle.commands.specs.declared.session_line.SessionLine.{SessionLine}
 use Rattle.commands.specs.declared.session_line.SessionLine.TheVariants.{Serve, Help}
 use Rattle.commands.specs.declared.text_form.TextForm.{TextForm}
 use Rattle.commands.specs.declared.text_form.TextForm.TheVariants.{Rest, Lines, Bytes}
-use Rattle.commands.specs.declared.text_end.TextEnd.{TextEnd}
-use Rattle.commands.specs.declared.text_end.TextEnd.TheVariants.{AtWord, AfterBytes}
+use Rattle.commands.specs.declared.session_texts.TextEnd.{TextEnd}
+use Rattle.commands.specs.declared.session_texts.TextEnd.TheVariants.{AtWord, AfterBytes}
 use Rattle.commands.specs.LineWords.{◌>>=◌, Words, line_by, entry_at, one_number}
 use Rattle.commands.specs.Texts.{one_word}
 use Rattle.commands.specs.ServeLines.{submit_form, add_form, serve_line_of}

@@ -10,7 +10,7 @@
 //! `command_line`; `pieces` (a text between separators),
 //! `line_words` (the words of a line), `lines` (the lines of a script), `text_form` (a text on the
 //! line or on those that follow), `offered` (entries), `node_question` (labels), `node_line`,
-//! `play_line`, `serve_line` and `session_line` (what a line asks for), `text_end` (where a text
+//! `play_line`, `serve_line` and `session_line` (what a line asks for), `session_texts` (where a text
 //! ends), `script` (all lines).
 #![tactic(auto)]
 
@@ -29,7 +29,7 @@ mod script;
 mod script_help;
 mod serve_line;
 mod session_line;
-mod text_end;
+mod session_texts;
 mod text_form;
 mod weights;
 
@@ -46,5 +46,5 @@ pub use script::{LINE_FEED, Line, LineFault, ScriptFault, parse_script};
 pub use script_help::{SERVE_LINES, first_word, wanted_line};
 pub use serve_line::ServeLine;
 pub use session_line::SessionLine;
-pub use text_end::{TextEnd, text_end};
+pub use session_texts::{TextEnd, text_end};
 pub use weights::{MOST_WORKERS, WorkerCount};

@@ -1,5 +1,10 @@
 -- The faults of the steps by which an entry is seen through.
-use Rattle.nodes.proofs.Words.{◌≡◌, ◌⊎◌, ℕ, ◌<◌, ◌≤◌, ◌∙◌, Result, Ok, Err, ap, inl, inr, subst, sym, ⊎_elim, cases_lt, IfErr, IsOkUnless, StepFault, Apart, NoNode, IsAskFault}
+use Rattle.std.proofs.Common.{◌≡◌, ℕ, ◌<◌, ◌≤◌, ◌∙◌, Result, Ok, Err, ap, inl, inr, subst, sym, ⊎_elim}
+use Rattle.std.proofs.lemmas.Bool.{cases_lt}
+use Rattle.std.specs.Prelude.{IsOkUnless}
+use Rattle.net.specs.declared.fault.StepFault.{StepFault}
+use Rattle.net.specs.declared.fault.StepFault.TheVariants.{Apart, NoNode}
+use Rattle.nodes.specs.Adding.{IsAskFault}
 
 -- the fault of an answer
 fault_of : {A : Type 0} → Result A StepFault → StepFault

@@ -6,16 +6,13 @@ pub use Rattle.net.specs.World.{World}
 pub use Rattle.net.specs.declared.event.Event.{Event}
 pub use Rattle.net.specs.declared.event.Event.TheVariants.{Deliver, Restart}
 pub use Rattle.net.specs.declared.fault.StepFault.{StepFault}
-pub use Rattle.net.specs.declared.fault.StepFault.TheVariants.{Apart, NoNode}
-pub use Rattle.nodes.specs.Adding.{IsAddFault, IsAskFault, IsOutcome}
 pub use Rattle.nodes.specs.Desk.{AnswersAs, DeliversAll, IsPlayFault, IsPlayed, IsRestartFault}
 pub use Rattle.nodes.specs.Report.{IsReport, is_own, own_counts, own_events, with_one}
-pub use Rattle.std.proofs.Common.{Bool, Err, List, None, Ok, Result, Some, [], Option, ap, arith, false, get_or, if◌then◌else◌, nat_lt, inl, inr, length, refl, replicate, set, subst, suc, sum, sym, take, true, vec_len, zero, ⊎_elim, ℕ, ◌*◌, ◌++◌, ◌+◌, ◌<◌, ◌==◌, ◌∙◌, ◌∷◌, ◌≡◌, ◌≤◌}
-pub use Rattle.std.proofs.lemmas.Bool.{cases_lt}
+pub use Rattle.std.proofs.Common.{Bool, Err, List, None, Ok, Result, Some, [], Option, ap, arith, false, get_or, if◌then◌else◌, nat_lt, inr, length, refl, replicate, set, subst, suc, sum, sym, take, true, vec_len, zero, ℕ, ◌*◌, ◌++◌, ◌+◌, ◌<◌, ◌==◌, ◌∙◌, ◌∷◌, ◌≡◌, ◌≤◌}
 pub use Rattle.std.proofs.lemmas.Bool.Decides.{nat_tests}
 pub use Rattle.std.proofs.lemmas.List.{take_all, take_more}
 pub use Rattle.std.proofs.lemmas.List.Folds.{sum_by-replicate}
-pub use Rattle.std.specs.Prelude.{◌⊎◌, IfErr, IsErrAnd, IsOk, IsOkUnless}
+pub use Rattle.std.specs.Prelude.{IfErr, IsErrAnd, IsOk}
 pub use Rattle.std.specs.Result.{ForOk}
 pub use Rattle.switch.specs.Switch.{Plays, SwitchView, world_of}
 pub use Rattle.world.specs.Carried.{carried_size}

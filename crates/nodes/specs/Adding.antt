@@ -1,8 +1,13 @@
 -- The outcome of an entry at a node, for one who sees it through.
 -- Source: this project's profile: the first entry under an author and a serial number is decided, and each later one is a repeat.
 -- The code lets the lock go before it answers, so what is said is said of some cell.
-use Rattle.std.specs.Prelude.{◌≡◌, ◌⊎◌, ℕ, Bool, false, ◌&&◌, ◌==◌, List, [], ◌∷◌, Option, Some, None, Err, if◌then◌else◌}
-use Rattle.nodes.specs.Words.{Entry, Verdict, Repeat, author_of, serial_of, status, Carried, Cell, StepFault, Apart, NoNode, Memory, Offer, Begin}
+use Rattle.std.specs.Prelude.{◌≡◌, ◌⊎◌, ℕ, Bool, false, ◌&&◌, ◌==◌, List, [], ◌∷◌, Option, Some, None, if◌then◌else◌}
+use Rattle.library.specs.LibraryOf.{author_of, serial_of}
+use Rattle.library.specs.declared.entry.Entry.{Entry}
+use Rattle.library.specs.declared.verdict.Verdict.TheVariants.{Repeat}
+use Rattle.net.specs.declared.event.Event.TheVariants.{Offer, Begin}
+use Rattle.net.specs.declared.fault.StepFault.TheVariants.{Memory, NoNode}
+use Rattle.nodes.specs.Words.{Verdict, status, Carried, Cell, StepFault, Apart}
 use Rattle.nodes.specs.Desk.{IsPlayFault}
 use Rattle.nodes.specs.Questions.{IsCellAt}
 

@@ -2,18 +2,16 @@
 pub use Rattle.cluster.specs.Belongs.{Belongs, IsAhead}
 pub use Rattle.cluster.specs.Cell.{Cell, IsCell}
 pub use Rattle.cluster.specs.declared.compare.Ahead.{Ahead}
-pub use Rattle.library.specs.LibraryOf.{author_of, serial_of, status}
+pub use Rattle.library.specs.LibraryOf.{status}
 pub use Rattle.library.specs.Listed.{listed}
-pub use Rattle.library.specs.declared.entry.Entry.{Entry}
 pub use Rattle.library.specs.declared.listed.Listed.{Listed}
 pub use Rattle.library.specs.declared.verdict.Verdict.{Verdict}
-pub use Rattle.library.specs.declared.verdict.Verdict.TheVariants.{Repeat}
 pub use Rattle.net.specs.KeptPart.{node_of}
 pub use Rattle.net.specs.World.{World}
 pub use Rattle.net.specs.declared.event.Event.{Event}
-pub use Rattle.net.specs.declared.event.Event.TheVariants.{Offer, Begin, Deliver, Restart}
+pub use Rattle.net.specs.declared.event.Event.TheVariants.{Deliver, Restart}
 pub use Rattle.net.specs.declared.fault.StepFault.{StepFault}
-pub use Rattle.net.specs.declared.fault.StepFault.TheVariants.{Apart, Memory, NoNode, Stopped}
+pub use Rattle.net.specs.declared.fault.StepFault.TheVariants.{Apart, Stopped}
 pub use Rattle.switch.specs.Switch.{Plays, SwitchView, world_of}
 pub use Rattle.world.specs.Carried.{carried_size}
 pub use Rattle.world.specs.declared.carried.Carried.{Carried}

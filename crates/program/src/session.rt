@@ -1,4 +1,6 @@
 //! The lines that `serve` answers: those of a script that is read whole, or those of a session.
+ghost use Rattle.std.specs.Prelude.{◌≤◌, OnOk, vec_len};
+
 use crate::fault::Fault;
 use crate::scripts::{Source, read_script};
 use commands::{
@@ -144,7 +146,9 @@ impl<'a, I: Read> Session<'a, I> {
 
     /// Appends the next line with its line feed, which the last may lack. Returns false if the input
     /// has ended.
-    fn read_line(&mut self) -> Result<bool, Fault> {
+    fn read_line(&mut self) -> Result<bool, Fault>
+        ensures { OnOk result (vec_len self.old.text ≤ vec_len self.new.text) }
+    {
         match self.input.read_until(LINE_FEED, &mut self.text) {
             Ok(0) => Ok(false),
             Ok(_) => {
