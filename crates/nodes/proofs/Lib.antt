@@ -2,3 +2,4 @@ pub mod Words
 mod ReportLemmas
 mod CountLemmas
 mod DeskLemmas
+mod AddingLemmas
