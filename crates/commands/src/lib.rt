@@ -7,7 +7,7 @@
 //!
 //! Reading order: `request` (what a command line asks for), `weights` (numbers of a command line),
 //! `grammar` (its commands and options) with `script_help`, `hints` (on files among the words),
-//! `command_line`; `pieces` (a text between separators),
+//! `pictured`, `command_line`; `pieces` (a text between separators),
 //! `line_words` (the words of a line), `lines` (the lines of a script), `text_form` (a text on the
 //! line or on those that follow), `offered` (entries), `node_question` (labels), `node_line`,
 //! `play_line` and `serve_line` (what a line asks for), `script` (all lines).
@@ -21,6 +21,7 @@ mod lines;
 mod node_line;
 mod node_question;
 mod offered;
+mod pictured;
 mod pieces;
 mod play_line;
 mod request;
@@ -38,7 +39,7 @@ pub use node_line::NodeLine;
 pub use node_question::{LabelQuestion, NodeQuestion};
 pub use offered::Offered;
 pub use play_line::PlayLine;
-pub use request::{Asked, ProofForm, ProofQuestion, Question, Request, WordsFault};
+pub use request::{Asked, PicturedSteps, ProofForm, ProofQuestion, Question, Request, WordsFault};
 pub use script::{LINE_FEED, Line, LineFault, ScriptFault, parse_script};
 pub use serve_line::ServeLine;
 pub use weights::{MOST_WORKERS, WorkerCount};

@@ -20,6 +20,11 @@ pub enum Request<'a> {
     Play {
         weights: Weights,
     },
+    /// `play --picture`: the picture of the run that a script makes.
+    Picture {
+        weights: Weights,
+        steps: PicturedSteps,
+    },
     /// `serve`: a script is served by nodes that are threads.
     Serve {
         weights: Weights,
@@ -28,6 +33,15 @@ pub enum Request<'a> {
         /// The seed of the weather; `None` for one in which no packet is lost, repeated or delayed.
         weather: Option<u64>,
     },
+}
+
+/// Which steps of a run a picture shows.
+#[derive(Clone, Copy, Debug, PartialEq, Eq)]
+pub struct PicturedSteps {
+    /// `--from`: the first, counted from 0.
+    pub from: u64,
+    /// `--events`: how many, if there are as many; `None` for all from the first on.
+    pub count: Option<u64>,
 }
 
 /// A question about a database, and how the database is taken.
