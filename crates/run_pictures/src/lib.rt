@@ -5,7 +5,7 @@
 //! `Run::marks` returns exactly the marks of some of them (`specs/Steps`, `specs/Marks`).
 //! `draw` draws these marks and no others.
 //!
-//! Reading order: `step` and `mark` (the types), specs/Steps, specs/Marks, `run` (a world whose
+//! Reading order: `step` and `mark` (the types), specs/Begun, Steps, Marks and RunView, `run` (a world whose
 //! steps are recorded), `part` (the steps that are shown), `marks`, `labels`, `drawing`.
 #![tactic(auto)]
 

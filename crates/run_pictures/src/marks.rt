@@ -1,5 +1,5 @@
 //! The marks of the steps that are shown.
-ghost use Rattle.std.specs.Prelude.{◌≡◌, ◌++◌, position, slice_get, IfOk, OnOk};
+ghost use Rattle.std.specs.Prelude.{◌≡◌, ◌++◌, [], ◌∷◌, position, slice_get, IfOk, OnOk};
 ghost use Rattle.std.specs.List.{list_any};
 ghost use Rattle.run_pictures.specs.Marks.{arrow, arrows, breaks, delivers, delivers_act, learned_marks, marks_of as marks_shown};
 ghost use Rattle.run_pictures.specs.Marks.{own_marks, posts, spot, step_marks, stump, stumps, undelivered};
@@ -38,18 +38,29 @@ fn push_step(
 {
     push_own(marks, row, step)?;
     push_arrows(marks, world, shown, row, step.act)?;
+    push_learned(marks, row, step)?;
     push_stumps(marks, world, shown, row, step)
 }
 
-/// Appends the marks of a step that speak of its node alone.
+/// Appends a mark.
+fn push_mark(marks: &mut Vec<Mark>, mark: Mark) -> Result<(), AllocError>
+    ensures { OnOk result (marks.new.items ≡ marks.old.items ++ mark ∷ []) }
+{
+    marks.push(mark)?;
+    Ok(())
+}
+
+/// Appends the point of a step, and the break of a restart.
 fn push_own(marks: &mut Vec<Mark>, row: usize, step: Step) -> Result<(), AllocError>
     ensures { OnOk result (marks.new.items ≡ marks.old.items ++ own_marks row step) }
 {
-    marks.push(Mark::Point {
-        at: spot_of(row, step),
-    })?;
-    push_break(marks, row, step)?;
-    push_learned(marks, row, step)
+    push_mark(
+        marks,
+        Mark::Point {
+            at: spot_of(row, step),
+        },
+    )?;
+    push_break(marks, row, step)
 }
 
 /// Returns where the point of a step is.
@@ -68,9 +79,12 @@ fn push_break(marks: &mut Vec<Mark>, row: usize, step: Step) -> Result<(), Alloc
 {
     match step.act {
         Act::Restart => {
-            marks.push(Mark::Break {
-                at: spot_of(row, step),
-            })
+            push_mark(
+                marks,
+                Mark::Break {
+                    at: spot_of(row, step),
+                },
+            )
         }
         _ => Ok(()),
     }
@@ -81,11 +95,14 @@ fn push_learned(marks: &mut Vec<Mark>, row: usize, step: Step) -> Result<(), All
     ensures { OnOk result (marks.new.items ≡ marks.old.items ++ learned_marks row step) }
 {
     if step.learned_before < step.learned {
-        marks.push(Mark::Learned {
-            at: spot_of(row, step),
-            first: step.learned_before,
-            end: step.learned,
-        })
+        push_mark(
+            marks,
+            Mark::Learned {
+                at: spot_of(row, step),
+                first: step.learned_before,
+                end: step.learned,
+            },
+        )
     } else {
         Ok(())
     }
@@ -121,17 +138,22 @@ fn push_arrow(
 {
     match world.packet(number) {
         Ok(packet) => {
-            marks.push(Mark::Arrow {
-                packet: number,
-                from: Origin {
-                    row: row_of_post(shown, number),
-                    node: packet.from,
+            let from = Origin {
+                row: row_of_post(shown, number),
+                node: packet.from,
+            };
+            let to = Spot {
+                row,
+                node: packet.to,
+            };
+            push_mark(
+                marks,
+                Mark::Arrow {
+                    packet: number,
+                    from,
+                    to,
                 },
-                to: Spot {
-                    row,
-                    node: packet.to,
-                },
-            })
+            )
         }
         Err(_) => Ok(()),
     }
@@ -216,11 +238,14 @@ fn push_undelivered(
 {
     match world.packet(number) {
         Ok(packet) => {
-            marks.push(Mark::Stump {
-                packet: number,
-                from,
-                to: packet.to,
-            })
+            push_mark(
+                marks,
+                Mark::Stump {
+                    packet: number,
+                    from,
+                    to: packet.to,
+                },
+            )
         }
         Err(_) => Ok(()),
     }
