@@ -21,24 +21,24 @@ pub event_recorded : (old new : Replicas) (steps more : List Step) (posted count
     → IsRecorded old steps posted → new ≡ then_event old e → more ≡ steps ++ step ∷ [] → step ≡ next_step old.taken e
     → count ≡ length (packets_of new) → IsRecorded new more count
 event_recorded old new steps more posted count e step recorded taken added is counted = record {
-    events = ap (λ ss. filter is_event ss) added ∙ one_more steps old.taken e step recorded.events is ∙ ap steps_of (sym (ap (λ (r : Replicas). r.taken) taken));
-    count = counted;
-  }
+  events = ap (λ ss. filter is_event ss) added ∙ one_more steps old.taken e step recorded.events is ∙ ap steps_of (sym (ap (λ (r : Replicas). r.taken) taken));
+  count = counted;
+}
 
 -- the history stays, and no step is added
 pub same_recorded : (old new : Replicas) (steps : List Step) (posted : ℕ) → IsRecorded old steps posted → new.taken ≡ old.taken → IsRecorded new steps posted
 same_recorded old new steps posted recorded taken = record {
-    events = recorded.events ∙ ap steps_of (sym taken);
-    count = recorded.count ∙ ap (λ (t : Taken Carried). length (packets_of (record { taken = t; libraries = new.libraries }))) (sym taken);
-  }
+  events = recorded.events ∙ ap steps_of (sym taken);
+  count = recorded.count ∙ ap (λ (t : Taken Carried). length (packets_of (record { taken = t; libraries = new.libraries }))) (sym taken);
+}
 
 -- the history stays, and the application of an entry is recorded
 pub application_recorded : (old new : Replicas) (steps more : List Step) (posted : ℕ) (step : Step)
     → IsRecorded old steps posted → new.taken ≡ old.taken → more ≡ steps ++ step ∷ [] → is_event step ≡ false → IsRecorded new more posted
 application_recorded old new steps more posted step recorded taken added is = record {
-    events = ap (λ ss. filter is_event ss) added ∙ none_more steps step (steps_of old.taken) recorded.events is ∙ ap steps_of (sym taken);
-    count = recorded.count ∙ ap (λ (t : Taken Carried). length (packets_of (record { taken = t; libraries = new.libraries }))) (sym taken);
-  }
+  events = ap (λ ss. filter is_event ss) added ∙ none_more steps step (steps_of old.taken) recorded.events is ∙ ap steps_of (sym taken);
+  count = recorded.count ∙ ap (λ (t : Taken Carried). length (packets_of (record { taken = t; libraries = new.libraries }))) (sym taken);
+}
 
 -- an application changes no history
 pub taken_stays : (old new : Replicas) (k : ℕ) (o : Option (Option Entry)) (r : Result (Option Verdict) StepFault)

@@ -45,12 +45,7 @@ struct Scene<'a> {
 ///
 /// Errors: `TooLarge` if more than `MOST_ROWS` steps are to be shown, else `Memory` if an allocation
 /// fails. Cost: that of `Run::marks`, and the size of the picture.
-pub fn draw(
-    alloc: Global,
-    weights: Weights,
-    run: &Run,
-    part: Part,
-) -> Result<Vec<u8>, PictureFault>
+pub fn draw(alloc: Global, weights: Weights, run: &Run, part: Part) -> Result<Vec<u8>, PictureFault>
     ensures too_large { MOST_ROWS < length (shown_of run.now.steps part.from part.count)
         → result ≡ Err TooLarge }
     ensures only_memory { length (shown_of run.now.steps part.from part.count) ≤ MOST_ROWS

@@ -86,10 +86,7 @@ fn shown_byte(byte: u8) -> u8 {
 }
 
 /// Returns the start of the printed form of a packet.
-pub(crate) fn packet_label(
-    alloc: Global,
-    packet: &Packet<Carried>,
-) -> Result<Vec<u8>, AllocError> {
+pub(crate) fn packet_label(alloc: Global, packet: &Packet<Carried>) -> Result<Vec<u8>, AllocError> {
     let mut form = Vec::new(alloc);
     push_packet(&mut form, packet)?;
     let mut start = Vec::new(alloc);
@@ -98,10 +95,7 @@ pub(crate) fn packet_label(
 }
 
 /// Returns the printed form of a packet.
-pub(crate) fn packet_title(
-    alloc: Global,
-    packet: &Packet<Carried>,
-) -> Result<Vec<u8>, AllocError> {
+pub(crate) fn packet_title(alloc: Global, packet: &Packet<Carried>) -> Result<Vec<u8>, AllocError> {
     let mut form = Vec::new(alloc);
     push_packet(&mut form, packet)?;
     escaped(alloc, form.as_slice())

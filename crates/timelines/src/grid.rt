@@ -1,7 +1,6 @@
 //! Where things stand in a picture, in pixels.
 ghost use Rattle.std.specs.Prelude.{◌≡◌, ◌≤◌, ◌+◌, ◌*◌, ◌^◌};
 
-
 /// The most rows of a picture.
 pub const MOST_ROWS: u64 = 200;
 

@@ -29,7 +29,13 @@ pub(crate) fn push_node(text: &mut Vec<u8>, node: u8, bottom: u64) -> Result<(),
     let x = column(node);
     push_pair(text, b"<path class=\"l\" d=\"M", x, b" ", EDGE)?;
     push_at(text, b"V", bottom)?;
-    push_pair(text, b"\"/>\n<text class=\"h\" x=\"", x, b"\" y=\"", EDGE - 12)?;
+    push_pair(
+        text,
+        b"\"/>\n<text class=\"h\" x=\"",
+        x,
+        b"\" y=\"",
+        EDGE - 12,
+    )?;
     push_at(text, b"\">node ", u64::from(node))?;
     text.extend_from_slice(b"</text>\n")
 }
@@ -86,7 +92,13 @@ pub(crate) fn push_stump_number(
 pub(crate) fn push_break(text: &mut Vec<u8>, at: Place) -> Result<(), AllocError> {
     let (x, y) = (at.x(), at.y());
     push_pair(text, b"<path class=\"g\" d=\"M", x, b" ", y - 8)?;
-    push_pair(text, b"v16\"/>\n<path class=\"b\" d=\"M", x - 7, b" ", y - 8)?;
+    push_pair(
+        text,
+        b"v16\"/>\n<path class=\"b\" d=\"M",
+        x - 7,
+        b" ",
+        y - 8,
+    )?;
     push_pair(text, b"h14M", x - 7, b" ", y + 8)?;
     text.extend_from_slice(b"h14\"/>\n")
 }
@@ -109,11 +121,7 @@ pub(crate) fn push_row(text: &mut Vec<u8>, at: Place, number: u64) -> Result<(),
 }
 
 /// Appends text of a class to the text of a row.
-pub(crate) fn push_span(
-    text: &mut Vec<u8>,
-    class: &[u8],
-    words: &[u8],
-) -> Result<(), AllocError> {
+pub(crate) fn push_span(text: &mut Vec<u8>, class: &[u8], words: &[u8]) -> Result<(), AllocError> {
     text.extend_from_slice(b" <tspan class=\"")?;
     text.extend_from_slice(class)?;
     text.extend_from_slice(b"\">")?;
