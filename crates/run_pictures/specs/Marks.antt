@@ -2,8 +2,8 @@
 -- Source: this project's own form; arrows between lines of processes are Lamport's space-time diagrams
 -- (Time, Clocks, and the Ordering of Events, 1978).
 -- The code looks up packets in the world; here they are a list.
-use Rattle.std.specs.Prelude.{ℕ, suc, zero, ◌+◌, ◌-◌, ◌==◌, Bool, true, false, ◌&&◌, List, [], ◌∷◌, ◌++◌, Option, Some, None, nat_lt, nat_le, slice_get, position, drop, take, if◌then◌else◌}
-use Rattle.std.specs.List.{list_any}
+use Rattle.std.specs.Prelude.{ℕ, suc, zero, ◌+◌, ◌-◌, ◌==◌, Bool, true, false, ◌&&◌, List, [], ◌∷◌, ◌++◌, Option, Some, None, nat_lt, nat_le, slice_get, drop, take, if◌then◌else◌}
+use Rattle.std.specs.List.{list_any, position_from}
 use Rattle.synod.specs.declared.packet.Packet.{Packet}
 use Rattle.world.specs.declared.carried.Carried.{Carried}
 use Rattle.run_pictures.specs.declared.step.Step.{Step}
@@ -53,7 +53,7 @@ learned_marks row s = if nat_lt s.learned_before s.learned then Learned (spot ro
 -- the arrow of a packet, from the shown step that posted it, if there is one
 abbrev pub arrow : List Step → ℕ → ℕ → Option (Packet Carried) → List Mark
 arrow shown row n None = []
-arrow shown row n (Some p) = Arrow n (record { row = position (posts n) shown; node = p.from }) (record { row = row; node = p.to }) ∷ []
+arrow shown row n (Some p) = Arrow n (record { row = position_from (posts n) 0 shown; node = p.from }) (record { row = row; node = p.to }) ∷ []
 
 -- the packet that the step delivers
 abbrev pub arrows : Packets → List Step → ℕ → Act → List Mark

@@ -1,6 +1,6 @@
 //! The marks of the steps that are shown.
-ghost use Rattle.std.specs.Prelude.{◌≡◌, ◌++◌, [], ◌∷◌, position, slice_get, IfOk, OnOk};
-ghost use Rattle.std.specs.List.{list_any};
+ghost use Rattle.std.specs.Prelude.{◌≡◌, ◌++◌, [], ◌∷◌, slice_get, IfOk, OnOk};
+ghost use Rattle.std.specs.List.{list_any, position_from};
 ghost use Rattle.run_pictures.specs.Marks.{arrow, arrows, breaks, delivers, delivers_act, learned_marks, marks_of as marks_shown};
 ghost use Rattle.run_pictures.specs.Marks.{own_marks, posts, spot, step_marks, stump, stumps, undelivered};
 ghost use Rattle.run_pictures.specs.RunView.{packets_of};
@@ -161,7 +161,7 @@ fn push_arrow(
 
 /// Returns the row of the step that posted a packet, if it is shown.
 fn row_of_post(shown: &[Step], number: u64) -> Option<usize>
-    ensures { result ≡ position (posts number) shown.now }
+    ensures { result ≡ position_from (posts number) 0 shown.now }
 {
     shown.iter().position(|step| is_post(step, number))
 }
