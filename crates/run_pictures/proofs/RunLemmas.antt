@@ -10,11 +10,18 @@ use Rattle.net.specs.World.{packets_after}
 use Rattle.library.specs.declared.entry.Entry.{Entry}
 use Rattle.library.specs.declared.verdict.Verdict.{Verdict}
 use Rattle.world.specs.declared.carried.Carried.{Carried}
-use Rattle.world.specs.Replicas.{Replicas, then_event, next_entry, IsApplied}
+use Rattle.world.specs.Replicas.{Replicas, new_replicas, then_event, next_entry, IsApplied}
 use Rattle.run_pictures.specs.declared.step.Step.{Step}
 use Rattle.run_pictures.specs.Steps.{is_event, steps_of}
 use Rattle.run_pictures.specs.RunView.{IsRecorded, packets_of}
 use Rattle.run_pictures.proofs.StepsLemmas.{next_step, one_more, none_more}
+
+-- new nodes have no step
+pub new_recorded : (world : Replicas) (weights : List ℕ) → world ≡ new_replicas weights → IsRecorded world [] 0
+new_recorded world weights is = record {
+  events = ap (λ (r : Replicas). steps_of r.taken) (sym is);
+  count = ap (λ (r : Replicas). length (packets_of r)) (sym is);
+}
 
 -- an event is taken, and its step recorded
 pub event_recorded : (old new : Replicas) (steps more : List Step) (posted count : ℕ) (e : Event Carried) (step : Step)

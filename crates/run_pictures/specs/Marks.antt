@@ -74,7 +74,7 @@ stump packets shown row s n = if list_any (delivers n) shown then [] else undeli
 -- so many packets from number n on
 abbrev pub stumps_from : Packets → List Step → ℕ → Step → ℕ → ℕ → List Mark
 stumps_from packets shown row s n zero = []
-stumps_from packets shown row s n (suc count) = stump packets shown row s n ++ stumps_from packets shown row s (suc n) count
+stumps_from packets shown row s n (suc count) = stump packets shown row s n ++ stumps_from packets shown row s (n + 1) count
 
 abbrev pub stumps : Packets → List Step → ℕ → Step → List Mark
 stumps packets shown row s = stumps_from packets shown row s s.first_post (s.end_post - s.first_post)
@@ -89,7 +89,7 @@ step_marks packets shown row s = own_marks row s ++ arrows packets shown row s.a
 
 abbrev pub marks_from : Packets → List Step → ℕ → List Step → List Mark
 marks_from packets shown row [] = []
-marks_from packets shown row (s ∷ ss) = step_marks packets shown row s ++ marks_from packets shown (suc row) ss
+marks_from packets shown row (s ∷ ss) = step_marks packets shown row s ++ marks_from packets shown (row + 1) ss
 
 -- the marks of the shown steps, row by row
 abbrev pub marks_of : Packets → List Step → List Mark

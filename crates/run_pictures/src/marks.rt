@@ -1,13 +1,15 @@
 //! The marks of the steps that are shown.
-ghost use Rattle.std.specs.Prelude.{◌≡◌, ◌++◌, [], ◌∷◌, slice_get, IfOk, OnOk};
+ghost use Rattle.std.specs.Prelude.{◌≡◌, ◌≤◌, ◌+◌, ◌++◌, [], ◌∷◌, length, slice_get, IfOk, OnOk};
 ghost use Rattle.std.specs.List.{list_any, position_from};
-ghost use Rattle.run_pictures.specs.Marks.{arrow, arrows, breaks, delivers, delivers_act, learned_marks, marks_of as marks_shown};
+ghost use Rattle.timelines.specs.declared.grid.TheConstants.{MOST_ROWS};
+ghost use Rattle.run_pictures.specs.Marks.{arrow, arrows, breaks, delivers, delivers_act, learned_marks, marks_from, marks_of as marks_shown};
 ghost use Rattle.run_pictures.specs.Marks.{own_marks, posts, spot, step_marks, stump, stumps, undelivered};
 ghost use Rattle.run_pictures.specs.RunView.{packets_of};
 
 use crate::mark::{Mark, Origin, Spot};
 use crate::step::{Act, Step};
 use std::alloc::{AllocError, Global};
+use timelines::MOST_ROWS;
 use world::World;
 
 /// Returns the marks of the shown steps, row by row.
@@ -16,13 +18,33 @@ pub(crate) fn marks_of(
     world: &World,
     shown: &[Step],
 ) -> Result<Vec<Mark>, AllocError>
+    requires { length shown.now ≤ MOST_ROWS }
     ensures { IfOk result (λ marks. marks.items ≡ marks_shown (packets_of world.now) shown.now) }
 {
     let mut marks = Vec::new(alloc);
-    for row in 0..shown.len() {
-        push_step(&mut marks, world, shown, row, shown[row])?;
-    }
+    push_rows(&mut marks, world, shown, 0, shown)?;
     Ok(marks)
+}
+
+/// Appends the marks of the steps from a row on.
+fn push_rows(
+    marks: &mut Vec<Mark>,
+    world: &World,
+    shown: &[Step],
+    row: usize,
+    rest: &[Step],
+) -> Result<(), AllocError>
+    requires { row + length rest.now ≤ MOST_ROWS }
+    ensures { OnOk result (marks.new.items
+        ≡ marks.old.items ++ marks_from (packets_of world.now) shown.now row rest.now) }
+{
+    match rest {
+        [first, others @ ..] => {
+            push_step(marks, world, shown, row, *first)?;
+            push_rows(marks, world, shown, row + 1, others)
+        }
+        [] => Ok(()),
+    }
 }
 
 /// Appends the marks of the step in a row.

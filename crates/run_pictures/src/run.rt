@@ -1,10 +1,11 @@
 //! A world whose steps are recorded.
-ghost use Rattle.std.specs.Prelude.{◌≡◌, ◌<◌, [], false, length, slice_get, filter, IfOk, IfErr, IsErr, OnOk, OnErr, IsOkUnless};
+ghost use Rattle.std.specs.Prelude.{◌≡◌, ◌≤◌, ◌<◌, [], false, length, slice_get, filter, IfOk, IfErr, IsErr, OnOk, OnErr, IsOkUnless};
 ghost use Rattle.net.specs.Taken.{with_event, world_of};
 ghost use Rattle.net.specs.World.{packets_after};
 ghost use Rattle.net.specs.declared.fault.StepFault.TheVariants.{Memory};
 ghost use Rattle.world.specs.Carried.{carried as carried_event, carried_size};
 ghost use Rattle.world.specs.Replicas.{new_replicas};
+ghost use Rattle.timelines.specs.declared.grid.TheConstants.{MOST_ROWS};
 ghost use Rattle.run_pictures.specs.Steps.{act_of, begun_of, is_event, learned_in, node_in, receiver_of, steps_of};
 
 use crate::mark::Mark;
@@ -44,6 +45,7 @@ impl Run {
     ghost use Rattle.run_pictures.specs.Marks.{marks_of as marks_shown, shown_of};
 
     /// Makes the run of new nodes, without a step.
+    #[tactic(auto, using(crate::proofs::RunLemmas::new_recorded))]
     pub fn new(alloc: Global, weights: Weights) -> Result<Run, StepFault>
         ensures new { IfOk result
             (λ run. run ≡ record { world = new_replicas weights; steps = [] }) }
@@ -59,6 +61,7 @@ impl Run {
     /// Takes an event, and records its step.
     ///
     /// Errors: those of `World::step`, or `Memory`; the run is then as before.
+    #[tactic(auto, using(crate::proofs::RunLemmas::event_recorded, crate::proofs::RunLemmas::same_recorded))]
     pub fn step(&mut self, event: Event<Entry>) -> Result<(), StepFault>
         ensures taken { OnOk result
             (self.new.world ≡ then_event self.old.world (carried_event event)) }
@@ -79,6 +82,7 @@ impl Run {
     /// Applies the next entry of the log of node `k`, and records the step, if there is an entry.
     ///
     /// Errors: those of `World::apply_next`, or `Memory`; the run is then as before.
+    #[tactic(auto, using(crate::proofs::RunLemmas::application_recorded, crate::proofs::RunLemmas::same_recorded))]
     pub fn apply_next(&mut self, k: u8) -> Result<(), StepFault>
         ensures same { OnErr result (self.new ≡ self.old) }
         ensures taken { self.new.world.taken ≡ self.old.world.taken }
@@ -112,6 +116,7 @@ impl Run {
     /// Errors: an allocation fails. Cost: for each packet that a shown step posted or delivers, the
     /// shown steps.
     pub fn marks(&self, alloc: Global, part: Part) -> Result<Vec<Mark>, AllocError>
+        requires { length (shown_of self.now.steps part.from part.count) ≤ MOST_ROWS }
         ensures marks { IfOk result (λ marks. marks.items ≡ marks_shown
             (packets_of self.now.world) (shown_of self.now.steps part.from part.count)) }
         ensures events { filter is_event self.now.steps ≡ steps_of self.now.world.taken }
@@ -123,6 +128,7 @@ impl Run {
 /// Returns what is known of the step of an event before the event.
 ///
 /// Errors: `NoNode`, where there is no such node.
+#[tactic(auto, using(crate::proofs::RunLemmas::is_there))]
 fn begun(world: &World, posted: u64, event: &Event<Entry>) -> Result<Begun, StepFault>
     requires { posted ≡ length (packets_after (world_of carried_size world.now.taken)) }
     ensures begun { IfOk result (λ begun. begun
