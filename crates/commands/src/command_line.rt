@@ -3,6 +3,7 @@ ghost use Rattle.std.specs.Prelude.{◌≤◌, IfOk};
 
 use crate::grammar::{commands, matches_of};
 use crate::hints::push_hint;
+use crate::pictured::pictured_steps;
 use crate::request::{Asked, ProofForm, ProofQuestion, Question, Request, Serving, WordsFault};
 use crate::weights::{WorkerCount, parse_weights};
 use clap::error::ErrorKind;
@@ -54,9 +55,11 @@ fn request<'a>(alloc: Global, matches: &ArgMatches<'a>) -> Result<Request<'a>, W
         }),
         Some(("play", options)) => {
             let nodes = node_count(alloc, options)?;
-            Ok(Request::Play {
-                weights: weights(alloc, options, nodes)?,
-            })
+            let weights = weights(alloc, options, nodes)?;
+            match pictured_steps(alloc, options)? {
+                Some(steps) => Ok(Request::Picture { weights, steps }),
+                None => Ok(Request::Play { weights }),
+            }
         }
         Some(("serve", options)) => {
             let nodes = node_count(alloc, options)?;
@@ -178,7 +181,7 @@ fn weather_seed(alloc: Global, options: &ArgMatches) -> Result<Option<u64>, Word
 }
 
 /// Returns the number that an option gives.
-fn number(options: &ArgMatches, name: &str) -> Option<u64> {
+pub(crate) fn number(options: &ArgMatches, name: &str) -> Option<u64> {
     parse_number(options.get_str(name)?.as_bytes())
 }
 
@@ -200,7 +203,8 @@ fn weights(alloc: Global, options: &ArgMatches, nodes: u8) -> Result<Weights, Wo
     }
 }
 
-fn invalid(alloc: Global, text: &str) -> WordsFault {
+/// Returns the fault of a bad value, with this text.
+pub(crate) fn invalid(alloc: Global, text: &str) -> WordsFault {
     refused(alloc, ErrorKind::InvalidValue, text)
 }
 

@@ -25,6 +25,8 @@ enum Form {
     Required(&'static str),
     /// An option with the name of its value.
     Optional(&'static str),
+    /// An option with the name of its value, which needs another option.
+    OptionalWith(&'static str, &'static str),
 }
 
 /// An argument or an option of a command.
@@ -117,6 +119,24 @@ const LIVE: Argument = Argument {
     name: "live",
     form: Form::Flag,
     help: "Answer each line before the next one is read, and go on after a bad one",
+};
+
+const PICTURE: Argument = Argument {
+    name: "picture",
+    form: Form::Flag,
+    help: "In place of the answers an SVG picture of the run, of at most 200 steps",
+};
+
+const FROM: Argument = Argument {
+    name: "from",
+    form: Form::OptionalWith("N", "picture"),
+    help: "The first step of the picture, counted from 0",
+};
+
+const EVENTS: Argument = Argument {
+    name: "events",
+    form: Form::OptionalWith("M", "picture"),
+    help: "How many steps the picture shows, 1 to 200; else all from the first on",
 };
 
 const ALL: Argument = Argument {
@@ -222,7 +242,7 @@ const COMMANDS: [Shape; 13] = [
         "play",
         "mmlib play --nodes N < SCRIPT",
         "Drive nodes, event by event, by the lines of a script on standard input: mmlib play --nodes 3 < my.script",
-        &[NODES, WEIGHTS],
+        &[NODES, WEIGHTS, PICTURE, FROM, EVENTS],
     ),
     Shape(
         "serve",
@@ -285,6 +305,7 @@ fn made<'a>(alloc: Global, argument: &Argument) -> Result<Arg<'a>, AllocError> {
         Form::FlagWithout(other) => flag(arg, argument.name).conflicts_with(other),
         Form::Required(value) => Ok(option(arg, argument.name, value).required(true)),
         Form::Optional(value) => Ok(option(arg, argument.name, value)),
+        Form::OptionalWith(value, other) => option(arg, argument.name, value).requires_arg(other),
     }
 }
 

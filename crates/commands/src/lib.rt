@@ -7,7 +7,7 @@
 //!
 //! Reading order: `request` (what a command line asks for), `weights` (numbers of a command line),
 //! `grammar` (its commands and options) with `script_help`, `hints` (on files among the words),
-//! `command_line`; `pieces` (a text between separators),
+//! `pictured`, `command_line`; `pieces` (a text between separators),
 //! `line_words` (the words of a line), `lines` (the lines of a script), `text_form` (a text on the
 //! line or on those that follow), `offered` (entries), `node_question` (labels), `node_line`,
 //! `play_line`, `serve_line` and `session_line` (what a line asks for), `session_texts` (where a text
@@ -22,6 +22,7 @@ mod lines;
 mod node_line;
 mod node_question;
 mod offered;
+mod pictured;
 mod pieces;
 mod play_line;
 mod request;
@@ -41,7 +42,9 @@ pub use node_line::NodeLine;
 pub use node_question::{LabelQuestion, NodeQuestion};
 pub use offered::Offered;
 pub use play_line::PlayLine;
-pub use request::{Asked, ProofForm, ProofQuestion, Question, Request, Serving, WordsFault};
+pub use request::{
+    Asked, PicturedSteps, ProofForm, ProofQuestion, Question, Request, Serving, WordsFault,
+};
 pub use script::{LINE_FEED, Line, LineFault, ScriptFault, parse_script};
 pub use script_help::{SERVE_LINES, first_word, wanted_line};
 pub use serve_line::ServeLine;

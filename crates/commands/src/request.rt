@@ -20,6 +20,11 @@ pub enum Request<'a> {
     Play {
         weights: Weights,
     },
+    /// `play --picture`: the picture of the run that a script makes.
+    Picture {
+        weights: Weights,
+        steps: PicturedSteps,
+    },
     /// `serve`: lines are served by nodes that are threads.
     Serve(Serving),
 }
@@ -34,6 +39,15 @@ pub struct Serving {
     pub weather: Option<u64>,
     /// `--live`: each line is answered before the next one is read.
     pub is_live: bool,
+}
+
+/// Which steps of a run a picture shows.
+#[derive(Clone, Copy, Debug, PartialEq, Eq)]
+pub struct PicturedSteps {
+    /// `--from`: the first, counted from 0.
+    pub from: u64,
+    /// `--events`: how many, if there are as many; `None` for all from the first on.
+    pub count: Option<u64>,
 }
 
 /// A question about a database, and how the database is taken.

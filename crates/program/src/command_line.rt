@@ -1,6 +1,7 @@
 //! Runs a command line.
 use crate::databases::{ask, print_outline};
 use crate::fault::Fault;
+use crate::pictured::print_picture;
 use crate::play::play;
 use crate::serve::serve;
 use crate::streams::print;
@@ -51,6 +52,9 @@ fn answer<
         Request::Outline { name } => print_outline(rt.alloc(), name, input, output, faults),
         Request::Ask(asked) => ask(rt, &asked, input, output, faults),
         Request::Play { weights } => play(rt.alloc(), weights, input, output),
+        Request::Picture { weights, steps } => {
+            print_picture(rt.alloc(), weights, steps, input, output)
+        }
         Request::Serve(serving) => serve(rt, serving, input, output),
     }
 }

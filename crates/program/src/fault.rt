@@ -5,9 +5,14 @@ use extract::ExtractFault;
 use library::AskFault;
 use net::StepFault;
 use proof_pages::WriteFault;
+use run_pictures::PictureFault;
 use std::alloc::AllocError;
 use std::io::{self, Write};
 use thiserror::Error;
+
+/// What is said of a run of which a picture has no room for the steps.
+const LONG_RUN: &[u8] =
+    b"the run has more steps than the 200 of a picture; give --events M, and --from N for later ones\n";
 
 /// Why a command, or a line of a script, has no answer. Its text is the line that is printed.
 #[derive(Debug, Drop, Error)]
@@ -27,6 +32,9 @@ pub enum Fault {
     /// A node refuses what a line asks for.
     #[error("refused {0:?}")]
     Step(#[from] StepFault),
+    /// A picture has no room for the steps of a run.
+    #[error("refused TooLarge")]
+    LongRun,
     /// A line is none of its command's. The least such line is counted from 1, empty lines too.
     #[error("bad line {number}")]
     BadLine { number: usize },
@@ -87,6 +95,7 @@ impl Fault {
         let words = match self {
             Fault::Input => b"standard input cannot be read\n".as_slice(),
             Fault::Output => b"standard output cannot be written\n".as_slice(),
+            Fault::LongRun => LONG_RUN,
             _ => return,
         };
         let _ = print(faults, words);
@@ -104,6 +113,15 @@ impl From<WriteFault> for Fault {
         match fault {
             WriteFault::Memory => Fault::Memory(AllocError),
             WriteFault::Output => Fault::Output,
+        }
+    }
+}
+
+impl From<PictureFault> for Fault {
+    fn from(fault: PictureFault) -> Fault {
+        match fault {
+            PictureFault::TooLarge => Fault::LongRun,
+            PictureFault::Memory => Fault::Memory(AllocError),
         }
     }
 }

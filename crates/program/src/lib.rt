@@ -7,8 +7,8 @@
 //! are sought), `shown` (statements as blocks), `each_proof` (every `$p` judged by itself), `assumed`
 //! (what is not proved taken as axioms), `refused_texts` and `refused_questions` (why there is no
 //! answer); `scripts` (the lines of a script, answered one by one), `node_answers` (about the
-//! library of a node), `why` (an entry is refused there), `play`; `served_weather`, `served_nodes`,
-//! `desk_answers`, `session` (the lines of `serve`) and `serve`.
+//! library of a node), `why` (an entry is refused there), `play`, `pictured`; `served_weather`,
+//! `served_nodes`, `desk_answers`, `session` (the lines of `serve`) and `serve`.
 #![tactic(auto)]
 
 mod answers;
@@ -20,6 +20,7 @@ mod each_proof;
 mod fault;
 mod named_text;
 mod node_answers;
+mod pictured;
 mod play;
 mod proofs;
 mod refused_questions;

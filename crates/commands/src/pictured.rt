@@ -1,0 +1,41 @@
+//! The options of `play` for a picture.
+use crate::command_line::{invalid, number};
+use crate::request::{PicturedSteps, WordsFault};
+use clap::ArgMatches;
+use std::alloc::Global;
+use timelines::MOST_ROWS;
+
+/// Returns which steps a picture shows, if one is asked for.
+pub(crate) fn pictured_steps(
+    alloc: Global,
+    options: &ArgMatches,
+) -> Result<Option<PicturedSteps>, WordsFault> {
+    if !options.get_flag("picture") {
+        return Ok(None);
+    }
+    let from = first_step(alloc, options)?;
+    let count = step_count(alloc, options)?;
+    Ok(Some(PicturedSteps { from, count }))
+}
+
+/// Returns the first step, 0 without the option.
+fn first_step(alloc: Global, options: &ArgMatches) -> Result<u64, WordsFault> {
+    if options.get_str("from").is_none() {
+        return Ok(0);
+    }
+    match number(options, "from") {
+        Some(from) => Ok(from),
+        None => Err(invalid(alloc, "--from is a number")),
+    }
+}
+
+/// Returns how many steps, if the option says so.
+fn step_count(alloc: Global, options: &ArgMatches) -> Result<Option<u64>, WordsFault> {
+    if options.get_str("events").is_none() {
+        return Ok(None);
+    }
+    match number(options, "events") {
+        Some(count) if 1 <= count && count <= MOST_ROWS => Ok(Some(count)),
+        _ => Err(invalid(alloc, "--events is a number from 1 to 200")),
+    }
+}

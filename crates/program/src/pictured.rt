@@ -1,0 +1,76 @@
+//! The command `play --picture`: the picture of the run that a script makes.
+use crate::fault::Fault;
+use crate::scripts::read_script;
+use crate::streams::print;
+use commands::{NodeLine, PicturedSteps, PlayLine};
+use net::{Event, StepFault};
+use run_pictures::{Part, Run, draw};
+use std::alloc::{AllocError, Global};
+use std::io::{Read, Write};
+use synod::Weights;
+
+/// Reads a script, makes its run, prints the picture of some steps, and returns the exit status.
+/// A line that is refused leaves no mark, and questions are not answered.
+///
+/// Errors: `BadLine`; `LongRun`; `Memory`, before anything is printed; `Output`.
+pub fn print_picture<I: Read, O: Write>(
+    alloc: Global,
+    weights: Weights,
+    steps: PicturedSteps,
+    input: &mut I,
+    output: &mut O,
+) -> Result<u8, Fault> {
+    let lines = read_script::<PlayLine, I>(alloc, input)?;
+    let mut run = Run::new(alloc, weights)?;
+    let picture = picture_of(alloc, weights, &mut run, lines, part_of(steps))?;
+    print(output, picture.as_slice()).map(|()| 0)
+}
+
+/// Returns which part of a run is asked for.
+fn part_of(steps: PicturedSteps) -> Part {
+    Part {
+        from: at_most(steps.from),
+        count: at_most(steps.count.unwrap_or(u64::MAX)),
+    }
+}
+
+/// Returns a number as an index.
+fn at_most(number: u64) -> usize {
+    usize::try_from(number).unwrap_or(usize::MAX)
+}
+
+/// Makes the steps of a script, and returns the picture of a part of the run.
+fn picture_of(
+    alloc: Global,
+    weights: Weights,
+    run: &mut Run,
+    lines: Vec<PlayLine>,
+    part: Part,
+) -> Result<Vec<u8>, Fault> {
+    for line in lines {
+        if let Err(StepFault::Memory) = make(run, line) {
+            return Err(Fault::Memory(AllocError));
+        }
+    }
+    Ok(draw(alloc, weights, run, part)?)
+}
+
+/// Makes the step of a line, if it has one.
+fn make(run: &mut Run, line: PlayLine) -> Result<(), StepFault> {
+    match line {
+        PlayLine::Node(line) => make_node_line(run, line),
+        PlayLine::Deliver { packet } => run.step(Event::Deliver(packet)),
+        PlayLine::Apply { node } => run.apply_next(node),
+        PlayLine::Show { .. } => Ok(()),
+    }
+}
+
+/// Makes the step of a line that `serve` has too.
+fn make_node_line(run: &mut Run, line: NodeLine) -> Result<(), StepFault> {
+    match line {
+        NodeLine::Offer(offered) => run.step(Event::Offer(offered.node, offered.entry)),
+        NodeLine::Begin { node } => run.step(Event::Begin(node)),
+        NodeLine::Restart { node } => run.step(Event::Restart(node)),
+        _ => Ok(()),
+    }
+}

@@ -1,0 +1,3 @@
+mod StepsLemmas
+mod MarksLemmas
+mod RunLemmas

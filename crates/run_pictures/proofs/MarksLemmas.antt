@@ -1,0 +1,34 @@
+-- Stumps packet by packet.
+use Rattle.std.specs.Prelude.{◌≡◌, ℕ, zero, suc, ◌+◌, ◌-◌, ◌<◌, ◌≤◌, List, [], ◌∷◌, ◌++◌, refl}
+use Rattle.std.proofs.Common.{sym, ◌∙◌, ap, arith, append_assoc, append-nil}
+use Rattle.run_pictures.specs.declared.step.Step.{Step}
+use Rattle.run_pictures.specs.declared.mark.Mark.{Mark}
+use Rattle.run_pictures.specs.Marks.{Packets, stump, stumps_from}
+
+module _ (packets : Packets) (shown : List Step) (row : ℕ) (s : Step) where
+  -- the stumps of the packets from a number on, and before another
+  stumps_from-step : (n end count : ℕ) → end - n ≡ count → n < end
+      → stumps_from packets shown row s n count ≡ stump packets shown row s n ++ stumps_from packets shown row s (n + 1) (end - (n + 1))
+  stumps_from-step n end zero is within = absurd (omega (arith, is, within))
+  stumps_from-step n end (suc count) is within =
+      let fewer : count ≡ end - (n + 1) = omega (arith, is, within) in
+      ap (λ m. stump packets shown row s n ++ stumps_from packets shown row s (n + 1) m) fewer
+
+  -- the stump of one packet is written
+  pub one_packet : (n end : ℕ) (done more whole : List Mark)
+      → n < end
+      → done ++ stumps_from packets shown row s n (end - n) ≡ whole
+      → more ≡ done ++ stump packets shown row s n
+      → more ++ stumps_from packets shown row s (n + 1) (end - (n + 1)) ≡ whole
+  one_packet n end done more whole within is written =
+      ap (λ m. m ++ stumps_from packets shown row s (n + 1) (end - (n + 1))) written
+      ∙ (append_assoc done (stump packets shown row s n) (stumps_from packets shown row s (n + 1) (end - (n + 1)))
+      ∙ (ap (λ rest. done ++ rest) (sym (stumps_from-step n end (end - n) refl within))
+      ∙ is))
+
+  -- no packet is left
+  pub no_packet_left : (n end : ℕ) (done whole : List Mark)
+      → end ≤ n → done ++ stumps_from packets shown row s n (end - n) ≡ whole → done ≡ whole
+  no_packet_left n end done whole past is =
+      let none : end - n ≡ 0 = omega (arith, past) in
+      sym (append-nil done) ∙ (ap (λ m. done ++ stumps_from packets shown row s n m) (sym none) ∙ is)

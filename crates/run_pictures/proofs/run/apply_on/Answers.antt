@@ -1,0 +1,9 @@
+use Rattle.std.proofs.Common.{refl}
+use Rattle.world.specs.Replicas.{next_entry}
+use Rattle.run_pictures.proofs.RunLemmas.{taken_stays}
+use Rattle.run_pictures.proofs.run.apply_on.Goals as goal
+
+pub returns-clause-taken : goal.returns-clause-taken
+returns-clause-taken c =
+    taken_stays c.args.world.now c.apply_next.new.self c.args.k (next_entry c.args.world.now c.args.k) c.apply_next.result refl
+    c.apply_next.ensures.applied c.apply_next.ensures.same c.apply_next.ensures.err

@@ -1,0 +1,4 @@
+pub mod Begun
+pub mod Steps
+pub mod Marks
+pub mod RunView

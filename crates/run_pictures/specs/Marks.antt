@@ -1,0 +1,96 @@
+-- The marks of a picture: what it shows of some steps of a run, and nothing else.
+-- Source: this project's own form; arrows between lines of processes are Lamport's space-time diagrams
+-- (Time, Clocks, and the Ordering of Events, 1978).
+-- The code looks up packets in the world; here they are a list.
+use Rattle.std.specs.Prelude.{ℕ, suc, zero, ◌+◌, ◌-◌, ◌==◌, Bool, true, false, ◌&&◌, List, [], ◌∷◌, ◌++◌, Option, Some, None, nat_lt, nat_le, slice_get, drop, take, if◌then◌else◌}
+use Rattle.std.specs.List.{list_any, position_from}
+use Rattle.synod.specs.declared.packet.Packet.{Packet}
+use Rattle.world.specs.declared.carried.Carried.{Carried}
+use Rattle.run_pictures.specs.declared.step.Step.{Step}
+use Rattle.run_pictures.specs.declared.step.Act.{Act}
+use Rattle.run_pictures.specs.declared.step.Act.TheVariants.{Offer, Begin, Deliver, Restart, Apply}
+use Rattle.run_pictures.specs.declared.mark.Mark.{Mark}
+use Rattle.run_pictures.specs.declared.mark.Mark.TheVariants.{Point, Break, Learned, Arrow, Stump}
+use Rattle.run_pictures.specs.declared.mark.Spot.{Spot}
+
+abbrev pub Packets : Type 0
+Packets = List (Packet Carried)
+
+-- the shown steps: so many, from a step on
+abbrev pub shown_of : List Step → ℕ → ℕ → List Step
+shown_of steps from count = take count (drop from steps)
+
+-- the step posts packet n
+abbrev pub posts : ℕ → Step → Bool
+posts n s = nat_le s.first_post n && nat_lt n s.end_post
+
+abbrev pub delivers_act : ℕ → Act → Bool
+delivers_act n (Deliver number) = number == n
+delivers_act n (Offer event) = false
+delivers_act n Begin = false
+delivers_act n Restart = false
+delivers_act n (Apply slot verdict) = false
+
+-- the step delivers packet n
+abbrev pub delivers : ℕ → Step → Bool
+delivers n s = delivers_act n s.act
+
+abbrev pub spot : ℕ → Step → Spot
+spot row s = record { row = row; node = s.node }
+
+-- a restart breaks the line of its node
+abbrev pub breaks : ℕ → Step → Act → List Mark
+breaks row s Restart = Break (spot row s) ∷ []
+breaks row s (Offer event) = []
+breaks row s Begin = []
+breaks row s (Deliver number) = []
+breaks row s (Apply slot verdict) = []
+
+-- the slots that its node learned
+abbrev pub learned_marks : ℕ → Step → List Mark
+learned_marks row s = if nat_lt s.learned_before s.learned then Learned (spot row s) s.learned_before s.learned ∷ [] else []
+
+-- the arrow of a packet, from the shown step that posted it, if there is one
+abbrev pub arrow : List Step → ℕ → ℕ → Option (Packet Carried) → List Mark
+arrow shown row n None = []
+arrow shown row n (Some p) = Arrow n (record { row = position_from (posts n) 0 shown; node = p.from }) (record { row = row; node = p.to }) ∷ []
+
+-- the packet that the step delivers
+abbrev pub arrows : Packets → List Step → ℕ → Act → List Mark
+arrows packets shown row (Deliver n) = arrow shown row n (slice_get packets n)
+arrows packets shown row (Offer event) = []
+arrows packets shown row Begin = []
+arrows packets shown row Restart = []
+arrows packets shown row (Apply slot verdict) = []
+
+-- a packet that the step posted, and that no shown step delivers
+abbrev pub undelivered : Spot → ℕ → Option (Packet Carried) → List Mark
+undelivered from n None = []
+undelivered from n (Some p) = Stump n from p.to ∷ []
+
+abbrev pub stump : Packets → List Step → ℕ → Step → ℕ → List Mark
+stump packets shown row s n = if list_any (delivers n) shown then [] else undelivered (spot row s) n (slice_get packets n)
+
+-- so many packets from number n on
+abbrev pub stumps_from : Packets → List Step → ℕ → Step → ℕ → ℕ → List Mark
+stumps_from packets shown row s n zero = []
+stumps_from packets shown row s n (suc count) = stump packets shown row s n ++ stumps_from packets shown row s (n + 1) count
+
+abbrev pub stumps : Packets → List Step → ℕ → Step → List Mark
+stumps packets shown row s = stumps_from packets shown row s s.first_post (s.end_post - s.first_post)
+
+-- the point of a step, and the break of a restart
+abbrev pub own_marks : ℕ → Step → List Mark
+own_marks row s = Point (spot row s) ∷ [] ++ breaks row s s.act
+
+-- the marks of the step in a row
+abbrev pub step_marks : Packets → List Step → ℕ → Step → List Mark
+step_marks packets shown row s = own_marks row s ++ arrows packets shown row s.act ++ learned_marks row s ++ stumps packets shown row s
+
+abbrev pub marks_from : Packets → List Step → ℕ → List Step → List Mark
+marks_from packets shown row [] = []
+marks_from packets shown row (s ∷ ss) = step_marks packets shown row s ++ marks_from packets shown (row + 1) ss
+
+-- the marks of the shown steps, row by row
+abbrev pub marks_of : Packets → List Step → List Mark
+marks_of packets shown = marks_from packets shown 0 shown

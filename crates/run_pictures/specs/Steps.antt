@@ -1,0 +1,85 @@
+-- The steps that the events of a history are.
+-- Source: Lamport, Paxos Made Simple, section 3: a run is a list of events, each at one node.
+-- The code records a step as the world takes its event; here they are read off the history.
+use Rattle.std.specs.Prelude.{ℕ, suc, Bool, true, false, List, [], ◌∷◌, Option, Some, None, Result, length, slice_get}
+use Rattle.synod.specs.declared.node.state.NodeState.{NodeState}
+use Rattle.synod.specs.declared.packet.Packet.{Packet}
+use Rattle.net.specs.declared.event.Event.{Event}
+use Rattle.net.specs.declared.event.Event.TheVariants.{Offer, Begin, Deliver, Restart}
+use Rattle.net.specs.declared.fault.StepFault.{StepFault}
+use Rattle.net.specs.World.{World, after, all_happen, packets_after}
+use Rattle.net.specs.NodeStates.{state_after}
+use Rattle.net.specs.Taken.{Taken}
+use Rattle.world.specs.declared.carried.Carried.{Carried}
+use Rattle.world.specs.Carried.{carried_size}
+use Rattle.run_pictures.specs.declared.step.Step.{Step}
+use Rattle.run_pictures.specs.declared.step.Act.{Act}
+use Rattle.run_pictures.specs.declared.step.Begun.{Begun}
+use Rattle.run_pictures.specs.declared.step.Act.TheVariants.{Offer as Offering, Begin as Beginning, Deliver as Delivering, Restart as Restarting, Apply as Applying}
+use Rattle.run_pictures.specs.Begun.{ended_of}
+
+-- the world after some events, or the fault that they meet
+abbrev pub Reached : Type 0
+Reached = Result (World Carried) StepFault
+
+-- the world after one event more
+abbrev pub then_event : Reached → Event Carried → Reached
+then_event r e = all_happen carried_size (e ∷ []) r
+
+-- the receiver of a packet that is there
+abbrev pub receiver_of : Option (Packet Carried) → ℕ
+receiver_of None = 0
+receiver_of (Some p) = p.to
+
+-- the node of an event that is taken: that of a delivery is the receiver of the packet
+abbrev pub node_in : Reached → Event Carried → ℕ
+node_in r (Offer k entry) = k
+node_in r (Begin k) = k
+node_in r (Deliver number) = receiver_of (slice_get (packets_after r) number)
+node_in r (Restart k) = k
+
+abbrev pub learned_of : Option NodeState → ℕ
+learned_of None = 0
+learned_of (Some state) = state.learned
+
+-- how many entries the log of node k has
+abbrev pub learned_in : Reached → ℕ → ℕ
+learned_in r k = learned_of (state_after r k)
+
+-- the act of the event at an index of the history
+abbrev pub act_of : ℕ → Event Carried → Act
+act_of index (Offer k entry) = Offering index
+act_of index (Begin k) = Beginning
+act_of index (Deliver number) = Delivering number
+act_of index (Restart k) = Restarting
+
+-- the step of the event at an index, from one world to the next
+abbrev pub begun_of : ℕ → Reached → Event Carried → Begun
+begun_of index before e = record {
+  node = node_in before e;
+  act = act_of index e;
+  first_post = length (packets_after before);
+  learned_before = learned_in before (node_in before e);
+}
+
+abbrev pub step_of : ℕ → Reached → Event Carried → Reached → Step
+step_of index before e reached = ended_of (begun_of index before e) (length (packets_after reached)) (learned_in reached (node_in before e))
+
+abbrev pub steps_from : ℕ → Reached → List (Event Carried) → List Step
+steps_from index r [] = []
+steps_from index r (e ∷ es) = step_of index r e (then_event r e) ∷ steps_from (suc index) (then_event r e) es
+
+-- the steps of a history, a step an event, in order
+abbrev pub steps_of : Taken Carried → List Step
+steps_of taken = steps_from 0 (after carried_size taken.weights []) taken.events
+
+-- the step is an event of the history, and no application of an entry
+abbrev pub is_event_act : Act → Bool
+is_event_act (Offering index) = true
+is_event_act Beginning = true
+is_event_act (Delivering number) = true
+is_event_act Restarting = true
+is_event_act (Applying slot verdict) = false
+
+abbrev pub is_event : Step → Bool
+is_event s = is_event_act s.act

@@ -1,0 +1,202 @@
+//! The picture of the marks of a run.
+ghost use Rattle.std.specs.Prelude.{◌≡◌, ◌<◌, ◌≤◌, Err, length, IsOkUnless};
+ghost use Rattle.timelines.specs.declared.grid.TheConstants.{MOST_ROWS};
+ghost use Rattle.run_pictures.specs.Marks.{shown_of};
+ghost use Rattle.run_pictures.specs.declared.drawing.PictureFault.TheVariants.{Memory, TooLarge};
+
+use crate::labels::{learned_label, packet_label, packet_title, step_label};
+use crate::mark::{Mark, Origin, Spot};
+use crate::part::Part;
+use crate::run::Run;
+use crate::step::{Act, Step};
+use library::Verdict;
+use std::alloc::{AllocError, Global};
+use synod::Weights;
+use timelines::{MOST_ROWS, Place, Sign, Timeline};
+use world::World;
+
+/// Why a run has no picture.
+#[derive(Clone, Copy, Debug, PartialEq, Eq)]
+pub enum PictureFault {
+    /// More than `MOST_ROWS` steps are to be shown.
+    TooLarge,
+    /// An allocation failed.
+    Memory,
+}
+
+impl From<AllocError> for PictureFault {
+    ghost from_gives = { λ _ fault. fault ≡ Memory };
+
+    fn from(_error: AllocError) -> PictureFault {
+        PictureFault::Memory
+    }
+}
+
+/// The steps that are drawn, and the world after the run.
+#[derive(Clone, Copy)]
+struct Scene<'a> {
+    world: &'a World,
+    shown: &'a [Step],
+    /// The number of the first step.
+    from: usize,
+}
+
+/// Returns a part of a run as an SVG picture: its marks, and no others.
+///
+/// Errors: `TooLarge` if more than `MOST_ROWS` steps are to be shown, else `Memory` if an allocation
+/// fails. Cost: that of `Run::marks`, and the size of the picture.
+pub fn draw(alloc: Global, weights: Weights, run: &Run, part: Part) -> Result<Vec<u8>, PictureFault>
+    ensures too_large { MOST_ROWS < length (shown_of run.now.steps part.from part.count)
+        → result ≡ Err TooLarge }
+    ensures only_memory { length (shown_of run.now.steps part.from part.count) ≤ MOST_ROWS
+        → IsOkUnless result Memory }
+{
+    let shown = run.shown(part);
+    if shown.len() as u64 > MOST_ROWS {
+        return Err(PictureFault::TooLarge);
+    }
+    let scene = Scene {
+        world: run.world(),
+        shown,
+        from: part.from,
+    };
+    let marks = run.marks(alloc, part)?;
+    Ok(drawn(alloc, weights, scene, marks.as_slice())?)
+}
+
+/// Returns the picture of some marks.
+fn drawn(
+    alloc: Global,
+    weights: Weights,
+    scene: Scene<'_>,
+    marks: &[Mark],
+) -> Result<Vec<u8>, AllocError> {
+    let mut timeline = Timeline::new(alloc, weights.count());
+    draw_marks(alloc, &mut timeline, scene, marks)?;
+    timeline.into_svg(alloc)
+}
+
+/// Draws some marks.
+fn draw_marks(
+    alloc: Global,
+    timeline: &mut Timeline,
+    scene: Scene<'_>,
+    marks: &[Mark],
+) -> Result<(), AllocError> {
+    for mark in marks {
+        draw_mark(alloc, timeline, scene, *mark)?;
+    }
+    Ok(())
+}
+
+/// Draws a mark.
+fn draw_mark(
+    alloc: Global,
+    timeline: &mut Timeline,
+    scene: Scene<'_>,
+    mark: Mark,
+) -> Result<(), AllocError> {
+    match mark {
+        Mark::Point { at } => draw_point(alloc, timeline, scene, at),
+        Mark::Break { at } => timeline.push_break(place(at)),
+        Mark::Learned { first, end, .. } => draw_learned(alloc, timeline, first, end),
+        Mark::Arrow { packet, from, to } => draw_arrow(alloc, timeline, scene, packet, from, to),
+        Mark::Stump { packet, from, to } => draw_stump(alloc, timeline, scene, packet, from, to),
+    }
+}
+
+/// Draws the point of a step, with its name.
+fn draw_point(
+    alloc: Global,
+    timeline: &mut Timeline,
+    scene: Scene<'_>,
+    at: Spot,
+) -> Result<(), AllocError> {
+    let Some(step) = scene.shown.get(at.row) else {
+        return Ok(());
+    };
+    let number = scene.from.saturating_add(at.row) as u64;
+    let label = step_label(alloc, scene.world, step.act)?;
+    timeline.push_row(at.node, sign(step.act), number, label.as_slice())
+}
+
+/// Notes which slots a node learned.
+fn draw_learned(
+    alloc: Global,
+    timeline: &mut Timeline,
+    first: u32,
+    end: u32,
+) -> Result<(), AllocError> {
+    let note = learned_label(alloc, first, end)?;
+    timeline.push_note(note.as_slice())
+}
+
+/// Draws the arrow of a packet.
+fn draw_arrow(
+    alloc: Global,
+    timeline: &mut Timeline,
+    scene: Scene<'_>,
+    number: u64,
+    from: Origin,
+    to: Spot,
+) -> Result<(), AllocError> {
+    let Ok(packet) = scene.world.packet(number) else {
+        return Ok(());
+    };
+    let label = packet_label(alloc, packet)?;
+    timeline.push_arrow(origin(from), place(to), label.as_slice())
+}
+
+/// Draws the stump of a packet.
+fn draw_stump(
+    alloc: Global,
+    timeline: &mut Timeline,
+    scene: Scene<'_>,
+    number: u64,
+    from: Spot,
+    to: u8,
+) -> Result<(), AllocError> {
+    let Ok(packet) = scene.world.packet(number) else {
+        return Ok(());
+    };
+    let title = packet_title(alloc, packet)?;
+    timeline.push_stump(place(from), to, number, title.as_slice())
+}
+
+/// Returns where a spot is drawn.
+fn place(spot: Spot) -> Place {
+    Place {
+        node: spot.node,
+        row: Some(drawn_row(spot.row)),
+    }
+}
+
+/// Returns where an arrow begins.
+fn origin(from: Origin) -> Place {
+    Place {
+        node: from.node,
+        row: from.row.map(drawn_row),
+    }
+}
+
+/// Returns a row as it is drawn.
+fn drawn_row(row: usize) -> u32 {
+    u32::try_from(row).unwrap_or(u32::MAX)
+}
+
+/// Returns how the point of an act looks: green where an entry is added, red where it is refused.
+fn sign(act: Act) -> Sign {
+    match act {
+        Act::Apply { verdict, .. } => verdict_sign(verdict),
+        _ => Sign::Plain,
+    }
+}
+
+/// Returns how the application of an entry looks.
+fn verdict_sign(verdict: Verdict) -> Sign {
+    match verdict {
+        Verdict::Added => Sign::Good,
+        Verdict::Refused(_) => Sign::Bad,
+        _ => Sign::Plain,
+    }
+}

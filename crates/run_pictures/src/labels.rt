@@ -1,0 +1,122 @@
+//! The labels of a picture, with their markup escaped.
+ghost use Rattle.std.specs.Prelude.{◌≡◌, IfOk};
+ghost use Rattle.proof_pages.specs.Escapes.{html_text};
+
+use crate::step::Act;
+use library::Entry;
+use net::Event;
+use numbers::push_number;
+use printed::{push_packet, push_verdict};
+use proof_pages::push_html;
+use std::alloc::{AllocError, Global};
+use synod::Packet;
+use world::{Carried, World};
+
+/// The most bytes of a packet's printed form, or of a text, that a label has.
+const MOST_SHOWN: usize = 48;
+
+/// The byte that stands for one that is no printable ASCII.
+const UNSEEN: u8 = b'?';
+
+/// Returns the name of a step: the line of `play` that makes it, without the node.
+pub(crate) fn step_label(alloc: Global, world: &World, act: Act) -> Result<Vec<u8>, AllocError> {
+    let mut name = Vec::new(alloc);
+    match act {
+        Act::Offer { event } => push_offer(&mut name, world, event)?,
+        Act::Begin => name.extend_from_slice(b"begin")?,
+        Act::Deliver { packet } => push_numbered(&mut name, b"deliver ", packet)?,
+        Act::Restart => name.extend_from_slice(b"restart")?,
+        Act::Apply { slot, verdict } => {
+            push_numbered(&mut name, b"apply slot ", u64::from(slot))?;
+            name.extend_from_slice(b": ")?;
+            push_verdict(&mut name, verdict)?;
+        }
+    }
+    escaped(alloc, name.as_slice())
+}
+
+/// Appends the name of an offer: the event of the history at an index.
+fn push_offer(name: &mut Vec<u8>, world: &World, index: u64) -> Result<(), AllocError> {
+    match world.history().get(index as usize) {
+        Some(Event::Offer(_, Carried(entry))) => push_entry(name, entry),
+        _ => name.extend_from_slice(b"offer"),
+    }
+}
+
+/// Appends the name of the offer of an entry, with the start of its text.
+fn push_entry(name: &mut Vec<u8>, entry: &Entry) -> Result<(), AllocError> {
+    match entry {
+        Entry::Text(submission) => {
+            push_numbered(name, b"offer ", submission.author)?;
+            push_numbered(name, b"/", submission.serial)?;
+            name.extend_from_slice(b" ")?;
+            push_start(name, submission.text.as_slice())
+        }
+        Entry::Charter { author, serial, .. } => {
+            push_numbered(name, b"charter ", *author)?;
+            push_numbered(name, b"/", *serial)
+        }
+    }
+}
+
+/// Appends some text and a number.
+fn push_numbered(name: &mut Vec<u8>, before: &[u8], number: u64) -> Result<(), AllocError> {
+    name.extend_from_slice(before)?;
+    push_number(name, number)
+}
+
+/// Appends the start of some bytes; each that is no printable ASCII is shown as `?`.
+fn push_start(name: &mut Vec<u8>, bytes: &[u8]) -> Result<(), AllocError> {
+    for byte in bytes.iter().take(MOST_SHOWN) {
+        name.push(shown_byte(*byte))?;
+    }
+    if bytes.len() > MOST_SHOWN {
+        name.extend_from_slice(b" ..")?;
+    }
+    Ok(())
+}
+
+/// Returns the byte, or the one that stands for it.
+fn shown_byte(byte: u8) -> u8 {
+    if b' ' <= byte && byte <= b'~' {
+        byte
+    } else {
+        UNSEEN
+    }
+}
+
+/// Returns the start of the printed form of a packet.
+pub(crate) fn packet_label(alloc: Global, packet: &Packet<Carried>) -> Result<Vec<u8>, AllocError> {
+    let mut form = Vec::new(alloc);
+    push_packet(&mut form, packet)?;
+    let mut start = Vec::new(alloc);
+    push_start(&mut start, form.as_slice())?;
+    escaped(alloc, start.as_slice())
+}
+
+/// Returns the printed form of a packet.
+pub(crate) fn packet_title(alloc: Global, packet: &Packet<Carried>) -> Result<Vec<u8>, AllocError> {
+    let mut form = Vec::new(alloc);
+    push_packet(&mut form, packet)?;
+    escaped(alloc, form.as_slice())
+}
+
+/// Returns which slots a node learned.
+pub(crate) fn learned_label(alloc: Global, first: u32, end: u32) -> Result<Vec<u8>, AllocError> {
+    let last = end.saturating_sub(1);
+    let mut note = Vec::new(alloc);
+    push_numbered(&mut note, b"learned ", u64::from(first))?;
+    if first < last {
+        push_numbered(&mut note, b" to ", u64::from(last))?;
+    }
+    Ok(note)
+}
+
+/// Returns bytes as text of XML, their markup escaped.
+fn escaped(alloc: Global, bytes: &[u8]) -> Result<Vec<u8>, AllocError>
+    ensures { IfOk result (λ text. text.items ≡ html_text bytes.now) }
+{
+    let mut text = Vec::new(alloc);
+    push_html(&mut text, bytes)?;
+    Ok(text)
+}

@@ -1,0 +1,30 @@
+//! The marks of a picture. Rows count the shown steps from 0.
+
+/// A row and a node.
+#[derive(Clone, Copy, Debug, PartialEq, Eq)]
+pub struct Spot {
+    pub row: usize,
+    pub node: u8,
+}
+
+/// The node that posted a packet, and the row in which it did; `None` is before the first row.
+#[derive(Clone, Copy, Debug, PartialEq, Eq)]
+pub struct Origin {
+    pub row: Option<usize>,
+    pub node: u8,
+}
+
+/// A mark of a picture.
+#[derive(Clone, Copy, Debug, PartialEq, Eq)]
+pub enum Mark {
+    /// A step.
+    Point { at: Spot },
+    /// The line of a node breaks, since it restarts.
+    Break { at: Spot },
+    /// The log of a node has more entries: from slot `first` on, before slot `end`.
+    Learned { at: Spot, first: u32, end: u32 },
+    /// A packet is delivered.
+    Arrow { packet: u64, from: Origin, to: Spot },
+    /// A packet to a node is posted, and no step that is shown delivers it.
+    Stump { packet: u64, from: Spot, to: u8 },
+}

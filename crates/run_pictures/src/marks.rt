@@ -1,0 +1,274 @@
+//! The marks of the steps that are shown.
+ghost use Rattle.std.specs.Prelude.{◌≡◌, ◌≤◌, ◌+◌, ◌++◌, [], ◌∷◌, length, slice_get, IfOk, OnOk};
+ghost use Rattle.std.specs.List.{list_any, position_from};
+ghost use Rattle.timelines.specs.declared.grid.TheConstants.{MOST_ROWS};
+ghost use Rattle.run_pictures.specs.Marks.{arrow, arrows, breaks, delivers, delivers_act, learned_marks, marks_from, marks_of as marks_shown};
+ghost use Rattle.run_pictures.specs.Marks.{own_marks, posts, spot, step_marks, stump, stumps, undelivered};
+ghost use Rattle.run_pictures.specs.RunView.{packets_of};
+
+use crate::mark::{Mark, Origin, Spot};
+use crate::step::{Act, Step};
+use std::alloc::{AllocError, Global};
+use timelines::MOST_ROWS;
+use world::World;
+
+/// Returns the marks of the shown steps, row by row.
+pub(crate) fn marks_of(
+    alloc: Global,
+    world: &World,
+    shown: &[Step],
+) -> Result<Vec<Mark>, AllocError>
+    requires { length shown.now ≤ MOST_ROWS }
+    ensures { IfOk result (λ marks. marks.items ≡ marks_shown (packets_of world.now) shown.now) }
+{
+    let mut marks = Vec::new(alloc);
+    push_rows(&mut marks, world, shown, 0, shown)?;
+    Ok(marks)
+}
+
+/// Appends the marks of the steps from a row on.
+fn push_rows(
+    marks: &mut Vec<Mark>,
+    world: &World,
+    shown: &[Step],
+    row: usize,
+    rest: &[Step],
+) -> Result<(), AllocError>
+    requires { row + length rest.now ≤ MOST_ROWS }
+    ensures { OnOk result (marks.new.items
+        ≡ marks.old.items ++ marks_from (packets_of world.now) shown.now row rest.now) }
+{
+    match rest {
+        [first, others @ ..] => {
+            push_step(marks, world, shown, row, *first)?;
+            push_rows(marks, world, shown, row + 1, others)
+        }
+        [] => Ok(()),
+    }
+}
+
+/// Appends the marks of the step in a row.
+fn push_step(
+    marks: &mut Vec<Mark>,
+    world: &World,
+    shown: &[Step],
+    row: usize,
+    step: Step,
+) -> Result<(), AllocError>
+    ensures { OnOk result (marks.new.items
+        ≡ marks.old.items ++ step_marks (packets_of world.now) shown.now row step) }
+{
+    push_own(marks, row, step)?;
+    push_arrows(marks, world, shown, row, step.act)?;
+    push_learned(marks, row, step)?;
+    push_stumps(marks, world, shown, row, step)
+}
+
+/// Appends a mark.
+fn push_mark(marks: &mut Vec<Mark>, mark: Mark) -> Result<(), AllocError>
+    ensures { OnOk result (marks.new.items ≡ marks.old.items ++ mark ∷ []) }
+{
+    marks.push(mark)?;
+    Ok(())
+}
+
+/// Appends the point of a step, and the break of a restart.
+fn push_own(marks: &mut Vec<Mark>, row: usize, step: Step) -> Result<(), AllocError>
+    ensures { OnOk result (marks.new.items ≡ marks.old.items ++ own_marks row step) }
+{
+    push_mark(
+        marks,
+        Mark::Point {
+            at: spot_of(row, step),
+        },
+    )?;
+    push_break(marks, row, step)
+}
+
+/// Returns where the point of a step is.
+fn spot_of(row: usize, step: Step) -> Spot
+    ensures { result ≡ spot row step }
+{
+    Spot {
+        row,
+        node: step.node,
+    }
+}
+
+/// Appends the break of a node's line, if the step is a restart.
+fn push_break(marks: &mut Vec<Mark>, row: usize, step: Step) -> Result<(), AllocError>
+    ensures { OnOk result (marks.new.items ≡ marks.old.items ++ breaks row step step.act) }
+{
+    match step.act {
+        Act::Restart => {
+            push_mark(
+                marks,
+                Mark::Break {
+                    at: spot_of(row, step),
+                },
+            )
+        }
+        _ => Ok(()),
+    }
+}
+
+/// Appends which slots the node learned, if it learned some.
+fn push_learned(marks: &mut Vec<Mark>, row: usize, step: Step) -> Result<(), AllocError>
+    ensures { OnOk result (marks.new.items ≡ marks.old.items ++ learned_marks row step) }
+{
+    if step.learned_before < step.learned {
+        push_mark(
+            marks,
+            Mark::Learned {
+                at: spot_of(row, step),
+                first: step.learned_before,
+                end: step.learned,
+            },
+        )
+    } else {
+        Ok(())
+    }
+}
+
+/// Appends the arrow of the packet that is delivered, if the act is a delivery.
+fn push_arrows(
+    marks: &mut Vec<Mark>,
+    world: &World,
+    shown: &[Step],
+    row: usize,
+    act: Act,
+) -> Result<(), AllocError>
+    ensures { OnOk result (marks.new.items
+        ≡ marks.old.items ++ arrows (packets_of world.now) shown.now row act) }
+{
+    match act {
+        Act::Deliver { packet } => push_arrow(marks, world, shown, row, packet),
+        _ => Ok(()),
+    }
+}
+
+/// Appends the arrow of a packet that is delivered in a row.
+fn push_arrow(
+    marks: &mut Vec<Mark>,
+    world: &World,
+    shown: &[Step],
+    row: usize,
+    number: u64,
+) -> Result<(), AllocError>
+    ensures { OnOk result (marks.new.items ≡ marks.old.items
+        ++ arrow shown.now row number (slice_get (packets_of world.now) number)) }
+{
+    match world.packet(number) {
+        Ok(packet) => {
+            let from = Origin {
+                row: row_of_post(shown, number),
+                node: packet.from,
+            };
+            let to = Spot {
+                row,
+                node: packet.to,
+            };
+            push_mark(
+                marks,
+                Mark::Arrow {
+                    packet: number,
+                    from,
+                    to,
+                },
+            )
+        }
+        Err(_) => Ok(()),
+    }
+}
+
+/// Returns the row of the step that posted a packet, if it is shown.
+fn row_of_post(shown: &[Step], number: u64) -> Option<usize>
+    ensures { result ≡ position_from (posts number) 0 shown.now }
+{
+    shown.iter().position(|step| is_post(step, number))
+}
+
+/// Tells whether the step posted a packet.
+fn is_post(step: &Step, number: u64) -> bool
+    ensures { result ≡ posts number step.now }
+{
+    step.first_post <= number && number < step.end_post
+}
+
+/// Appends a stump for each packet that the step posted, and that no shown step delivers.
+fn push_stumps(
+    marks: &mut Vec<Mark>,
+    world: &World,
+    shown: &[Step],
+    row: usize,
+    step: Step,
+) -> Result<(), AllocError>
+    ensures { OnOk result (marks.new.items
+        ≡ marks.old.items ++ stumps (packets_of world.now) shown.now row step) }
+{
+    for number in step.first_post..step.end_post {
+        push_stump(marks, world, shown, row, step, number)?;
+    }
+    Ok(())
+}
+
+/// Appends a stump for a packet, if no shown step delivers it.
+fn push_stump(
+    marks: &mut Vec<Mark>,
+    world: &World,
+    shown: &[Step],
+    row: usize,
+    step: Step,
+    number: u64,
+) -> Result<(), AllocError>
+    ensures { OnOk result (marks.new.items
+        ≡ marks.old.items ++ stump (packets_of world.now) shown.now row step number) }
+{
+    if is_delivered(shown, number) {
+        Ok(())
+    } else {
+        push_undelivered(marks, world, spot_of(row, step), number)
+    }
+}
+
+/// Tells whether a shown step delivers a packet.
+fn is_delivered(shown: &[Step], number: u64) -> bool
+    ensures { result ≡ list_any (delivers number) shown.now }
+{
+    shown.iter().any(|step| is_delivery(step.act, number))
+}
+
+/// Tells whether an act delivers a packet.
+fn is_delivery(act: Act, number: u64) -> bool
+    ensures { result ≡ delivers_act number act }
+{
+    match act {
+        Act::Deliver { packet } => packet == number,
+        _ => false,
+    }
+}
+
+/// Appends the stump of a packet that is posted at a spot.
+fn push_undelivered(
+    marks: &mut Vec<Mark>,
+    world: &World,
+    from: Spot,
+    number: u64,
+) -> Result<(), AllocError>
+    ensures { OnOk result (marks.new.items ≡ marks.old.items
+        ++ undelivered from number (slice_get (packets_of world.now) number)) }
+{
+    match world.packet(number) {
+        Ok(packet) => {
+            push_mark(
+                marks,
+                Mark::Stump {
+                    packet: number,
+                    from,
+                    to: packet.to,
+                },
+            )
+        }
+        Err(_) => Ok(()),
+    }
+}

@@ -1,0 +1,45 @@
+//! The part of a run that is shown.
+ghost use Rattle.std.specs.Prelude.{◌≡◌, take, drop};
+ghost use Rattle.run_pictures.specs.Marks.{shown_of};
+
+use crate::step::Step;
+
+/// A part of a run: some of its steps, events and applications counted alike from 0.
+#[derive(Clone, Copy, Debug, PartialEq, Eq)]
+pub struct Part {
+    /// The first step.
+    pub from: usize,
+    /// How many steps, if there are as many.
+    pub count: usize,
+}
+
+/// Returns the steps of a part.
+pub(crate) fn shown(steps: &[Step], part: Part) -> &[Step]
+    ensures { result.now ≡ shown_of steps.now part.from part.count }
+{
+    first(without(steps, part.from), part.count)
+}
+
+/// Returns the steps without the first ones.
+#[tactic(auto, using(std::proofs::lemmas::List::drop_all))]
+fn without(steps: &[Step], count: usize) -> &[Step]
+    ensures { result.now ≡ drop count steps.now }
+{
+    if count < steps.len() {
+        &steps[count..]
+    } else {
+        &[]
+    }
+}
+
+/// Returns the first steps.
+#[tactic(auto, using(std::proofs::lemmas::List::take_all))]
+fn first(steps: &[Step], count: usize) -> &[Step]
+    ensures { result.now ≡ take count steps.now }
+{
+    if count < steps.len() {
+        &steps[..count]
+    } else {
+        steps
+    }
+}

@@ -1,0 +1,213 @@
+//! A world whose steps are recorded.
+ghost use Rattle.std.specs.Prelude.{◌≡◌, ◌≤◌, ◌<◌, [], false, length, slice_get, filter, IfOk, IfErr, IsErr, OnOk, OnErr, IsOkUnless};
+ghost use Rattle.net.specs.Taken.{with_event, world_of};
+ghost use Rattle.net.specs.World.{packets_after};
+ghost use Rattle.net.specs.declared.fault.StepFault.TheVariants.{Memory};
+ghost use Rattle.world.specs.Carried.{carried as carried_event, carried_size};
+ghost use Rattle.world.specs.Replicas.{new_replicas};
+ghost use Rattle.timelines.specs.declared.grid.TheConstants.{MOST_ROWS};
+ghost use Rattle.run_pictures.specs.Steps.{act_of, begun_of, is_event, learned_in, node_in, receiver_of, steps_of};
+
+use crate::mark::Mark;
+use crate::marks::marks_of;
+use crate::part::{Part, shown};
+use crate::step::{Act, Begun, Step};
+use library::{Entry, Verdict};
+use net::{Event, StepFault};
+use std::alloc::{AllocError, Global};
+use std::marker::Model;
+use synod::Weights;
+use world::World;
+
+/// A world of nodes and their libraries whose steps are recorded: the events taken, and the entries
+/// applied between them. Contracts see the world and the steps.
+#[derive(Drop)]
+pub struct Run {
+    world: World,
+    steps: Vec<Step>,
+    /// How many packets were posted so far.
+    posted: u64,
+}
+
+impl Model for Run {
+    ghost use Rattle.run_pictures.specs.RunView.{IsRecorded, RunView};
+
+    ghost Value = { RunView };
+
+    ghost view = { λ r. record { world = r.world; steps = r.steps.items } };
+
+    ghost invariant = { λ r. IsRecorded r.world r.steps.items r.posted };
+}
+
+impl Run {
+    ghost use Rattle.world.specs.Replicas.{then_event};
+    ghost use Rattle.run_pictures.specs.RunView.{RunView, packets_of};
+    ghost use Rattle.run_pictures.specs.Marks.{marks_of as marks_shown, shown_of};
+
+    /// Makes the run of new nodes, without a step.
+    #[tactic(auto, using(crate::proofs::RunLemmas::new_recorded))]
+    pub fn new(alloc: Global, weights: Weights) -> Result<Run, StepFault>
+        ensures new { IfOk result
+            (λ run. run ≡ record { world = new_replicas weights; steps = [] }) }
+        ensures only_memory { IsOkUnless result Memory }
+    {
+        Ok(Run {
+            world: World::new(alloc, weights)?,
+            steps: Vec::new(alloc),
+            posted: 0,
+        })
+    }
+
+    /// Takes an event, and records its step.
+    ///
+    /// Errors: those of `World::step`, or `Memory`; the run is then as before.
+    #[tactic(auto, using(crate::proofs::RunLemmas::event_recorded, crate::proofs::RunLemmas::same_recorded))]
+    pub fn step(&mut self, event: Event<Entry>) -> Result<(), StepFault>
+        ensures taken { OnOk result
+            (self.new.world ≡ then_event self.old.world (carried_event event)) }
+        ensures refused { IfErr
+            (world_of carried_size (with_event self.old.world.taken (carried_event event)))
+            (λ fault. IsErr result) }
+        ensures same { OnErr result (self.new ≡ self.old) }
+    {
+        self.steps.reserve(1)?;
+        let begun = begun(&self.world, self.posted, &event)?;
+        let posted = self.world.step(event)?;
+        let learned = learned_at(&self.world, begun.node);
+        self.posted = posted;
+        self.steps.push_reserved(begun.ended(posted, learned));
+        Ok(())
+    }
+
+    /// Applies the next entry of the log of node `k`, and records the step, if there is an entry.
+    ///
+    /// Errors: those of `World::apply_next`, or `Memory`; the run is then as before.
+    #[tactic(auto, using(crate::proofs::RunLemmas::application_recorded, crate::proofs::RunLemmas::same_recorded))]
+    pub fn apply_next(&mut self, k: u8) -> Result<(), StepFault>
+        ensures same { OnErr result (self.new ≡ self.old) }
+        ensures taken { self.new.world.taken ≡ self.old.world.taken }
+    {
+        self.steps.reserve(1)?;
+        let slot = self.world.applied(k)?;
+        let learned = self.world.state(k)?.learned;
+        if let Some(verdict) = apply_on(&mut self.world, k)? {
+            self.steps.push_reserved(applied(k, learned, slot, verdict));
+        }
+        Ok(())
+    }
+
+    /// Returns the world after the steps.
+    pub fn world(&self) -> &World
+        ensures { result.now ≡ self.now.world }
+    {
+        &self.world
+    }
+
+    /// Returns the steps of a part.
+    pub fn shown(&self, part: Part) -> &[Step]
+        ensures { result.now ≡ shown_of self.now.steps part.from part.count }
+    {
+        shown(self.steps.as_slice(), part)
+    }
+
+    /// Returns the marks of a part: all that a picture shows of it. The steps that are events are
+    /// exactly those of the history, in order.
+    ///
+    /// Errors: an allocation fails. Cost: for each packet that a shown step posted or delivers, the
+    /// shown steps.
+    pub fn marks(&self, alloc: Global, part: Part) -> Result<Vec<Mark>, AllocError>
+        requires { length (shown_of self.now.steps part.from part.count) ≤ MOST_ROWS }
+        ensures marks { IfOk result (λ marks. marks.items ≡ marks_shown
+            (packets_of self.now.world) (shown_of self.now.steps part.from part.count)) }
+        ensures events { filter is_event self.now.steps ≡ steps_of self.now.world.taken }
+    {
+        marks_of(alloc, &self.world, self.shown(part))
+    }
+}
+
+/// Returns what is known of the step of an event before the event.
+///
+/// Errors: `NoNode`, where there is no such node.
+#[tactic(auto, using(crate::proofs::RunLemmas::is_there))]
+fn begun(world: &World, posted: u64, event: &Event<Entry>) -> Result<Begun, StepFault>
+    requires { posted ≡ length (packets_after (world_of carried_size world.now.taken)) }
+    ensures begun { IfOk result (λ begun. begun
+        ≡ begun_of (length world.now.taken.events) (world_of carried_size world.now.taken) (carried_event event.now)) }
+    ensures node { IfOk result (λ begun. begun.node < length world.now.taken.weights) }
+{
+    let node = node_of(world, event);
+    let learned_before = world.state(node)?.learned;
+    Ok(Begun {
+        node,
+        act: act(event, world.history().len() as u64),
+        first_post: posted,
+        learned_before,
+    })
+}
+
+/// Returns the node of an event; of a packet that is not there, node 0.
+fn node_of(world: &World, event: &Event<Entry>) -> u8
+    ensures { result ≡ node_in (world_of carried_size world.now.taken) (carried_event event.now) }
+{
+    match event {
+        Event::Offer(k, _) => *k,
+        Event::Begin(k) => *k,
+        Event::Deliver(number) => receiver(world, *number),
+        Event::Restart(k) => *k,
+    }
+}
+
+/// Returns the receiver of a packet; of one that is not there, node 0.
+fn receiver(world: &World, number: u64) -> u8
+    ensures { result ≡ receiver_of (slice_get (packets_after (world_of carried_size world.now.taken)) number) }
+{
+    match world.packet(number) {
+        Ok(packet) => packet.to,
+        Err(_) => 0,
+    }
+}
+
+/// Returns the act of an event at an index of the history.
+fn act(event: &Event<Entry>, index: u64) -> Act
+    ensures { result ≡ act_of index (carried_event event.now) }
+{
+    match event {
+        Event::Offer(_, _) => Act::Offer { event: index },
+        Event::Begin(_) => Act::Begin,
+        Event::Deliver(number) => Act::Deliver { packet: *number },
+        Event::Restart(_) => Act::Restart,
+    }
+}
+
+/// Returns how many entries the log of node `k` has.
+fn learned_at(world: &World, k: u8) -> u32
+    requires { k < length world.now.taken.weights }
+    ensures { result ≡ learned_in (world_of carried_size world.now.taken) k }
+{
+    match world.state(k) {
+        Ok(state) => state.learned,
+        Err(_) => unreachable!(),
+    }
+}
+
+/// Applies the next entry of the log of node `k`, if there is one.
+fn apply_on(world: &mut World, k: u8) -> Result<Option<Verdict>, StepFault>
+    ensures taken { world.new.taken ≡ world.old.taken }
+    ensures same { OnErr result (world.new ≡ world.old) }
+{
+    world.apply_next(k)
+}
+
+/// Returns the step in which the entry of a slot is applied.
+fn applied(node: u8, learned: u32, slot: u32, verdict: Verdict) -> Step
+    ensures { is_event result ≡ false }
+{
+    Step {
+        node,
+        act: Act::Apply { slot, verdict },
+        first_post: 0,
+        end_post: 0,
+        learned_before: learned,
+        learned,
+    }
+}

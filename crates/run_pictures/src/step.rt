@@ -1,0 +1,59 @@
+//! The steps of a run.
+ghost use Rattle.std.specs.Prelude.{◌≡◌};
+ghost use Rattle.run_pictures.specs.Begun.{ended_of};
+
+use library::Verdict;
+
+/// A step of a run: an event that was taken, or an entry that was applied.
+#[derive(Clone, Copy, PartialEq, Eq)]
+pub struct Step {
+    /// The node at which it happened.
+    pub node: u8,
+    pub act: Act,
+    /// The number of the first packet that it posted, and the number after the last.
+    pub first_post: u64,
+    pub end_post: u64,
+    /// How many entries the log of the node had before it, and how many after it.
+    pub learned_before: u32,
+    pub learned: u32,
+}
+
+/// What happens in a step.
+#[derive(Clone, Copy, PartialEq, Eq)]
+pub enum Act {
+    /// An entry is offered by the event of the history at this index.
+    Offer { event: u64 },
+    /// A ballot begins.
+    Begin,
+    /// The packet of this number is delivered.
+    Deliver { packet: u64 },
+    /// The node restarts.
+    Restart,
+    /// The entry of the slot is applied to the library, with this verdict.
+    Apply { slot: u32, verdict: Verdict },
+}
+
+/// What is known of the step of an event before the event.
+#[derive(Clone, Copy)]
+pub(crate) struct Begun {
+    pub(crate) node: u8,
+    pub(crate) act: Act,
+    pub(crate) first_post: u64,
+    pub(crate) learned_before: u32,
+}
+
+impl Begun {
+    /// Returns the step, by what is known after the event.
+    pub(crate) fn ended(self, end_post: u64, learned: u32) -> Step
+        ensures { result ≡ ended_of self end_post learned }
+    {
+        Step {
+            node: self.node,
+            act: self.act,
+            first_post: self.first_post,
+            end_post,
+            learned_before: self.learned_before,
+            learned,
+        }
+    }
+}

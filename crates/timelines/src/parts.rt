@@ -1,0 +1,130 @@
+//! The parts of a picture: lines, points and texts.
+use crate::grid::{EDGE, Place, STUMP_DEPTH, column, stump_end};
+use numbers::push_number;
+use std::alloc::AllocError;
+
+/// How far an arrow from a node to itself goes to the left.
+const BULGE: u64 = 30;
+
+/// Appends some text and a number.
+pub(crate) fn push_at(text: &mut Vec<u8>, before: &[u8], number: u64) -> Result<(), AllocError> {
+    text.extend_from_slice(before)?;
+    push_number(text, number)
+}
+
+/// Appends two numbers, each after some text.
+fn push_pair(
+    text: &mut Vec<u8>,
+    first: &[u8],
+    x: u64,
+    second: &[u8],
+    y: u64,
+) -> Result<(), AllocError> {
+    push_at(text, first, x)?;
+    push_at(text, second, y)
+}
+
+/// Appends the line of a node, down to the lower edge, and its name above.
+pub(crate) fn push_node(text: &mut Vec<u8>, node: u8, bottom: u64) -> Result<(), AllocError> {
+    let x = column(node);
+    push_pair(text, b"<path class=\"l\" d=\"M", x, b" ", EDGE)?;
+    push_at(text, b"V", bottom)?;
+    push_pair(
+        text,
+        b"\"/>\n<text class=\"h\" x=\"",
+        x,
+        b"\" y=\"",
+        EDGE - 12,
+    )?;
+    push_at(text, b"\">node ", u64::from(node))?;
+    text.extend_from_slice(b"</text>\n")
+}
+
+/// Appends an arrow: a straight one between two nodes, a bent one from a node to itself.
+pub(crate) fn push_arrow(text: &mut Vec<u8>, from: Place, to: Place) -> Result<(), AllocError> {
+    push_pair(text, b"<path d=\"M", from.x(), b" ", from.y())?;
+    if from.node == to.node {
+        let side = to.x().saturating_sub(BULGE);
+        push_pair(text, b"C", side, b" ", from.y())?;
+        push_pair(text, b" ", side, b" ", to.y())?;
+        push_pair(text, b" ", to.x(), b" ", to.y())?;
+    } else {
+        push_pair(text, b"L", to.x(), b" ", to.y())?;
+    }
+    text.extend_from_slice(b"\" marker-end=\"url(#a)\"/>\n")
+}
+
+/// Appends a stump towards a node, with a title.
+pub(crate) fn push_stump(
+    text: &mut Vec<u8>,
+    from: Place,
+    to: u8,
+    title: &[u8],
+) -> Result<(), AllocError> {
+    let end = stump_end(from.node, to);
+    push_pair(text, b"<path class=\"s\" d=\"M", from.x(), b" ", from.y())?;
+    push_pair(text, b"L", end, b" ", from.y() + STUMP_DEPTH)?;
+    text.extend_from_slice(b"\"><title>")?;
+    text.extend_from_slice(title)?;
+    text.extend_from_slice(b"</title></path>\n")
+}
+
+/// Appends the number of a stump, below its end.
+pub(crate) fn push_stump_number(
+    text: &mut Vec<u8>,
+    from: Place,
+    to: u8,
+    number: u64,
+) -> Result<(), AllocError> {
+    let end = stump_end(from.node, to);
+    push_pair(
+        text,
+        b"<text class=\"n\" x=\"",
+        end,
+        b"\" y=\"",
+        from.y() + STUMP_DEPTH + 9,
+    )?;
+    push_at(text, b"\">", number)?;
+    text.extend_from_slice(b"</text>\n")
+}
+
+/// Appends the break of a node's line.
+pub(crate) fn push_break(text: &mut Vec<u8>, at: Place) -> Result<(), AllocError> {
+    let (x, y) = (at.x(), at.y());
+    push_pair(text, b"<path class=\"g\" d=\"M", x, b" ", y - 8)?;
+    push_pair(
+        text,
+        b"v16\"/>\n<path class=\"b\" d=\"M",
+        x - 7,
+        b" ",
+        y - 8,
+    )?;
+    push_pair(text, b"h14M", x - 7, b" ", y + 8)?;
+    text.extend_from_slice(b"h14\"/>\n")
+}
+
+/// Appends a point of a class.
+pub(crate) fn push_dot(text: &mut Vec<u8>, at: Place, class: &[u8]) -> Result<(), AllocError> {
+    text.extend_from_slice(b"<circle")?;
+    text.extend_from_slice(class)?;
+    push_pair(text, b" cx=\"", at.x(), b"\" cy=\"", at.y())?;
+    text.extend_from_slice(b"\" r=\"4\"/>\n")
+}
+
+/// Appends the number of a row, at the left, and the start of its text.
+pub(crate) fn push_row(text: &mut Vec<u8>, at: Place, number: u64) -> Result<(), AllocError> {
+    let base = at.y() + 4;
+    push_at(text, b"<text class=\"r\" x=\"40\" y=\"", base)?;
+    push_at(text, b"\">", number)?;
+    push_pair(text, b"</text>\n<text x=\"", at.x() + 10, b"\" y=\"", base)?;
+    text.extend_from_slice(b"\">")
+}
+
+/// Appends text of a class to the text of a row.
+pub(crate) fn push_span(text: &mut Vec<u8>, class: &[u8], words: &[u8]) -> Result<(), AllocError> {
+    text.extend_from_slice(b" <tspan class=\"")?;
+    text.extend_from_slice(class)?;
+    text.extend_from_slice(b"\">")?;
+    text.extend_from_slice(words)?;
+    text.extend_from_slice(b"</tspan>")
+}
