@@ -38,7 +38,9 @@ pub use node_line::NodeLine;
 pub use node_question::{LabelQuestion, NodeQuestion};
 pub use offered::Offered;
 pub use play_line::PlayLine;
-pub use request::{Asked, ProofForm, ProofQuestion, Question, Request, WordsFault};
+pub use request::{
+    Asked, ProofForm, ProofQuestion, Question, Request, SiteQuestion, WordsFault,
+};
 pub use script::{LINE_FEED, Line, LineFault, ScriptFault, parse_script};
 pub use serve_line::ServeLine;
 pub use weights::{MOST_WORKERS, WorkerCount};

@@ -1,0 +1,108 @@
+//! The page of one assertion.
+ghost use Rattle.std.specs.Prelude.{◌≤◌, length};
+ghost use Rattle.frame.specs.FrameOf.{HasAssertion};
+ghost use Rattle.mm_read.specs.declared.stmt.Stmt.{Stmt as Statement};
+ghost use Rattle.scope.specs.Active.{bares};
+
+use crate::site::{Site, SiteFault};
+use cross_references::CrossReferences;
+use mm_lex::Span;
+use mm_read::Stmt;
+use proof_pages::{Neighbours, PageContents, ProofSteps, write_site_page};
+use std::alloc::Global;
+use steps::{essential_table, proof_table};
+
+/// What pages are made of.
+#[derive(Drop)]
+pub struct Contents<'a> {
+    pub site: &'a Site<'a>,
+    pub references: CrossReferences,
+    /// The places of the descriptions in the text.
+    pub descriptions: Vec<Option<Span>>,
+}
+
+/// Appends the page of the assertion at an index; nothing if the statement is none.
+pub fn push_page(
+    alloc: Global,
+    contents: &Contents<'_>,
+    index: usize,
+    page: &mut Vec<u8>,
+) -> Result<(), SiteFault> {
+    match contents.site.library.statements().get(index) {
+        Some(Stmt::Axiom { .. }) => push_axiom(alloc, contents, index + 1, page),
+        Some(Stmt::Prove { label, .. }) => push_theorem(alloc, contents, label.as_bytes(), page),
+        _ => Ok(()),
+    }
+}
+
+/// Appends the page of the `$a` at a position.
+fn push_axiom(
+    alloc: Global,
+    contents: &Contents<'_>,
+    at: usize,
+    page: &mut Vec<u8>,
+) -> Result<(), SiteFault>
+    requires { (s : Statement)
+        × HasAssertion (bares contents.now.site.now.library.now.replica.statements) at s }
+{
+    let library = contents.site.library;
+    let assertion = PageContents {
+        statements: library.statements(),
+        frames: library.frames(),
+        at,
+        proof: None,
+        neighbours: neighbours(contents, at),
+    };
+    Ok(write_site_page(alloc, page, &assertion)?)
+}
+
+/// Appends the page of the `$p` with a label.
+fn push_theorem(
+    alloc: Global,
+    contents: &Contents<'_>,
+    label: &[u8],
+    page: &mut Vec<u8>,
+) -> Result<(), SiteFault> {
+    let library = contents.site.library;
+    let (at, items) = library.items(label)?;
+    let frames = library.frames();
+    let steps = proof_table(alloc, frames, at, &items)?;
+    let essential = essential_table(alloc, frames, at, &steps)?;
+    let assertion = PageContents {
+        statements: library.statements(),
+        frames,
+        at,
+        proof: Some(ProofSteps {
+            steps: &steps,
+            essential: &essential,
+        }),
+        neighbours: neighbours(contents, at),
+    };
+    Ok(write_site_page(alloc, page, &assertion)?)
+}
+
+/// Returns what stands about the assertion at a position.
+fn neighbours<'a>(contents: &'a Contents<'a>, at: usize) -> Neighbours<'a> {
+    let index = at.saturating_sub(1);
+    Neighbours {
+        axioms: list_at(contents.references.axioms.as_slice(), index),
+        users: list_at(contents.references.users.as_slice(), index),
+        description: described(contents, index),
+    }
+}
+
+/// Returns the list at an index; an empty one if there is none.
+fn list_at(lists: &[Vec<usize>], index: usize) -> &[usize] {
+    match lists.get(index) {
+        Some(list) => list.as_slice(),
+        None => &[],
+    }
+}
+
+/// Returns the description of the statement at an index, if it has one.
+fn described<'a>(contents: &'a Contents<'a>, index: usize) -> Option<&'a [u8]> {
+    let Some(Some(span)) = contents.descriptions.as_slice().get(index) else {
+        return None;
+    };
+    contents.site.text.get(span.start..span.end)
+}
