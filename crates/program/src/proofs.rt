@@ -9,8 +9,9 @@ use crate::streams::print;
 use commands::{ProofForm, ProofQuestion};
 use frame::Frames;
 use library::Library;
-use proof_pages::{Theorem, write_dot, write_page, write_plain};
-use std::alloc::Global;
+use mm_lex::Word;
+use proof_pages::{Neighbours, PageContents, ProofSteps, write_dot, write_page, write_plain};
+use std::alloc::{AllocError, Global};
 use std::io::Write;
 use steps::{ProofTable, essential_table, proof_table};
 
@@ -101,17 +102,37 @@ fn write_theorem<O: Write>(
         proof.now.frames.now.names proof.now.steps.now }
 {
     let essential = essential_table(alloc, proof.frames, proof.at, proof.steps)?;
-    let axioms = proof.library.trace(asked.label)?;
-    let users = proof.library.usage(asked.label, false)?;
-    let theorem = Theorem {
+    let axioms = positions_of(alloc, proof.frames, &proof.library.trace(asked.label)?)?;
+    let users = positions_of(
+        alloc,
+        proof.frames,
+        &proof.library.usage(asked.label, false)?,
+    )?;
+    let contents = PageContents {
         statements: proof.library.statements(),
         frames: proof.frames,
         at: proof.at,
-        steps: proof.steps,
-        essential: &essential,
-        axioms: &axioms,
-        users: &users,
+        proof: Some(ProofSteps {
+            steps: proof.steps,
+            essential: &essential,
+        }),
+        neighbours: Neighbours {
+            axioms: &axioms,
+            users: &users,
+            description: None,
+        },
     };
-    write_page(alloc, output, &theorem, !asked.is_essential)?;
+    write_page(alloc, output, &contents, !asked.is_essential)?;
     Ok(())
+}
+
+/// Returns the positions of the statements with these labels.
+fn positions_of(alloc: Global, frames: &Frames, labels: &[Word]) -> Result<Vec<u32>, AllocError> {
+    let mut positions = Vec::new(alloc);
+    for label in labels {
+        if let Some(position) = frames.position(label.as_bytes()) {
+            positions.push(u32::try_from(position).map_err(|_| AllocError)?)?;
+        }
+    }
+    Ok(positions)
 }

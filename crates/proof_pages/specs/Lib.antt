@@ -1,5 +1,7 @@
 pub mod Escapes
 pub mod StepLines
 pub mod Pictures
+pub mod Notations
 pub mod TableRows
+pub mod Indexes
 pub mod Writing

@@ -1,36 +1,42 @@
--- The steps of a proof as rows of a table in a page.
--- Source: HTML, tables and links; this project's own form.
+-- Rows of tables in a page, and lists of labels.
+-- Source: HTML, tables, lists and links; this project's own form.
 -- The code adds each part to the end of a buffer.
-use Rattle.std.specs.Prelude.{ℕ, ◌==◌, if◌then◌else◌, List, ◌++◌, codes, decimal, flat_map, get_or}
+use Rattle.std.specs.Prelude.{ℕ, Bool, List, [], ◌∷◌, ◌++◌, codes, flat_map}
 use Rattle.mm_lex.specs.Alphabet.{Name}
 use Rattle.mm_read.specs.Statements.{Database}
-use Rattle.scope.specs.Active.{stmt_at}
-use Rattle.names.specs.Codes.{name_at}
-use Rattle.verify.specs.Proves.{label_or_none}
 use Rattle.steps.specs.Rows.{Row}
-use Rattle.proof_pages.specs.Escapes.{html_text}
 use Rattle.proof_pages.specs.StepLines.{number_text}
-
-abbrev pub variable_html : ℕ → Name → List ℕ
-variable_html class name = codes "<var class=\"k" ++ decimal class ++ codes "\">" ++ html_text name ++ codes "</var>"
-
--- a name in the colour of its class; 0 is no class
-abbrev pub coloured : ℕ → Name → List ℕ
-coloured class name = if class == 0 then html_text name else variable_html class name
-
--- a symbol after a space, in the colour of its class
-abbrev pub symbol_html : List Name → List ℕ → ℕ → List ℕ
-symbol_html names classes symbol = codes " " ++ coloured (get_or classes symbol 0) (name_at names symbol)
-
-abbrev pub expr_html : List Name → List ℕ → List ℕ → List ℕ
-expr_html names classes expr = flat_map (symbol_html names classes) expr
+use Rattle.proof_pages.specs.Notations.{expr_html, cited_html}
 
 -- a link to the row of a step, after a space; the names of the rows of one table begin with the same mark
 unfoldable pub link_html : List ℕ → ℕ → List ℕ
 link_html mark place = codes " <a href=\"#" ++ mark ++ number_text place ++ codes "\">" ++ number_text place ++ codes "</a>"
 
+-- a row that is named by its place
+abbrev pub row_start : List ℕ → ℕ → List ℕ
+row_start mark place = codes "<tr id=\"" ++ mark ++ number_text place ++ codes "\"><td>"
+
+-- number, links to the steps taken
+abbrev pub taken_html : List ℕ → ℕ → List ℕ → List ℕ
+taken_html mark place taken = number_text place ++ codes "</td><td>" ++ flat_map (link_html mark) taken ++ codes "</td><td>"
+
+-- label, expression
+abbrev pub row_rest : Bool → Database → List Name → List ℕ → ℕ → List ℕ → List ℕ
+row_rest linked S names classes position expr = cited_html linked S position ++ codes "</td><td>" ++ expr_html names classes expr ++ codes "</td></tr>\n"
+
 -- number, links to the steps taken, label, expression
-abbrev pub step_html : Database → List Name → List ℕ → List ℕ → ℕ → Row → List ℕ
-step_html S names classes mark place row =
-    codes "<tr id=\"" ++ mark ++ number_text place ++ codes "\"><td>" ++ number_text place ++ codes "</td><td>" ++ flat_map (link_html mark) row.step.taken
-    ++ codes "</td><td>" ++ html_text (label_or_none (stmt_at S row.step.position)) ++ codes "</td><td>" ++ expr_html names classes row.expr ++ codes "</td></tr>\n"
+abbrev pub step_html : Bool → Database → List Name → List ℕ → List ℕ → ℕ → Row → List ℕ
+step_html linked S names classes mark place row =
+    row_start mark place ++ taken_html mark place row.step.taken ++ row_rest linked S names classes row.step.position row.expr
+
+-- the label of the statement at a position as an item of a list
+abbrev pub item_html : Bool → Database → ℕ → List ℕ
+item_html linked S position = codes "<li>" ++ cited_html linked S position ++ codes "</li>\n"
+
+-- a list of one label and others
+abbrev pub list_html : Bool → Database → ℕ → List ℕ → List ℕ
+list_html linked S first others = codes "<ul>\n" ++ item_html linked S first ++ flat_map (item_html linked S) others ++ codes "</ul>\n"
+
+abbrev pub labels_html : Bool → Database → List ℕ → List ℕ
+labels_html linked S [] = codes "<p>None</p>\n"
+labels_html linked S (position ∷ positions) = list_html linked S position positions

@@ -1,22 +1,36 @@
-//! A proof for people: its steps as lines, as a picture for Graphviz, and as a page.
+//! A proof for people: its steps as lines, as a picture for Graphviz, and as a page, alone or among the pages of a site.
 //!
-//! Every byte of a database goes into a page by `push_html`, and into a picture by `push_quoted`.
+//! Every byte of a database goes into a page by `push_html`, and into a picture by `push_quoted`; only the name of a file, which
+//! `file_names` makes of a label, stands in a link as it is.
 //!
-//! Reading order: `escapes`, `step_lines`, `picture`, `writing`; `rows`, `colours`, `style`, `theorem_page`.
+//! Reading order: `escapes`, `step_lines`, `picture`, `writing`; `notation`, `rows`; `contents`, `colours`, `draft`,
+//! `parted`, `style`, `opening`, `frame_part`, `proof_part`, `page`, `index`.
 #![tactic(auto)]
 
 mod colours;
+mod contents;
+mod draft;
 mod escapes;
+mod frame_part;
+mod index;
+mod notation;
+mod opening;
+mod page;
+mod parted;
 mod picture;
+mod proof_part;
 mod rows;
 mod step_lines;
 mod style;
-mod theorem_page;
 mod writing;
 
+pub use contents::{Neighbours, PageContents, ProofSteps};
 pub use escapes::{push_html, push_quoted};
+pub use index::write_index;
+pub use notation::{Notation, push_cited};
+pub use page::{write_page, write_site_page};
 pub use picture::push_node;
-pub use rows::push_html_step;
+pub use rows::{push_html_step, push_labels};
 pub use step_lines::push_step;
-pub use theorem_page::{Theorem, write_page};
+pub use style::style_sheet;
 pub use writing::{WriteFault, write_dot, write_plain};

@@ -1,67 +1,12 @@
-//! A step as a row of a table in a page.
+//! Rows of tables, and lists of labels.
 ghost use Rattle.std.specs.Prelude.{◌≡◌, ◌<◌, ◌++◌, length, get_or, flat_map, OnOk};
 ghost use Rattle.steps.specs.Rows.{no_row};
-ghost use Rattle.proof_pages.specs.TableRows.{variable_html, coloured, symbol_html, expr_html, link_html, step_html};
+ghost use Rattle.proof_pages.specs.TableRows.{link_html, row_start, taken_html, row_rest, step_html, item_html, list_html, labels_html};
 
-use crate::escapes::push_html;
-use crate::step_lines::{label_at, push_place};
-use frame::Frames;
-use numbers::push_number;
+use crate::notation::{Notation, push_cited, push_html_expr};
+use crate::step_lines::push_place;
 use std::alloc::AllocError;
 use steps::ProofTable;
-
-/// Appends a name in the colour of its class; 0 is no class.
-pub fn push_coloured(page: &mut Vec<u8>, class: u32, name: &[u8]) -> Result<(), AllocError>
-    ensures { OnOk result (page.new.items ≡ page.old.items ++ coloured class name.now) }
-{
-    if class == 0 {
-        push_html(page, name)
-    } else {
-        push_variable(page, class, name)
-    }
-}
-
-fn push_variable(page: &mut Vec<u8>, class: u32, name: &[u8]) -> Result<(), AllocError>
-    ensures { OnOk result (page.new.items ≡ page.old.items ++ variable_html class name.now) }
-{
-    page.extend_from_slice(b"<var class=\"k")?;
-    push_number(page, class as u64)?;
-    page.extend_from_slice(b"\">")?;
-    push_html(page, name)?;
-    page.extend_from_slice(b"</var>")
-}
-
-/// Appends a symbol after a space, in the colour of its class.
-pub fn push_html_symbol(
-    page: &mut Vec<u8>,
-    frames: &Frames,
-    classes: &[u32],
-    symbol: u32,
-) -> Result<(), AllocError>
-    ensures { OnOk result (page.new.items ≡ page.old.items ++ symbol_html frames.now.names classes.now symbol) }
-{
-    let class = match classes.get(symbol as usize) {
-        Some(class) => *class,
-        None => 0,
-    };
-    page.extend_from_slice(b" ")?;
-    push_coloured(page, class, frames.symbol(symbol))
-}
-
-/// Appends the symbols of an expression.
-pub fn push_html_expr(
-    page: &mut Vec<u8>,
-    frames: &Frames,
-    classes: &[u32],
-    expr: &[u32],
-) -> Result<(), AllocError>
-    ensures { OnOk result (page.new.items ≡ page.old.items ++ expr_html frames.now.names classes.now expr.now) }
-{
-    for symbol in expr {
-        push_html_symbol(page, frames, classes, *symbol)?;
-    }
-    Ok(())
-}
 
 fn push_link(page: &mut Vec<u8>, mark: &[u8], place: usize) -> Result<(), AllocError>
     ensures { OnOk result (page.new.items ≡ page.old.items ++ link_html mark.now place) }
@@ -83,30 +28,122 @@ fn push_links(page: &mut Vec<u8>, mark: &[u8], places: &[usize]) -> Result<(), A
     Ok(())
 }
 
+/// Appends the start of a row that has a name.
+fn push_row_start(page: &mut Vec<u8>, mark: &[u8], place: usize) -> Result<(), AllocError>
+    ensures { OnOk result (page.new.items ≡ page.old.items ++ row_start mark.now place) }
+{
+    page.extend_from_slice(b"<tr id=\"")?;
+    page.extend_from_slice(mark)?;
+    push_place(page, place)?;
+    page.extend_from_slice(b"\"><td>")
+}
+
+/// Appends the number of a step, and links to the rows of the steps that it takes.
+fn push_taken(
+    page: &mut Vec<u8>,
+    mark: &[u8],
+    place: usize,
+    taken: &[usize],
+) -> Result<(), AllocError>
+    ensures { OnOk result (page.new.items ≡ page.old.items ++ taken_html mark.now place taken.now) }
+{
+    push_place(page, place)?;
+    page.extend_from_slice(b"</td><td>")?;
+    push_links(page, mark, taken)?;
+    page.extend_from_slice(b"</td><td>")
+}
+
+/// Appends a label and an expression, and ends the row.
+pub fn push_row_rest(
+    page: &mut Vec<u8>,
+    notation: &Notation<'_>,
+    position: usize,
+    expr: &[u32],
+) -> Result<(), AllocError>
+    ensures { OnOk result (page.new.items ≡ page.old.items
+        ++ row_rest notation.now.is_linked notation.now.statements.now notation.now.frames.now.names
+        notation.now.classes.now position expr.now) }
+{
+    push_cited(page, notation, position)?;
+    page.extend_from_slice(b"</td><td>")?;
+    push_html_expr(page, notation, expr)?;
+    page.extend_from_slice(b"</td></tr>\n")
+}
+
 /// Appends the step at a place as a row: its number, links to the rows of the steps that it takes, its label, its
 /// expression. The names of the rows of one table begin with the same mark.
 pub fn push_html_step(
     page: &mut Vec<u8>,
-    frames: &Frames,
-    classes: &[u32],
+    notation: &Notation<'_>,
     mark: &[u8],
     table: &ProofTable,
     place: usize,
 ) -> Result<(), AllocError>
     requires { place < length table.now }
     ensures { OnOk result (page.new.items ≡ page.old.items
-        ++ step_html frames.now.statements frames.now.names classes.now mark.now place (get_or table.now place no_row)) }
+        ++ step_html notation.now.is_linked notation.now.statements.now notation.now.frames.now.names
+        notation.now.classes.now mark.now place (get_or table.now place no_row)) }
 {
-    page.extend_from_slice(b"<tr id=\"")?;
-    page.extend_from_slice(mark)?;
-    push_place(page, place)?;
-    page.extend_from_slice(b"\"><td>")?;
-    push_place(page, place)?;
-    page.extend_from_slice(b"</td><td>")?;
-    push_links(page, mark, table.taken(place))?;
-    page.extend_from_slice(b"</td><td>")?;
-    push_html(page, label_at(frames, table.position(place)))?;
-    page.extend_from_slice(b"</td><td>")?;
-    push_html_expr(page, frames, classes, table.expr(place))?;
-    page.extend_from_slice(b"</td></tr>\n")
+    push_row_start(page, mark, place)?;
+    push_taken(page, mark, place, table.taken(place))?;
+    push_row_rest(page, notation, table.position(place), table.expr(place))
+}
+
+/// Appends the label of the statement at a position as an item of a list.
+fn push_item(
+    page: &mut Vec<u8>,
+    notation: &Notation<'_>,
+    position: u32,
+) -> Result<(), AllocError>
+    ensures { OnOk result (page.new.items ≡ page.old.items
+        ++ item_html notation.now.is_linked notation.now.statements.now position) }
+{
+    page.extend_from_slice(b"<li>")?;
+    push_cited(page, notation, position as usize)?;
+    page.extend_from_slice(b"</li>\n")
+}
+
+fn push_items(
+    page: &mut Vec<u8>,
+    notation: &Notation<'_>,
+    positions: &[u32],
+) -> Result<(), AllocError>
+    ensures { OnOk result (page.new.items ≡ page.old.items
+        ++ flat_map (item_html notation.now.is_linked notation.now.statements.now) positions.now) }
+{
+    for position in positions {
+        push_item(page, notation, *position)?;
+    }
+    Ok(())
+}
+
+/// Appends a list of the label of the statement at a position and of those at others.
+fn push_list(
+    page: &mut Vec<u8>,
+    notation: &Notation<'_>,
+    first: u32,
+    others: &[u32],
+) -> Result<(), AllocError>
+    ensures { OnOk result (page.new.items ≡ page.old.items
+        ++ list_html notation.now.is_linked notation.now.statements.now first others.now) }
+{
+    page.extend_from_slice(b"<ul>\n")?;
+    push_item(page, notation, first)?;
+    push_items(page, notation, others)?;
+    page.extend_from_slice(b"</ul>\n")
+}
+
+/// Appends the labels of the statements at these positions as a list, or that there are none.
+pub fn push_labels(
+    page: &mut Vec<u8>,
+    notation: &Notation<'_>,
+    positions: &[u32],
+) -> Result<(), AllocError>
+    ensures { OnOk result (page.new.items ≡ page.old.items
+        ++ labels_html notation.now.is_linked notation.now.statements.now positions.now) }
+{
+    match positions.split_first() {
+        None => page.extend_from_slice(b"<p>None</p>\n"),
+        Some((first, others)) => push_list(page, notation, *first, others),
+    }
 }

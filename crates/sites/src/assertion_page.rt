@@ -9,7 +9,7 @@ use cross_references::CrossReferences;
 use mm_lex::Span;
 use mm_read::Stmt;
 use proof_pages::{Neighbours, PageContents, ProofSteps, write_site_page};
-use std::alloc::Global;
+use std::alloc::{AllocError, Global};
 use steps::{essential_table, proof_table};
 
 /// What pages are made of.
@@ -45,15 +45,7 @@ fn push_axiom(
     requires { (s : Statement)
         × HasAssertion (bares contents.now.site.now.library.now.replica.statements) at s }
 {
-    let library = contents.site.library;
-    let assertion = PageContents {
-        statements: library.statements(),
-        frames: library.frames(),
-        at,
-        proof: None,
-        neighbours: neighbours(contents, at),
-    };
-    Ok(write_site_page(alloc, page, &assertion)?)
+    write_assertion(alloc, contents, at, None, page)
 }
 
 /// Appends the page of the `$p` with a label.
@@ -63,40 +55,59 @@ fn push_theorem(
     label: &[u8],
     page: &mut Vec<u8>,
 ) -> Result<(), SiteFault> {
-    let library = contents.site.library;
-    let (at, items) = library.items(label)?;
-    let frames = library.frames();
+    let (at, items) = contents.site.library.items(label)?;
+    let frames = contents.site.library.frames();
     let steps = proof_table(alloc, frames, at, &items)?;
     let essential = essential_table(alloc, frames, at, &steps)?;
+    let proof = ProofSteps {
+        steps: &steps,
+        essential: &essential,
+    };
+    write_assertion(alloc, contents, at, Some(proof), page)
+}
+
+/// Appends the page of the assertion at a position, with the steps of its proof if it has one.
+fn write_assertion(
+    alloc: Global,
+    contents: &Contents<'_>,
+    at: usize,
+    proof: Option<ProofSteps<'_>>,
+    page: &mut Vec<u8>,
+) -> Result<(), SiteFault>
+    requires { (s : Statement)
+        × HasAssertion (bares contents.now.site.now.library.now.replica.statements) at s }
+{
+    let index = at.saturating_sub(1);
+    let axioms = numbers_at(alloc, contents.references.axioms.as_slice(), index)?;
+    let users = numbers_at(alloc, contents.references.users.as_slice(), index)?;
+    let library = contents.site.library;
     let assertion = PageContents {
         statements: library.statements(),
-        frames,
+        frames: library.frames(),
         at,
-        proof: Some(ProofSteps {
-            steps: &steps,
-            essential: &essential,
-        }),
-        neighbours: neighbours(contents, at),
+        proof,
+        neighbours: Neighbours {
+            axioms: axioms.as_slice(),
+            users: users.as_slice(),
+            description: described(contents, index),
+        },
     };
     Ok(write_site_page(alloc, page, &assertion)?)
 }
 
-/// Returns what stands about the assertion at a position.
-fn neighbours<'a>(contents: &'a Contents<'a>, at: usize) -> Neighbours<'a> {
-    let index = at.saturating_sub(1);
-    Neighbours {
-        axioms: list_at(contents.references.axioms.as_slice(), index),
-        users: list_at(contents.references.users.as_slice(), index),
-        description: described(contents, index),
+/// Returns the positions of the list at an index; none if there is no list.
+fn numbers_at(
+    alloc: Global,
+    lists: &[Vec<usize>],
+    index: usize,
+) -> Result<Vec<u32>, AllocError> {
+    let mut numbers = Vec::new(alloc);
+    if let Some(list) = lists.get(index) {
+        for position in list {
+            numbers.push(u32::try_from(*position).map_err(|_| AllocError)?)?;
+        }
     }
-}
-
-/// Returns the list at an index; an empty one if there is none.
-fn list_at(lists: &[Vec<usize>], index: usize) -> &[usize] {
-    match lists.get(index) {
-        Some(list) => list.as_slice(),
-        None => &[],
-    }
+    Ok(numbers)
 }
 
 /// Returns the description of the statement at an index, if it has one.

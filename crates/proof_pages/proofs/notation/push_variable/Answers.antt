@@ -2,7 +2,7 @@ use Rattle.std.proofs.Common.{◌++◌}
 use Rattle.std.specs.Prelude.{codes, decimal}
 use Rattle.proof_pages.specs.Escapes.{html_text}
 use Rattle.proof_pages.proofs.AppendLemmas.{joined, joined-last}
-use Rattle.proof_pages.proofs.rows.push_variable.Goals as goal
+use Rattle.proof_pages.proofs.notation.push_variable.Goals as goal
 
 pub returns : goal.returns
 returns c =

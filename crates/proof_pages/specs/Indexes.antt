@@ -1,0 +1,34 @@
+-- The index of a site.
+-- Source: HTML, tables and links; this project's own form.
+-- The code adds each row to the end of a buffer.
+use Rattle.std.specs.Prelude.{ℕ, ◌+◌, List, [], ◌++◌, codes}
+use Rattle.mm_lex.specs.Alphabet.{Name}
+use Rattle.mm_lex.specs.Words.{spaced}
+use Rattle.mm_read.specs.declared.stmt.Stmt.{Stmt}
+use Rattle.mm_read.specs.declared.stmt.Stmt.TheVariants.{Axiom, Prove}
+use Rattle.mm_read.specs.Statements.{Database, Expr}
+use Rattle.proof_pages.specs.declared.TheConstants.{INDEX_START}
+use Rattle.proof_pages.specs.Escapes.{html_text}
+use Rattle.proof_pages.specs.Notations.{page_link}
+use Rattle.proof_pages.specs.StepLines.{texts_from}
+
+-- whether it is an axiom or a theorem
+abbrev pub kind_cell : List ℕ → List ℕ
+kind_cell kind = codes "<tr><td>" ++ kind ++ codes "</td><td>"
+
+abbrev pub expr_cell : Expr → List ℕ
+expr_cell expr = codes "</td><td>" ++ html_text (spaced expr) ++ codes "</td></tr>\n"
+
+-- kind, label as a link to the page of the assertion at this position, expression
+abbrev pub index_cells : List ℕ → Name → Expr → ℕ → List ℕ
+index_cells kind label expr position = kind_cell kind ++ page_link label position ++ expr_cell expr
+
+-- the row of the statement at a place from 0, if it is an assertion
+abbrev pub index_row : ℕ → Stmt → List ℕ
+index_row place (Axiom label expr) = index_cells (codes "axiom") label expr (place + 1)
+index_row place (Prove label expr proof) = index_cells (codes "theorem") label expr (place + 1)
+index_row place s = []
+
+-- a row for each assertion, in order
+abbrev pub index_text : Database → List ℕ
+index_text S = INDEX_START.now ++ texts_from index_row 0 S ++ codes "</tbody>\n</table>\n</body>\n</html>\n"

@@ -1,0 +1,45 @@
+-- Symbols and labels on a page.
+-- Source: HTML, links; this project's own form.
+-- The code adds each part to the end of a buffer.
+use Rattle.std.specs.Prelude.{ℕ, ◌==◌, Bool, ◌&&◌, if◌then◌else◌, List, [], ◌++◌, codes, decimal, flat_map, get_or, Option, Some, None}
+use Rattle.mm_lex.specs.Alphabet.{Name}
+use Rattle.mm_read.specs.declared.stmt.Stmt.{Stmt}
+use Rattle.mm_read.specs.Statements.{Database}
+use Rattle.scope.specs.Active.{is_assertion, stmt_at}
+use Rattle.names.specs.Codes.{name_at}
+use Rattle.verify.specs.Proves.{label_or_none}
+use Rattle.proof_pages.specs.Escapes.{html_text}
+use Rattle.file_names.specs.FileNames.{file_name}
+
+abbrev pub variable_html : ℕ → Name → List ℕ
+variable_html class name = codes "<var class=\"k" ++ decimal class ++ codes "\">" ++ html_text name ++ codes "</var>"
+
+-- a name in the colour of its class; 0 is no class
+abbrev pub coloured : ℕ → Name → List ℕ
+coloured class name = if class == 0 then html_text name else variable_html class name
+
+-- a symbol after a space, in the colour of its class
+abbrev pub symbol_html : List Name → List ℕ → ℕ → List ℕ
+symbol_html names classes symbol = codes " " ++ coloured (get_or classes symbol 0) (name_at names symbol)
+
+abbrev pub expr_html : List Name → List ℕ → List ℕ → List ℕ
+expr_html names classes expr = flat_map (symbol_html names classes) expr
+
+-- a label as a link to the file of the assertion that has it, which stands at this position
+unfoldable pub link_start : Name → ℕ → List ℕ
+link_start label position = codes "<a href=\"" ++ file_name label position ++ codes "\">"
+
+abbrev pub page_link : Name → ℕ → List ℕ
+page_link label position = link_start label position ++ html_text label ++ codes "</a>"
+
+-- the label of the statement at a position; that of an assertion is a link, if labels are linked
+abbrev pub label_html : Bool → ℕ → Stmt → List ℕ
+label_html linked position s =
+    if linked && is_assertion s then page_link (label_or_none (Some s)) position else html_text (label_or_none (Some s))
+
+abbrev pub label_if : Bool → ℕ → Option Stmt → List ℕ
+label_if linked position None = []
+label_if linked position (Some s) = label_html linked position s
+
+abbrev pub cited_html : Bool → Database → ℕ → List ℕ
+cited_html linked S position = label_if linked position (stmt_at S position)

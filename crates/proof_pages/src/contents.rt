@@ -1,0 +1,38 @@
+//! The contents of a page.
+use frame::Frames;
+use mm_read::Stmt;
+use steps::ProofTable;
+
+/// The contents of the page of an assertion.
+#[derive(Drop)]
+pub struct PageContents<'a> {
+    /// The statements that the frames are of.
+    pub statements: &'a [Stmt],
+    pub frames: &'a Frames,
+    /// The position of the assertion.
+    pub at: usize,
+    /// The steps of its proof, if it has one.
+    pub proof: Option<ProofSteps<'a>>,
+    /// What the page says of other statements.
+    pub neighbours: Neighbours<'a>,
+}
+
+/// The steps of a proof.
+#[derive(Drop)]
+pub struct ProofSteps<'a> {
+    /// All its steps.
+    pub steps: &'a ProofTable,
+    /// Its essential steps.
+    pub essential: &'a ProofTable,
+}
+
+/// What stands around an assertion in its database.
+#[derive(Drop)]
+pub struct Neighbours<'a> {
+    /// The positions of the axioms that it rests on, ascending.
+    pub axioms: &'a [u32],
+    /// The positions of the theorems whose proofs cite it, ascending.
+    pub users: &'a [u32],
+    /// The text of its description, between the delimiters of the comment.
+    pub description: Option<&'a [u8]>,
+}

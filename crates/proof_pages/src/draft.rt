@@ -1,0 +1,16 @@
+//! A page that is being written.
+use crate::contents::PageContents;
+use crate::notation::Notation;
+
+/// A page that is being written, and what its parts share.
+#[derive(Drop)]
+pub struct Draft<'a> {
+    pub contents: &'a PageContents<'a>,
+    pub notation: Notation<'a>,
+    /// The typecode of each class of variables, from the first.
+    pub typecodes: &'a [u32],
+    /// The positions of the mandatory hypotheses.
+    pub hypotheses: &'a [u32],
+    /// Whether all steps are shown, and not only the essential ones.
+    pub is_whole: bool,
+}

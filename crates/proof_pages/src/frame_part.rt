@@ -1,0 +1,135 @@
+//! The frame of an assertion on its page.
+ghost use Rattle.mm_read.specs.declared.stmt.Stmt.{Stmt as Statement};
+ghost use Rattle.frame.specs.FrameOf.{HasAssertion};
+
+use crate::draft::Draft;
+use crate::notation::{Notation, push_coloured, push_html_expr};
+use crate::parted::{expr_at, part_essential};
+use crate::rows::push_row_rest;
+use entries::Groups;
+use frame::FrameBuffers;
+use std::alloc::{AllocError, Global};
+
+/// Appends the mandatory hypotheses, the disjoint variables, and the colours of typecodes.
+pub fn push_frame(
+    alloc: Global,
+    page: &mut Vec<u8>,
+    draft: &Draft<'_>,
+) -> Result<(), AllocError>
+    requires { (s : Statement) × HasAssertion draft.now.contents.now.frames.now.statements
+        draft.now.contents.now.at s }
+{
+    push_hypotheses(alloc, page, draft)?;
+    push_disjoint(alloc, page, draft)?;
+    push_legend(page, draft)
+}
+
+/// Appends the `$e`, and folded the `$f`.
+fn push_hypotheses(
+    alloc: Global,
+    page: &mut Vec<u8>,
+    draft: &Draft<'_>,
+) -> Result<(), AllocError> {
+    if draft.hypotheses.is_empty() {
+        return Ok(());
+    }
+    let parted = part_essential(alloc, draft.contents.statements, draft.hypotheses)?;
+    page.extend_from_slice(b"<h2>Hypotheses</h2>\n")?;
+    push_table(page, &draft.notation, &parted.first)?;
+    push_floating(page, &draft.notation, &parted.others)
+}
+
+/// Appends the `$f`, folded.
+fn push_floating(
+    page: &mut Vec<u8>,
+    notation: &Notation<'_>,
+    positions: &[u32],
+) -> Result<(), AllocError> {
+    if positions.is_empty() {
+        return Ok(());
+    }
+    page.extend_from_slice(b"<details>\n<summary>Floating hypotheses</summary>\n")?;
+    push_table(page, notation, positions)?;
+    page.extend_from_slice(b"</details>\n")
+}
+
+/// Appends a table of hypotheses, if there are any.
+fn push_table(
+    page: &mut Vec<u8>,
+    notation: &Notation<'_>,
+    positions: &[u32],
+) -> Result<(), AllocError> {
+    if positions.is_empty() {
+        return Ok(());
+    }
+    page.extend_from_slice(b"<table>\n<tbody>\n")?;
+    for position in positions {
+        push_hypothesis(page, notation, *position as usize)?;
+    }
+    page.extend_from_slice(b"</tbody>\n</table>\n")
+}
+
+fn push_hypothesis(
+    page: &mut Vec<u8>,
+    notation: &Notation<'_>,
+    position: usize,
+) -> Result<(), AllocError> {
+    page.extend_from_slice(b"<tr><td>")?;
+    push_row_rest(
+        page,
+        notation,
+        position,
+        expr_at(notation.frames, position),
+    )
+}
+
+/// Appends the groups of variables each two of which must be disjoint.
+fn push_disjoint(
+    alloc: Global,
+    page: &mut Vec<u8>,
+    draft: &Draft<'_>,
+) -> Result<(), AllocError>
+    requires { (s : Statement) × HasAssertion draft.now.contents.now.frames.now.statements
+        draft.now.contents.now.at s }
+{
+    let contents = draft.contents;
+    if let Some(cited) = contents.frames.cited(contents.at) {
+        return push_groups(page, &draft.notation, &cited.groups);
+    }
+    let mut frame_buffers = FrameBuffers::new(alloc);
+    contents.frames.fill_buffers(contents.at, &mut frame_buffers)?;
+    let cited = contents.frames.cited_from(contents.at, &frame_buffers);
+    push_groups(page, &draft.notation, &cited.groups)
+}
+
+fn push_groups(
+    page: &mut Vec<u8>,
+    notation: &Notation<'_>,
+    groups: &Groups<'_>,
+) -> Result<(), AllocError> {
+    if groups.len() == 0 {
+        return Ok(());
+    }
+    page.extend_from_slice(b"<h2>Distinct variables</h2>\n<ul>\n")?;
+    for index in 0..groups.len() {
+        page.extend_from_slice(b"<li>")?;
+        push_html_expr(page, notation, groups.get(index))?;
+        page.extend_from_slice(b"</li>\n")?;
+    }
+    page.extend_from_slice(b"</ul>\n")
+}
+
+/// Appends which typecodes the colours stand for.
+fn push_legend(page: &mut Vec<u8>, draft: &Draft<'_>) -> Result<(), AllocError> {
+    if draft.typecodes.is_empty() {
+        return Ok(());
+    }
+    page.extend_from_slice(b"<p class=\"legend\">Variables:")?;
+    let mut class = 0u32;
+    for typecode in draft.typecodes {
+        class = class.saturating_add(1);
+        page.extend_from_slice(b" ")?;
+        push_coloured(page, class, draft.notation.frames.symbol(*typecode))?;
+    }
+    page.extend_from_slice(b"</p>\n")
+}

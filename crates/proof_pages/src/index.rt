@@ -1,0 +1,97 @@
+//! The index of a site.
+ghost use Rattle.std.specs.Prelude.{◌≡◌, ◌<◌, ◌++◌, length, slice_get, Some, OnOk};
+ghost use Rattle.std.specs.Io.KnownBytes.{Appends};
+ghost use Rattle.mm_read.specs.declared.stmt.Stmt.{Stmt as Statement};
+ghost use Rattle.proof_pages.specs.Indexes.{kind_cell, expr_cell, index_cells, index_row, index_text};
+
+use crate::escapes::push_html;
+use crate::notation::push_page_link;
+use crate::writing::{WriteFault, write_part, write_rest};
+use mm_lex::Words;
+use mm_read::Stmt;
+use std::alloc::{AllocError, Global};
+use std::io::Write;
+
+/// The start of the index, before its rows.
+pub const INDEX_START: &[u8] =
+    b"<!DOCTYPE html>\n<html lang=\"en\">\n<head>\n<meta charset=\"utf-8\">\n<meta name=\"viewport\" content=\"width=device-width, initial-scale=1\">\n<title>All statements</title>\n<link rel=\"stylesheet\" href=\"style.css\">\n</head>\n<body>\n<h1>All statements</h1>\n<table>\n<thead>\n<tr><th>Kind</th><th>Label</th><th>Expression</th></tr>\n</thead>\n<tbody>\n";
+
+/// Writes the index of a site: a row for each assertion, in order, with its kind, its label as a link
+/// to its page, and its expression.
+///
+/// Errors: `Memory`, `Output`; some of it may be written then. Cost: the size of the index; 64 KiB
+/// and one row are held back at most.
+pub fn write_index<W: Write>(
+    alloc: Global,
+    out: &mut W,
+    statements: &[Stmt],
+) -> Result<(), WriteFault>
+    ensures { OnOk result (Appends (W.contents out.old) (W.contents out.new)
+        (index_text statements.now)) }
+{
+    let mut text = Vec::new(alloc);
+    text.extend_from_slice(INDEX_START)?;
+    for place in 0..statements.len() {
+        push_row_at(&mut text, statements, place)?;
+        write_part(out, &mut text)?;
+    }
+    text.extend_from_slice(b"</tbody>\n</table>\n</body>\n</html>\n")?;
+    write_rest(out, &text)
+}
+
+/// Appends the row of the statement at a place.
+fn push_row_at(text: &mut Vec<u8>, statements: &[Stmt], place: usize) -> Result<(), AllocError>
+    requires { place < length statements.now }
+    ensures { OnOk result ((s : Statement) → slice_get statements.now place ≡ Some s
+        → text.new.items ≡ text.old.items ++ index_row place s) }
+{
+    push_row(text, &statements[place], place)
+}
+
+/// Appends the row of a statement at a place, if it is an assertion.
+fn push_row(text: &mut Vec<u8>, statement: &Stmt, place: usize) -> Result<(), AllocError>
+    ensures { OnOk result (text.new.items ≡ text.old.items ++ index_row place statement.now) }
+{
+    let position = place.checked_add(1).ok_or(AllocError)?;
+    match statement {
+        Stmt::Axiom { label, expr } => {
+            push_cells(text, b"axiom", label.as_bytes(), expr, position)
+        }
+        Stmt::Prove { label, expr, .. } => {
+            push_cells(text, b"theorem", label.as_bytes(), expr, position)
+        }
+        _ => Ok(()),
+    }
+}
+
+/// Appends the cells of an assertion.
+fn push_cells(
+    text: &mut Vec<u8>,
+    kind: &[u8],
+    label: &[u8],
+    expr: &Words,
+    position: usize,
+) -> Result<(), AllocError>
+    ensures { OnOk result (text.new.items
+        ≡ text.old.items ++ index_cells kind.now label.now expr.now position) }
+{
+    push_kind(text, kind)?;
+    push_page_link(text, label, position)?;
+    push_expr_cell(text, expr)
+}
+
+fn push_kind(text: &mut Vec<u8>, kind: &[u8]) -> Result<(), AllocError>
+    ensures { OnOk result (text.new.items ≡ text.old.items ++ kind_cell kind.now) }
+{
+    text.extend_from_slice(b"<tr><td>")?;
+    text.extend_from_slice(kind)?;
+    text.extend_from_slice(b"</td><td>")
+}
+
+fn push_expr_cell(text: &mut Vec<u8>, expr: &Words) -> Result<(), AllocError>
+    ensures { OnOk result (text.new.items ≡ text.old.items ++ expr_cell expr.now) }
+{
+    text.extend_from_slice(b"</td><td>")?;
+    push_html(text, expr.as_text())?;
+    text.extend_from_slice(b"</td></tr>\n")
+}

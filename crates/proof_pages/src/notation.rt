@@ -1,0 +1,146 @@
+//! Symbols and labels on a page.
+ghost use Rattle.std.specs.Prelude.{◌≡◌, ◌++◌, Some, flat_map, OnOk};
+ghost use Rattle.verify.specs.Proves.{label_or_none};
+ghost use Rattle.proof_pages.specs.Notations.{variable_html, coloured, symbol_html, expr_html, link_start, page_link, label_html, cited_html};
+
+use crate::escapes::push_html;
+use file_names::push_file_name;
+use frame::{Frames, is_assertion};
+use mm_read::Stmt;
+use numbers::push_number;
+use std::alloc::AllocError;
+
+/// How the symbols and the labels of a database stand on a page.
+#[derive(Drop)]
+pub struct Notation<'a> {
+    /// The statements that positions count.
+    pub statements: &'a [Stmt],
+    /// Their frames, which know the symbols.
+    pub frames: &'a Frames,
+    /// The class of each symbol by number, 0 where it has none.
+    pub classes: &'a [u32],
+    /// Whether the label of an assertion is a link to its page.
+    pub is_linked: bool,
+}
+
+/// Appends a name in the colour of its class; 0 is no class.
+pub fn push_coloured(page: &mut Vec<u8>, class: u32, name: &[u8]) -> Result<(), AllocError>
+    ensures { OnOk result (page.new.items ≡ page.old.items ++ coloured class name.now) }
+{
+    if class == 0 {
+        push_html(page, name)
+    } else {
+        push_variable(page, class, name)
+    }
+}
+
+fn push_variable(page: &mut Vec<u8>, class: u32, name: &[u8]) -> Result<(), AllocError>
+    ensures { OnOk result (page.new.items ≡ page.old.items ++ variable_html class name.now) }
+{
+    page.extend_from_slice(b"<var class=\"k")?;
+    push_number(page, class as u64)?;
+    page.extend_from_slice(b"\">")?;
+    push_html(page, name)?;
+    page.extend_from_slice(b"</var>")
+}
+
+/// Appends a symbol after a space, in the colour of its class.
+fn push_html_symbol(
+    page: &mut Vec<u8>,
+    notation: &Notation<'_>,
+    symbol: u32,
+) -> Result<(), AllocError>
+    ensures { OnOk result (page.new.items ≡ page.old.items
+        ++ symbol_html notation.now.frames.now.names notation.now.classes.now symbol) }
+{
+    let class = match notation.classes.get(symbol as usize) {
+        Some(class) => *class,
+        None => 0,
+    };
+    page.extend_from_slice(b" ")?;
+    push_coloured(page, class, notation.frames.symbol(symbol))
+}
+
+/// Appends the symbols of an expression.
+pub fn push_html_expr(
+    page: &mut Vec<u8>,
+    notation: &Notation<'_>,
+    expr: &[u32],
+) -> Result<(), AllocError>
+    ensures { OnOk result (page.new.items ≡ page.old.items
+        ++ expr_html notation.now.frames.now.names notation.now.classes.now expr.now) }
+{
+    for symbol in expr {
+        push_html_symbol(page, notation, *symbol)?;
+    }
+    Ok(())
+}
+
+/// Returns the label of a statement, empty if it has none.
+pub fn label_of(statement: &Stmt) -> &[u8]
+    ensures { result.now ≡ label_or_none (Some statement.now) }
+{
+    match statement {
+        Stmt::Float { label, .. } => label.as_bytes(),
+        Stmt::Ess { label, .. } => label.as_bytes(),
+        Stmt::Axiom { label, .. } => label.as_bytes(),
+        Stmt::Prove { label, .. } => label.as_bytes(),
+        _ => &[],
+    }
+}
+
+/// Appends the start of a link to the page of the assertion with this label at this position.
+fn push_link_start(page: &mut Vec<u8>, label: &[u8], position: usize) -> Result<(), AllocError>
+    ensures { OnOk result (page.new.items ≡ page.old.items ++ link_start label.now position) }
+{
+    page.extend_from_slice(b"<a href=\"")?;
+    push_file_name(page, label, position)?;
+    page.extend_from_slice(b"\">")
+}
+
+/// Appends a label as a link to the page of the assertion with it at this position.
+pub fn push_page_link(page: &mut Vec<u8>, label: &[u8], position: usize) -> Result<(), AllocError>
+    ensures { OnOk result (page.new.items ≡ page.old.items ++ page_link label.now position) }
+{
+    push_link_start(page, label, position)?;
+    push_html(page, label)?;
+    page.extend_from_slice(b"</a>")
+}
+
+/// Appends the label of the statement at a position; that of an assertion as a link, if labels are
+/// linked.
+pub fn push_label(
+    page: &mut Vec<u8>,
+    is_linked: bool,
+    statement: &Stmt,
+    position: usize,
+) -> Result<(), AllocError>
+    ensures { OnOk result (page.new.items
+        ≡ page.old.items ++ label_html is_linked position statement.now) }
+{
+    if is_linked && is_assertion(statement) {
+        push_page_link(page, label_of(statement), position)
+    } else {
+        push_html(page, label_of(statement))
+    }
+}
+
+/// Appends the label of the statement at a position, if one stands there.
+pub fn push_cited(
+    page: &mut Vec<u8>,
+    notation: &Notation<'_>,
+    position: usize,
+) -> Result<(), AllocError>
+    ensures { OnOk result (page.new.items ≡ page.old.items
+        ++ cited_html notation.now.is_linked notation.now.statements.now position) }
+{
+    if position == 0 || position > notation.statements.len() {
+        return Ok(());
+    }
+    push_label(
+        page,
+        notation.is_linked,
+        &notation.statements[position - 1],
+        position,
+    )
+}

@@ -1,0 +1,78 @@
+//! The start of a page.
+use crate::draft::Draft;
+use crate::escapes::push_html;
+use crate::notation::{label_of, push_html_expr};
+use crate::parted::expr_at;
+use crate::style::{HEAD, SHEET};
+use std::alloc::AllocError;
+
+/// Appends the start of a page: its title and its style.
+fn push_head(page: &mut Vec<u8>, title: &[u8], is_linked: bool) -> Result<(), AllocError> {
+    page.extend_from_slice(HEAD)?;
+    push_html(page, title)?;
+    page.extend_from_slice(b"</title>\n")?;
+    push_style(page, is_linked)?;
+    page.extend_from_slice(b"</head>\n<body>\n<h1>")?;
+    push_html(page, title)?;
+    page.extend_from_slice(b"</h1>\n")
+}
+
+/// Appends the style: a link to the sheet of a site, or the sheet itself.
+fn push_style(page: &mut Vec<u8>, is_linked: bool) -> Result<(), AllocError> {
+    if is_linked {
+        return page.extend_from_slice(b"<link rel=\"stylesheet\" href=\"style.css\">\n");
+    }
+    page.extend_from_slice(b"<style>\n")?;
+    page.extend_from_slice(SHEET)?;
+    page.extend_from_slice(b"</style>\n")
+}
+
+/// Appends all before the hypotheses: the label, the description and the expression.
+pub fn push_opening(page: &mut Vec<u8>, draft: &Draft<'_>) -> Result<(), AllocError> {
+    let contents = draft.contents;
+    push_head(page, label_at(draft), draft.notation.is_linked)?;
+    push_way(page, draft)?;
+    push_description(page, contents.neighbours.description)?;
+    page.extend_from_slice(b"<p class=\"expr\">")?;
+    push_html_expr(
+        page,
+        &draft.notation,
+        expr_at(contents.frames, contents.at),
+    )?;
+    page.extend_from_slice(b"</p>\n")
+}
+
+/// Returns the label of the assertion.
+fn label_at<'a>(draft: &Draft<'a>) -> &'a [u8] {
+    let contents = draft.contents;
+    if contents.at == 0 || contents.at > contents.statements.len() {
+        return &[];
+    }
+    label_of(&contents.statements[contents.at - 1])
+}
+
+/// Appends on a page of a site the kind of the assertion, and the way to the index.
+fn push_way(page: &mut Vec<u8>, draft: &Draft<'_>) -> Result<(), AllocError> {
+    if !draft.notation.is_linked {
+        return Ok(());
+    }
+    let kind: &[u8] = match &draft.contents.proof {
+        Some(_) => b"Theorem",
+        None => b"Axiom",
+    };
+    page.extend_from_slice(b"<p class=\"legend\">")?;
+    page.extend_from_slice(kind)?;
+    page.extend_from_slice(b" of <a href=\"index.html\">all statements</a></p>\n")
+}
+
+/// Appends the description as it stands, if there is one.
+fn push_description(page: &mut Vec<u8>, description: Option<&[u8]>) -> Result<(), AllocError> {
+    match description {
+        Some(text) => {
+            page.extend_from_slice(b"<p class=\"about\">")?;
+            push_html(page, text)?;
+            page.extend_from_slice(b"</p>\n")
+        }
+        None => Ok(()),
+    }
+}

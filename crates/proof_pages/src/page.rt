@@ -1,0 +1,115 @@
+//! The page of an assertion: alone, or among the pages of a site.
+ghost use Rattle.mm_read.specs.declared.stmt.Stmt.{Stmt as Statement};
+ghost use Rattle.frame.specs.FrameOf.{HasAssertion};
+
+use crate::colours::Colours;
+use crate::contents::PageContents;
+use crate::draft::Draft;
+use crate::frame_part::push_frame;
+use crate::notation::Notation;
+use crate::opening::push_opening;
+use crate::proof_part::{push_users, write_proof};
+use crate::writing::{WriteFault, write_rest};
+use frame::Frames;
+use std::alloc::{AllocError, Global};
+use std::io::Write;
+
+/// Writes a page that stands alone: the assertion with its hypotheses and its disjoint variables, its essential
+/// steps, all steps where they are wanted, the axioms that it rests on, and the theorems that cite it.
+///
+/// Errors: `Memory`, `Output`; some of the page may be written then. Cost: the size of the page; 64 KiB and one part
+/// of the page are held back at most.
+pub fn write_page<W: Write>(
+    alloc: Global,
+    out: &mut W,
+    contents: &PageContents<'_>,
+    is_whole: bool,
+) -> Result<(), WriteFault>
+    requires { (s : Statement) × HasAssertion contents.now.frames.now.statements contents.now.at s }
+{
+    write_contents(alloc, out, contents, false, is_whole)
+}
+
+/// Writes the page of an assertion among the pages of a site: that of `write_page` with its essential
+/// steps alone, its description, and links to the style sheet, to the index and to the pages of the
+/// assertions that it names.
+///
+/// Errors and cost: those of `write_page`.
+pub fn write_site_page<W: Write>(
+    alloc: Global,
+    out: &mut W,
+    contents: &PageContents<'_>,
+) -> Result<(), WriteFault>
+    requires { (s : Statement) × HasAssertion contents.now.frames.now.statements contents.now.at s }
+{
+    write_contents(alloc, out, contents, true, false)
+}
+
+/// Finds the hypotheses and the colours, and writes the page.
+fn write_contents<W: Write>(
+    alloc: Global,
+    out: &mut W,
+    contents: &PageContents<'_>,
+    is_linked: bool,
+    is_whole: bool,
+) -> Result<(), WriteFault>
+    requires { (s : Statement) × HasAssertion contents.now.frames.now.statements contents.now.at s }
+{
+    let hypotheses = hypotheses_of(alloc, contents.frames, contents.at)?;
+    let colours = colours_of(alloc, contents, &hypotheses)?;
+    let draft = Draft {
+        contents,
+        notation: Notation {
+            statements: contents.statements,
+            frames: contents.frames,
+            classes: &colours.classes,
+            is_linked,
+        },
+        typecodes: &colours.constants,
+        hypotheses: &hypotheses,
+        is_whole,
+    };
+    write_draft(alloc, out, &draft)
+}
+
+/// Writes the parts of the page one after another.
+fn write_draft<W: Write>(alloc: Global, out: &mut W, draft: &Draft<'_>) -> Result<(), WriteFault>
+    requires { (s : Statement) × HasAssertion draft.now.contents.now.frames.now.statements
+        draft.now.contents.now.at s }
+{
+    let mut page = Vec::new(alloc);
+    push_opening(&mut page, draft)?;
+    push_frame(alloc, &mut page, draft)?;
+    write_proof(alloc, out, &mut page, draft)?;
+    push_users(&mut page, draft)?;
+    page.extend_from_slice(b"</body>\n</html>\n")?;
+    write_rest(out, &page)
+}
+
+/// Returns the mandatory hypotheses of the assertion at a position, by position.
+fn hypotheses_of(alloc: Global, frames: &Frames, at: usize) -> Result<Vec<u32>, AllocError>
+    requires { (s : Statement) × HasAssertion frames.now.statements at s }
+{
+    let mut hypotheses = Vec::new(alloc);
+    frames.mandatory(at, &mut hypotheses)?;
+    Ok(hypotheses)
+}
+
+/// Returns the colours of the variables of its hypotheses and of its steps.
+fn colours_of(
+    alloc: Global,
+    contents: &PageContents<'_>,
+    hypotheses: &[u32],
+) -> Result<Colours, AllocError> {
+    let mut colours = Colours::new(alloc);
+    for position in hypotheses {
+        colours.note(contents.statements, contents.frames, *position as usize)?;
+    }
+    if let Some(proof) = &contents.proof {
+        for place in 0..proof.steps.len() {
+            let position = proof.steps.position(place);
+            colours.note(contents.statements, contents.frames, position)?;
+        }
+    }
+    Ok(colours)
+}

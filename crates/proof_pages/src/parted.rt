@@ -1,0 +1,85 @@
+//! Positions parted into those that are shown first and the others.
+use frame::Frames;
+use mm_read::Stmt;
+use std::alloc::{AllocError, Global};
+
+/// Positions parted by a test, in their order.
+#[derive(Drop)]
+pub struct Parted {
+    /// Those that pass it.
+    pub first: Vec<u32>,
+    /// Those that do not.
+    pub others: Vec<u32>,
+}
+
+impl Parted {
+    fn new(alloc: Global) -> Parted {
+        Parted {
+            first: Vec::new(alloc),
+            others: Vec::new(alloc),
+        }
+    }
+
+    fn add(&mut self, position: u32, passes: bool) -> Result<(), AllocError> {
+        if passes {
+            self.first.push(position)?;
+        } else {
+            self.others.push(position)?;
+        }
+        Ok(())
+    }
+}
+
+/// Parts positions into those of `$e` and the others.
+pub fn part_essential(
+    alloc: Global,
+    statements: &[Stmt],
+    positions: &[u32],
+) -> Result<Parted, AllocError> {
+    let mut parted = Parted::new(alloc);
+    for position in positions {
+        let passes = is_essential_at(statements, *position as usize);
+        parted.add(*position, passes)?;
+    }
+    Ok(parted)
+}
+
+fn is_essential_at(statements: &[Stmt], position: usize) -> bool {
+    if position == 0 || position > statements.len() {
+        return false;
+    }
+    matches!(&statements[position - 1], Stmt::Ess { .. })
+}
+
+/// Parts positions into those of statements whose typecode is that of the statement at another
+/// position, and the others.
+pub fn part_by_typecode(
+    alloc: Global,
+    frames: &Frames,
+    at: usize,
+    positions: &[u32],
+) -> Result<Parted, AllocError> {
+    let mut parted = Parted::new(alloc);
+    let own = typecode_at(frames, at);
+    for position in positions {
+        let passes = typecode_at(frames, *position as usize) == own;
+        parted.add(*position, passes)?;
+    }
+    Ok(parted)
+}
+
+/// Returns the first symbol of the statement at a position.
+fn typecode_at(frames: &Frames, position: usize) -> Option<u32> {
+    match expr_at(frames, position).split_first() {
+        Some((typecode, _)) => Some(*typecode),
+        None => None,
+    }
+}
+
+/// Returns the expression of the statement at a position by numbers, empty if it has none.
+pub fn expr_at(frames: &Frames, position: usize) -> &[u32] {
+    if position == 0 || position > frames.len() {
+        return &[];
+    }
+    frames.expr(position)
+}

@@ -1,0 +1,100 @@
+//! The proof of a theorem on its page, and the theorems that cite an assertion.
+use crate::contents::ProofSteps;
+use crate::draft::Draft;
+use crate::notation::Notation;
+use crate::parted::part_by_typecode;
+use crate::rows::{push_html_step, push_labels};
+use crate::writing::{WriteFault, write_part};
+use std::alloc::{AllocError, Global};
+use std::io::Write;
+use steps::ProofTable;
+
+/// Writes the proof, if there is one, and the axioms that it rests on; the last of it may be held
+/// back.
+pub fn write_proof<W: Write>(
+    alloc: Global,
+    out: &mut W,
+    page: &mut Vec<u8>,
+    draft: &Draft<'_>,
+) -> Result<(), WriteFault> {
+    match &draft.contents.proof {
+        None => Ok(()),
+        Some(proof) => {
+            write_tables(out, page, draft, proof)?;
+            push_axioms(alloc, page, draft)?;
+            Ok(())
+        }
+    }
+}
+
+/// Writes the essential steps, and folded all steps where they are wanted.
+fn write_tables<W: Write>(
+    out: &mut W,
+    page: &mut Vec<u8>,
+    draft: &Draft<'_>,
+    proof: &ProofSteps<'_>,
+) -> Result<(), WriteFault> {
+    page.extend_from_slice(b"<h2>Proof</h2>\n")?;
+    write_steps(out, page, &draft.notation, b"e", proof.essential)?;
+    if draft.is_whole {
+        page.extend_from_slice(b"<details>\n<summary>All steps</summary>\n")?;
+        write_steps(out, page, &draft.notation, b"s", proof.steps)?;
+        page.extend_from_slice(b"</details>\n")?;
+    }
+    Ok(())
+}
+
+/// Writes the steps as a table; the last of them may be held back.
+fn write_steps<W: Write>(
+    out: &mut W,
+    page: &mut Vec<u8>,
+    notation: &Notation<'_>,
+    mark: &[u8],
+    table: &ProofTable,
+) -> Result<(), WriteFault> {
+    page.extend_from_slice(
+        b"<table>\n<thead>\n<tr><th>Step</th><th>Takes</th><th>Cites</th><th>Expression</th></tr>\n</thead>\n<tbody>\n",
+    )?;
+    for place in 0..table.len() {
+        push_html_step(page, notation, mark, table, place)?;
+        write_part(out, page)?;
+    }
+    page.extend_from_slice(b"</tbody>\n</table>\n")?;
+    Ok(())
+}
+
+/// Appends the axioms of the theorem's own typecode, and folded the others.
+fn push_axioms(alloc: Global, page: &mut Vec<u8>, draft: &Draft<'_>) -> Result<(), AllocError> {
+    let contents = draft.contents;
+    let axioms = part_by_typecode(
+        alloc,
+        contents.frames,
+        contents.at,
+        contents.neighbours.axioms,
+    )?;
+    page.extend_from_slice(b"<h2>Axioms that it rests on</h2>\n")?;
+    push_labels(page, &draft.notation, &axioms.first)?;
+    push_syntax(page, &draft.notation, &axioms.others)
+}
+
+/// Appends the axioms of other typecodes, folded, if there are any.
+fn push_syntax(
+    page: &mut Vec<u8>,
+    notation: &Notation<'_>,
+    positions: &[u32],
+) -> Result<(), AllocError> {
+    if positions.is_empty() {
+        return Ok(());
+    }
+    page.extend_from_slice(
+        b"<details>\n<summary>Axioms of other typecodes (syntax)</summary>\n",
+    )?;
+    push_labels(page, notation, positions)?;
+    page.extend_from_slice(b"</details>\n")
+}
+
+/// Appends the theorems whose proofs cite the assertion.
+pub fn push_users(page: &mut Vec<u8>, draft: &Draft<'_>) -> Result<(), AllocError> {
+    page.extend_from_slice(b"<h2>Theorems that cite it</h2>\n")?;
+    push_labels(page, &draft.notation, draft.contents.neighbours.users)
+}
