@@ -2,7 +2,8 @@
 use Rattle.std.specs.Prelude.{◌≡◌, ◌⊎◌, ◌↔◌, ℕ, zero, suc, ◌+◌, ◌-◌, ◌<◌, ◌≤◌, Bool, true, false, IsTrue, List, [], ◌∷◌, ◌++◌, length, map, take, get_or, replicate, slice_set, Some}
 use Rattle.std.proofs.Common.{sym, ◌∙◌, ap, subst, refl, arith, inl, inr, take_all, length-append}
 use Rattle.std.proofs.lemmas.Bool.{cases_eq, cases_lt}
-use Rattle.std.proofs.lemmas.List.{get_or-set_other, get_or-set_same, get_or_append_left, get_or_past, length-set, length-replicate}
+use Rattle.std.specs.Global.{Vec}
+use Rattle.std.proofs.lemmas.List.{get_or-map, map-append, map-set, get_or-set_other, get_or-set_same, get_or_append_left, get_or_past, length-set, length-replicate}
 use Rattle.entries.specs.PositionSets.{Ascends, has_position}
 use Rattle.frame.specs.Stored.Hypotheses.{In, AreThose, HasMore, OfSome}
 use Rattle.frame.proofs.CollectLemmas.{last-in, last-out, those-by}
@@ -15,7 +16,7 @@ use Rattle.mm_read.specs.declared.stmt.Stmt.{Stmt}
 use Rattle.scope.specs.Active.{stmt_at}
 use Rattle.scope.proofs.StatementPlaces.{stands-within}
 use Rattle.cross_references.specs.References.{AreThosePassing, AreListsOf, AreReferences}
-use Rattle.cross_references.specs.Passes.{Gives, AreWithin, HaveUser, AreDone}
+use Rattle.cross_references.specs.Passes.{lists_of, Gives, AreWithin, HaveUser, AreDone}
 use Rattle.cross_references.proofs.ListLemmas.{in-more, more-in, next-apart, those-passing, ascends-last}
 
 -- what is cited stands before
@@ -207,3 +208,17 @@ module _ (S : Database) where
           (λ j c. let l = cites-some j (suc k) c in let f = l.0 in omega (arith, f));
     };
   }
+
+-- ---- lists in vectors
+
+pub list-set : (us : List (Vec ℕ)) (k : ℕ) (old new : Vec ℕ) (at : ℕ) → k < length us → old ≡ get_or us k old → new.items ≡ old.items ++ at ∷ []
+    → lists_of (slice_set us k new) ≡ slice_set (lists_of us) k (get_or (lists_of us) k [] ++ at ∷ [])
+list-set us k old new at h is more =
+    map-set (λ (v : Vec ℕ). v.items) us k new
+    ∙ ap (λ l. slice_set (lists_of us) k l) (more ∙ ap (λ l. l ++ at ∷ []) (ap (λ (v : Vec ℕ). v.items) is ∙ sym (get_or-map (λ (v : Vec ℕ). v.items) us k old [] h)))
+
+pub list-at : (us : List (Vec ℕ)) (k : ℕ) (old : Vec ℕ) → k < length us → old ≡ get_or us k old → get_or (lists_of us) k [] ≡ old.items
+list-at us k old h is = get_or-map (λ (v : Vec ℕ). v.items) us k old [] h ∙ ap (λ (v : Vec ℕ). v.items) (sym is)
+
+pub lists-push : (us vs : List (Vec ℕ)) (v : Vec ℕ) → vs ≡ us ++ v ∷ [] → lists_of vs ≡ lists_of us ++ v.items ∷ []
+lists-push us vs v is = ap lists_of is ∙ map-append (λ (w : Vec ℕ). w.items) us (v ∷ [])

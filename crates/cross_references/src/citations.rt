@@ -30,11 +30,7 @@ pub fn cited_at(alloc: Global, library: &Library, index: usize) -> Result<Vec<us
 }
 
 /// Returns the positions of the statements that the items cite, in ascending order, each once.
-fn cited_positions(
-    alloc: Global,
-    frames: &Frames,
-    items: &Items,
-) -> Result<Vec<usize>, AllocError>
+fn cited_positions(alloc: Global, frames: &Frames, items: &Items) -> Result<Vec<usize>, AllocError>
     requires { HasLabelsOnce frames.now.statements }
     ensures { IfOk result (λ list. AreThose (ItemsCite frames.now.statements items.now) list.items) }
 {

@@ -38,7 +38,12 @@ pub fn cross_references(alloc: Global, library: &Library) -> Result<CrossReferen
     for index in 0..count {
         let cited = cited_at(alloc, library, index)?;
         add_user(&mut users, cited.as_slice(), index + 1)?;
-        let list = axioms_at(library.statements(), &axioms, cited.as_slice(), &mut collector)?;
+        let list = axioms_at(
+            library.statements(),
+            &axioms,
+            cited.as_slice(),
+            &mut collector,
+        )?;
         axioms.push(list)?;
     }
     Ok(CrossReferences { axioms, users })
@@ -113,11 +118,7 @@ fn add_given(
 }
 
 /// Collects the position of a statement, if it is a `$a`.
-fn add_axiom(
-    statement: &Stmt,
-    position: usize,
-    collector: &mut Collector,
-) -> Result<(), AllocError>
+fn add_axiom(statement: &Stmt, position: usize, collector: &mut Collector) -> Result<(), AllocError>
     ensures { OnOk result (HasMore (λ p. IsTrue (is_axiom statement.now) × (p ≡ position)) collector.old collector.new) }
 {
     match statement {

@@ -37,7 +37,7 @@ pages-next gains first mid new S i h w v =
     let count = length-take-le i S (omega (arith, h)) in
     let n : 1 + length (take i S) ≡ i + 1 = omega (arith, count) in
     let names : page_names 1 (take (i + 1) S) ≡ page_names 1 (take i S) ++ page_name (i + 1) (get_or S i Open) =
-        ap (page_names 1) (take_more S i Open h) ∙ (names-last 1 (take i S) (get_or S i Open) ∙ ap (λ m. page_names 1 (take i S) ++ page_name m (get_or S i Open)) n) in
+    ap (page_names 1) (take_more S i Open h) ∙ (names-last 1 (take i S) (get_or S i Open) ∙ ap (λ m. page_names 1 (take i S) ++ page_name m (get_or S i Open)) n) in
     subst (λ l. WritesNamed gains first l new) (sym names) (writes-then gains first mid new (page_names 1 (take i S)) (page_name (i + 1) (get_or S i Open)) w v)
 
 -- ---- the frame of a `$a`

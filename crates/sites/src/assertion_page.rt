@@ -96,11 +96,7 @@ fn write_assertion(
 }
 
 /// Returns the positions of the list at an index; none if there is no list.
-fn numbers_at(
-    alloc: Global,
-    lists: &[Vec<usize>],
-    index: usize,
-) -> Result<Vec<u32>, AllocError> {
+fn numbers_at(alloc: Global, lists: &[Vec<usize>], index: usize) -> Result<Vec<u32>, AllocError> {
     let mut numbers = Vec::new(alloc);
     if let Some(list) = lists.get(index) {
         for position in list {

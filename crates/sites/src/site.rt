@@ -85,11 +85,7 @@ fn open_folder<S: Folder>(path: &str, folder: &mut S) -> Result<(), SiteFault> {
 }
 
 /// Writes the list of all assertions.
-fn write_list<S: Folder>(
-    alloc: Global,
-    library: &Library,
-    folder: &mut S,
-) -> Result<(), SiteFault>
+fn write_list<S: Folder>(alloc: Global, library: &Library, folder: &mut S) -> Result<(), SiteFault>
     ensures { OnOk result (WritesNamed S.gains folder.old (codes "index.html" ∷ []) folder.new) }
 {
     let mut page = Vec::new(alloc);
