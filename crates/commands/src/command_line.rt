@@ -4,7 +4,9 @@ ghost use Rattle.std.specs.Prelude.{◌≤◌, IfOk};
 use crate::grammar::{commands, matches_of};
 use crate::hints::push_hint;
 use crate::pictured::pictured_steps;
-use crate::request::{Asked, ProofForm, ProofQuestion, Question, Request, Serving, WordsFault};
+use crate::request::{
+    Asked, ProofForm, ProofQuestion, Question, Request, Serving, SiteQuestion, WordsFault,
+};
 use crate::weights::{WorkerCount, parse_weights};
 use clap::error::ErrorKind;
 use clap::{ArgMatches, Error};
@@ -53,6 +55,11 @@ fn request<'a>(alloc: Global, matches: &ArgMatches<'a>) -> Result<Request<'a>, W
         Some(("outline", options)) => Ok(Request::Outline {
             name: options.get_str("name"),
         }),
+        Some(("pages", options)) => Ok(Request::Pages(SiteQuestion {
+            folder: options.get_str("folder").unwrap_or(""),
+            name: options.get_str("name"),
+            assumes: options.get_flag("assume"),
+        })),
         Some(("play", options)) => {
             let nodes = node_count(alloc, options)?;
             let weights = weights(alloc, options, nodes)?;

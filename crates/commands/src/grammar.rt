@@ -15,6 +15,8 @@ enum Form {
     Label,
     /// A pattern, or words that are sought.
     Pattern,
+    /// The path of a folder.
+    Folder,
     /// One or more labels.
     Labels,
     /// An option without a value.
@@ -71,6 +73,12 @@ const WORDS: Argument = Argument {
     name: "words",
     form: Form::Flag,
     help: "PATTERN is words that the description has, in any case of letters",
+};
+
+const FOLDER: Argument = Argument {
+    name: "folder",
+    form: Form::Folder,
+    help: "The folder that the pages are written into, made if it is not there",
 };
 
 const NAME: Argument = Argument {
@@ -171,7 +179,7 @@ struct Shape(
     &'static [Argument],
 );
 
-const COMMANDS: [Shape; 13] = [
+const COMMANDS: [Shape; 14] = [
     Shape(
         "outline",
         "mmlib outline < DATABASE",
@@ -239,6 +247,12 @@ const COMMANDS: [Shape; 13] = [
         &[PATTERN, HYPOTHESES, WORDS, ASSUME, NAME],
     ),
     Shape(
+        "pages",
+        "mmlib pages FOLDER < DATABASE",
+        "Write a site of the database on standard input, a page for each assertion: mmlib pages site < set.mm",
+        &[FOLDER, ASSUME, NAME],
+    ),
+    Shape(
         "play",
         "mmlib play --nodes N < SCRIPT",
         "Drive nodes, event by event, by the lines of a script on standard input: mmlib play --nodes 3 < my.script",
@@ -295,6 +309,7 @@ fn made<'a>(alloc: Global, argument: &Argument) -> Result<Arg<'a>, AllocError> {
     match argument.form {
         Form::Label => Ok(arg.required(true).value_name("LABEL")),
         Form::Pattern => Ok(arg.required(true).value_name("PATTERN")),
+        Form::Folder => Ok(arg.required(true).value_name("FOLDER")),
         Form::Labels => Ok(
             arg.required(true)
                 .value_name("LABEL")

@@ -43,7 +43,8 @@ pub use node_question::{LabelQuestion, NodeQuestion};
 pub use offered::Offered;
 pub use play_line::PlayLine;
 pub use request::{
-    Asked, PicturedSteps, ProofForm, ProofQuestion, Question, Request, Serving, WordsFault,
+    Asked, PicturedSteps, ProofForm, ProofQuestion, Question, Request, Serving, SiteQuestion,
+    WordsFault,
 };
 pub use script::{LINE_FEED, Line, LineFault, ScriptFault, parse_script};
 pub use script_help::{SERVE_LINES, first_word, wanted_line};

@@ -16,6 +16,8 @@ pub enum Request<'a> {
     },
     /// A question about a database.
     Ask(Asked<'a>),
+    /// `pages`: a site of a database.
+    Pages(SiteQuestion<'a>),
     /// `play`: a script drives nodes, event by event.
     Play {
         weights: Weights,
@@ -54,6 +56,17 @@ pub struct PicturedSteps {
 #[derive(Drop)]
 pub struct Asked<'a> {
     pub question: Question<'a>,
+    /// `--name`: what stands before each place.
+    pub name: Option<&'a str>,
+    /// `--assume`: each `$p` that is not proved is taken as a `$a`.
+    pub assumes: bool,
+}
+
+/// The site of a database that is wanted, and how the database is taken.
+#[derive(Clone, Copy)]
+pub struct SiteQuestion<'a> {
+    /// The path of the folder that the pages are written into.
+    pub folder: &'a str,
     /// `--name`: what stands before each place.
     pub name: Option<&'a str>,
     /// `--assume`: each `$p` that is not proved is taken as a `$a`.

@@ -2,7 +2,8 @@
 //! `program` says what it does.
 #![tactic(auto)]
 
-use program::{Fault, print, run};
+use folders::SystemFolder;
+use program::{Fault, print, run_with};
 use std::alloc::{AllocError, Global};
 use std::process::ExitCode;
 use std::{env, io};
@@ -12,12 +13,13 @@ fn main(rt: HostRuntime) -> ExitCode {
     let mut faults = rt.stderr();
     let status = match arguments(&rt) {
         Ok(arguments) => match as_words(rt.alloc(), arguments.as_slice()) {
-            Ok(words) => run(
+            Ok(words) => run_with(
                 &rt,
                 words.as_slice(),
                 &mut rt.stdin(),
                 &mut output,
                 &mut faults,
+                &mut SystemFolder::new(&rt),
             ),
             Err(AllocError) => Fault::from(AllocError).print(&mut output),
         },

@@ -1,4 +1,7 @@
 //! Questions about a database whose `$p` without a right proof are taken as `$a`.
+ghost use Rattle.std.specs.Prelude.{◌≡◌};
+ghost use Rattle.library.specs.LibraryOf.{empty};
+
 use crate::databases::answer_good;
 use crate::each_proof::enter_text;
 use crate::fault::Fault;
@@ -29,21 +32,34 @@ pub fn answer_assuming<R: AllocGlobal + Threads + Sync, O: Write, F: Write>(
     output: &mut O,
     faults: &mut F,
 ) -> Result<u8, Fault> {
+    let mut library = Library::new(rt.alloc());
+    let answered = match assume_text(rt, text, &mut library, faults) {
+        Ok(Verdict::Refused(cause)) => print_refusal(rt.alloc(), text, cause, output, faults),
+        Ok(_) => answer_good(rt.alloc(), &library, text, &asked.question, output, faults),
+        Err(fault) => Err(fault),
+    };
+    forget(library);
+    answered
+}
+
+/// Adds the statements of a text to a library without entries, each `$p` that is not proved taken as
+/// a `$a`; returns the verdict. Which these are goes to `faults`. No statement of the text breaks a
+/// rule.
+pub fn assume_text<R: AllocGlobal + Threads + Sync, F: Write>(
+    rt: &R,
+    text: NamedText<'_>,
+    library: &mut Library,
+    faults: &mut F,
+) -> Result<Verdict, Fault>
+    requires { library.old.replica ≡ empty }
+{
     let entered = enter_text(rt.alloc(), text)?;
     let workers = Workers::offered(rt);
     let unproved = entered.unproved(rt, workers)?;
     if let Ok(line) = assumed_line(rt.alloc(), &entered, unproved.as_slice()) {
         let _ = print(faults, line.as_slice());
     }
-    let mut library = Library::new(rt.alloc());
-    let verdict = entered.assume_into(rt, &mut library, unproved.as_slice(), workers);
-    let answered = match verdict {
-        Ok(Verdict::Refused(cause)) => print_refusal(rt.alloc(), text, cause, output, faults),
-        Ok(_) => answer_good(rt.alloc(), &library, text, &asked.question, output, faults),
-        Err(error) => Err(Fault::from(error)),
-    };
-    forget(library);
-    answered
+    Ok(entered.assume_into(rt, library, unproved.as_slice(), workers)?)
 }
 
 /// Returns the line that tells how many theorems are taken as axioms, and the labels of the first.

@@ -81,7 +81,7 @@ fn ask_library<R: AllocGlobal + Threads + Sync, O: Write, F: Write>(
 }
 
 /// Returns the verdict on the text as the first entry of an author.
-fn judge<R: Threads + Sync>(
+pub fn judge<R: Threads + Sync>(
     rt: &R,
     library: &mut Library,
     text: &Bytes,

@@ -4,7 +4,7 @@
 //! command ends without its answer, and the line that says so), `streams` (reading and printing),
 //! `named_text`; `databases` (a database that is read and judged), `answers` (the one place that
 //! answers a question about a library), `proofs` (the steps of a proof), `searches` (assertions that
-//! are sought), `shown` (statements as blocks), `each_proof` (every `$p` judged by itself), `assumed`
+//! are sought), `shown` (statements as blocks), `pages` (a site), `each_proof` (every `$p` judged by itself), `assumed`
 //! (what is not proved taken as axioms), `refused_texts` and `refused_questions` (why there is no
 //! answer); `scripts` (the lines of a script, answered one by one), `node_answers` (about the
 //! library of a node), `why` (an entry is refused there), `play`, `pictured`; `served_weather`,
@@ -20,6 +20,7 @@ mod each_proof;
 mod fault;
 mod named_text;
 mod node_answers;
+mod pages;
 mod pictured;
 mod play;
 mod proofs;
@@ -35,6 +36,6 @@ mod shown;
 mod streams;
 mod why;
 
-pub use command_line::run;
+pub use command_line::{run, run_with};
 pub use fault::Fault;
 pub use streams::print;

@@ -1,8 +1,10 @@
 //! Whether a row holds.
 use crate::failing_streams::{FailingReader, FailingWriter};
+use crate::limited_folder::LimitedFolder;
 use crate::row::{Choice, Cut, Faults, Row, Way};
 use crate::wanted_output::{Printed, Wanted, difference, status_of};
-use program::run;
+use folders::MemoryFolder;
+use program::run_with;
 use std::alloc::{AllocError, Global};
 use std::fmt::Display;
 use std::io::Read;
@@ -109,7 +111,9 @@ impl<'a, 'w, R: AllocGlobal + Threads + Wait + Copy + Send + Sync + Drop + 'stat
     fn print<I: Read>(&self, input: &mut I) -> Printed {
         let mut output = Vec::new(self.rt.alloc());
         let mut faults = Vec::new(self.rt.alloc());
-        let status = run(self.rt, self.words, input, &mut output, &mut faults);
+        let mut folder = LimitedFolder::new(self.rt.alloc(), self.row.files);
+        let status = run_with(self.rt, self.words, input, &mut output, &mut faults, &mut folder);
+        let _ = push_files(&mut output, &folder.folder);
         Printed {
             output,
             faults,
@@ -203,7 +207,15 @@ impl<'a, 'w, R: AllocGlobal + Threads + Wait + Copy + Send + Sync + Drop + 'stat
         let calls = front.output.len();
         let mut writer = FailingWriter::new(alloc, calls);
         let mut faults = Vec::new(alloc);
-        let status = run(self.rt, self.words, &mut input, &mut writer, &mut faults);
+        let mut folder = MemoryFolder::new(alloc);
+        let status = run_with(
+            self.rt,
+            self.words,
+            &mut input,
+            &mut writer,
+            &mut faults,
+            &mut folder,
+        );
         let called_again = writer.called_again;
         let printed = Printed {
             output: writer.text,
@@ -213,6 +225,19 @@ impl<'a, 'w, R: AllocGlobal + Threads + Wait + Copy + Send + Sync + Drop + 'stat
         let told = write_difference(alloc, called_again, front, &printed)?;
         told_at(alloc, format_args!("{calls} writes"), &told)
     }
+}
+
+/// Appends a line with the name of each file that was written, and then their bytes.
+fn push_files(output: &mut Vec<u8>, folder: &MemoryFolder) -> Result<(), AllocError> {
+    for file in folder.files.as_slice() {
+        output.extend_from_slice(b"file ")?;
+        output.extend_from_slice(file.name.as_bytes())?;
+        output.extend_from_slice(b"\n")?;
+    }
+    for file in folder.files.as_slice() {
+        output.extend_from_slice(file.bytes.as_slice())?;
+    }
+    Ok(())
 }
 
 /// Tells how an output differs from the refusal of an input that cannot be read.

@@ -1,14 +1,16 @@
 //! Runs the rows of a folder: each is a command line, an input, and what the program prints of it.
 //!
 //! Reading order: `row` (a row), `row_texts` and `row_parser` (how it is written), `files` (the files
-//! of a folder); `failing_streams` (readers and writers that fail), `wanted_output` (whether an output
-//! is as wanted), `judging` (whether a row holds), `folder` (`run_files`).
+//! of a folder); `failing_streams` (readers and writers that fail), `limited_folder` (a folder that
+//! does), `wanted_output` (whether an output is as wanted), `judging` (whether a row holds), `folder`
+//! (`run_files`).
 #![tactic(auto)]
 
 mod failing_streams;
 mod files;
 mod folder;
 mod judging;
+mod limited_folder;
 mod row;
 mod row_parser;
 mod row_texts;

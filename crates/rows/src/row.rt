@@ -17,6 +17,8 @@ pub struct Row {
     /// `None` means 1 if a line of the output begins with `refused`, else 0.
     pub status: Option<u8>,
     pub way: Way,
+    /// How many calls of the folder of `pages` are answered, if not all.
+    pub files: Option<u64>,
     /// The outputs of the input that is cut.
     pub cuts: Vec<Cut>,
 }

@@ -62,6 +62,7 @@ fn new_row(alloc: Global, sentence: &str) -> Result<Row, AllocError> {
         faults: Faults::Unsaid,
         status: None,
         way: Way::Whole,
+        files: None,
         cuts: Vec::new(alloc),
     })
 }
@@ -73,6 +74,7 @@ fn read_more(alloc: Global, row: &mut Row, line: &str) -> Result<(), RowFault> {
         "run" => add_command(alloc, row, text),
         "status" => set_status(row, text),
         "lines" => set_lines(row, text),
+        "files" => set_files(row, text),
         "cut" => set_way(row, Way::Cut, text, ""),
         "reads" if text == "none" => set_way(row, Way::NoReads, text, "none"),
         "reads" => set_way(row, Way::FailingReads, text, "fail"),
@@ -105,6 +107,11 @@ fn set_status(row: &mut Row, text: &str) -> Result<(), RowFault> {
 
 fn set_lines(row: &mut Row, text: &str) -> Result<(), RowFault> {
     row.lines = Some(parse_number(text.as_bytes()).ok_or(RowFault::Bad)?);
+    Ok(())
+}
+
+fn set_files(row: &mut Row, text: &str) -> Result<(), RowFault> {
+    row.files = Some(parse_number(text.as_bytes()).ok_or(RowFault::Bad)?);
     Ok(())
 }
 

@@ -1,0 +1,152 @@
+//! The command `pages`: a site of a database.
+ghost use Rattle.std.specs.Prelude.{◌≡◌};
+ghost use Rattle.library.specs.LibraryOf.{empty};
+
+use crate::assumed::assume_text;
+use crate::databases::judge;
+use crate::fault::Fault;
+use crate::named_text::NamedText;
+use crate::refused_texts::print_refusal;
+use crate::streams::{print, read_text};
+use bytes::Bytes;
+use commands::SiteQuestion;
+use folders::Folder;
+use library::{Cause, Library, Verdict};
+use sites::{Site, SiteFault, write_site};
+use std::alloc::{AllocError, Global};
+use std::io::{Read, Write};
+use std::mem::forget;
+use std::thread::Threads;
+
+/// Writes a page of each assertion of a database into the folder that is asked for, a list of them
+/// and a style sheet; returns the exit status. The reason of a refusal goes to `faults`, and so does
+/// how many of many pages are written.
+///
+/// The library is left to the end of the process, which frees all of it at once.
+pub fn print_pages<R: AllocGlobal + Threads + Sync, I: Read, O: Write, F: Write, S: Folder>(
+    rt: &R,
+    asked: SiteQuestion<'_>,
+    input: &mut I,
+    output: &mut O,
+    faults: &mut F,
+    folder: &mut S,
+) -> Result<u8, Fault> {
+    let text = Bytes::from_vec(read_text(rt.alloc(), input)?)?;
+    let mut library = Library::new(rt.alloc());
+    let streams = Streams { output, faults };
+    let answered = judge_and_print(rt, asked, &text, &mut library, streams, folder);
+    forget(library);
+    answered
+}
+
+/// Where the answer goes, and the reasons.
+struct Streams<'a, O, F> {
+    output: &'a mut O,
+    faults: &'a mut F,
+}
+
+/// Adds a text to an empty library, and writes the pages of that.
+fn judge_and_print<R: AllocGlobal + Threads + Sync, O: Write, F: Write, S: Folder>(
+    rt: &R,
+    asked: SiteQuestion<'_>,
+    bytes: &Bytes,
+    library: &mut Library,
+    streams: Streams<'_, O, F>,
+    folder: &mut S,
+) -> Result<u8, Fault> {
+    let text = NamedText {
+        name: asked.name,
+        bytes: bytes.as_slice(),
+    };
+    match judge(rt, library, bytes)? {
+        Verdict::Refused(cause) => print_refused(rt, asked, text, cause, streams, folder),
+        _ => print_site(rt.alloc(), library, text.bytes, asked.folder, streams, folder),
+    }
+}
+
+/// Writes the pages of a text that is refused, each `$p` that is not proved taken as a `$a`, if that
+/// is asked for; else prints the refusal.
+fn print_refused<R: AllocGlobal + Threads + Sync, O: Write, F: Write, S: Folder>(
+    rt: &R,
+    asked: SiteQuestion<'_>,
+    text: NamedText<'_>,
+    cause: Cause,
+    streams: Streams<'_, O, F>,
+    folder: &mut S,
+) -> Result<u8, Fault> {
+    let is_unproved = matches!(cause, Cause::Proof { .. } | Cause::Unfinished { .. });
+    if !is_unproved || !asked.assumes {
+        let Streams { output, faults } = streams;
+        return print_refusal(rt.alloc(), text, cause, output, faults);
+    }
+    let mut library = Library::new(rt.alloc());
+    let answered = assume_and_print(rt, asked, text, &mut library, streams, folder);
+    forget(library);
+    answered
+}
+
+/// Adds a text to an empty library, each `$p` that is not proved taken as a `$a`, and writes the pages of
+/// that.
+fn assume_and_print<R: AllocGlobal + Threads + Sync, O: Write, F: Write, S: Folder>(
+    rt: &R,
+    asked: SiteQuestion<'_>,
+    text: NamedText<'_>,
+    library: &mut Library,
+    streams: Streams<'_, O, F>,
+    folder: &mut S,
+) -> Result<u8, Fault>
+    requires { library.old.replica ≡ empty }
+{
+    let Streams { output, faults } = streams;
+    match assume_text(rt, text, library, faults)? {
+        Verdict::Refused(cause) => print_refusal(rt.alloc(), text, cause, output, faults),
+        _ => {
+            let streams = Streams { output, faults };
+            print_site(rt.alloc(), library, text.bytes, asked.folder, streams, folder)
+        }
+    }
+}
+
+/// Writes the files of the site of a library that was read from a text, and returns the exit status. The
+/// name of a file that cannot be written goes to the faults, and so does how many of many pages are
+/// written.
+fn print_site<O: Write, F: Write, S: Folder>(
+    alloc: Global,
+    library: &Library,
+    text: &[u8],
+    path: &str,
+    streams: Streams<'_, O, F>,
+    folder: &mut S,
+) -> Result<u8, Fault> {
+    let Streams { output, faults } = streams;
+    let site = Site { text, library };
+    match write_site(alloc, &site, path, folder, faults) {
+        Ok(()) => Ok(0),
+        Err(SiteFault::Memory) => Err(Fault::Memory(AllocError)),
+        Err(SiteFault::Folder) => {
+            print(output, b"refused Output\n")?;
+            let _ = tell_folder(faults, path);
+            Ok(1)
+        }
+        Err(SiteFault::File(name)) => {
+            print(output, b"refused Output\n")?;
+            let _ = tell_file(faults, path, name.as_slice());
+            Ok(1)
+        }
+    }
+}
+
+/// Prints which folder cannot be opened.
+fn tell_folder<F: Write>(faults: &mut F, path: &str) -> Result<(), Fault> {
+    faults.write_all(b"the folder ")?;
+    faults.write_all(path.as_bytes())?;
+    print(faults, b" cannot be opened\n")
+}
+
+/// Prints which file of a folder cannot be written.
+fn tell_file<F: Write>(faults: &mut F, path: &str, name: &[u8]) -> Result<(), Fault> {
+    faults.write_all(path.as_bytes())?;
+    faults.write_all(b"/")?;
+    faults.write_all(name)?;
+    print(faults, b" cannot be written\n")
+}

@@ -1,0 +1,6 @@
+use Rattle.std.specs.Prelude.{take}
+use Rattle.sites.specs.SiteFiles.{WritesNamed, page_names}
+use Rattle.sites.proofs.site.write_pages.Given as goal
+
+abbrev pub invariant-loop-index : goal.invariant-loop-index
+invariant-loop-index g l = WritesNamed g.S.Folder.gains l.fn.folder (page_names 1 (take l.index l.site.library.replica.statements)) l.folder

@@ -1,0 +1,115 @@
+//! The page of one assertion.
+ghost use Rattle.std.specs.Prelude.{◌≤◌, length};
+ghost use Rattle.frame.specs.FrameOf.{HasAssertion};
+ghost use Rattle.mm_read.specs.declared.stmt.Stmt.{Stmt as Statement};
+ghost use Rattle.scope.specs.Active.{bares};
+
+use crate::site::{Site, SiteFault};
+use cross_references::CrossReferences;
+use mm_lex::Span;
+use mm_read::Stmt;
+use proof_pages::{Neighbours, PageContents, ProofSteps, write_site_page};
+use std::alloc::{AllocError, Global};
+use steps::{essential_table, proof_table};
+
+/// What pages are made of.
+#[derive(Drop)]
+pub struct Contents<'a> {
+    pub site: &'a Site<'a>,
+    pub references: CrossReferences,
+    /// The places of the descriptions in the text.
+    pub descriptions: Vec<Option<Span>>,
+}
+
+/// Appends the page of the assertion at an index; nothing if the statement is none.
+pub fn push_page(
+    alloc: Global,
+    contents: &Contents<'_>,
+    index: usize,
+    page: &mut Vec<u8>,
+) -> Result<(), SiteFault> {
+    match contents.site.library.statements().get(index) {
+        Some(Stmt::Axiom { .. }) => push_axiom(alloc, contents, index + 1, page),
+        Some(Stmt::Prove { label, .. }) => push_theorem(alloc, contents, label.as_bytes(), page),
+        _ => Ok(()),
+    }
+}
+
+/// Appends the page of the `$a` at a position.
+fn push_axiom(
+    alloc: Global,
+    contents: &Contents<'_>,
+    at: usize,
+    page: &mut Vec<u8>,
+) -> Result<(), SiteFault>
+    requires { (s : Statement)
+        × HasAssertion (bares contents.now.site.now.library.now.replica.statements) at s }
+{
+    write_assertion(alloc, contents, at, None, page)
+}
+
+/// Appends the page of the `$p` with a label.
+fn push_theorem(
+    alloc: Global,
+    contents: &Contents<'_>,
+    label: &[u8],
+    page: &mut Vec<u8>,
+) -> Result<(), SiteFault> {
+    let (at, items) = contents.site.library.items(label)?;
+    let frames = contents.site.library.frames();
+    let steps = proof_table(alloc, frames, at, &items)?;
+    let essential = essential_table(alloc, frames, at, &steps)?;
+    let proof = ProofSteps {
+        steps: &steps,
+        essential: &essential,
+    };
+    write_assertion(alloc, contents, at, Some(proof), page)
+}
+
+/// Appends the page of the assertion at a position, with the steps of its proof if it has one.
+fn write_assertion(
+    alloc: Global,
+    contents: &Contents<'_>,
+    at: usize,
+    proof: Option<ProofSteps<'_>>,
+    page: &mut Vec<u8>,
+) -> Result<(), SiteFault>
+    requires { (s : Statement)
+        × HasAssertion (bares contents.now.site.now.library.now.replica.statements) at s }
+{
+    let index = at.saturating_sub(1);
+    let axioms = numbers_at(alloc, contents.references.axioms.as_slice(), index)?;
+    let users = numbers_at(alloc, contents.references.users.as_slice(), index)?;
+    let library = contents.site.library;
+    let assertion = PageContents {
+        statements: library.statements(),
+        frames: library.frames(),
+        at,
+        proof,
+        neighbours: Neighbours {
+            axioms: axioms.as_slice(),
+            users: users.as_slice(),
+            description: described(contents, index),
+        },
+    };
+    Ok(write_site_page(alloc, page, &assertion)?)
+}
+
+/// Returns the positions of the list at an index; none if there is no list.
+fn numbers_at(alloc: Global, lists: &[Vec<usize>], index: usize) -> Result<Vec<u32>, AllocError> {
+    let mut numbers = Vec::new(alloc);
+    if let Some(list) = lists.get(index) {
+        for position in list {
+            numbers.push(u32::try_from(*position).map_err(|_| AllocError)?)?;
+        }
+    }
+    Ok(numbers)
+}
+
+/// Returns the description of the statement at an index, if it has one.
+fn described<'a>(contents: &'a Contents<'a>, index: usize) -> Option<&'a [u8]> {
+    let Some(Some(span)) = contents.descriptions.as_slice().get(index) else {
+        return None;
+    };
+    contents.site.text.get(span.start..span.end)
+}

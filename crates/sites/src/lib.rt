@@ -1,0 +1,10 @@
+//! The files of a site: a page for each assertion of a library, a list of them, and a style sheet.
+//!
+//! Reading order: `assertion_page` (one page), `progress` (how many are written), `site` (`write_site`).
+#![tactic(auto)]
+
+mod assertion_page;
+mod progress;
+mod site;
+
+pub use site::{Site, SiteFault, write_site};

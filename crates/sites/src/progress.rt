@@ -1,0 +1,54 @@
+//! How many of many pages are written.
+use numbers::push_number;
+use std::alloc::{AllocError, Global};
+use std::io::Write;
+
+/// From how many pages on it is told how many are written.
+const MANY: u64 = 5_000;
+
+/// Prints how many pages are written, at each tenth of many.
+pub fn note_progress<F: Write>(alloc: Global, faults: &mut F, written: u64, all: u64) {
+    let tenth = all / 10;
+    if all < MANY || tenth == 0 || written % tenth != 0 || written == all {
+        return;
+    }
+    let mut line = Vec::new(alloc);
+    if push_progress(&mut line, written, all).is_ok() {
+        let _ = faults.write_all(line.as_slice());
+    }
+}
+
+/// Appends `N of M pages`.
+fn push_progress(line: &mut Vec<u8>, written: u64, all: u64) -> Result<(), AllocError> {
+    push_grouped(line, written)?;
+    line.extend_from_slice(b" of ")?;
+    push_grouped(line, all)?;
+    line.extend_from_slice(b" pages\n")
+}
+
+/// Appends a number of at most six digits, a comma between its thousands and its last three digits.
+fn push_grouped(line: &mut Vec<u8>, number: u64) -> Result<(), AllocError> {
+    if number < 1_000 {
+        return push_number(line, number);
+    }
+    push_grouped_front(line, number / 1_000)?;
+    line.extend_from_slice(b",")?;
+    push_three(line, number % 1_000)
+}
+
+/// Appends the number of the thousands.
+fn push_grouped_front(line: &mut Vec<u8>, thousands: u64) -> Result<(), AllocError> {
+    if thousands < 1_000 {
+        return push_number(line, thousands);
+    }
+    push_number(line, thousands / 1_000)?;
+    line.extend_from_slice(b",")?;
+    push_three(line, thousands % 1_000)
+}
+
+/// Appends the last three digits of a number.
+fn push_three(line: &mut Vec<u8>, number: u64) -> Result<(), AllocError> {
+    push_number(line, number / 100 % 10)?;
+    push_number(line, number / 10 % 10)?;
+    push_number(line, number % 10)
+}

@@ -1,0 +1,185 @@
+//! The files of a site.
+ghost use Rattle.std.specs.Prelude.{◌≡◌, ℕ, ◌+◌, ◌<◌, ◌∷◌, [], length, get_or, option_map, codes, OnOk};
+ghost use Rattle.mm_read.specs.declared.stmt.Stmt.TheVariants.{Open};
+ghost use Rattle.sites.specs.SiteFiles.{WritesNamed, named_page, page_name, page_names, site_names};
+
+use crate::assertion_page::{Contents, push_page};
+use crate::progress::note_progress;
+use cross_references::cross_references;
+use file_names::{INDEX, STYLE, push_file_name};
+use folders::{Folder, FolderFault};
+use library::{AskFault, Library};
+use mm_lex::Word;
+use mm_read::Stmt;
+use places::descriptions;
+use proof_pages::{WriteFault, style_sheet, write_index};
+use std::alloc::{AllocError, Global};
+use std::io::Write;
+use std::str::from_utf8;
+
+/// A library, and the text that it was read from.
+#[derive(Drop)]
+pub struct Site<'a> {
+    /// The descriptions stand in it.
+    pub text: &'a [u8],
+    pub library: &'a Library,
+}
+
+/// Why a site is not written to its end.
+#[derive(Debug, Drop, PartialEq, Eq)]
+pub enum SiteFault {
+    /// An allocation failed.
+    Memory,
+    /// The folder cannot be opened.
+    Folder,
+    /// The file with this name cannot be written.
+    File(Vec<u8>),
+}
+
+impl From<AllocError> for SiteFault {
+    fn from(_error: AllocError) -> SiteFault {
+        SiteFault::Memory
+    }
+}
+
+impl From<WriteFault> for SiteFault {
+    fn from(_fault: WriteFault) -> SiteFault {
+        SiteFault::Memory
+    }
+}
+
+impl From<AskFault> for SiteFault {
+    fn from(_fault: AskFault) -> SiteFault {
+        SiteFault::Memory
+    }
+}
+
+/// Writes the style sheet, a page for each assertion and the list of them into the folder at a path. How
+/// many of many pages are written goes to `faults`.
+///
+/// Errors: `Memory`; `Folder`, `File`, after which the files before it are written. Cost: that of
+/// `cross_references`, of each proof's steps, and the bytes written; one page is held back.
+pub fn write_site<F: Write, S: Folder>(
+    alloc: Global,
+    site: &Site<'_>,
+    path: &str,
+    folder: &mut S,
+    faults: &mut F,
+) -> Result<(), SiteFault>
+    ensures { OnOk result ((opened : S) × WritesNamed S.gains opened
+        (site_names site.now.library.now.replica.statements) folder.new) }
+{
+    open_folder(path, folder)?;
+    write_file(alloc, folder, STYLE.as_bytes(), style_sheet())?;
+    write_pages(alloc, site, folder, faults)?;
+    write_list(alloc, site.library, folder)
+}
+
+/// Opens the folder at a path.
+fn open_folder<S: Folder>(path: &str, folder: &mut S) -> Result<(), SiteFault> {
+    match folder.open(path) {
+        Ok(()) => Ok(()),
+        Err(FolderFault::Memory) => Err(SiteFault::Memory),
+        Err(FolderFault::Refused) => Err(SiteFault::Folder),
+    }
+}
+
+/// Writes the list of all assertions.
+fn write_list<S: Folder>(alloc: Global, library: &Library, folder: &mut S) -> Result<(), SiteFault>
+    ensures { OnOk result (WritesNamed S.gains folder.old (codes "index.html" ∷ []) folder.new) }
+{
+    let mut page = Vec::new(alloc);
+    write_index(alloc, &mut page, library.statements())?;
+    write_file(alloc, folder, INDEX.as_bytes(), page.as_slice())
+}
+
+/// Writes a file of the folder.
+fn write_file<S: Folder>(
+    alloc: Global,
+    folder: &mut S,
+    name: &[u8],
+    bytes: &[u8],
+) -> Result<(), SiteFault>
+    ensures { OnOk result (WritesNamed S.gains folder.old (name.now ∷ []) folder.new) }
+{
+    let Ok(text) = from_utf8(name) else {
+        return Err(SiteFault::File(Vec::from_slice(alloc, name)?));
+    };
+    match folder.write(text, bytes) {
+        Ok(()) => Ok(()),
+        Err(FolderFault::Memory) => Err(SiteFault::Memory),
+        Err(FolderFault::Refused) => Err(SiteFault::File(Vec::from_slice(alloc, name)?)),
+    }
+}
+
+/// Writes a page of each assertion.
+fn write_pages<F: Write, S: Folder>(
+    alloc: Global,
+    site: &Site<'_>,
+    folder: &mut S,
+    faults: &mut F,
+) -> Result<(), SiteFault>
+    ensures { OnOk result (WritesNamed S.gains folder.old
+        (page_names 1 site.now.library.now.replica.statements) folder.new) }
+{
+    let contents = Contents {
+        site,
+        references: cross_references(alloc, site.library)?,
+        descriptions: descriptions(alloc, site.text)?,
+    };
+    let statements = site.library.statements();
+    let all = count_of_assertions(statements);
+    let mut written = 0u64;
+    for index in 0..statements.len() {
+        if write_page(alloc, &contents, index, folder)? {
+            written = written.saturating_add(1);
+            note_progress(alloc, faults, written, all);
+        }
+    }
+    Ok(())
+}
+
+/// Writes the page of the assertion at an index; returns whether there is one.
+fn write_page<S: Folder>(
+    alloc: Global,
+    contents: &Contents<'_>,
+    index: usize,
+    folder: &mut S,
+) -> Result<bool, SiteFault>
+    requires { index < length contents.now.site.now.library.now.replica.statements }
+    ensures { OnOk result (WritesNamed S.gains folder.old
+        (page_name (index + 1) (get_or contents.now.site.now.library.now.replica.statements index Open))
+        folder.new) }
+{
+    let Some(label) = label_of(&contents.site.library.statements()[index]) else {
+        return Ok(false);
+    };
+    let mut page = Vec::new(alloc);
+    push_page(alloc, contents, index, &mut page)?;
+    let mut name = Vec::new(alloc);
+    push_file_name(&mut name, label.as_bytes(), index + 1)?;
+    write_file(alloc, folder, name.as_slice(), page.as_slice())?;
+    Ok(true)
+}
+
+/// Returns the label of an assertion; `None` if the statement is none.
+fn label_of(statement: &Stmt) -> Option<&Word>
+    ensures { (at : ℕ) → page_name at statement.now ≡ named_page at (option_map (λ label. label.now) result) }
+{
+    match statement {
+        Stmt::Axiom { label, .. } => Some(label),
+        Stmt::Prove { label, .. } => Some(label),
+        _ => None,
+    }
+}
+
+/// Returns how many of the statements are assertions.
+fn count_of_assertions(statements: &[Stmt]) -> u64 {
+    let mut count = 0u64;
+    for statement in statements {
+        if label_of(statement).is_some() {
+            count = count.saturating_add(1);
+        }
+    }
+    count
+}
