@@ -84,6 +84,11 @@ verdict_text Nothing = codes "nothing"
 verdict_text Repeat = codes "repeat"
 verdict_text (Refused cause) = codes "refused " ++ cause_text cause
 
+-- a verdict, or a word where nothing was decided
+abbrev pub decided_text : Option Verdict → List ℕ → List ℕ
+decided_text None undecided = undecided
+decided_text (Some verdict) undecided = verdict_text verdict
+
 -- a log, on one line
 abbrev pub logged_text : Option Entry → List ℕ
 logged_text entry = codes " " ++ entry_text entry

@@ -3,7 +3,7 @@ ghost use Rattle.std.specs.Prelude.{◌≡◌, ◌++◌, codes, decimal, flat_ma
 ghost use Rattle.mm_read.specs.Statements.{AreShaped};
 ghost use Rattle.mm_read.specs.Export.{export_of};
 ghost use Rattle.library.specs.Listed.{listed};
-ghost use Rattle.printed.specs.Printed.{log_text, listed_text, list_text, export_text};
+ghost use Rattle.printed.specs.Printed.{decided_text, log_text, listed_text, list_text, export_text};
 
 use crate::packets::push_entry;
 use crate::verdict_text::push_verdict;
@@ -22,17 +22,32 @@ pub fn push_posted(text: &mut Vec<u8>, posted: u64) -> Result<(), AllocError>
     text.extend_from_slice(b"\n")
 }
 
-/// Appends the verdict, or a word if nothing was decided.
+/// Appends the verdict, or a word if nothing was decided, and a line feed.
 pub fn push_decided(
     text: &mut Vec<u8>,
     verdict: Option<Verdict>,
     undecided: &[u8],
-) -> Result<(), AllocError> {
-    match verdict {
-        Some(verdict) => push_verdict(text, verdict)?,
-        None => text.extend_from_slice(undecided)?,
-    }
+) -> Result<(), AllocError>
+    ensures { OnOk result (text.new.items
+        ≡ text.old.items ++ (decided_text verdict undecided.now ++ codes "\n")) }
+{
+    push_verdict_or(text, verdict, undecided)?;
     text.extend_from_slice(b"\n")
+}
+
+/// Appends the verdict, or a word if nothing was decided.
+fn push_verdict_or(
+    text: &mut Vec<u8>,
+    verdict: Option<Verdict>,
+    undecided: &[u8],
+) -> Result<(), AllocError>
+    ensures { OnOk result (text.new.items
+        ≡ text.old.items ++ decided_text verdict undecided.now) }
+{
+    match verdict {
+        Some(verdict) => push_verdict(text, verdict),
+        None => text.extend_from_slice(undecided),
+    }
 }
 
 /// Appends a log: each entry, or `idle` for a no-operation.

@@ -1,4 +1,9 @@
 //! The answers to questions about a library.
+ghost use Rattle.std.specs.Prelude.{◌≡◌, IfOk};
+ghost use Rattle.library.specs.Queries.{IsTreeOf};
+ghost use Rattle.verify.specs.Derivations.{Derivation};
+ghost use Rattle.printed.specs.Trees.{tree_lines};
+
 use crate::fault::Fault;
 use crate::named_text::NamedText;
 use crate::proofs::write_proof;
@@ -110,7 +115,11 @@ fn list(alloc: Global, library: &Library) -> Result<Vec<u8>, AllocError> {
 }
 
 /// Returns a line for each node of the derivation of a `$p`.
-fn tree(alloc: Global, library: &Library, label: &[u8]) -> Result<Vec<u8>, Fault> {
+pub fn tree(alloc: Global, library: &Library, label: &[u8]) -> Result<Vec<u8>, Fault>
+    ensures { IfOk result (λ lines. (t : Derivation)
+        × IsTreeOf library.now.replica.statements label.now t
+        × (lines.items ≡ tree_lines library.now.replica.statements 0 t)) }
+{
     let tree = library.tree(label)?;
     let mut lines = Vec::new(alloc);
     push_tree(&mut lines, library.statements(), &tree, 0)?;

@@ -1,5 +1,5 @@
 //! Answers about what a node has, at a desk of the nodes that `serve` starts.
-ghost use Rattle.std.specs.Prelude.{◌≡◌, ◌++◌, ◌≤◌, List, Err, IfOk, OnOk, codes, flat_map};
+ghost use Rattle.std.specs.Prelude.{◌≡◌, ◌++◌, ◌≤◌, ℕ, List, Err, IfOk, OnOk, codes, flat_map};
 ghost use Rattle.cluster.specs.Cell.{Cell};
 ghost use Rattle.net.specs.declared.event.Event.{Event as TakenEvent};
 ghost use Rattle.world.specs.declared.carried.Carried.{Carried as TakenEntry};
@@ -9,6 +9,7 @@ ghost use Rattle.printed.specs.Counted.{carried_text};
 ghost use Rattle.printed.specs.Printed.{export_text};
 ghost use Rattle.printed.specs.States.{state_text};
 ghost use Rattle.event_lines.specs.EventLines.{history_text};
+ghost use Rattle.program.specs.Answers.{IsLabelAnswer};
 
 use crate::fault::Fault;
 use crate::node_answers::{ahead_line, label_answer};
@@ -64,7 +65,11 @@ impl<R: Wait> Asked<'_, R> {
     }
 
     /// Appends the answer to a question about a label of a node's library.
-    pub fn push_label_answer(&self, asked: &NodeQuestion, text: &mut Vec<u8>) -> Result<(), Fault> {
+    pub fn push_label_answer(&self, asked: &NodeQuestion, text: &mut Vec<u8>) -> Result<(), Fault>
+        ensures { OnOk result ((cell : Cell) × IsCellAt asked.now.node cell × (answer : List ℕ)
+            × IsLabelAnswer cell.node.library.statements asked.now.kind asked.now.label answer
+            × (text.new.items ≡ text.old.items ++ answer)) }
+    {
         let alloc = self.alloc;
         let made = self.desk.ask(self.rt, asked.node, |cell| {
             label_answer(alloc, cell.library(), asked)

@@ -1,14 +1,18 @@
 //! Answers about the library of a node, which `play` and `serve` share.
-ghost use Rattle.std.specs.Prelude.{◌≡◌, ◌↔◌, ◌<◌, length};
+ghost use Rattle.std.specs.Prelude.{◌≡◌, ◌↔◌, ◌<◌, length, IfOk};
 ghost use Rattle.cluster.specs.declared.compare.Ahead.TheVariants.{First, Same, Second};
+ghost use Rattle.commands.specs.declared.node_question.LabelQuestion.TheVariants.{Trace, Tree, Usage};
+ghost use Rattle.printed.specs.Counted.{counted_text};
+ghost use Rattle.program.specs.Answers.{IsLabelAnswer, labels_text};
 
-use crate::answers::write_answer;
+use crate::answers::{tree, write_answer};
 use crate::fault::Fault;
 use crate::named_text::NamedText;
 use cluster::Ahead;
 use commands::{LabelQuestion, NodeQuestion};
 use library::Library;
-use printed::push_counted;
+use mm_lex::Word;
+use printed::{push_counted, push_labels};
 use std::alloc::{AllocError, Global};
 
 /// Returns the answer to a question about a label: its word, the count of its lines, and the lines
@@ -16,6 +20,69 @@ use std::alloc::{AllocError, Global};
 ///
 /// Errors: those of the question; `Memory` if an allocation fails.
 pub fn label_answer(
+    alloc: Global,
+    library: &Library,
+    asked: &NodeQuestion,
+) -> Result<Vec<u8>, Fault>
+    ensures { IfOk result (λ text. IsLabelAnswer
+        library.now.replica.statements asked.now.kind asked.now.label text.items) }
+{
+    let label = asked.label.as_slice();
+    match asked.kind {
+        LabelQuestion::Trace => trace_answer(alloc, library, label),
+        LabelQuestion::Usage => usage_answer(alloc, library, label),
+        LabelQuestion::Tree => tree_answer(alloc, library, label),
+        LabelQuestion::Show | LabelQuestion::Proof => written_answer(alloc, library, asked),
+    }
+}
+
+/// Returns the answer to `trace`.
+fn trace_answer(alloc: Global, library: &Library, label: &[u8]) -> Result<Vec<u8>, Fault>
+    ensures { IfOk result (λ text. IsLabelAnswer
+        library.now.replica.statements Trace label.now text.items) }
+{
+    let labels = library.trace(label)?;
+    Ok(counted_labels(alloc, b"trace", labels.as_slice())?)
+}
+
+/// Returns the answer to `usage`.
+fn usage_answer(alloc: Global, library: &Library, label: &[u8]) -> Result<Vec<u8>, Fault>
+    ensures { IfOk result (λ text. IsLabelAnswer
+        library.now.replica.statements Usage label.now text.items) }
+{
+    let labels = library.usage(label, false)?;
+    Ok(counted_labels(alloc, b"usage", labels.as_slice())?)
+}
+
+/// Returns a word, the count of the labels, and a line for each.
+fn counted_labels(alloc: Global, word: &[u8], labels: &[Word]) -> Result<Vec<u8>, AllocError>
+    ensures { IfOk result (λ text. text.items ≡ labels_text word.now labels.now) }
+{
+    let mut lines = Vec::new(alloc);
+    push_labels(&mut lines, labels)?;
+    counted(alloc, word, lines.as_slice())
+}
+
+/// Returns the answer to `tree`.
+fn tree_answer(alloc: Global, library: &Library, label: &[u8]) -> Result<Vec<u8>, Fault>
+    ensures { IfOk result (λ text. IsLabelAnswer
+        library.now.replica.statements Tree label.now text.items) }
+{
+    let lines = tree(alloc, library, label)?;
+    Ok(counted(alloc, b"tree", lines.as_slice())?)
+}
+
+/// Returns a word, the count of the lines, and the lines.
+fn counted(alloc: Global, word: &[u8], lines: &[u8]) -> Result<Vec<u8>, AllocError>
+    ensures { IfOk result (λ text. text.items ≡ counted_text word.now lines.now) }
+{
+    let mut text = Vec::new(alloc);
+    push_counted(&mut text, word, lines)?;
+    Ok(text)
+}
+
+/// Returns the answer to a question of which the database command writes the lines.
+fn written_answer(
     alloc: Global,
     library: &Library,
     asked: &NodeQuestion,
@@ -33,9 +100,7 @@ pub fn label_answer(
         Err(fault) => return Err(fault),
         Ok(()) => {}
     }
-    let mut answer = Vec::new(alloc);
-    push_counted(&mut answer, asked.kind.verb(), lines.as_slice())?;
-    Ok(answer)
+    Ok(counted(alloc, asked.kind.verb(), lines.as_slice())?)
 }
 
 /// Returns the text in which the places of the statements are told, if the question tells places:

@@ -1,13 +1,9 @@
 //! The command `show`: statements as blocks of lines.
-ghost use Rattle.std.specs.Prelude.{◌≤◌};
-ghost use Rattle.std.specs.List.{All};
-ghost use Rattle.mm_lex.specs.Tokens.{IsWordAt};
-
 use crate::fault::Fault;
 use crate::named_text::NamedText;
 use library::{AskFault, Library};
 use mm_lex::{Span, tokens};
-use places::{Position, descriptions, line_and_column, place_within};
+use places::{Position, descriptions, line_and_column};
 use statement_blocks::{Shown, push_block};
 use std::alloc::{AllocError, Global};
 
@@ -19,8 +15,8 @@ struct Written<'a> {
     text: &'a [u8],
     /// The places of its tokens.
     spans: &'a [Span],
-    /// The places of the descriptions.
-    descriptions: &'a [Option<Span>],
+    /// The index of the first token of each statement.
+    firsts: &'a [usize],
 }
 
 /// Returns the block of the statement of each label, with an empty line between two.
@@ -36,12 +32,12 @@ pub fn blocks(
     let Ok(spans) = tokens(alloc, text.bytes) else {
         return Err(Fault::Memory(AllocError));
     };
-    let descriptions = descriptions(alloc, text.bytes)?;
+    let firsts = first_tokens(alloc, text.bytes, spans.as_slice())?;
     let written = Written {
         name: text.name,
         text: text.bytes,
         spans: spans.as_slice(),
-        descriptions: descriptions.as_slice(),
+        firsts: firsts.as_slice(),
     };
     let mut blocks = Vec::new(alloc);
     for at in positions.as_slice() {
@@ -65,6 +61,19 @@ fn positions(alloc: Global, library: &Library, labels: &[&str]) -> Result<Vec<us
     Ok(positions)
 }
 
+/// Returns the index of the first token of each statement, among the tokens of a text.
+fn first_tokens(alloc: Global, text: &[u8], spans: &[Span]) -> Result<Vec<usize>, AllocError> {
+    let mut firsts = Vec::new(alloc);
+    let mut begins = true;
+    for (i, span) in spans.iter().enumerate() {
+        if begins {
+            firsts.push(i)?;
+        }
+        begins = is_last(text.get(span.start..span.end));
+    }
+    Ok(firsts)
+}
+
 /// Appends the block of the statement at a position, if one stands there.
 fn push_shown(
     alloc: Global,
@@ -72,20 +81,23 @@ fn push_shown(
     library: &Library,
     written: &Written<'_>,
     at: usize,
-) -> Result<(), AllocError>
-    requires { All (IsWordAt written.now.text.now) written.now.spans.now }
-{
+) -> Result<(), AllocError> {
     let statements = library.statements();
     if at == 0 || at > statements.len() {
         return Ok(());
     }
+    let Some(first) = written.firsts.get(at - 1).copied() else {
+        return Ok(());
+    };
+    let part = with_comments(written, first);
+    let descriptions = descriptions(alloc, part)?;
     let shown = Shown {
         statements,
         frames: library.frames(),
         statement: &statements[at - 1],
         at,
-        place: position(written, at),
-        description: description(written, at),
+        place: position(written, first),
+        description: first_description(part, descriptions.as_slice()),
     };
     if let Some(name) = written.name {
         blocks.extend_from_slice(name.as_bytes())?;
@@ -94,23 +106,46 @@ fn push_shown(
     push_block(alloc, blocks, &shown)
 }
 
-/// Returns where the first token of a statement stands.
-fn position(written: &Written<'_>, at: usize) -> Position
-    requires words { All (IsWordAt written.now.text.now) written.now.spans.now }
-    requires some { 1 ≤ at }
-{
-    let offset = match place_within(written.text, written.spans, at, 1) {
+/// Returns where the token of this index stands.
+fn position(written: &Written<'_>, token: usize) -> Position {
+    let offset = match written.spans.get(token) {
         Some(span) => span.start.min(written.text.len()),
         None => 0,
     };
     line_and_column(written.text, offset)
 }
 
-/// Returns the description of a statement.
-fn description<'a>(written: &Written<'a>, at: usize) -> Option<&'a [u8]> {
-    let Some(place) = written.descriptions.get(at.checked_sub(1)?) else {
-        return None;
+/// Returns the text of the statement that begins with the token of this index, with all comments
+/// between the statement before and it. Read alone, the part has the same description.
+fn with_comments<'a>(written: &Written<'a>, token: usize) -> &'a [u8] {
+    let begin = match token.checked_sub(1) {
+        Some(before) => written.spans.get(before).map_or(0, |span| span.end),
+        None => 0,
     };
-    let span = (*place)?;
-    written.text.get(span.start..span.end)
+    let mut end = begin;
+    for span in written.spans.iter().skip(token) {
+        end = span.end;
+        if is_last(written.text.get(span.start..span.end)) {
+            break;
+        }
+    }
+    written.text.get(begin..end).unwrap_or(b"")
+}
+
+/// Tells whether the statement of this word does not go on after it.
+fn is_last(word: Option<&[u8]>) -> bool {
+    match word {
+        Some(word) => word == b"$.".as_slice()
+            || word == b"${".as_slice()
+            || word == b"$}".as_slice(),
+        None => true,
+    }
+}
+
+/// Returns the first of these places in a text, if the first statement has a description.
+fn first_description<'a>(text: &'a [u8], places: &[Option<Span>]) -> Option<&'a [u8]> {
+    match places.first() {
+        Some(Some(span)) => text.get(span.start..span.end),
+        _ => None,
+    }
 }

@@ -1,9 +1,10 @@
 //! The statements of a text, with their frames.
-ghost use Rattle.std.specs.Prelude.{◌≡◌, ◌≤◌, [], length, Ok, true, IfOk, IfSome};
+ghost use Rattle.std.specs.Prelude.{◌≡◌, ◌≤◌, ℕ, [], length, Ok, Some, None, IfOk, IfSome};
 ghost use Rattle.std.specs.List.{All};
 ghost use Rattle.mm_read.specs.Reads.{Reads};
 ghost use Rattle.mm_read.specs.Statements.{AreShaped};
 ghost use Rattle.scope.specs.Active.{bares};
+ghost use Rattle.scope.specs.Legal.{AllLegal};
 ghost use Rattle.library.specs.LibraryOf.{empty};
 ghost use Rattle.library.specs.declared.verdict.Verdict.TheVariants.{Added};
 ghost use Rattle.unproved.specs.Unproved.{AreUnproved, CauseAt, IsWithin, as_axiom, assumed};
@@ -47,12 +48,12 @@ impl Entered {
     /// Source: Metamath, chapter 4.
     pub fn new(alloc: Global, statements: Vec<Stmt>) -> Result<Option<Entered>, AllocError>
         requires { AreShaped statements.items }
-        ensures { IfOk result (λ entered. IfSome entered (λ e. e ≡ statements.items)) }
+        ensures entered { IfOk result (λ entered. IfSome entered (λ e. e ≡ statements.items)) }
+        ensures broken { result ≡ Ok None → ¬ AllLegal statements.items }
     {
         let mut rules = Rules::new(alloc);
         let mut frames = Frames::new(alloc);
-        let is_legal = enter(&mut rules, &mut frames, statements.as_slice())?;
-        if !is_legal {
+        if let Some(_broken) = enter(&mut rules, &mut frames, statements.as_slice())? {
             return Ok(None);
         }
         Ok(Some(Entered {
@@ -211,20 +212,27 @@ fn assume(statement: &mut Stmt)
     };
 }
 
-/// Adds the statements to rules and frames that have none; false if one of them is not legal.
-fn enter(rules: &mut Rules, frames: &mut Frames, statements: &[Stmt]) -> Result<bool, AllocError>
+/// Adds the statements to rules and frames that have none, up to the first that is not legal.
+/// Returns its number from 1, or `None` if all are legal.
+fn enter(
+    rules: &mut Rules,
+    frames: &mut Frames,
+    statements: &[Stmt],
+) -> Result<Option<usize>, AllocError>
     requires shaped { AreShaped statements.now }
     requires no_rules { rules.old.statements ≡ [] }
     requires no_frames { frames.old.statements ≡ [] }
-    ensures { result ≡ Ok true → frames.new.statements ≡ bares statements.now }
+    ensures entered { result ≡ Ok None → frames.new.statements ≡ bares statements.now }
+    ensures broken { (at : ℕ) → result ≡ Ok (Some at) → ¬ AllLegal statements.now }
 {
     let mut steps = Steps::new();
-    for stmt in statements {
-        match frames.add(rules, stmt, &mut steps) {
-            Ok(()) => {}
-            Err(Rule::Memory) => return Err(AllocError),
-            Err(_) => return Ok(false),
+    for (index, statement) in statements.iter().enumerate() {
+        if let Err(rule) = frames.add(rules, statement, &mut steps) {
+            if rule == Rule::Memory {
+                return Err(AllocError);
+            }
+            return Ok(Some(index + 1));
         }
     }
-    Ok(true)
+    Ok(None)
 }

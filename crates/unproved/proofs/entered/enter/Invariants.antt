@@ -1,9 +1,11 @@
-use Rattle.std.proofs.Common.{◌≡◌, take}
+use Rattle.std.proofs.Common.{◌≡◌, ◌+◌, [], drop, take}
 use Rattle.scope.specs.Active.{bares}
+use Rattle.scope.specs.Legal.{first_broken}
 use Rattle.unproved.proofs.entered.enter.Given as goal
 
-abbrev pub invariant-loop-stmt : goal.invariant-loop-stmt
-invariant-loop-stmt l = record {
+abbrev pub invariant-loop-index : goal.invariant-loop-index
+invariant-loop-index l = record {
   same : l.rules.statements ≡ l.frames.statements;
-  taken : l.frames.statements ≡ bares (take l.stmt-index l.statements);
+  taken : l.frames.statements ≡ bares (take l.index l.statements);
+  left : first_broken 1 [] l.statements ≡ first_broken (l.index + 1) l.frames.statements (drop l.index l.statements);
 }

@@ -1,0 +1,25 @@
+-- The answers to questions about a label in the library of a node.
+-- Source: this project's own forms.
+-- The code asks the library, writes the lines of the answer, and counts them.
+use Rattle.std.specs.Prelude.{◌≡◌, ℕ, List, false, codes, flat_map}
+use Rattle.library.specs.Words.{Name, Database}
+use Rattle.library.specs.Queries.{IsTrace, IsUsage, IsTreeOf}
+use Rattle.verify.specs.Derivations.{Derivation}
+use Rattle.commands.specs.declared.node_question.LabelQuestion.{LabelQuestion}
+use Rattle.commands.specs.declared.node_question.LabelQuestion.TheVariants.{Trace, Tree, Usage}
+use Rattle.printed.specs.Counted.{counted_text}
+use Rattle.printed.specs.Trees.{label_line, tree_lines}
+
+-- a word, the count of the labels, and a line for each
+abbrev pub labels_text : List ℕ → List Name → List ℕ
+labels_text word labels = counted_text word (flat_map label_line labels)
+
+-- the answer to the question about the label; nothing is said of that to `show` and to `proof`
+abbrev pub IsLabelAnswer : Database → LabelQuestion → Name → List ℕ → Type 0
+IsLabelAnswer S Trace label text =
+    (labels : List Name) × IsTrace S label labels × (text ≡ labels_text (codes "trace") labels)
+IsLabelAnswer S Usage label text =
+    (labels : List Name) × IsUsage S label false labels × (text ≡ labels_text (codes "usage") labels)
+IsLabelAnswer S Tree label text =
+    (t : Derivation) × IsTreeOf S label t × (text ≡ counted_text (codes "tree") (tree_lines S 0 t))
+IsLabelAnswer S kind label text = ⊤
