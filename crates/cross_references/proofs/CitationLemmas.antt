@@ -1,6 +1,7 @@
 -- The statements that items cite, as a list of positions.
-use Rattle.std.specs.Prelude.{◌≡◌, ◌⊎◌, ℕ, zero, suc, ◌+◌, ◌-◌, ◌<◌, ◌≤◌, true, List, [], ◌∷◌, ◌++◌, length, take, get_or, filter_map, cons_option, Option, Some, None, option_map, slice_get}
-use Rattle.std.proofs.Common.{sym, ◌∙◌, ap, subst, refl, arith, inl, inr}
+use Rattle.std.specs.Prelude.{◌≡◌, ◌⊎◌, ℕ, zero, suc, ◌+◌, ◌-◌, ◌<◌, ◌≤◌, true, List, [], ◌∷◌, ◌++◌, length, take, get_or, filter_map, Option, Some, None, option_map, slice_get}
+use Rattle.std.specs.List.{cons_option}
+use Rattle.std.proofs.Common.{sym, ◌∙◌, ap, subst, refl, arith, inl, inr, append_assoc}
 use Rattle.std.proofs.lemmas.Bool.{cases_lt}
 use Rattle.std.proofs.lemmas.List.{get_or_past, take_more}
 use Rattle.std.proofs.lemmas.List.Elements.{filter_map-append}
@@ -137,3 +138,13 @@ places-more places numbers i h =
     one : (o : Option ℕ) → cons_option o [] ≡ listed_place o
     one None = refl
     one (Some p) = refl
+
+pub places-pushed : (places : List (Option ℕ)) (numbers : List ℕ) (i : ℕ) (start old new : List ℕ) (o : Option ℕ) → i < length numbers
+    → old ≡ start ++ filter_map (place_of places) (take i numbers) → o ≡ place_of places (get_or numbers i 0) → new ≡ old ++ listed_place o → new ≡ start ++ filter_map (place_of places) (take (i + 1) numbers)
+places-pushed places numbers i start old new o h before is after =
+    let front = filter_map (place_of places) (take i numbers) in
+    let last = place_of places (get_or numbers i 0) in
+    after
+    ∙ (ap (λ l. l ++ listed_place o) before
+    ∙ (ap (λ q. (start ++ front) ++ listed_place q) is
+    ∙ (append_assoc start front (listed_place last) ∙ ap (λ l. start ++ l) (sym (places-more places numbers i h)))))

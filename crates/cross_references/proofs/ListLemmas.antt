@@ -1,14 +1,16 @@
 -- Lists that positions are added to.
-use Rattle.std.specs.Prelude.{◌≡◌, ◌≢◌, ◌⊎◌, ◌↔◌, ℕ, zero, suc, ◌+◌, ◌-◌, ◌<◌, ◌≤◌, List, [], ◌∷◌, ◌++◌, length, take, get_or, Some, slice_get}
+use Rattle.std.specs.Prelude.{◌≡◌, ◌≢◌, ◌⊎◌, ◌↔◌, ℕ, zero, suc, ◌+◌, ◌-◌, ◌<◌, ◌≤◌, List, [], ◌∷◌, ◌++◌, length, take, get_or, slice_set, Some, slice_get, Result, Ok, Err, OnOk}
 use Rattle.std.proofs.Common.{sym, ◌∙◌, ap, subst, refl, arith, inl, inr, take_all}
-use Rattle.std.proofs.lemmas.List.{take_more}
-use Rattle.std.proofs.lemmas.Option.{slice_get_within, get_or_from_slice_get}
+use Rattle.std.proofs.lemmas.Bool.{cases_eq, cases_lt}
+use Rattle.std.proofs.lemmas.List.{take_more, get_or_past, get_or-set_other, get_or-set_same, length-set}
+use Rattle.std.proofs.lemmas.Option.{slice_get-get_or}
 use Rattle.entries.specs.PositionSets.{Ascends, AreAbove}
 use Rattle.frame.specs.Stored.Hypotheses.{In, AreThose, HasMore, OfSome}
 use Rattle.frame.proofs.AscendingLists.{in-place, place-in}
 use Rattle.frame.proofs.CollectLemmas.{last-in, last-out, those-by}
 use Rattle.library.specs.Uses.{Rises, IsIn}
 use Rattle.cross_references.specs.References.{AreThosePassing}
+use Rattle.cross_references.specs.Passes.{AreRounds}
 
 pub has-nothing : (P : ℕ → Type 0) (list : List ℕ) → ((p : ℕ) → P p → ⊥) → HasMore P list list
 has-nothing P list none = record { stays = λ p i. i; all = λ p q. absurd (none p q); only = λ p i. inl i }
@@ -97,12 +99,7 @@ next-apart (q ∷ ps) (suc i) asc h is = by (next-apart ps i asc.1 within) is
     within = omega (arith, h)
 
     later : In (get_or ps i 0) ps
-    later = place-in ps i (get_or ps i 0) (got ps i within)
-      where
-        got : (xs : List ℕ) (k : ℕ) → k < length xs → slice_get xs k ≡ Some (get_or xs k 0)
-        got [] k l = absurd (omega (arith, l))
-        got (x ∷ xs) zero l = refl
-        got (x ∷ xs) (suc k) l = got xs k (omega (arith, l))
+    later = place-in ps i (get_or ps i 0) (slice_get-get_or ps i 0 within)
 
     by : (In (get_or ps i 0) (take i ps) → ⊥) → (get_or ps i 0 ≡ q) ⊎ In (get_or ps i 0) (take i ps) → ⊥
     by go (inl e) = let h = above-in (get_or ps i 0) q ps asc.0 later in omega (arith, h, e)
@@ -131,3 +128,51 @@ ascends-last (p ∷ ps) q asc below = (above-last ps asc.0, ascends-last ps q as
     above-last : (xs : List ℕ) → AreAbove p xs → AreAbove p (xs ++ q ∷ [])
     above-last [] a = (below p (inl refl), tt)
     above-last (x ∷ xs) a = (a.0, above-last xs a.1)
+
+-- ---- what a collector keeps
+
+pub in-at : (ps : List ℕ) (i : ℕ) → i < length ps → In (get_or ps i 0) ps
+in-at ps i h = place-in ps i (get_or ps i 0) (slice_get-get_or ps i 0 h)
+
+pub has-some-all : (R : ℕ → ℕ → Type 0) (positions : List ℕ) (i : ℕ) (a b : List ℕ) → length positions ≤ i → HasMore (OfSome R (take i positions)) a b → HasMore (OfSome R positions) a b
+has-some-all R positions i a b h m = subst (λ (ps : List ℕ). HasMore (OfSome R ps) a b) (take_all i positions h) m
+
+pub on-ok : {T E A B : Type 0} (r : Result T E) → (A → B) → OnOk r A → OnOk r B
+on-ok (Ok v) f h = f h
+on-ok (Err e) f h = tt
+
+-- a position that was added in this round is there
+pub has_already : (list rounds : List ℕ) (round position : ℕ) → AreRounds list rounds round → get_or rounds position 0 ≡ round → HasMore (λ p. p ≡ position) list list
+has_already list rounds round position are here = record {
+  stays = λ p i. i;
+  all = λ p e. subst (λ q. In q list) (sym e) (are.among position here);
+  only = λ p i. inl i;
+}
+
+pub has_pushed : (position : ℕ) (old new : List ℕ) → new ≡ old ++ position ∷ [] → HasMore (λ p. p ≡ position) old new
+has_pushed position old new is = has-one position old new is
+
+-- one more position, and its round
+pub rounds_more : (list rounds new news : List ℕ) (round position : ℕ) → AreRounds list rounds round → new ≡ list ++ position ∷ [] → news ≡ slice_set rounds position round → AreRounds new news round
+rounds_more list rounds new news round position are is set = record {
+  some = are.some;
+  past = λ k. past k (cases_eq k position);
+  among = λ k e. among k e (cases_eq k position);
+}
+  where
+    other : (k : ℕ) → (k ≡ position → ⊥) → get_or news k 0 ≡ get_or rounds k 0
+    other k apart = ap (λ l. get_or l k 0) set ∙ get_or-set_other rounds position k round 0 apart
+
+    same : (k : ℕ) → k ≡ position → (get_or news k 0 ≡ round) ⊎ (get_or news k 0 ≡ 0)
+    same k e = elim (cases_lt position (length rounds)) [
+      | inl less ↦ inl (ap (λ l. get_or l k 0) set ∙ (ap (λ j. get_or (slice_set rounds position round) j 0) e ∙ get_or-set_same rounds position round 0 less))
+      | inr more ↦ inr (ap (λ l. get_or l k 0) set ∙ get_or_past (slice_set rounds position round) k 0 (let l = length-set rounds position round in omega (arith, l, more, e)))
+    ]
+
+    past : (k : ℕ) → (k ≡ position) ⊎ (k ≡ position → ⊥) → get_or news k 0 ≤ round
+    past k (inl e) = elim (same k e) [ inl r ↦ omega (arith, r) | inr z ↦ omega (arith, z) ]
+    past k (inr apart) = let p = are.past k in let o = other k apart in omega (arith, p, o)
+
+    among : (k : ℕ) → get_or news k 0 ≡ round → (k ≡ position) ⊎ (k ≡ position → ⊥) → In k new
+    among k e (inl here) = subst (In k) (sym is) (last-in k position list (inl here))
+    among k e (inr apart) = subst (In k) (sym is) (last-in k position list (inr (are.among k (sym (other k apart) ∙ e))))

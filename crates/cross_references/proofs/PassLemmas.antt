@@ -3,7 +3,7 @@ use Rattle.std.specs.Prelude.{◌≡◌, ◌⊎◌, ◌↔◌, ℕ, zero, suc, �
 use Rattle.std.proofs.Common.{sym, ◌∙◌, ap, subst, refl, arith, inl, inr, take_all, length-append}
 use Rattle.std.proofs.lemmas.Bool.{cases_eq, cases_lt}
 use Rattle.std.specs.Global.{Vec}
-use Rattle.std.proofs.lemmas.List.{get_or-map, map-append, map-set, get_or-set_other, get_or-set_same, get_or_append_left, get_or_past, length-set, length-replicate}
+use Rattle.std.proofs.lemmas.List.{get_or-map, map-append, map-set, get_or-set_other, get_or-set_same, get_or_append_left, get_or_past, length-map, length-set, length-replicate}
 use Rattle.entries.specs.PositionSets.{Ascends, has_position}
 use Rattle.frame.specs.Stored.Hypotheses.{In, AreThose, HasMore, OfSome}
 use Rattle.frame.proofs.CollectLemmas.{last-in, last-out, those-by}
@@ -17,7 +17,7 @@ use Rattle.scope.specs.Active.{stmt_at}
 use Rattle.scope.proofs.StatementPlaces.{stands-within}
 use Rattle.cross_references.specs.References.{AreThosePassing, AreListsOf, AreReferences}
 use Rattle.cross_references.specs.Passes.{lists_of, Gives, AreWithin, HaveUser, AreDone}
-use Rattle.cross_references.proofs.ListLemmas.{in-more, more-in, next-apart, those-passing, ascends-last}
+use Rattle.cross_references.proofs.ListLemmas.{has-as, has-both, in-more, more-in, next-apart, those-passing, ascends-last}
 
 -- what is cited stands before
 pub cites-within : (S : Database) (n a : ℕ) → Good S → Cites S (suc n) a → (0 < a) × (a ≤ n)
@@ -145,14 +145,25 @@ user-all at positions i old new h have = subst (λ ps. HaveUser at ps old new) (
 
 -- ---- all statements
 
+-- so many empty lists
+abbrev pub empties : ℕ → List (List ℕ)
+empties count = replicate count []
+
+no-list : (count k : ℕ) → get_or (empties count) k [] ≡ []
+no-list zero k = refl
+no-list (suc count) zero = refl
+no-list (suc count) (suc k) = no-list count k
+
+pub empties-more : (count n : ℕ) (old new : List (List ℕ)) → n ≡ suc count → old ≡ replicate count [] → new ≡ old ++ [] ∷ [] → new ≡ replicate n []
+empties-more count n old new is before after = after ∙ (ap (λ l. l ++ [] ∷ []) before ∙ (last count ∙ ap empties (sym is)))
+  where
+    last : (m : ℕ) → empties m ++ [] ∷ [] ≡ empties (suc m)
+    last zero = refl
+    last (suc m) = ap (λ l. [] ∷ l) (last m)
+
 module _ (S : Database) where
   cites-some : (j a : ℕ) → Cites S j a → (1 ≤ j) × (j ≤ length S)
   cites-some j a c = stands-within S j c.has.stmt c.has.provable.stands
-
-  no-list : (count k : ℕ) → get_or (replicate count []) k [] ≡ []
-  no-list zero k = refl
-  no-list (suc count) zero = refl
-  no-list (suc count) (suc k) = no-list count k
 
   pub done-start : (axioms users : List (List ℕ)) → axioms ≡ [] → users ≡ replicate (length S) [] → AreDone S 0 axioms users
   done-start axioms users none empty = record {
@@ -220,5 +231,27 @@ list-set us k old new at h is more =
 pub list-at : (us : List (Vec ℕ)) (k : ℕ) (old : Vec ℕ) → k < length us → old ≡ get_or us k old → get_or (lists_of us) k [] ≡ old.items
 list-at us k old h is = get_or-map (λ (v : Vec ℕ). v.items) us k old [] h ∙ ap (λ (v : Vec ℕ). v.items) (sym is)
 
+pub lists-count : (us : List (Vec ℕ)) → length (lists_of us) ≡ length us
+lists-count us = length-map us (λ (v : Vec ℕ). v.items)
+
 pub lists-push : (us vs : List (Vec ℕ)) (v : Vec ℕ) → vs ≡ us ++ v ∷ [] → lists_of vs ≡ lists_of us ++ v.items ∷ []
 lists-push us vs v is = ap lists_of is ∙ map-append (λ (w : Vec ℕ). w.items) us (v ∷ [])
+
+-- ---- what one position gives
+
+pub given-more : (S : Database) (axioms : List (List ℕ)) (p : ℕ) (old mid new : List ℕ) (s : Stmt) (list : List ℕ) → stmt_at S p ≡ Some s
+    → HasMore (λ q. IsTrue (is_axiom s) × (q ≡ p)) old mid → list ≡ get_or axioms (p - 1) [] → HasMore (λ q. In q list) mid new → HasMore (Gives S axioms p) old new
+given-more S axioms p old mid new s list stands first is more =
+    has-as (λ q. (IsTrue (is_axiom s) × (q ≡ p)) ⊎ In q list) (Gives S axioms p) old new to from (has-both (λ q. IsTrue (is_axiom s) × (q ≡ p)) (λ q. In q list) old mid new first more)
+  where
+    to : (q : ℕ) → (IsTrue (is_axiom s) × (q ≡ p)) ⊎ In q list → Gives S axioms p q
+    to q (inl h) = inl (record { stmt = s; stands = stands; kind = h.0 }, h.1)
+    to q (inr i) = inr (subst (In q) is i)
+
+    from : (q : ℕ) → Gives S axioms p q → (IsTrue (is_axiom s) × (q ≡ p)) ⊎ In q list
+    from q (inl h) =
+        let there = h.0 in
+        let e : Some there.stmt ≡ Some s = sym there.stands ∙ stands in
+        let same : there.stmt ≡ s = cc in
+        inl (subst (λ t. IsTrue (is_axiom t)) same there.kind, h.1)
+    from q (inr i) = inr (subst (In q) (sym is) i)

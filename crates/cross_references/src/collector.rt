@@ -1,5 +1,5 @@
 //! Positions that are collected, each once.
-ghost use Rattle.std.specs.Prelude.{◌≡◌, ◌<◌, [], length, IfOk, OnOk};
+ghost use Rattle.std.specs.Prelude.{◌≡◌, [], true, get_or, slice_set, IfOk, OnOk};
 ghost use Rattle.frame.specs.Stored.Hypotheses.{In, AreThose, HasMore};
 
 use crate::citations::order;
@@ -52,17 +52,15 @@ impl Collector {
     }
 
     /// Adds a position, unless it was added in this round.
+    #[tactic(auto, using(crate::proofs::ListLemmas::has_already, crate::proofs::ListLemmas::has_pushed, crate::proofs::ListLemmas::rounds_more))]
     pub fn add(&mut self, position: usize) -> Result<(), AllocError>
         ensures { OnOk result (HasMore (λ p. p ≡ position) self.old self.new) }
     {
-        match self.rounds.get(position) {
-            Some(round) if *round == self.round => return Ok(()),
-            _ => {}
+        if is_noted(&self.rounds, position, self.round) {
+            return Ok(());
         }
         self.list.push(position)?;
-        if let Some(round) = self.rounds.get_mut(position) {
-            *round = self.round;
-        }
+        note(&mut self.rounds, position, self.round);
         Ok(())
     }
 
@@ -83,5 +81,21 @@ impl Collector {
         let mut list = Vec::from_slice(self.alloc, self.list.as_slice())?;
         order(&mut list);
         Ok(list)
+    }
+}
+
+/// Tells whether a position was added last in this round.
+fn is_noted(rounds: &Vec<usize>, position: usize, round: usize) -> bool
+    ensures { result ≡ true → get_or rounds.now.items position 0 ≡ round }
+{
+    position < rounds.len() && rounds[position] == round
+}
+
+/// Notes the round in which a position was added, if there is a place for it.
+fn note(rounds: &mut Vec<usize>, position: usize, round: usize)
+    ensures { rounds.new.items ≡ slice_set rounds.old.items position round }
+{
+    if position < rounds.len() {
+        rounds[position] = round;
     }
 }

@@ -40,6 +40,7 @@ pub fn print_pages<R: AllocGlobal + Threads + Sync, I: Read, O: Write, F: Write,
 }
 
 /// Where the answer goes, and the reasons.
+#[derive(Drop)]
 struct Streams<'a, O, F> {
     output: &'a mut O,
     faults: &'a mut F,
