@@ -77,7 +77,9 @@ no-proof (Axiom label expr) h = cc
 left-in : (S : Database) (i n : ℕ) (s : Stmt) → slice_get (slice_set S i (as_axiom (get_or S i Open))) n ≡ Some s → IsTrue (is_provable s)
     → (slice_get S n ≡ Some s) × (i ≡ n → ⊥)
 left-in [] i n s e p = cc
-left-in (t ∷ S) zero zero s e p = absurd (no-proof t (subst (λ u. IsTrue (is_provable u)) (sym (some-same e)) p))
+left-in (t ∷ S) zero zero s e p =
+    let here : slice_get (slice_set (t ∷ S) zero (as_axiom (get_or (t ∷ S) zero Open))) zero ≡ Some (as_axiom t) = refl in
+    absurd (no-proof t (subst (λ u. IsTrue (is_provable u)) (some-same e here) p))
 left-in (t ∷ S) zero (suc n) s e p = (e, λ q. omega (arith, q))
 left-in (t ∷ S) (suc i) zero s e p = (e, λ q. omega (arith, q))
 left-in (t ∷ S) (suc i) (suc n) s e p = let w = left-in S i n s e p in (w.0, λ q. w.1 (omega (arith, q)))
@@ -121,7 +123,7 @@ module _ (S : Database) (list : List ℕ) (legal : AllLegal S) (are : AreUnprove
     items = proved.items;
     provable = now;
     written = subst (λ labels. Writes (proof_of s) labels proved.items) (labels-same (bares S) (bares (assumed S list)) same at s s refl)
-        (subst (λ t. Writes (proof_of t) (mandatory_labels (bares S) at t) proved.items) (some-same (sym proved.provable.stands ∙ p.stands)) proved.written);
+        (subst (λ t. Writes (proof_of t) (mandatory_labels (bares S) at t) proved.items) (some-same proved.provable.stands p.stands) proved.written);
     right = right-same (bares S) (bares (assumed S list)) same at proved.items proved.right;
   }
 

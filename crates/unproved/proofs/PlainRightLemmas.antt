@@ -26,7 +26,7 @@ IsThere o s = (t : Stmt) × (o ≡ Some t) × (as_axiom t ≡ as_axiom s)
 
 there : (o : Option Stmt) (s : Stmt) → option_map as_axiom o ≡ Some (as_axiom s) → IsThere o s
 there None s e = cc
-there (Some t) s e = (t, refl, some-same e)
+there (Some t) s e = let here : Some (as_axiom t) ≡ Some (as_axiom t) = refl in (t, refl, some-same here e)
 
 -- a property that does not ask for the kind
 alike : {A : Type 0} (f : Stmt → A) → ((s : Stmt) → f (as_axiom s) ≡ f s) → (t s : Stmt) → as_axiom t ≡ as_axiom s → f s ≡ f t
