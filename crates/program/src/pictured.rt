@@ -22,8 +22,21 @@ pub fn print_picture<I: Read, O: Write>(
 ) -> Result<u8, Fault> {
     let lines = read_script::<PlayLine, I>(alloc, input)?;
     let mut run = Run::new(alloc, weights)?;
-    let picture = picture_of(alloc, weights, &mut run, lines, part_of(steps))?;
-    print(output, picture.as_slice()).map(|()| 0)
+    print_run(alloc, weights, &mut run, lines, part_of(steps), output)
+}
+
+/// Makes the steps of a script, and prints the picture of a part of the run.
+fn print_run<O: Write>(
+    alloc: Global,
+    weights: Weights,
+    run: &mut Run,
+    lines: Vec<PlayLine>,
+    part: Part,
+    output: &mut O,
+) -> Result<u8, Fault> {
+    let picture = picture_of(alloc, weights, run, lines, part)?;
+    print(output, picture.as_slice())?;
+    Ok(0)
 }
 
 /// Returns which part of a run is asked for.
