@@ -7,17 +7,17 @@ use Rattle.mm_lex.specs.Words.{spaced}
 use Rattle.mm_read.specs.declared.stmt.Stmt.{Stmt}
 use Rattle.mm_read.specs.declared.stmt.Stmt.TheVariants.{Axiom, Prove}
 use Rattle.mm_read.specs.Statements.{Database, Expr}
-use Rattle.proof_pages.specs.declared.TheConstants.{INDEX_START}
+use Rattle.proof_pages.specs.declared.index.TheConstants.{INDEX_START}
 use Rattle.proof_pages.specs.Escapes.{html_text}
 use Rattle.proof_pages.specs.Notations.{page_link}
 use Rattle.proof_pages.specs.StepLines.{texts_from}
 
 -- whether it is an axiom or a theorem
 abbrev pub kind_cell : List ℕ → List ℕ
-kind_cell kind = codes "<tr><td>" ++ kind ++ codes "</td><td>"
+kind_cell kind = codes "<tr><td>" ++ kind ++ codes "<td>"
 
 abbrev pub expr_cell : Expr → List ℕ
-expr_cell expr = codes "</td><td>" ++ html_text (spaced expr) ++ codes "</td></tr>\n"
+expr_cell expr = codes "<td>" ++ html_text (spaced expr) ++ codes "\n"
 
 -- kind, label as a link to the page of the assertion at this position, expression
 abbrev pub index_cells : List ℕ → Name → Expr → ℕ → List ℕ

@@ -11,12 +11,16 @@ use Rattle.verify.specs.Proves.{label_or_none}
 use Rattle.proof_pages.specs.Escapes.{html_text}
 use Rattle.file_names.specs.FileNames.{file_name}
 
+-- a variable of the first class, and of another
+abbrev pub first_html : Name → List ℕ
+first_html name = codes "<var>" ++ html_text name ++ codes "</var>"
+
 abbrev pub variable_html : ℕ → Name → List ℕ
 variable_html class name = codes "<var class=\"k" ++ decimal class ++ codes "\">" ++ html_text name ++ codes "</var>"
 
 -- a name in the colour of its class; 0 is no class
 abbrev pub coloured : ℕ → Name → List ℕ
-coloured class name = if class == 0 then html_text name else variable_html class name
+coloured class name = if class == 0 then html_text name else if class == 1 then first_html name else variable_html class name
 
 -- a symbol after a space, in the colour of its class
 abbrev pub symbol_html : List Name → List ℕ → ℕ → List ℕ

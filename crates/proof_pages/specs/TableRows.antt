@@ -1,5 +1,5 @@
 -- Rows of tables in a page, and lists of labels.
--- Source: HTML, tables, lists and links; this project's own form.
+-- Source: HTML, tables, lists and links, and which end tags may be omitted; this project's own form.
 -- The code adds each part to the end of a buffer.
 use Rattle.std.specs.Prelude.{ℕ, Bool, List, [], ◌∷◌, ◌++◌, codes, flat_map}
 use Rattle.mm_lex.specs.Alphabet.{Name}
@@ -18,11 +18,11 @@ row_start mark place = codes "<tr id=\"" ++ mark ++ number_text place ++ codes "
 
 -- number, links to the steps taken
 abbrev pub taken_html : List ℕ → ℕ → List ℕ → List ℕ
-taken_html mark place taken = number_text place ++ codes "</td><td>" ++ flat_map (link_html mark) taken ++ codes "</td><td>"
+taken_html mark place taken = number_text place ++ codes "<td>" ++ flat_map (link_html mark) taken ++ codes "<td>"
 
 -- label, expression
 abbrev pub row_rest : Bool → Database → List Name → List ℕ → ℕ → List ℕ → List ℕ
-row_rest linked S names classes position expr = cited_html linked S position ++ codes "</td><td>" ++ expr_html names classes expr ++ codes "</td></tr>\n"
+row_rest linked S names classes position expr = cited_html linked S position ++ codes "<td>" ++ expr_html names classes expr ++ codes "\n"
 
 -- number, links to the steps taken, label, expression
 abbrev pub step_html : Bool → Database → List Name → List ℕ → List ℕ → ℕ → Row → List ℕ
@@ -31,7 +31,7 @@ step_html linked S names classes mark place row =
 
 -- the label of the statement at a position as an item of a list
 abbrev pub item_html : Bool → Database → ℕ → List ℕ
-item_html linked S position = codes "<li>" ++ cited_html linked S position ++ codes "</li>\n"
+item_html linked S position = codes "<li>" ++ cited_html linked S position ++ codes "\n"
 
 -- a list of one label and others
 abbrev pub list_html : Bool → Database → ℕ → List ℕ → List ℕ

@@ -7,8 +7,6 @@ use crate::notation::Notation;
 pub struct Draft<'a> {
     pub contents: &'a PageContents<'a>,
     pub notation: Notation<'a>,
-    /// The typecode of each class of variables, from the first.
-    pub typecodes: &'a [u32],
     /// The positions of the mandatory hypotheses.
     pub hypotheses: &'a [u32],
     /// Whether all steps are shown, and not only the essential ones.

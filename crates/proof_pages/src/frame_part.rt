@@ -11,25 +11,17 @@ use frame::FrameBuffers;
 use std::alloc::{AllocError, Global};
 
 /// Appends the mandatory hypotheses, the disjoint variables, and the colours of typecodes.
-pub fn push_frame(
-    alloc: Global,
-    page: &mut Vec<u8>,
-    draft: &Draft<'_>,
-) -> Result<(), AllocError>
+pub fn push_frame(alloc: Global, page: &mut Vec<u8>, draft: &Draft<'_>) -> Result<(), AllocError>
     requires { (s : Statement) × HasAssertion draft.now.contents.now.frames.now.statements
         draft.now.contents.now.at s }
 {
     push_hypotheses(alloc, page, draft)?;
     push_disjoint(alloc, page, draft)?;
-    push_legend(page, draft)
+    push_legend(page, &draft.notation)
 }
 
 /// Appends the `$e`, and folded the `$f`.
-fn push_hypotheses(
-    alloc: Global,
-    page: &mut Vec<u8>,
-    draft: &Draft<'_>,
-) -> Result<(), AllocError> {
+fn push_hypotheses(alloc: Global, page: &mut Vec<u8>, draft: &Draft<'_>) -> Result<(), AllocError> {
     if draft.hypotheses.is_empty() {
         return Ok(());
     }
@@ -75,20 +67,11 @@ fn push_hypothesis(
     position: usize,
 ) -> Result<(), AllocError> {
     page.extend_from_slice(b"<tr><td>")?;
-    push_row_rest(
-        page,
-        notation,
-        position,
-        expr_at(notation.frames, position),
-    )
+    push_row_rest(page, notation, position, expr_at(notation.frames, position))
 }
 
 /// Appends the groups of variables each two of which must be disjoint.
-fn push_disjoint(
-    alloc: Global,
-    page: &mut Vec<u8>,
-    draft: &Draft<'_>,
-) -> Result<(), AllocError>
+fn push_disjoint(alloc: Global, page: &mut Vec<u8>, draft: &Draft<'_>) -> Result<(), AllocError>
     requires { (s : Statement) × HasAssertion draft.now.contents.now.frames.now.statements
         draft.now.contents.now.at s }
 {
@@ -97,7 +80,9 @@ fn push_disjoint(
         return push_groups(page, &draft.notation, &cited.groups);
     }
     let mut frame_buffers = FrameBuffers::new(alloc);
-    contents.frames.fill_buffers(contents.at, &mut frame_buffers)?;
+    contents
+        .frames
+        .fill_buffers(contents.at, &mut frame_buffers)?;
     let cited = contents.frames.cited_from(contents.at, &frame_buffers);
     push_groups(page, &draft.notation, &cited.groups)
 }
@@ -114,22 +99,23 @@ fn push_groups(
     for index in 0..groups.len() {
         page.extend_from_slice(b"<li>")?;
         push_html_expr(page, notation, groups.get(index))?;
-        page.extend_from_slice(b"</li>\n")?;
+        page.extend_from_slice(b"\n")?;
     }
     page.extend_from_slice(b"</ul>\n")
 }
 
 /// Appends which typecodes the colours stand for.
-fn push_legend(page: &mut Vec<u8>, draft: &Draft<'_>) -> Result<(), AllocError> {
-    if draft.typecodes.is_empty() {
+fn push_legend(page: &mut Vec<u8>, notation: &Notation<'_>) -> Result<(), AllocError> {
+    let colours = notation.colours;
+    if colours.constants.is_empty() {
         return Ok(());
     }
     page.extend_from_slice(b"<p class=\"legend\">Variables:")?;
     let mut class = 0u32;
-    for typecode in draft.typecodes {
+    for typecode in &colours.constants {
         class = class.saturating_add(1);
         page.extend_from_slice(b" ")?;
-        push_coloured(page, class, draft.notation.frames.symbol(*typecode))?;
+        push_coloured(page, class, notation.frames.symbol(*typecode))?;
     }
     page.extend_from_slice(b"</p>\n")
 }

@@ -85,13 +85,13 @@ fn push_kind(text: &mut Vec<u8>, kind: &[u8]) -> Result<(), AllocError>
 {
     text.extend_from_slice(b"<tr><td>")?;
     text.extend_from_slice(kind)?;
-    text.extend_from_slice(b"</td><td>")
+    text.extend_from_slice(b"<td>")
 }
 
 fn push_expr_cell(text: &mut Vec<u8>, expr: &Words) -> Result<(), AllocError>
     ensures { OnOk result (text.new.items ≡ text.old.items ++ expr_cell expr.now) }
 {
-    text.extend_from_slice(b"</td><td>")?;
+    text.extend_from_slice(b"<td>")?;
     push_html(text, expr.as_text())?;
-    text.extend_from_slice(b"</td></tr>\n")
+    text.extend_from_slice(b"\n")
 }

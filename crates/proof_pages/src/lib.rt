@@ -24,6 +24,7 @@ mod step_lines;
 mod style;
 mod writing;
 
+pub use colours::Colours;
 pub use contents::{Neighbours, PageContents, ProofSteps};
 pub use escapes::{push_html, push_quoted};
 pub use index::write_index;

@@ -1,8 +1,9 @@
 //! Symbols and labels on a page.
 ghost use Rattle.std.specs.Prelude.{◌≡◌, ◌++◌, Some, flat_map, OnOk};
 ghost use Rattle.verify.specs.Proves.{label_or_none};
-ghost use Rattle.proof_pages.specs.Notations.{variable_html, coloured, symbol_html, expr_html, link_start, page_link, label_html, cited_html};
+ghost use Rattle.proof_pages.specs.Notations.{first_html, variable_html, coloured, symbol_html, expr_html, link_start, page_link, label_html, cited_html};
 
+use crate::colours::Colours;
 use crate::escapes::push_html;
 use file_names::push_file_name;
 use frame::{Frames, is_assertion};
@@ -17,8 +18,8 @@ pub struct Notation<'a> {
     pub statements: &'a [Stmt],
     /// Their frames, which know the symbols.
     pub frames: &'a Frames,
-    /// The class of each symbol by number, 0 where it has none.
-    pub classes: &'a [u32],
+    /// The colours of its variables.
+    pub colours: &'a Colours,
     /// Whether the label of an assertion is a link to its page.
     pub is_linked: bool,
 }
@@ -29,9 +30,20 @@ pub fn push_coloured(page: &mut Vec<u8>, class: u32, name: &[u8]) -> Result<(), 
 {
     if class == 0 {
         push_html(page, name)
+    } else if class == 1 {
+        push_first(page, name)
     } else {
         push_variable(page, class, name)
     }
+}
+
+/// Appends a name in the colour of the first class, which needs no attribute.
+fn push_first(page: &mut Vec<u8>, name: &[u8]) -> Result<(), AllocError>
+    ensures { OnOk result (page.new.items ≡ page.old.items ++ first_html name.now) }
+{
+    page.extend_from_slice(b"<var>")?;
+    push_html(page, name)?;
+    page.extend_from_slice(b"</var>")
 }
 
 fn push_variable(page: &mut Vec<u8>, class: u32, name: &[u8]) -> Result<(), AllocError>
@@ -51,9 +63,10 @@ fn push_html_symbol(
     symbol: u32,
 ) -> Result<(), AllocError>
     ensures { OnOk result (page.new.items ≡ page.old.items
-        ++ symbol_html notation.now.frames.now.names notation.now.classes.now symbol) }
+        ++ symbol_html notation.now.frames.now.names notation.now.colours.now.classes.items symbol) }
 {
-    let class = match notation.classes.get(symbol as usize) {
+    let colours = notation.colours;
+    let class = match colours.classes.get(symbol as usize) {
         Some(class) => *class,
         None => 0,
     };
@@ -68,7 +81,7 @@ pub fn push_html_expr(
     expr: &[u32],
 ) -> Result<(), AllocError>
     ensures { OnOk result (page.new.items ≡ page.old.items
-        ++ expr_html notation.now.frames.now.names notation.now.classes.now expr.now) }
+        ++ expr_html notation.now.frames.now.names notation.now.colours.now.classes.items expr.now) }
 {
     for symbol in expr {
         push_html_symbol(page, notation, *symbol)?;

@@ -34,11 +34,7 @@ pub fn push_opening(page: &mut Vec<u8>, draft: &Draft<'_>) -> Result<(), AllocEr
     push_way(page, draft)?;
     push_description(page, contents.neighbours.description)?;
     page.extend_from_slice(b"<p class=\"expr\">")?;
-    push_html_expr(
-        page,
-        &draft.notation,
-        expr_at(contents.frames, contents.at),
-    )?;
+    push_html_expr(page, &draft.notation, expr_at(contents.frames, contents.at))?;
     page.extend_from_slice(b"</p>\n")
 }
 
@@ -62,7 +58,7 @@ fn push_way(page: &mut Vec<u8>, draft: &Draft<'_>) -> Result<(), AllocError> {
     };
     page.extend_from_slice(b"<p class=\"legend\">")?;
     page.extend_from_slice(kind)?;
-    page.extend_from_slice(b" of <a href=\"index.html\">all statements</a></p>\n")
+    page.extend_from_slice(b". <a href=\"index.html\">All statements</a></p>\n")
 }
 
 /// Appends the description as it stands, if there is one.

@@ -62,11 +62,10 @@ fn write_contents<W: Write>(
         notation: Notation {
             statements: contents.statements,
             frames: contents.frames,
-            classes: &colours.classes,
+            colours: &colours,
             is_linked,
         },
-        typecodes: &colours.constants,
-        hypotheses: &hypotheses,
+        hypotheses: hypotheses.as_slice(),
         is_whole,
     };
     write_draft(alloc, out, &draft)

@@ -86,9 +86,7 @@ fn push_syntax(
     if positions.is_empty() {
         return Ok(());
     }
-    page.extend_from_slice(
-        b"<details>\n<summary>Axioms of other typecodes (syntax)</summary>\n",
-    )?;
+    page.extend_from_slice(b"<details>\n<summary>Axioms of other typecodes (syntax)</summary>\n")?;
     push_labels(page, notation, positions)?;
     page.extend_from_slice(b"</details>\n")
 }
@@ -96,5 +94,7 @@ fn push_syntax(
 /// Appends the theorems whose proofs cite the assertion.
 pub fn push_users(page: &mut Vec<u8>, draft: &Draft<'_>) -> Result<(), AllocError> {
     page.extend_from_slice(b"<h2>Theorems that cite it</h2>\n")?;
-    push_labels(page, &draft.notation, draft.contents.neighbours.users)
+    let contents = draft.contents;
+    let users = contents.neighbours.users;
+    push_labels(page, &draft.notation, users)
 }

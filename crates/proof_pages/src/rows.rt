@@ -1,4 +1,4 @@
-//! Rows of tables, and lists of labels.
+//! Rows of tables, and lists of labels. End tags that HTML lets one omit are omitted.
 ghost use Rattle.std.specs.Prelude.{◌≡◌, ◌<◌, ◌++◌, length, get_or, flat_map, OnOk};
 ghost use Rattle.steps.specs.Rows.{no_row};
 ghost use Rattle.proof_pages.specs.TableRows.{link_html, row_start, taken_html, row_rest, step_html, item_html, list_html, labels_html};
@@ -48,9 +48,9 @@ fn push_taken(
     ensures { OnOk result (page.new.items ≡ page.old.items ++ taken_html mark.now place taken.now) }
 {
     push_place(page, place)?;
-    page.extend_from_slice(b"</td><td>")?;
+    page.extend_from_slice(b"<td>")?;
     push_links(page, mark, taken)?;
-    page.extend_from_slice(b"</td><td>")
+    page.extend_from_slice(b"<td>")
 }
 
 /// Appends a label and an expression, and ends the row.
@@ -62,12 +62,12 @@ pub fn push_row_rest(
 ) -> Result<(), AllocError>
     ensures { OnOk result (page.new.items ≡ page.old.items
         ++ row_rest notation.now.is_linked notation.now.statements.now notation.now.frames.now.names
-        notation.now.classes.now position expr.now) }
+        notation.now.colours.now.classes.items position expr.now) }
 {
     push_cited(page, notation, position)?;
-    page.extend_from_slice(b"</td><td>")?;
+    page.extend_from_slice(b"<td>")?;
     push_html_expr(page, notation, expr)?;
-    page.extend_from_slice(b"</td></tr>\n")
+    page.extend_from_slice(b"\n")
 }
 
 /// Appends the step at a place as a row: its number, links to the rows of the steps that it takes, its label, its
@@ -82,7 +82,7 @@ pub fn push_html_step(
     requires { place < length table.now }
     ensures { OnOk result (page.new.items ≡ page.old.items
         ++ step_html notation.now.is_linked notation.now.statements.now notation.now.frames.now.names
-        notation.now.classes.now mark.now place (get_or table.now place no_row)) }
+        notation.now.colours.now.classes.items mark.now place (get_or table.now place no_row)) }
 {
     push_row_start(page, mark, place)?;
     push_taken(page, mark, place, table.taken(place))?;
@@ -90,17 +90,13 @@ pub fn push_html_step(
 }
 
 /// Appends the label of the statement at a position as an item of a list.
-fn push_item(
-    page: &mut Vec<u8>,
-    notation: &Notation<'_>,
-    position: u32,
-) -> Result<(), AllocError>
+fn push_item(page: &mut Vec<u8>, notation: &Notation<'_>, position: u32) -> Result<(), AllocError>
     ensures { OnOk result (page.new.items ≡ page.old.items
         ++ item_html notation.now.is_linked notation.now.statements.now position) }
 {
     page.extend_from_slice(b"<li>")?;
     push_cited(page, notation, position as usize)?;
-    page.extend_from_slice(b"</li>\n")
+    page.extend_from_slice(b"\n")
 }
 
 fn push_items(

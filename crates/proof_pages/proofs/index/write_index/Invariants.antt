@@ -1,5 +1,5 @@
 use Rattle.std.proofs.Common.{◌++◌, take}
-use Rattle.proof_pages.specs.declared.TheConstants.{INDEX_START}
+use Rattle.proof_pages.specs.declared.index.TheConstants.{INDEX_START}
 use Rattle.proof_pages.specs.Indexes.{index_row}
 use Rattle.proof_pages.specs.StepLines.{texts_from}
 use Rattle.proof_pages.specs.Writing.{Wrote}
