@@ -1,9 +1,9 @@
 -- The steps of the pass over the statements.
-use Rattle.std.specs.Prelude.{◌≡◌, ◌⊎◌, ◌↔◌, ℕ, zero, suc, ◌+◌, ◌-◌, ◌<◌, ◌≤◌, Bool, true, false, IsTrue, List, [], ◌∷◌, ◌++◌, length, map, take, get_or, replicate, slice_set, Some}
-use Rattle.std.proofs.Common.{sym, ◌∙◌, ap, subst, refl, arith, inl, inr, take_all, length-append}
+use Rattle.std.specs.Prelude.{◌≡◌, ◌⊎◌, ◌↔◌, ℕ, zero, suc, ◌+◌, ◌-◌, ◌<◌, ◌≤◌, Bool, true, false, IsTrue, List, [], ◌∷◌, ◌++◌, length, map, take, drop, get_or, replicate, slice_set, Some}
+use Rattle.std.proofs.Common.{sym, ◌∙◌, ap, subst, refl, arith, inl, inr, take_all, length-append, append-nil}
 use Rattle.std.proofs.lemmas.Bool.{cases_eq, cases_lt}
 use Rattle.std.specs.Global.{Vec}
-use Rattle.std.proofs.lemmas.List.{get_or-map, map-append, map-set, get_or-set_other, get_or-set_same, get_or_append_left, get_or_past, length-map, length-set, length-replicate}
+use Rattle.std.proofs.lemmas.List.{drop_all, get_or-map, map-append, map-set, get_or-set_other, get_or-set_same, get_or_append_left, get_or_past, length-map, length-set, length-replicate}
 use Rattle.entries.specs.PositionSets.{Ascends, has_position}
 use Rattle.frame.specs.Stored.Hypotheses.{In, AreThose, HasMore, OfSome}
 use Rattle.frame.proofs.CollectLemmas.{last-in, last-out, those-by}
@@ -255,3 +255,8 @@ given-more S axioms p old mid new s list stands first is more =
         let same : there.stmt ≡ s = cc in
         inl (subst (λ t. IsTrue (is_axiom t)) same there.kind, h.1)
     from q (inr i) = inr (subst (In q) (sym is) i)
+
+-- lists that were lent whole
+pub lent-lists : (n : ℕ) (s old : List (Vec ℕ)) → length s ≡ length old → n ≡ length old → take n (s ++ drop (length s) old) ≡ s
+lent-lists n s old same all =
+    ap (λ r. take n (s ++ r)) (drop_all (length s) old (omega (arith, same))) ∙ (ap (take n) (append-nil s) ∙ take_all n s (omega (arith, same, all)))
