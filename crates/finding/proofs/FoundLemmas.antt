@@ -1,5 +1,5 @@
 -- The lines of what is found, a statement at a time.
-use Rattle.std.proofs.Common.{◌≡◌, ℕ, zero, suc, ◌+◌, ◌-◌, ◌<◌, ◌≤◌, Bool, true, false, List, [], ◌∷◌, ◌++◌, length, take, drop, Option, Some, None, slice_get, get_or, refl, ap, sym, ◌∙◌, subst, arith, append_assoc, inl, inr}
+use Rattle.std.proofs.Common.{◌≡◌, ℕ, zero, suc, ◌+◌, ◌<◌, ◌≤◌, Bool, true, false, List, [], ◌∷◌, ◌++◌, length, take, Option, Some, None, slice_get, get_or, refl, ap, sym, ◌∙◌, subst, arith, append_assoc, inl, inr}
 use Rattle.std.specs.Prelude.{◌↔◌, ◌⊎◌, IsTrue, IfOk, Result}
 use Rattle.std.proofs.lemmas.Bool.{both_ways}
 use Rattle.std.proofs.lemmas.Option.{slice_get-get_or}
@@ -8,7 +8,7 @@ use Rattle.std.proofs.lemmas.List.{append-nil, take_all}
 use Rattle.mm_read.specs.declared.stmt.Stmt.{Stmt}
 use Rattle.mm_read.specs.Statements.{Database}
 use Rattle.scope.specs.Active.{stmt_at}
-use Rattle.finding.specs.Lines.{found_line, line_if, IsLineIf, AreFoundLines}
+use Rattle.finding.specs.Lines.{line_if, IsLineIf, AreFoundLines}
 
 -- the line of a statement that was judged
 judged : (counts : Type 0) (is : Bool) (s : Stmt) → IsTrue is ↔ counts → IsLineIf counts s (line_if is s)
@@ -56,5 +56,5 @@ pub with_assertion : {E : Type 0} (B : Type 0) (a : Bool) → a ≡ true → (r 
 with_assertion B a e r h = IfOk-weaker r _ _ (λ is b. (λ yes. (e, b.0 yes), λ both. b.1 both.1)) h
 
 -- one of two, and not the first
-pub either_later : {E : Type 0} (A B : Type 0) (own : Bool) → own ≡ false → IsTrue own ↔ A → (r : Result Bool E) → IfOk r (λ is. IsTrue is ↔ B) → IfOk r (λ is. IsTrue is ↔ (A ⊎ B))
-either_later A B own fails first r h = IfOk-weaker r _ _ (λ is b. (λ yes. inr (b.0 yes), λ one. elim one [ inl a ↦ absurd (both_ways own fails (first.1 a)) | inr some ↦ b.1 some ])) h
+pub either_later : (A B : Type 0) (own is : Bool) → own ≡ false → IsTrue own ↔ A → IsTrue is ↔ B → IsTrue is ↔ (A ⊎ B)
+either_later A B own is fails first b = (λ yes. inr (b.0 yes), λ one. elim one [ inl a ↦ absurd (both_ways own fails (first.1 a)) | inr some ↦ b.1 some ])

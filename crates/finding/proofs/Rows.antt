@@ -1,5 +1,5 @@
 -- Lines of what is found in a small database.
-use Rattle.std.proofs.Common.{◌≡◌, List, [], ◌∷◌, codes, refl}
+use Rattle.std.proofs.Common.{◌≡◌, [], ◌∷◌, codes, refl}
 use Rattle.mm_read.specs.declared.stmt.Stmt.TheVariants.{Axiom, Prove, Open}
 use Rattle.finding.specs.Lines.{found_line}
 

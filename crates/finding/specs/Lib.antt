@@ -1,2 +1,3 @@
+pub mod Essentials
 pub mod Found
 pub mod Lines

@@ -1,12 +1,14 @@
 //! The lines of the assertions that a search finds.
-ghost use Rattle.std.specs.Prelude.{◌≡◌, ◌+◌, ◌++◌, ◌↔◌, IfOk, IsTrue, OnOk, Some};
+ghost use Rattle.std.specs.Prelude.{◌≡◌, ◌+◌, ◌++◌, ◌↔◌, ℕ, IfOk, IsTrue, OnOk, Some};
+ghost use Rattle.mm_read.specs.Statements.{Database};
 ghost use Rattle.scope.specs.Active.{bares, is_assertion, stmt_at};
 ghost use Rattle.mm_lex.specs.Alphabet.{word};
+ghost use Rattle.finding.specs.Essentials.{AreNoted};
 ghost use Rattle.finding.specs.Found.{Counts, Has, description_at};
 ghost use Rattle.finding.specs.Lines.{AreFoundLines, found_line, line_if};
 
 use crate::expressions::{assertion_expr, has_in};
-use crate::hypotheses::some_essential_has;
+use crate::hypotheses::{has_active, note_essential};
 use crate::sought::{Searched, Sought};
 use frame::is_assertion;
 use mm_lex::Span;
@@ -16,8 +18,10 @@ use std::alloc::{AllocError, Global};
 /// Returns a line for each assertion that has what is sought, in order: its label and its
 /// expression.
 ///
-/// Errors: an allocation fails. Cost: for each assertion at most the size of its expression, of its
-/// `$e` or of its description, times the size of what is sought.
+/// Errors: an allocation fails. Cost: at most the size of the statements, or of the descriptions,
+/// times the size of what is sought; an `$e` is looked at once, however many assertions it is a
+/// hypothesis of.
+#[tactic(auto, using(crate::proofs::HypothesesLemmas::noted_none))]
 pub fn found_lines(
     alloc: Global,
     searched: &Searched<'_>,
@@ -29,11 +33,35 @@ pub fn found_lines(
         sought.now) 0 searched.now.statements.now lines.items) }
 {
     let mut lines = Vec::new(alloc);
+    let mut essentials = Vec::new(alloc);
     for (index, statement) in searched.statements.iter().enumerate() {
-        let is_found = counts(alloc, searched, sought, index, statement)?;
+        let is_found = counts(alloc, searched, sought, &mut essentials, index, statement)?;
         push_if(&mut lines, is_found, statement)?;
+        note(alloc, sought, &mut essentials, index + 1, statement)?;
     }
     Ok(lines)
+}
+
+/// Appends the position of a statement to those of the `$e` that have what is sought, if hypotheses
+/// are looked at and it is one.
+fn note(
+    alloc: Global,
+    sought: &Sought<'_>,
+    essentials: &mut Vec<usize>,
+    at: usize,
+    statement: &Stmt,
+) -> Result<(), AllocError>
+    ensures { (S : Database) (n : ℕ) → n + 1 ≡ at → stmt_at S at ≡ Some statement.now
+        → AreNoted sought.now S n essentials.old.items
+        → OnOk result (AreNoted sought.now S at essentials.new.items) }
+{
+    match sought {
+        Sought::WithHypotheses(pattern) => {
+            note_essential(alloc, pattern, essentials, at, statement)
+        }
+        Sought::Pattern(_) => Ok(()),
+        Sought::Words(_) => Ok(()),
+    }
 }
 
 /// Tells whether the statement at an index is an assertion that has what is sought.
@@ -41,19 +69,22 @@ fn counts(
     alloc: Global,
     searched: &Searched<'_>,
     sought: &Sought<'_>,
+    essentials: &mut Vec<usize>,
     index: usize,
     statement: &Stmt,
 ) -> Result<bool, AllocError>
     requires same { searched.now.frames.now.statements ≡ bares searched.now.statements.now }
     requires stands { stmt_at searched.now.statements.now (index + 1) ≡ Some statement.now }
-    ensures { IfOk result (λ is. IsTrue is ↔ Counts searched.now.text.now
+    requires noted { AreNoted sought.now searched.now.statements.now index essentials.old.items }
+    ensures counts { IfOk result (λ is. IsTrue is ↔ Counts searched.now.text.now
         searched.now.statements.now searched.now.descriptions.now sought.now index
         statement.now) }
+    ensures noted { AreNoted sought.now searched.now.statements.now index essentials.new.items }
 {
     if !is_assertion(statement) {
         return Ok(false);
     }
-    has(alloc, searched, sought, index, statement)
+    has(alloc, searched, sought, essentials, index, statement)
 }
 
 /// Tells whether the assertion at an index has what is sought.
@@ -61,15 +92,18 @@ fn has(
     alloc: Global,
     searched: &Searched<'_>,
     sought: &Sought<'_>,
+    essentials: &mut Vec<usize>,
     index: usize,
     statement: &Stmt,
 ) -> Result<bool, AllocError>
     requires same { searched.now.frames.now.statements ≡ bares searched.now.statements.now }
     requires stands { stmt_at searched.now.statements.now (index + 1) ≡ Some statement.now }
     requires assertion { IsTrue (is_assertion statement.now) }
-    ensures { IfOk result (λ is. IsTrue is ↔ Has searched.now.text.now
+    requires noted { AreNoted sought.now searched.now.statements.now index essentials.old.items }
+    ensures has { IfOk result (λ is. IsTrue is ↔ Has searched.now.text.now
         searched.now.statements.now searched.now.descriptions.now sought.now index
         statement.now) }
+    ensures noted { AreNoted sought.now searched.now.statements.now index essentials.new.items }
 {
     match sought {
         Sought::Pattern(pattern) => has_in(alloc, pattern, assertion_expr(statement)),
@@ -78,7 +112,7 @@ fn has(
             if own {
                 return Ok(true);
             }
-            some_essential_has(alloc, searched, pattern, index + 1, statement)
+            Ok(has_active(searched.frames, index + 1, essentials))
         }
         Sought::Words(words) => Ok(words.are_in(description_at(
             searched.text,

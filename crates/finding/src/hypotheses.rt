@@ -1,67 +1,85 @@
-//! A pattern in an `$e` of an assertion.
-ghost use Rattle.std.specs.Prelude.{◌≡◌, ◌↔◌, IfOk, IsTrue, Some};
-ghost use Rattle.scope.specs.Active.{bares, before, stmt_at, is_assertion};
-ghost use Rattle.frame.specs.FrameOf.{hypotheses};
-ghost use Rattle.finding.specs.Found.{HasIn, essential_at, SomeEssentialHas};
+//! The `$e` with a pattern that are active.
+ghost use Rattle.std.specs.Prelude.{◌≡◌, ◌↔◌, ◌+◌, ◌++◌, ◌∷◌, [], ◌<◌, ◌≤◌, ℕ, length, take, IsFalse, IsTrue, OnOk, Some};
+ghost use Rattle.mm_read.specs.Statements.{Database};
+ghost use Rattle.scope.specs.Active.{stmt_at};
+ghost use Rattle.finding.specs.Essentials.{AreKept, IsLeft, IsSomeHypothesis};
 
 use crate::expressions::{essential_expr, has_in};
-use crate::sought::Searched;
+use frame::{Frames, Meaning};
 use mm_read::Stmt;
 use patterns::Pattern;
 use std::alloc::{AllocError, Global};
 
-/// Tells whether some `$e` among the mandatory hypotheses of the assertion at a position has the
-/// pattern.
-pub(crate) fn some_essential_has(
+/// Appends the position of a statement to those of the `$e` that have the pattern, if it is one.
+///
+/// Errors: an allocation fails. Cost: that of `has_in`.
+pub(crate) fn note_essential(
     alloc: Global,
-    searched: &Searched<'_>,
     pattern: &Pattern<'_>,
+    essentials: &mut Vec<usize>,
     at: usize,
     statement: &Stmt,
-) -> Result<bool, AllocError>
-    requires same { searched.now.frames.now.statements ≡ bares searched.now.statements.now }
-    requires stands { stmt_at searched.now.statements.now at ≡ Some statement.now }
-    requires assertion { IsTrue (is_assertion statement.now) }
-    ensures { IfOk result (λ is. IsTrue is ↔ SomeEssentialHas pattern.now
-        searched.now.statements.now
-        (hypotheses (before (bares searched.now.statements.now) at) statement.now)) }
+) -> Result<(), AllocError>
+    ensures { (S : Database) (n : ℕ) → n + 1 ≡ at → stmt_at S at ≡ Some statement.now
+        → AreKept pattern.now S n essentials.old.items
+        → OnOk result (AreKept pattern.now S at essentials.new.items) }
 {
-    let mut positions = Vec::new(alloc);
-    searched.frames.mandatory(at, &mut positions)?;
-    some_has(alloc, searched.statements, pattern, positions.as_slice())
+    let has = has_in(alloc, pattern, essential_expr(statement))?;
+    push_if(essentials, has, at)
 }
 
-/// Tells whether one of the statements at these positions is an `$e` with the pattern.
-fn some_has(
-    alloc: Global,
-    statements: &[Stmt],
-    pattern: &Pattern<'_>,
-    positions: &[u32],
-) -> Result<bool, AllocError>
-    ensures { IfOk result (λ is. IsTrue is
-        ↔ SomeEssentialHas pattern.now statements.now positions.now) }
+/// Appends a position, if it is asked for.
+fn push_if(positions: &mut Vec<usize>, is: bool, at: usize) -> Result<(), AllocError>
+    ensures pushed { IsTrue is → OnOk result (positions.new.items ≡ positions.old.items ++ at ∷ []) }
+    ensures same { IsFalse is → OnOk result (positions.new.items ≡ positions.old.items) }
 {
-    for position in positions {
-        let has = essential_has(alloc, statements, pattern, *position as usize)?;
-        if has {
-            return Ok(true);
+    if is {
+        positions.push(at)?;
+    }
+    Ok(())
+}
+
+/// Drops the last positions that are not those of hypotheses active at a position. Tells whether
+/// one is left.
+///
+/// Cost: a constant, and how many are dropped.
+pub(crate) fn has_active(frames: &Frames, at: usize, positions: &mut Vec<usize>) -> bool
+    requires place { (1 ≤ at) × (at ≤ length frames.now.statements) }
+    ensures left { IsLeft frames.now.statements at positions.old.items
+        (length positions.new.items) }
+    ensures front { positions.new.items
+        ≡ take (length positions.new.items) positions.old.items }
+    ensures some { IsTrue result ↔ 0 < length positions.new.items }
+{
+    let left = count_left(frames, at, positions.as_slice());
+    positions.truncate(left);
+    left > 0
+}
+
+/// Returns how many positions are left if the last ones go that are not those of hypotheses active
+/// at a position.
+fn count_left(frames: &Frames, at: usize, positions: &[usize]) -> usize
+    requires place { (1 ≤ at) × (at ≤ length frames.now.statements) }
+    ensures { IsLeft frames.now.statements at positions.now result }
+{
+    let mut left = positions.len();
+    while left > 0 {
+        if is_active(frames, at, positions[left - 1]) {
+            return left;
         }
+        left -= 1;
     }
-    Ok(false)
+    0
 }
 
-/// Tells whether the statement at a position is an `$e` with the pattern.
-fn essential_has(
-    alloc: Global,
-    statements: &[Stmt],
-    pattern: &Pattern<'_>,
-    position: usize,
-) -> Result<bool, AllocError>
-    ensures { IfOk result (λ is. IsTrue is
-        ↔ HasIn pattern.now (essential_at statements.now position)) }
+/// Tells whether the statement at `position` is a hypothesis that is active at `at`.
+fn is_active(frames: &Frames, at: usize, position: usize) -> bool
+    requires place { (1 ≤ at) × (at ≤ length frames.now.statements) }
+    ensures { IsTrue result ↔ IsSomeHypothesis frames.now.statements at position }
 {
-    if position == 0 || position > statements.len() {
-        return Ok(false);
+    match frames.meaning(at, position) {
+        Meaning::Hypothesis(_) => true,
+        Meaning::Assertion => false,
+        Meaning::Nothing => false,
     }
-    has_in(alloc, pattern, essential_expr(&statements[position - 1]))
 }

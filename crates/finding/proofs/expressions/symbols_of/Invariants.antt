@@ -1,4 +1,4 @@
-use Rattle.std.proofs.Common.{◌≡◌, map}
+use Rattle.std.proofs.Common.{◌≡◌}
 use Rattle.finding.proofs.expressions.symbols_of.Given as goal
 
 abbrev pub invariant-loop-symbol : goal.invariant-loop-symbol

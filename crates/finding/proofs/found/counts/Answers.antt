@@ -7,4 +7,7 @@ pub returns : goal.returns
 returns c =
     let e = c.if-not-is_assertion.ensures in
     let assertion : is_assertion c.args.statement.now ≡ true = cc in
-    with_assertion _ (is_assertion c.args.statement.now) assertion c.has.result c.has.ensures
+    record {
+      counts = with_assertion _ (is_assertion c.args.statement.now) assertion c.has.result c.has.ensures.has;
+      noted = c.has.ensures.noted;
+    }

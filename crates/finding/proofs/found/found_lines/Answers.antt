@@ -1,4 +1,4 @@
-use Rattle.std.proofs.Common.{arith}
+use Rattle.std.proofs.Common.{refl, arith}
 use Rattle.finding.specs.Found.{Counts}
 use Rattle.finding.proofs.FoundLemmas.{lines_on, lines_all, stands_at}
 use Rattle.finding.proofs.found.found_lines.Goals as goal
@@ -9,10 +9,13 @@ counts-requires-clause-stands c = stands_at c.args.searched.now.statements.now c
 pub loop-index-preserved : goal.loop-index-preserved
 loop-index-preserved c =
     let s = c.args.searched.now in
-    lines_on (Counts s.text.now s.statements.now s.descriptions.now c.args.sought.now) s.statements.now c.loop-index.index c.statement-item.result c.in_ok-is_found.is_found _ _
-    c.loop-index.invariant c.loop-index-test.true c.statement-item.is c.in_ok-is_found.ensures c.in_ok-push_if.ensures
+    record {
+      lines = lines_on (Counts s.text.now s.statements.now s.descriptions.now c.args.sought.now) s.statements.now c.loop-index.index c.statement-item.result c.in_ok-is_found.is_found _ _
+          c.loop-index.invariant.lines c.loop-index-test.true c.statement-item.is c.in_ok-is_found.ensures.counts c.in_ok-push_if.ensures;
+      noted = c.in_ok-note.ensures s.statements.now c.loop-index.index refl (stands_at s.statements.now c.loop-index.index _ c.loop-index-test.true c.statement-item.is) c.counts.ensures.noted;
+    }
 
 pub returns : goal.returns
 returns c =
     let s = c.args.searched.now in
-    lines_all (Counts s.text.now s.statements.now s.descriptions.now c.args.sought.now) s.statements.now c.loop-index.index _ (omega arith) c.loop-index.invariant
+    lines_all (Counts s.text.now s.statements.now s.descriptions.now c.args.sought.now) s.statements.now c.loop-index.index _ (omega arith) c.loop-index.invariant.lines

@@ -1,8 +1,11 @@
 use Rattle.std.proofs.Common.{take}
+use Rattle.finding.specs.Essentials.{AreNoted}
 use Rattle.finding.specs.Found.{Counts}
 use Rattle.finding.specs.Lines.{AreFoundLines}
 use Rattle.finding.proofs.found.found_lines.Given as goal
 
 abbrev pub invariant-loop-index : goal.invariant-loop-index
-invariant-loop-index l =
-    AreFoundLines (Counts l.searched.text.now l.searched.statements.now l.searched.descriptions.now l.sought) 0 (take l.index l.searched.statements.now) l.lines.items
+invariant-loop-index l = record {
+  lines : AreFoundLines (Counts l.searched.text.now l.searched.statements.now l.searched.descriptions.now l.sought) 0 (take l.index l.searched.statements.now) l.lines.items;
+  noted : AreNoted l.sought l.searched.statements.now l.index l.essentials.items;
+}

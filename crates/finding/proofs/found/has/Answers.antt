@@ -1,10 +1,14 @@
-use Rattle.std.proofs.Common.{◌↔◌, IfOk, IsTrue, sym, subst}
+use Rattle.std.proofs.Common.{◌+◌, List, ℕ, length, refl, sym, subst}
+use Rattle.std.specs.Prelude.{◌↔◌, IfOk, IsTrue}
+use Rattle.scope.specs.Active.{bares}
+use Rattle.finding.specs.Essentials.{AreKept, AreNoted, IsLeft}
 use Rattle.finding.specs.Found.{HasIn, Has}
 use Rattle.finding.proofs.FoundLemmas.{either_later}
+use Rattle.finding.proofs.HypothesesLemmas.{kept-left, some-left}
 use Rattle.finding.proofs.found.has.Goals as goal
 
-pub returns-in-Pattern : goal.returns-in-Pattern
-returns-in-Pattern c =
+pub returns-in-Pattern-clause-has : goal.returns-in-Pattern-clause-has
+returns-in-Pattern-clause-has c =
     let s = c.args.searched.now in
     subst (λ sought. IfOk c.has_in.result (λ is. IsTrue is ↔ Has s.text.now s.statements.now s.descriptions.now sought c.args.index c.args.statement.now)) (sym c.in-Pattern.is)
     (subst (λ expr. IfOk c.has_in.result (λ is. IsTrue is ↔ HasIn c.in-Pattern.pattern expr)) c.assertion_expr.ensures c.has_in.ensures)
@@ -12,6 +16,16 @@ returns-in-Pattern c =
 pub returns-else-own : goal.returns-else-own
 returns-else-own c =
     let s = c.args.searched.now in
-    let own = subst (λ expr. IsTrue c.in_ok-own-in-WithHypotheses.own ↔ HasIn c.in-WithHypotheses.pattern expr) c.assertion_expr-in-WithHypotheses.ensures c.in_ok-own-in-WithHypotheses.ensures in
-    subst (λ sought. IfOk c.some_essential_has.result (λ is. IsTrue is ↔ Has s.text.now s.statements.now s.descriptions.now sought c.args.index c.args.statement.now)) (sym c.in-WithHypotheses.is)
-    (either_later _ _ c.in_ok-own-in-WithHypotheses.own c.if-own.false own c.some_essential_has.result c.some_essential_has.ensures)
+    let S = s.statements.now in
+    let p = c.in-WithHypotheses.pattern in
+    let old : List ℕ = c.args.essentials.now.items in
+    let new : List ℕ = c.has_active.new.positions.items in
+    let kept : AreKept p S c.args.index old = subst (λ sought. AreNoted sought S c.args.index old) c.in-WithHypotheses.is c.requires.noted in
+    let left : IsLeft (bares S) (c.args.index + 1) old (length new) = subst (λ F. IsLeft F (c.args.index + 1) old (length new)) c.requires.same c.has_active.ensures.left in
+    let own = subst (λ expr. IsTrue c.in_ok-own-in-WithHypotheses.own ↔ HasIn p expr) c.assertion_expr-in-WithHypotheses.ensures c.in_ok-own-in-WithHypotheses.ensures in
+    let some = some-left p S c.args.index (c.args.index + 1) refl old new left c.has_active.ensures.front c.args.statement.now c.has_active.result kept c.has_active.ensures.some in
+    record {
+      has = subst (λ sought. IsTrue c.has_active.result ↔ Has s.text.now S s.descriptions.now sought c.args.index c.args.statement.now) (sym c.in-WithHypotheses.is)
+          (either_later _ _ c.in_ok-own-in-WithHypotheses.own c.has_active.result c.if-own.false own some);
+      noted = subst (λ sought. AreNoted sought S c.args.index new) (sym c.in-WithHypotheses.is) (kept-left p S c.args.index (c.args.index + 1) refl old new left c.has_active.ensures.front kept);
+    }

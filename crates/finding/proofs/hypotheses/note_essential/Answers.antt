@@ -1,0 +1,11 @@
+use Rattle.std.proofs.Common.{subst}
+use Rattle.std.specs.Prelude.{◌↔◌, IsTrue}
+use Rattle.finding.specs.Found.{HasIn}
+use Rattle.finding.proofs.HypothesesLemmas.{kept-one}
+use Rattle.finding.proofs.hypotheses.note_essential.Goals as goal
+
+pub returns : goal.returns
+returns c = λ S n next stands kept.
+    let p = c.args.pattern.now in
+    let has = subst (λ expr. IsTrue c.in_ok-has.has ↔ HasIn p expr) c.essential_expr.ensures c.in_ok-has.ensures in
+    kept-one p S n c.args.at next c.args.statement.now c.args.essentials.now.items c.push_if.new.positions.items c.in_ok-has.has c.push_if.result stands has c.push_if.ensures.pushed c.push_if.ensures.same kept

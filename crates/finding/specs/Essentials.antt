@@ -1,0 +1,32 @@
+-- The `$e` with a pattern that a search keeps from statement to statement.
+-- Source: none; for the private functions of `hypotheses` and `found`.
+-- The code keeps the positions of those that may still be active, and drops the last ones that no longer are.
+use Rattle.std.specs.Prelude.{◌≡◌, ℕ, suc, ◌+◌, ◌<◌, ◌≤◌, true, List, length, get_or}
+use Rattle.mm_read.specs.Statements.{Database}
+use Rattle.mm_read.specs.declared.stmt.Stmt.{Stmt}
+use Rattle.scope.specs.Active.{bares, is_active}
+use Rattle.frame.specs.Citations.{IsHypothesis}
+use Rattle.patterns.specs.Matches.{Part}
+use Rattle.finding.specs.declared.sought.Sought.{Sought}
+use Rattle.finding.specs.declared.sought.Sought.TheVariants.{WithHypotheses}
+use Rattle.finding.specs.Found.{HasIn, essential_at}
+
+-- the list has positions of `$e` with the pattern among the first n statements: all that are active after these
+pub record AreKept (p : List Part) (S : Database) (n : ℕ) (list : List ℕ) : Type 0 where
+  pub each : (k : ℕ) → k < length list → (get_or list k 0 ≤ n) × HasIn p (essential_at S (get_or list k 0))
+  pub all : (i : ℕ) → i ≤ n → HasIn p (essential_at S i) → is_active (bares S) i (n + 1) ≡ true → (k : ℕ) × (k < length list) × (get_or list k 0 ≡ i)
+
+-- that is so if a pattern in hypotheses is sought
+abbrev pub AreNoted : Sought → Database → ℕ → List ℕ → Type 0
+AreNoted (WithHypotheses p) S n list = AreKept p S n list
+AreNoted sought S n list = Unit {0}
+
+-- the statement at i is a hypothesis that is active at `at`
+abbrev pub IsSomeHypothesis : Database → ℕ → ℕ → Type 0
+IsSomeHypothesis F at i = (s : Stmt) × IsHypothesis F at i s
+
+-- so many of the list are left if the last ones go that are no hypotheses active at `at`
+pub record IsLeft (F : Database) (at : ℕ) (list : List ℕ) (left : ℕ) : Type 0 where
+  pub within : left ≤ length list
+  pub gone : (k : ℕ) → left ≤ k → k < length list → IsSomeHypothesis F at (get_or list k 0) → ⊥
+  pub last : (k : ℕ) → suc k ≡ left → IsSomeHypothesis F at (get_or list k 0)
