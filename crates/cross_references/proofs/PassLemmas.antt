@@ -222,11 +222,11 @@ module _ (S : Database) where
 
 -- ---- lists in vectors
 
-pub list-set : (us : List (Vec ℕ)) (k : ℕ) (old new : Vec ℕ) (at : ℕ) → k < length us → old ≡ get_or us k old → new.items ≡ old.items ++ at ∷ []
+pub list-set : (us : List (Vec ℕ)) (k : ℕ) (d new : Vec ℕ) (at : ℕ) → k < length us → new.items ≡ (get_or us k d).items ++ at ∷ []
     → lists_of (slice_set us k new) ≡ slice_set (lists_of us) k (get_or (lists_of us) k [] ++ at ∷ [])
-list-set us k old new at h is more =
+list-set us k d new at h more =
     map-set (λ (v : Vec ℕ). v.items) us k new
-    ∙ ap (λ l. slice_set (lists_of us) k l) (more ∙ ap (λ l. l ++ at ∷ []) (ap (λ (v : Vec ℕ). v.items) is ∙ sym (get_or-map (λ (v : Vec ℕ). v.items) us k old [] h)))
+    ∙ ap (λ l. slice_set (lists_of us) k l) (more ∙ ap (λ l. l ++ at ∷ []) (sym (get_or-map (λ (v : Vec ℕ). v.items) us k d [] h)))
 
 pub list-at : (us : List (Vec ℕ)) (k : ℕ) (old : Vec ℕ) → k < length us → old ≡ get_or us k old → get_or (lists_of us) k [] ≡ old.items
 list-at us k old h is = get_or-map (λ (v : Vec ℕ). v.items) us k old [] h ∙ ap (λ (v : Vec ℕ). v.items) (sym is)
@@ -260,3 +260,17 @@ given-more S axioms p old mid new s list stands first is more =
 pub lent-lists : (n : ℕ) (s old : List (Vec ℕ)) → length s ≡ length old → n ≡ length old → take n (s ++ drop (length s) old) ≡ s
 lent-lists n s old same all =
     ap (λ r. take n (s ++ r)) (drop_all (length s) old (omega (arith, same))) ∙ (ap (take n) (append-nil s) ∙ take_all n s (omega (arith, same, all)))
+
+-- ---- what the calls say, in the words of the pass
+
+pub have-as : (at m : ℕ) (ps qs : List ℕ) (lent old new : List (Vec ℕ)) → m ≡ at → ps ≡ qs → lent ≡ old → HaveUser m ps (lists_of lent) (lists_of new) → HaveUser at qs (lists_of old) (lists_of new)
+have-as at m ps qs lent old new same is all have =
+    subst (λ a. HaveUser a qs (lists_of old) (lists_of new)) same
+    (subst (λ (l : List ℕ). HaveUser m l (lists_of old) (lists_of new)) is
+    (subst (λ (us : List (Vec ℕ)). HaveUser m ps (lists_of us) (lists_of new)) all have))
+
+pub given-as : (S T : Database) (ps qs list : List ℕ) (lent axioms : List (Vec ℕ)) → T ≡ S → ps ≡ qs → lent ≡ axioms → AreThose (OfSome (Gives T (lists_of lent)) ps) list → AreThose (OfSome (Gives S (lists_of axioms)) qs) list
+given-as S T ps qs list lent axioms same is all given =
+    subst (λ (U : Database). AreThose (OfSome (Gives U (lists_of axioms)) qs) list) same
+    (subst (λ (l : List ℕ). AreThose (OfSome (Gives T (lists_of axioms)) l) list) is
+    (subst (λ (us : List (Vec ℕ)). AreThose (OfSome (Gives T (lists_of us)) ps) list) all given))
