@@ -1,16 +1,16 @@
 -- A name is read back to its label, and has bytes of names alone.
-use Rattle.std.specs.Prelude.{◌≡◌, ◌⊎◌, ℕ, zero, suc, ◌+◌, ◌-◌, ◌*◌, ◌<◌, ◌≤◌, ◌^◌, ◌==◌, nat_le, Bool, true, false, not, ◌&&◌, ◌||◌, if◌then◌else◌, List, [], ◌∷◌, ◌++◌, length, codes, decimal, flat_map}
+use Rattle.std.specs.Prelude.{◌≡◌, ◌⊎◌, ℕ, ◌+◌, ◌-◌, ◌<◌, ◌^◌, ◌==◌, nat_le, Bool, true, false, not, if◌then◌else◌, List, [], ◌∷◌, ◌++◌, length, codes, decimal}
 use Rattle.std.specs.List.{list_all}
 use Rattle.std.specs.Char.{digit_value, is_ascii_uppercase, is_ascii_digit}
 use Rattle.std.specs.Str.Parse.{AllDigits}
-use Rattle.std.proofs.Common.{sym, ◌∙◌, ap, subst, arith, refl, true≢false, append_assoc, append-nil, inl, inr}
+use Rattle.std.proofs.Common.{sym, ◌∙◌, ap, arith, refl, true≢false, append_assoc, append-nil, inl, inr}
 use Rattle.std.proofs.lemmas.Bool.{and_parts, and_from}
 use Rattle.std.proofs.lemmas.Bool.Decides.{nat_tests}
 use Rattle.std.proofs.lemmas.Fmt.{decimal_injective, decimal_is_IsNumeral}
 use Rattle.std.proofs.lemmas.List.{append_cancel_left, append_cancel_right}
 use Rattle.std.proofs.lemmas.List.Folds.{list_all-append}
 use Rattle.mm_lex.specs.Alphabet.{Name, has_name, is_empty, is_label, is_label_byte}
-use Rattle.file_names.specs.FileNames.{escaped_byte, escaped, reserved, mark, is_spelled, spelled, numbered, file_name}
+use Rattle.file_names.specs.FileNames.{escaped_byte, escaped, reserved, mark, is_spelled, spelled, numbered}
 use Rattle.file_names.specs.Laws as laws
 use Rattle.file_names.specs.Laws.{is_name_byte, begins_with_dot}
 

@@ -1,0 +1,150 @@
+-- The statements that items cite, as a list of positions.
+use Rattle.std.specs.Prelude.{◌≡◌, ◌⊎◌, ℕ, zero, suc, ◌+◌, ◌-◌, ◌<◌, ◌≤◌, true, List, [], ◌∷◌, ◌++◌, length, take, get_or, filter_map, Option, Some, None, option_map, slice_get}
+use Rattle.std.specs.List.{cons_option}
+use Rattle.std.proofs.Common.{sym, ◌∙◌, ap, subst, refl, arith, inl, inr, append_assoc}
+use Rattle.std.proofs.lemmas.Bool.{cases_lt}
+use Rattle.std.proofs.lemmas.List.{get_or_past, take_more}
+use Rattle.std.proofs.lemmas.List.Elements.{filter_map-append}
+use Rattle.std.proofs.lemmas.Option.{slice_get-map}
+use Rattle.frame.specs.AtPosition.{ArePositions, HasLabelsOnce, IsPosition}
+use Rattle.frame.specs.Citations.{Carries}
+use Rattle.frame.specs.Stored.Hypotheses.{In, AreThose}
+use Rattle.frame.proofs.CollectLemmas.{those-by}
+use Rattle.frame.proofs.FoundByNumber.{map-back}
+use Rattle.frame.proofs.LegalLabels.{legal-labels}
+use Rattle.library.specs.Good.{Good}
+use Rattle.library.specs.Queries.{IsProofOf}
+use Rattle.library.specs.UseMarks.{place_of}
+use Rattle.library.specs.Uses.{HasItems, ItemsCite, Cites}
+use Rattle.library.proofs.UseMarkLemmas.{position-is}
+use Rattle.library.proofs.JoinedRulesLemmas.{legal-each}
+use Rattle.library.proofs.ProvingLemmas.{not-there}
+use Rattle.library.proofs.CitationWalkLemmas.{cites-of, cited-of}
+use Rattle.mm_lex.specs.Alphabet.{Name}
+use Rattle.mm_read.specs.Statements.{Database}
+use Rattle.mm_read.specs.declared.stmt.Stmt.{Stmt}
+use Rattle.mm_read.specs.declared.stmt.Stmt.TheVariants.{Prove}
+use Rattle.proof_code.specs.ItemNumbers.{item_of, items_of}
+use Rattle.proof_code.specs.declared.item.Item.{Item}
+use Rattle.proof_code.specs.declared.item.Item.TheVariants.{Cite, Recall}
+use Rattle.proof_code.proofs.RowOfNumbers.{item-cite, item-recall}
+use Rattle.cross_references.specs.Passes.{listed_place}
+use Rattle.scope.specs.Active.{bares, is_provable, label_of, stmt_at}
+
+-- ---- the positions that numbers stand for
+
+module _ (S : Database) (labels : List Name) (places : List (Option ℕ)) (are : ArePositions S labels places) (once : HasLabelsOnce S) where
+  -- an item that cites a statement
+  record CitesOne (item : Item) (a : ℕ) : Type 0 where
+    pub label : Name
+    pub cited : Stmt
+    pub cites : item ≡ Cite label
+    pub carries : Carries S a cited label
+
+  place-sound : (number a : ℕ) → place_of places number ≡ Some a → CitesOne (item_of labels number) a
+  place-sound zero a e = absurd (let f = e in cc)
+  place-sound (suc n) a e = elim (cases_lt n (length labels)) [
+    | inl less ↦ (
+        let p = subst (IsPosition S (get_or labels n [])) e (are.each n less) in
+        record { label = get_or labels n []; cited = p.0; cites = item-cite labels (suc n) n refl less; carries = p.1 })
+    | inr more ↦ absurd (let c = are.count in let f : None ≡ Some a = sym (get_or_past places n None (omega (arith, more, c))) ∙ e in cc)
+  ]
+
+  place-whole : (number a : ℕ) → CitesOne (item_of labels number) a → place_of places number ≡ Some a
+  place-whole zero a c = absurd (let e = c.cites in cc)
+  place-whole (suc n) a c = elim (cases_lt n (length labels)) [
+    | inl less ↦ (
+        let e : Cite (get_or labels n []) ≡ Cite c.label = sym (item-cite labels (suc n) n refl less) ∙ c.cites in
+        let same : get_or labels n [] ≡ c.label = cc in
+        position-is S (get_or labels n []) (get_or places n None) a c.cited once (are.each n less) (subst (Carries S a c.cited) (sym same) c.carries))
+    | inr more ↦ absurd (let e : Recall (suc (n - length labels)) ≡ Cite c.label = sym (item-recall labels (suc n) n refl more) ∙ c.cites in cc)
+  ]
+
+  -- one of the numbers stands for the position
+  record HasNumber (numbers : List ℕ) (a : ℕ) : Type 0 where
+    pub place : ℕ
+    pub number : ℕ
+    pub there : slice_get numbers place ≡ Some number
+    pub stands : place_of places number ≡ Some a
+
+  later : (n : ℕ) (ns : List ℕ) (a : ℕ) → HasNumber ns a → HasNumber (n ∷ ns) a
+  later n ns a h = record { place = suc h.place; number = h.number; there = h.there; stands = h.stands }
+
+  in-number : (numbers : List ℕ) (a : ℕ) → In a (filter_map (place_of places) numbers) → HasNumber numbers a
+  in-number [] a i = absurd i
+  in-number (n ∷ ns) a i = by (place_of places n) refl (λ j. later n ns a (in-number ns a j)) i
+    where
+      by : (o : Option ℕ) → place_of places n ≡ o → (In a (filter_map (place_of places) ns) → HasNumber (n ∷ ns) a) → In a (cons_option o (filter_map (place_of places) ns)) → HasNumber (n ∷ ns) a
+      by None e go j = go j
+      by (Some p) e go (inl same) = record { place = 0; number = n; there = refl; stands = e ∙ ap Some (sym same) }
+      by (Some p) e go (inr j) = go j
+
+  number-in : (numbers : List ℕ) (a k n : ℕ) → slice_get numbers k ≡ Some n → place_of places n ≡ Some a → In a (filter_map (place_of places) numbers)
+  number-in [] a k n e at = absurd (let f = e in cc)
+  number-in (m ∷ ns) a zero n e at =
+      let same : m ≡ n = (let f = e in cc) in
+      subst (λ o. In a (cons_option o (filter_map (place_of places) ns))) (sym (ap (place_of places) same ∙ at)) (inl refl)
+  number-in (m ∷ ns) a (suc k) n e at = kept (place_of places m) (number-in ns a k n e at)
+    where
+      kept : (o : Option ℕ) → In a (filter_map (place_of places) ns) → In a (cons_option o (filter_map (place_of places) ns))
+      kept None i = i
+      kept (Some p) i = inr i
+
+  pub those-cited : (numbers : List ℕ) (items : List Item) (list : List ℕ) → items_of labels numbers ≡ items
+      → AreThose (λ p. In p (filter_map (place_of places) numbers)) list → AreThose (ItemsCite S items) list
+  those-cited numbers items list same those =
+      subst (λ is. AreThose (ItemsCite S is) list) same (those-by those cites back)
+    where
+      cites : (a : ℕ) → In a (filter_map (place_of places) numbers) → ItemsCite S (items_of labels numbers) a
+      cites a i =
+          let h = in-number numbers a i in
+          let c = place-sound h.number a h.stands in
+          record { place = h.place; label = c.label; cited = c.cited; cites = slice_get-map (item_of labels) numbers h.place ∙ (ap (option_map (item_of labels)) h.there ∙ ap Some c.cites); carries = c.carries }
+
+      back : (a : ℕ) → ItemsCite S (items_of labels numbers) a → In a (filter_map (place_of places) numbers)
+      back a c =
+          let m = map-back (item_of labels) numbers c.place (Cite c.label) c.cites in
+          number-in numbers a c.place m.0 m.1 (place-whole m.0 a (record { label = c.label; cited = c.cited; cites = sym m.2; carries = c.carries }))
+
+-- ---- the proof at an index
+
+pub proof-items : (S : Database) (at position : ℕ) (s : Stmt) (label : Name) (items : List Item) → Good S → stmt_at S at ≡ Some s → label_of s ≡ Some label → IsProofOf S label position items → HasItems S at items
+proof-items S at position s label items good stands named p =
+    let same : position ≡ at = legal-labels S (legal-each S good.legal) position at p.named.stmt s label p.named.carries (record { stands = stands; carried = named }) in
+    subst (λ j. HasItems S j items) same p.written
+
+pub cited-those : (S F : Database) (same : F ≡ bares S) (at : ℕ) (items : List Item) (list : List ℕ) → HasItems S at items → AreThose (ItemsCite F items) list → AreThose (Cites S at) list
+cited-those S F same at items list has those = those-by those (λ a c. cites-of S F same at items a has c) (λ a c. cited-of S F same at items a has c)
+
+not-prove : (s : Stmt) → ((label : Name) (expr proof : List Name) → s ≡ Prove label expr proof → ⊥) → is_provable s ≡ true → ⊥
+not-prove (Prove label expr proof) h t = h label expr proof refl
+not-prove s h t = cc
+
+pub cites-nothing : (S : Database) (at : ℕ) (s : Stmt) → stmt_at S at ≡ Some s → ((label : Name) (expr proof : List Name) → s ≡ Prove label expr proof → ⊥) → AreThose (Cites S at) []
+cites-nothing S at s stands other = record {
+  ascends = tt;
+  all = λ p c. absurd (not-there S at s stands (not-prove s other) c.has.stmt c.has.provable);
+  only = λ p i. absurd i;
+}
+
+-- the places of one number more
+pub places-more : (places : List (Option ℕ)) (numbers : List ℕ) (i : ℕ) → i < length numbers
+    → filter_map (place_of places) (take (i + 1) numbers) ≡ filter_map (place_of places) (take i numbers) ++ listed_place (place_of places (get_or numbers i 0))
+places-more places numbers i h =
+    ap (filter_map (place_of places)) (take_more numbers i 0 h)
+    ∙ (filter_map-append (place_of places) (take i numbers) (get_or numbers i 0 ∷ [])
+    ∙ ap (λ l. filter_map (place_of places) (take i numbers) ++ l) (one (place_of places (get_or numbers i 0))))
+  where
+    one : (o : Option ℕ) → cons_option o [] ≡ listed_place o
+    one None = refl
+    one (Some p) = refl
+
+pub places-pushed : (places : List (Option ℕ)) (numbers : List ℕ) (i : ℕ) (start old new : List ℕ) (o : Option ℕ) → i < length numbers
+    → old ≡ start ++ filter_map (place_of places) (take i numbers) → o ≡ place_of places (get_or numbers i 0) → new ≡ old ++ listed_place o → new ≡ start ++ filter_map (place_of places) (take (i + 1) numbers)
+places-pushed places numbers i start old new o h before is after =
+    let front = filter_map (place_of places) (take i numbers) in
+    let last = place_of places (get_or numbers i 0) in
+    after
+    ∙ (ap (λ l. l ++ listed_place o) before
+    ∙ (ap (λ q. (start ++ front) ++ listed_place q) is
+    ∙ (append_assoc start front (listed_place last) ∙ ap (λ l. start ++ l) (sym (places-more places numbers i h)))))

@@ -1,0 +1,276 @@
+-- The steps of the pass over the statements.
+use Rattle.std.specs.Prelude.{◌≡◌, ◌⊎◌, ◌↔◌, ℕ, zero, suc, ◌+◌, ◌-◌, ◌<◌, ◌≤◌, Bool, true, false, IsTrue, List, [], ◌∷◌, ◌++◌, length, map, take, drop, get_or, replicate, slice_set, Some}
+use Rattle.std.proofs.Common.{sym, ◌∙◌, ap, subst, refl, arith, inl, inr, take_all, length-append, append-nil}
+use Rattle.std.proofs.lemmas.Bool.{cases_eq, cases_lt}
+use Rattle.std.specs.Global.{Vec}
+use Rattle.std.proofs.lemmas.List.{drop_all, get_or-map, map-append, map-set, get_or-set_other, get_or-set_same, get_or_append_left, get_or_past, length-map, length-set, length-replicate}
+use Rattle.entries.specs.PositionSets.{Ascends, has_position}
+use Rattle.frame.specs.Stored.Hypotheses.{In, AreThose, HasMore, OfSome}
+use Rattle.frame.proofs.CollectLemmas.{last-in, last-out, those-by}
+use Rattle.frame.proofs.MergedLemmas.{in-has, has-in}
+use Rattle.library.specs.Good.{Good}
+use Rattle.library.specs.Uses.{Cites, RestsOn, directly, through, Uses, IsAxiomAt, IsUser, is_axiom}
+use Rattle.library.proofs.CitationWalkLemmas.{cites-below}
+use Rattle.mm_read.specs.Statements.{Database}
+use Rattle.mm_read.specs.declared.stmt.Stmt.{Stmt}
+use Rattle.scope.specs.Active.{stmt_at}
+use Rattle.scope.proofs.StatementPlaces.{stands-within}
+use Rattle.cross_references.specs.References.{AreThosePassing, AreListsOf, AreReferences}
+use Rattle.cross_references.specs.Passes.{lists_of, Gives, AreWithin, HaveUser, AreDone}
+use Rattle.cross_references.proofs.ListLemmas.{has-as, has-both, in-more, more-in, next-apart, those-passing, ascends-last}
+
+-- what is cited stands before
+pub cites-within : (S : Database) (n a : ℕ) → Good S → Cites S (suc n) a → (0 < a) × (a ≤ n)
+cites-within S n a good c =
+    let one = c.one in
+    let w = stands-within S a one.cited one.carries.stands in
+    let less = cites-below S (suc n) a good c in
+    (omega (arith, w.0), omega (arith, less))
+
+pub cited-within : (S : Database) (n : ℕ) (cited : List ℕ) → Good S → AreThose (Cites S (suc n)) cited → AreWithin n cited
+cited-within S n cited good those p i = cites-within S n p good (those.only p i)
+
+-- ---- the `$a` that the next statement rests on
+
+module _ (S : Database) (good : Good S) (n : ℕ) (axioms : List (List ℕ)) (cited : List ℕ) (those : AreThose (Cites S (suc n)) cited)
+    (are : (k : ℕ) → k < n → AreThose (Uses S (suc k)) (get_or axioms k [])) where
+  list-of : (c : ℕ) → Cites S (suc n) c → AreThose (Uses S c) (get_or axioms (c - 1) [])
+  list-of c cites = by c (cites-within S n c good cites)
+    where
+      by : (p : ℕ) → (0 < p) × (p ≤ n) → AreThose (Uses S p) (get_or axioms (p - 1) [])
+      by zero w = absurd (let h = w.0 in omega (arith, h))
+      by (suc k) w =
+          let e : suc k - 1 ≡ k = omega arith in
+          subst (λ i. AreThose (Uses S (suc k)) (get_or axioms i [])) (sym e) (are k (let h = w.1 in omega (arith, h)))
+
+  uses-given : (a : ℕ) → RestsOn S (suc n) a → IsAxiomAt S a → OfSome (Gives S axioms) cited a
+  uses-given a (directly c) ax = record { one = a; among = those.all a c; is = inl (ax, refl) }
+  uses-given a (through {b = b} c r) ax = record { one = b; among = those.all b c; is = inr ((list-of b c).all a (r, ax)) }
+
+  given-uses : (a : ℕ) → OfSome (Gives S axioms) cited a → Uses S (suc n) a
+  given-uses a g =
+      let c = those.only g.one g.among in
+      elim g.is [
+        | inl h ↦ (directly (subst (Cites S (suc n)) (sym h.1) c), subst (IsAxiomAt S) (sym h.1) h.0)
+        | inr i ↦ (let u = (list-of g.one c).only a i in (through c u.0, u.1))
+      ]
+
+  pub uses-those : (list : List ℕ) → AreThose (OfSome (Gives S axioms) cited) list → AreThose (Uses S (suc n)) list
+  uses-those list given = those-by given given-uses (λ a u. uses-given a u.0 u.1)
+
+-- ---- the users
+
+-- those of the first statements that cite the one at the index k
+abbrev pub CiteUpto : Database → ℕ → ℕ → ℕ → Type 0
+CiteUpto S n k j = (j ≤ n) × Cites S j (suc k)
+
+module _ (S : Database) (n k : ℕ) (old new : List ℕ) (are : AreThose (CiteUpto S n k) old) where
+  user-more : new ≡ old ++ suc n ∷ [] → Cites S (suc n) (suc k) → AreThose (CiteUpto S (suc n) k) new
+  user-more is c =
+      subst (AreThose (CiteUpto S (suc n) k)) (sym is) (record {
+        ascends = ascends-last old (suc n) are.ascends (λ p i. let u = are.only p i in let h = u.0 in omega (arith, h));
+        all = λ p u. last-in p (suc n) old (elim (cases_eq p (suc n)) [
+          | inl e ↦ inl e
+          | inr apart ↦ inr (are.all p (let h = u.0 in omega (arith, h, apart), u.1))
+        ]);
+        only = λ p i. elim (last-out p (suc n) old i) [
+          | inl e ↦ (omega (arith, e), subst (λ j. Cites S j (suc k)) (sym e) c)
+          | inr o ↦ (let u = are.only p o in let h = u.0 in (omega (arith, h), u.1))
+        ];
+      })
+
+  user-same : new ≡ old → (Cites S (suc n) (suc k) → ⊥) → AreThose (CiteUpto S (suc n) k) new
+  user-same is none =
+      subst (AreThose (CiteUpto S (suc n) k)) (sym is) (those-by are
+      (λ p u. let h = u.0 in (omega (arith, h), u.1))
+      (λ p u. elim (cases_eq p (suc n)) [
+        | inl e ↦ absurd (none (subst (λ j. Cites S j (suc k)) e u.1))
+        | inr apart ↦ (let h = u.0 in omega (arith, h, apart), u.1)
+      ]))
+
+users-next : (S : Database) (n k : ℕ) (cited : List ℕ) (old new : List (List ℕ)) → AreThose (Cites S (suc n)) cited → HaveUser (suc n) cited old new
+    → AreThose (CiteUpto S n k) (get_or old k []) → AreThose (CiteUpto S (suc n) k) (get_or new k [])
+users-next S n k cited old new those have are = by (has_position (suc k) cited) refl
+  where
+    by : (b : Bool) → has_position (suc k) cited ≡ b → AreThose (CiteUpto S (suc n) k) (get_or new k [])
+    by true e =
+        let i = has-in (suc k) cited e in
+        user-more S n k (get_or old k []) (get_or new k []) are (have.those k i) (those.only (suc k) i)
+    by false e =
+        user-same S n k (get_or old k []) (get_or new k []) are
+        (have.others k (λ i. let f : true ≡ false = sym (in-has (suc k) cited i) ∙ e in cc))
+        (λ c. let f : true ≡ false = sym (in-has (suc k) cited (those.all (suc k) c)) ∙ e in cc)
+
+-- one list more has the user
+pub user-pushed : (at : ℕ) (positions : List ℕ) (i p : ℕ) (first old new : List (List ℕ)) → Ascends positions → i < length positions → p ≡ get_or positions i 0 → 0 < p → p ≤ length first
+    → new ≡ slice_set old (p - 1) (get_or old (p - 1) [] ++ at ∷ []) → HaveUser at (take i positions) first old → HaveUser at (take (i + 1) positions) first new
+user-pushed at positions i zero first old new asc h is some within set have = absurd (omega (arith, some))
+user-pushed at positions i (suc m) first old new asc h is some within set have = record {
+  count = ap length made ∙ (length-set old m (get_or old m [] ++ at ∷ []) ∙ have.count);
+  those = λ k j. elim (in-more positions i (suc k) h j) [ inl before ↦ earlier k before | inr e ↦ here k (let f : suc k ≡ suc m = e ∙ sym is in omega (arith, f)) ];
+  others = λ k none. other k none;
+}
+  where
+    made : new ≡ slice_set old m (get_or old m [] ++ at ∷ [])
+    made = set ∙ ap (λ j. slice_set old j (get_or old j [] ++ at ∷ [])) (let e : suc m - 1 ≡ m = omega arith in e)
+
+    fresh : In (suc m) (take i positions) → ⊥
+    fresh j = next-apart positions i asc h (subst (λ q. In q (take i positions)) is j)
+
+    at_m : get_or new m [] ≡ get_or first m [] ++ at ∷ []
+    at_m =
+        ap (λ l. get_or l m []) made
+        ∙ (get_or-set_same old m (get_or old m [] ++ at ∷ []) [] (let c = have.count in omega (arith, c, within))
+        ∙ ap (λ l. l ++ at ∷ []) (have.others m fresh))
+
+    elsewhere : (k : ℕ) → (k ≡ m → ⊥) → get_or new k [] ≡ get_or old k []
+    elsewhere k apart = ap (λ l. get_or l k []) made ∙ get_or-set_other old m k (get_or old m [] ++ at ∷ []) [] apart
+
+    earlier : (k : ℕ) → In (suc k) (take i positions) → get_or new k [] ≡ get_or first k [] ++ at ∷ []
+    earlier k before = elsewhere k (λ e. fresh (subst (λ q. In (suc q) (take i positions)) e before)) ∙ have.those k before
+
+    here : (k : ℕ) → k ≡ m → get_or new k [] ≡ get_or first k [] ++ at ∷ []
+    here k e = subst (λ q. get_or new q [] ≡ get_or first q [] ++ at ∷ []) (sym e) at_m
+
+    other : (k : ℕ) → (In (suc k) (take (i + 1) positions) → ⊥) → get_or new k [] ≡ get_or first k []
+    other k none =
+        elsewhere k (λ e. none (more-in positions i (suc k) h (inr (ap suc e ∙ is))))
+        ∙ have.others k (λ before. none (more-in positions i (suc k) h (inl before)))
+
+pub user-none : (at : ℕ) (lists : List (List ℕ)) → HaveUser at [] lists lists
+user-none at lists = record { count = refl; those = λ k i. absurd i; others = λ k none. refl }
+
+pub user-all : (at : ℕ) (positions : List ℕ) (i : ℕ) (old new : List (List ℕ)) → length positions ≤ i → HaveUser at (take i positions) old new → HaveUser at positions old new
+user-all at positions i old new h have = subst (λ ps. HaveUser at ps old new) (take_all i positions h) have
+
+-- ---- all statements
+
+-- so many empty lists
+abbrev pub empties : ℕ → List (List ℕ)
+empties count = replicate count []
+
+no-list : (count k : ℕ) → get_or (empties count) k [] ≡ []
+no-list zero k = refl
+no-list (suc count) zero = refl
+no-list (suc count) (suc k) = no-list count k
+
+pub empties-more : (count n : ℕ) (old new : List (List ℕ)) → n ≡ suc count → old ≡ replicate count [] → new ≡ old ++ [] ∷ [] → new ≡ replicate n []
+empties-more count n old new is before after = after ∙ (ap (λ l. l ++ [] ∷ []) before ∙ (last count ∙ ap empties (sym is)))
+  where
+    last : (m : ℕ) → empties m ++ [] ∷ [] ≡ empties (suc m)
+    last zero = refl
+    last (suc m) = ap (λ l. [] ∷ l) (last m)
+
+module _ (S : Database) where
+  cites-some : (j a : ℕ) → Cites S j a → (1 ≤ j) × (j ≤ length S)
+  cites-some j a c = stands-within S j c.has.stmt c.has.provable.stands
+
+  pub done-start : (axioms users : List (List ℕ)) → axioms ≡ [] → users ≡ replicate (length S) [] → AreDone S 0 axioms users
+  done-start axioms users none empty = record {
+    within = omega arith;
+    axioms_count = ap length none;
+    users_count = ap length empty ∙ length-replicate (length S) [];
+    axioms_are = λ k h. absurd (omega (arith, h));
+    users_are = λ k h. subst (AreThose (CiteUpto S 0 k)) (sym (ap (λ l. get_or l k []) empty ∙ no-list (length S) k)) (record {
+      ascends = tt;
+      all = λ p u. absurd (let c = cites-some p (suc k) u.1 in let h = u.0 in let w = c.0 in omega (arith, h, w));
+      only = λ p i. absurd i;
+    });
+  }
+
+  pub done-next : (n m : ℕ) (axioms users new news : List (List ℕ)) (cited list : List ℕ) → Good S → m ≡ suc n → n < length S → AreThose (Cites S (suc n)) cited
+      → HaveUser (suc n) cited users news → AreThose (OfSome (Gives S axioms) cited) list → new ≡ axioms ++ list ∷ [] → AreDone S n axioms users → AreDone S m new news
+  done-next n m axioms users new news cited list good is h those have given more done =
+      subst (λ q. AreDone S q new news) (sym is) (subst (λ l. AreDone S (suc n) l news) (sym more) (record {
+        within = omega (arith, h);
+        axioms_count = let c = done.axioms_count in let l = length-append axioms (list ∷ []) in omega (arith, c, l);
+        users_count = have.count ∙ done.users_count;
+        axioms_are = axioms_next;
+        users_are = λ k w. users-next S n k cited users news those have (done.users_are k w);
+      }))
+    where
+      own : AreThose (Uses S (suc n)) list
+      own = uses-those S good n axioms cited those done.axioms_are list given
+
+      last : (xs : List (List ℕ)) → get_or (xs ++ list ∷ []) (length xs) [] ≡ list
+      last [] = refl
+      last (x ∷ xs) = last xs
+
+      axioms_next : (k : ℕ) → k < suc n → AreThose (Uses S (suc k)) (get_or (axioms ++ list ∷ []) k [])
+      axioms_next k w = elim (cases_lt k n) [
+        | inl less ↦ subst (AreThose (Uses S (suc k))) (sym (get_or_append_left axioms (list ∷ []) [] k (let c = done.axioms_count in omega (arith, less, c)))) (done.axioms_are k less)
+        | inr least ↦ (
+            let e : k ≡ n = omega (arith, w, least) in
+            subst (λ q. AreThose (Uses S (suc q)) (get_or (axioms ++ list ∷ []) q [])) (sym e)
+            (subst (AreThose (Uses S (suc n))) (sym (ap (λ q. get_or (axioms ++ list ∷ []) q []) (sym done.axioms_count) ∙ last axioms)) own))
+      ]
+
+  pub done-all : (n : ℕ) (axioms users : List (List ℕ)) → length S ≤ n → AreDone S n axioms users → AreReferences S axioms users
+  done-all n axioms users h done = record {
+    axioms_of = record {
+      count = let c = done.axioms_count in let w = done.within in omega (arith, c, w, h);
+      each = λ k w. those-passing (Uses S (suc k)) (get_or axioms k []) (done.axioms_are k (omega (arith, w, h)))
+          (λ p u. let ax = u.1 in let l = stands-within S p ax.stmt ax.stands in let f = l.0 in omega (arith, f));
+    };
+    users_of = record {
+      count = done.users_count;
+      each = λ k w. those-passing (IsUser S false (suc k)) (get_or users k [])
+          (those-by (done.users_are k w) (λ j u. u.1) (λ j c. (let l = cites-some j (suc k) c in let f = l.1 in omega (arith, f, h), c)))
+          (λ j c. let l = cites-some j (suc k) c in let f = l.0 in omega (arith, f));
+    };
+  }
+
+-- ---- lists in vectors
+
+pub list-set : (us : List (Vec ℕ)) (k : ℕ) (d new : Vec ℕ) (at : ℕ) → k < length us → new.items ≡ (get_or us k d).items ++ at ∷ []
+    → lists_of (slice_set us k new) ≡ slice_set (lists_of us) k (get_or (lists_of us) k [] ++ at ∷ [])
+list-set us k d new at h more =
+    map-set (λ (v : Vec ℕ). v.items) us k new
+    ∙ ap (λ l. slice_set (lists_of us) k l) (more ∙ ap (λ l. l ++ at ∷ []) (sym (get_or-map (λ (v : Vec ℕ). v.items) us k d [] h)))
+
+pub list-at : (us : List (Vec ℕ)) (k : ℕ) (old : Vec ℕ) → k < length us → old ≡ get_or us k old → get_or (lists_of us) k [] ≡ old.items
+list-at us k old h is = get_or-map (λ (v : Vec ℕ). v.items) us k old [] h ∙ ap (λ (v : Vec ℕ). v.items) (sym is)
+
+pub lists-count : (us : List (Vec ℕ)) → length (lists_of us) ≡ length us
+lists-count us = length-map us (λ (v : Vec ℕ). v.items)
+
+pub lists-push : (us vs : List (Vec ℕ)) (v : Vec ℕ) → vs ≡ us ++ v ∷ [] → lists_of vs ≡ lists_of us ++ v.items ∷ []
+lists-push us vs v is = ap lists_of is ∙ map-append (λ (w : Vec ℕ). w.items) us (v ∷ [])
+
+-- ---- what one position gives
+
+pub given-more : (S : Database) (axioms : List (List ℕ)) (p : ℕ) (old mid new : List ℕ) (s : Stmt) (list : List ℕ) → stmt_at S p ≡ Some s
+    → HasMore (λ q. IsTrue (is_axiom s) × (q ≡ p)) old mid → list ≡ get_or axioms (p - 1) [] → HasMore (λ q. In q list) mid new → HasMore (Gives S axioms p) old new
+given-more S axioms p old mid new s list stands first is more =
+    has-as (λ q. (IsTrue (is_axiom s) × (q ≡ p)) ⊎ In q list) (Gives S axioms p) old new to from (has-both (λ q. IsTrue (is_axiom s) × (q ≡ p)) (λ q. In q list) old mid new first more)
+  where
+    to : (q : ℕ) → (IsTrue (is_axiom s) × (q ≡ p)) ⊎ In q list → Gives S axioms p q
+    to q (inl h) = inl (record { stmt = s; stands = stands; kind = h.0 }, h.1)
+    to q (inr i) = inr (subst (In q) is i)
+
+    from : (q : ℕ) → Gives S axioms p q → (IsTrue (is_axiom s) × (q ≡ p)) ⊎ In q list
+    from q (inl h) =
+        let there = h.0 in
+        let e : Some there.stmt ≡ Some s = sym there.stands ∙ stands in
+        let same : there.stmt ≡ s = cc in
+        inl (subst (λ t. IsTrue (is_axiom t)) same there.kind, h.1)
+    from q (inr i) = inr (subst (In q) (sym is) i)
+
+-- lists that were lent whole
+pub lent-lists : (n : ℕ) (s old : List (Vec ℕ)) → length s ≡ length old → n ≡ length old → take n (s ++ drop (length s) old) ≡ s
+lent-lists n s old same all =
+    ap (λ r. take n (s ++ r)) (drop_all (length s) old (omega (arith, same))) ∙ (ap (take n) (append-nil s) ∙ take_all n s (omega (arith, same, all)))
+
+-- ---- what the calls say, in the words of the pass
+
+pub have-as : (at m : ℕ) (ps qs : List ℕ) (lent old new : List (Vec ℕ)) → m ≡ at → ps ≡ qs → lent ≡ old → HaveUser m ps (lists_of lent) (lists_of new) → HaveUser at qs (lists_of old) (lists_of new)
+have-as at m ps qs lent old new same is all have =
+    subst (λ a. HaveUser a qs (lists_of old) (lists_of new)) same
+    (subst (λ (l : List ℕ). HaveUser m l (lists_of old) (lists_of new)) is
+    (subst (λ (us : List (Vec ℕ)). HaveUser m ps (lists_of us) (lists_of new)) all have))
+
+pub given-as : (S T : Database) (ps qs list : List ℕ) (lent axioms : List (Vec ℕ)) → T ≡ S → ps ≡ qs → lent ≡ axioms → AreThose (OfSome (Gives T (lists_of lent)) ps) list → AreThose (OfSome (Gives S (lists_of axioms)) qs) list
+given-as S T ps qs list lent axioms same is all given =
+    subst (λ (U : Database). AreThose (OfSome (Gives U (lists_of axioms)) qs) list) same
+    (subst (λ (l : List ℕ). AreThose (OfSome (Gives T (lists_of axioms)) l) list) is
+    (subst (λ (us : List (Vec ℕ)). AreThose (OfSome (Gives T (lists_of us)) ps) list) all given))

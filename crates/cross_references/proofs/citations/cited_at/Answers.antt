@@ -1,0 +1,17 @@
+use Rattle.std.specs.Prelude.{◌≡◌, ◌<◌, suc, Some, length, slice_get}
+use Rattle.std.proofs.Common.{ap, ◌∙◌, sym, subst, refl, arith}
+use Rattle.std.proofs.lemmas.Option.{slice_get_read}
+use Rattle.mm_read.proofs.NextLemmas.{on_ok}
+use Rattle.scope.specs.Active.{label_of}
+use Rattle.cross_references.proofs.CitationLemmas.{proof-items, cited-those}
+use Rattle.cross_references.proofs.citations.cited_at.Goals as goal
+
+pub returns : goal.returns
+returns c =
+    let S = c.args.library.now.replica.statements in
+    let s = c.index-statements-index.result in
+    let less : c.args.index < length c.statements.result.now = omega (arith, c.requires, ap length c.statements.ensures.statements) in
+    let read = slice_get_read c.statements.result.now (length c.statements.result.now) c.args.index s refl less c.index-statements-index.is in
+    let stands = subst (λ T. slice_get T c.args.index ≡ Some s) c.statements.ensures.statements read in
+    let has = proof-items S (suc c.args.index) c.in-Ok.field-0-0 s c.as_bytes.result.now _ c.statements.ensures.good stands (ap label_of c.in-Prove.is ∙ ap Some (sym c.as_bytes.ensures.bytes)) c.in-Ok.ensures.items in
+    on_ok c.cited_positions.result (λ list told. cited-those S c.frames.result.now.statements c.frames.ensures.same (suc c.args.index) _ list.items has told) c.cited_positions.ensures

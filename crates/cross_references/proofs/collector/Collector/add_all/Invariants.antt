@@ -1,0 +1,6 @@
+use Rattle.std.specs.Prelude.{take}
+use Rattle.frame.specs.Stored.Hypotheses.{In, HasMore}
+use Rattle.cross_references.proofs.collector.Collector.add_all.Given as goal
+
+abbrev pub invariant-loop-position : goal.invariant-loop-position
+invariant-loop-position l = HasMore (λ p. In p (take l.position-index l.positions)) l.initial.self l.self

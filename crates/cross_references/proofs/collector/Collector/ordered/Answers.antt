@@ -1,0 +1,8 @@
+use Rattle.std.specs.Prelude.{List, ℕ}
+use Rattle.std.proofs.Common.{◌∙◌, subst}
+use Rattle.frame.specs.Stored.Hypotheses.{In, AreThose}
+use Rattle.cross_references.proofs.collector.Collector.ordered.Goals as goal
+
+pub returns : goal.returns
+returns c =
+    subst (λ (l : List ℕ). AreThose (λ p. In p l) c.order.new.list.items) (c.in_ok-list.ensures.items ∙ (c.as_slice.ensures.value ∙ c.self.view_is)) c.order.ensures

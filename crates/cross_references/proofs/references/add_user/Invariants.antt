@@ -1,0 +1,6 @@
+use Rattle.std.specs.Prelude.{take}
+use Rattle.cross_references.specs.Passes.{lists_of, HaveUser}
+use Rattle.cross_references.proofs.references.add_user.Given as goal
+
+abbrev pub invariant-loop-position : goal.invariant-loop-position
+invariant-loop-position l = HaveUser l.at (take l.position-index l.cited) (lists_of l.initial.users) (lists_of l.users)

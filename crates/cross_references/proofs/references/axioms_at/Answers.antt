@@ -1,0 +1,23 @@
+use Rattle.std.specs.Prelude.{[]}
+use Rattle.std.proofs.Common.{arith, refl}
+use Rattle.frame.specs.Stored.Hypotheses.{OfSome}
+use Rattle.mm_read.proofs.NextLemmas.{on_ok}
+use Rattle.cross_references.specs.Passes.{lists_of, Gives}
+use Rattle.cross_references.proofs.ListLemmas.{in-at, has-some-next, has-some-all, those-collected}
+use Rattle.cross_references.proofs.references.axioms_at.Goals as goal
+
+pub add_given-requires-clause-axioms : goal.add_given-requires-clause-axioms
+add_given-requires-clause-axioms c = c.requires.axioms _ (in-at c.args.cited.now c.loop-position.position-index (omega (arith, c.loop-position-test.true)))
+
+pub loop-position-preserved : goal.loop-position-preserved
+loop-position-preserved c =
+    has-some-next (Gives c.args.statements.now (lists_of c.args.axioms.now)) c.args.cited.now c.loop-position.position-index [] c.loop-position.collector c.add_given.new.collector
+    (omega (arith, c.loop-position-test.true)) c.loop-position.invariant c.in_ok-add_given.ensures
+
+pub returns : goal.returns
+returns c =
+    let R = Gives c.args.statements.now (lists_of c.args.axioms.now) in
+    on_ok c.ordered.result
+    (λ list told. those-collected (OfSome R c.args.cited.now) [] c.loop-position.collector list.items refl
+    (has-some-all R c.args.cited.now c.loop-position.position-index [] c.loop-position.collector (omega (arith, c.loop-position-test.false)) c.loop-position.invariant) told)
+    c.ordered.ensures

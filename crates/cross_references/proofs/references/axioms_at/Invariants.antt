@@ -1,0 +1,7 @@
+use Rattle.std.specs.Prelude.{take, []}
+use Rattle.frame.specs.Stored.Hypotheses.{HasMore, OfSome}
+use Rattle.cross_references.specs.Passes.{lists_of, Gives}
+use Rattle.cross_references.proofs.references.axioms_at.Given as goal
+
+abbrev pub invariant-loop-position : goal.invariant-loop-position
+invariant-loop-position l = HasMore (OfSome (Gives l.statements (lists_of l.axioms)) (take l.position-index l.cited)) [] l.collector

@@ -1,0 +1,44 @@
+-- What the pass over the statements has done.
+-- Source: none; for the private functions.
+-- The code has a list in a vector for each statement.
+use Rattle.std.specs.Prelude.{◌≡◌, ◌⊎◌, ℕ, suc, ◌-◌, ◌<◌, ◌≤◌, IsTrue, List, [], ◌∷◌, ◌++◌, length, map, get_or, Option, Some, None}
+use Rattle.std.specs.Global.{Vec}
+use Rattle.mm_read.specs.Statements.{Database}
+use Rattle.library.specs.Uses.{Cites, Uses, IsAxiomAt}
+use Rattle.frame.specs.Stored.Hypotheses.{In, AreThose}
+
+abbrev pub lists_of : List (Vec ℕ) → List (List ℕ)
+lists_of vectors = map (λ (v : Vec ℕ). v.items) vectors
+
+-- a position that there may be, as a list
+abbrev pub listed_place : Option ℕ → List ℕ
+listed_place None = []
+listed_place (Some position) = position ∷ []
+
+-- each position was added last in this round or before, and one that was added in this round is in the list
+pub record AreRounds (list rounds : List ℕ) (round : ℕ) : Type 0 where
+  pub some : 0 < round
+  pub past : (k : ℕ) → get_or rounds k 0 ≤ round
+  pub among : (k : ℕ) → get_or rounds k 0 ≡ round → In k list
+
+-- the `$a` at c, and those of its list
+abbrev pub Gives : Database → List (List ℕ) → ℕ → ℕ → Type 0
+Gives S lists c a = (IsAxiomAt S c × (a ≡ c)) ⊎ In a (get_or lists (c - 1) [])
+
+-- each of the positions is that of one of so many
+abbrev pub AreWithin : ℕ → List ℕ → Type 0
+AreWithin count positions = (p : ℕ) → In p positions → (0 < p) × (p ≤ count)
+
+-- the user was added to the lists of these positions
+pub record HaveUser (at : ℕ) (positions : List ℕ) (old new : List (List ℕ)) : Type 0 where
+  pub count : length new ≡ length old
+  pub those : (k : ℕ) → In (suc k) positions → get_or new k [] ≡ get_or old k [] ++ at ∷ []
+  pub others : (k : ℕ) → (In (suc k) positions → ⊥) → get_or new k [] ≡ get_or old k []
+
+-- the first n statements are done: the `$a` that they rest on, and which of them cite each statement
+pub record AreDone (S : Database) (n : ℕ) (axioms users : List (List ℕ)) : Type 0 where
+  pub within : n ≤ length S
+  pub axioms_count : length axioms ≡ n
+  pub users_count : length users ≡ length S
+  pub axioms_are : (k : ℕ) → k < n → AreThose (Uses S (suc k)) (get_or axioms k [])
+  pub users_are : (k : ℕ) → k < length S → AreThose (λ j. (j ≤ n) × Cites S j (suc k)) (get_or users k [])

@@ -1,0 +1,83 @@
+//! The statements that one proof cites.
+ghost use Rattle.std.specs.Prelude.{◌≡◌, suc, ◌<◌, ◌++◌, length, filter_map, IfOk, OnOk};
+ghost use Rattle.cross_references.specs.Passes.{listed_place};
+ghost use Rattle.frame.specs.AtPosition.{HasLabelsOnce};
+ghost use Rattle.frame.specs.Stored.Hypotheses.{In, AreThose};
+ghost use Rattle.library.specs.UseMarks.{place_of};
+ghost use Rattle.library.specs.Uses.{Cites, ItemsCite};
+
+use frame::Frames;
+use library::Library;
+use mm_read::Stmt;
+use proof_code::Items;
+use std::alloc::{AllocError, Global};
+
+/// Returns the positions of the statements that the proof of the statement at an index cites, in ascending order, each once;
+/// none if the statement is no `$p`.
+///
+/// Errors: an allocation fails. Cost: the size of the proof, whose citations are sorted.
+pub fn cited_at(alloc: Global, library: &Library, index: usize) -> Result<Vec<usize>, AllocError>
+    requires { index < length library.now.replica.statements }
+    ensures { IfOk result (λ list. AreThose (Cites library.now.replica.statements (suc index)) list.items) }
+{
+    let Stmt::Prove { label, .. } = &library.statements()[index] else {
+        return Ok(Vec::new(alloc));
+    };
+    let Ok((_, items)) = library.items(label.as_bytes()) else {
+        return Err(AllocError);
+    };
+    cited_positions(alloc, library.frames(), &items)
+}
+
+/// Returns the positions of the statements that the items cite, in ascending order, each once.
+fn cited_positions(alloc: Global, frames: &Frames, items: &Items) -> Result<Vec<usize>, AllocError>
+    requires { HasLabelsOnce frames.now.statements }
+    ensures { IfOk result (λ list. AreThose (ItemsCite frames.now.statements items.now) list.items) }
+{
+    let parts = items.parts();
+    let places = frames.positions(parts.labels)?;
+    let mut cited = Vec::new(alloc);
+    push_positions(&mut cited, places.as_slice(), parts.numbers)?;
+    order(&mut cited);
+    Ok(cited)
+}
+
+/// Appends the positions that the numbers of items cite.
+fn push_positions(
+    cited: &mut Vec<usize>,
+    places: &[Option<usize>],
+    numbers: &[u32],
+) -> Result<(), AllocError>
+    ensures { OnOk result (cited.new.items ≡ cited.old.items ++ filter_map (place_of places.now) numbers.now) }
+{
+    for number in numbers {
+        push_place(cited, place_of(places, *number))?;
+    }
+    Ok(())
+}
+
+/// Appends a position, if there is one.
+fn push_place(cited: &mut Vec<usize>, place: Option<usize>) -> Result<(), AllocError>
+    ensures { OnOk result (cited.new.items ≡ cited.old.items ++ listed_place place) }
+{
+    if let Some(position) = place {
+        cited.push(position)?;
+    }
+    Ok(())
+}
+
+/// Returns the position that an item cites, by its number.
+fn place_of(places: &[Option<usize>], number: u32) -> Option<usize>
+    ensures { result ≡ place_of places.now number }
+{
+    let index = (number as usize).checked_sub(1)?;
+    *places.get(index)?
+}
+
+/// Sorts positions in ascending order, each once.
+pub fn order(list: &mut Vec<usize>)
+    ensures { AreThose (λ p. In p list.old.items) list.new.items }
+{
+    list.sort_unstable();
+    list.dedup();
+}

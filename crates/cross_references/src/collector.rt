@@ -1,0 +1,101 @@
+//! Positions that are collected, each once.
+ghost use Rattle.std.specs.Prelude.{◌≡◌, [], true, get_or, slice_set, IfOk, OnOk};
+ghost use Rattle.frame.specs.Stored.Hypotheses.{In, AreThose, HasMore};
+
+use crate::citations::order;
+use std::alloc::{AllocError, Global};
+use std::marker::Model;
+
+/// Positions that are collected. Contracts see the list of them.
+#[derive(Drop)]
+pub struct Collector {
+    alloc: Global,
+    list: Vec<usize>,
+    /// For each position the round in which it was added last.
+    rounds: Vec<usize>,
+    /// The number of this round, from 1.
+    round: usize,
+}
+
+impl Model for Collector {
+    ghost use Rattle.std.specs.Prelude.{List, ℕ};
+    ghost use Rattle.cross_references.specs.Passes.{AreRounds};
+
+    ghost Value = { List ℕ };
+
+    ghost view = { λ a. a.list.items };
+
+    ghost invariant = { λ a. AreRounds a.list.items a.rounds.items a.round };
+}
+
+impl Collector {
+    /// Returns a collector for positions up to this one, which has collected none.
+    pub fn new(alloc: Global, last: usize) -> Result<Collector, AllocError>
+        ensures { IfOk result (λ collector. collector ≡ []) }
+    {
+        let count = last.checked_add(1).ok_or(AllocError)?;
+        Ok(Collector {
+            alloc,
+            list: Vec::new(alloc),
+            rounds: vec![in alloc; 0usize; count]?,
+            round: 1,
+        })
+    }
+
+    /// Begins a round, in which none is collected yet.
+    pub fn begin(&mut self) -> Result<(), AllocError>
+        ensures { OnOk result (self.new ≡ []) }
+    {
+        self.round = self.round.checked_add(1).ok_or(AllocError)?;
+        self.list.clear();
+        Ok(())
+    }
+
+    /// Adds a position, unless it was added in this round.
+    #[tactic(auto, using(crate::proofs::ListLemmas::has_already, crate::proofs::ListLemmas::has_pushed, crate::proofs::ListLemmas::rounds_more))]
+    pub fn add(&mut self, position: usize) -> Result<(), AllocError>
+        ensures { OnOk result (HasMore (λ p. p ≡ position) self.old self.new) }
+    {
+        if is_noted(&self.rounds, position, self.round) {
+            return Ok(());
+        }
+        self.list.push(position)?;
+        note(&mut self.rounds, position, self.round);
+        Ok(())
+    }
+
+    /// Adds positions.
+    pub fn add_all(&mut self, positions: &[usize]) -> Result<(), AllocError>
+        ensures { OnOk result (HasMore (λ p. In p positions.now) self.old self.new) }
+    {
+        for position in positions {
+            self.add(*position)?;
+        }
+        Ok(())
+    }
+
+    /// Returns the positions in ascending order, each once.
+    pub fn ordered(&self) -> Result<Vec<usize>, AllocError>
+        ensures { IfOk result (λ list. AreThose (λ p. In p self.now) list.items) }
+    {
+        let mut list = Vec::from_slice(self.alloc, self.list.as_slice())?;
+        order(&mut list);
+        Ok(list)
+    }
+}
+
+/// Tells whether a position was added last in this round.
+fn is_noted(rounds: &Vec<usize>, position: usize, round: usize) -> bool
+    ensures { result ≡ true → get_or rounds.now.items position 0 ≡ round }
+{
+    position < rounds.len() && rounds[position] == round
+}
+
+/// Notes the round in which a position was added, if there is a place for it.
+fn note(rounds: &mut Vec<usize>, position: usize, round: usize)
+    ensures { rounds.new.items ≡ slice_set rounds.old.items position round }
+{
+    if position < rounds.len() {
+        rounds[position] = round;
+    }
+}

@@ -1,0 +1,11 @@
+//! The axioms that each theorem rests on and the theorems that cite each statement: those of all statements of a library, in
+//! one pass.
+//!
+//! Reading order: `citations` (what one proof cites), `collector` (positions, each once), `references` (`cross_references`).
+#![tactic(auto)]
+
+mod citations;
+mod collector;
+mod references;
+
+pub use references::{CrossReferences, cross_references};

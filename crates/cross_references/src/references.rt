@@ -1,0 +1,128 @@
+//! The cross references of a library.
+ghost use Rattle.std.specs.Prelude.{◌≡◌, ◌+◌, ◌-◌, ◌≤◌, ◌<◌, ◌++◌, ◌∷◌, [], length, get_or, replicate, slice_set, IsTrue, IfOk, OnOk};
+ghost use Rattle.entries.specs.PositionSets.{Ascends};
+ghost use Rattle.frame.specs.Stored.Hypotheses.{AreThose, HasMore, OfSome};
+ghost use Rattle.library.specs.Good.{Good};
+ghost use Rattle.library.specs.Uses.{Cites, Uses, is_axiom};
+ghost use Rattle.cross_references.specs.References.{AreReferences};
+ghost use Rattle.cross_references.specs.Passes.{lists_of, Gives, AreWithin, HaveUser, AreDone};
+
+use crate::citations::cited_at;
+use crate::collector::Collector;
+use library::Library;
+use mm_read::Stmt;
+use std::alloc::{AllocError, Global};
+
+/// For each statement of a library, at an index from 0, positions of others from 1, in ascending order.
+#[derive(Drop)]
+pub struct CrossReferences {
+    /// Those of the `$a` that the `$p` rests on.
+    pub axioms: Vec<Vec<usize>>,
+    /// Those of the `$p` whose proofs cite the statement.
+    pub users: Vec<Vec<usize>>,
+}
+
+/// Returns the cross references of a library: the answers of `Library::trace` for each `$p` and of `Library::usage` for each
+/// statement, by position.
+///
+/// Errors: an allocation fails. Cost: the size of the proofs, each read once, and for each citation the list of the axioms
+/// that what it cites rests on. Source: Metamath, 4.2.6 and appendix B.
+pub fn cross_references(alloc: Global, library: &Library) -> Result<CrossReferences, AllocError>
+    ensures { IfOk result (λ found. AreReferences library.now.replica.statements
+        (lists_of found.axioms.items) (lists_of found.users.items)) }
+{
+    let count = library.statements().len();
+    let mut collector = Collector::new(alloc, count)?;
+    let mut axioms = Vec::new(alloc);
+    let mut users = empty_lists(alloc, count)?;
+    for index in 0..count {
+        let cited = cited_at(alloc, library, index)?;
+        add_user(&mut users, cited.as_slice(), index + 1)?;
+        let list = axioms_at(
+            library.statements(),
+            &axioms,
+            cited.as_slice(),
+            &mut collector,
+        )?;
+        axioms.push(list)?;
+    }
+    Ok(CrossReferences { axioms, users })
+}
+
+/// Returns so many lists without an element.
+fn empty_lists(alloc: Global, count: usize) -> Result<Vec<Vec<usize>>, AllocError>
+    ensures { IfOk result (λ lists. lists_of lists.items ≡ replicate count []) }
+{
+    let mut lists = Vec::new(alloc);
+    for _ in 0..count {
+        lists.push(Vec::new(alloc))?;
+    }
+    Ok(lists)
+}
+
+/// Adds a user to the list of each of these positions.
+fn add_user(users: &mut [Vec<usize>], cited: &[usize], at: usize) -> Result<(), AllocError>
+    requires ascends { Ascends cited.now }
+    requires within { AreWithin (length users.old) cited.now }
+    ensures { OnOk result (HaveUser at cited.now (lists_of users.old) (lists_of users.new)) }
+{
+    for position in cited {
+        push_user(users, *position, at)?;
+    }
+    Ok(())
+}
+
+/// Adds a user to the list of a position.
+fn push_user(users: &mut [Vec<usize>], position: usize, at: usize) -> Result<(), AllocError>
+    requires { (0 < position) × (position ≤ length users.old) }
+    ensures { OnOk result (lists_of users.new ≡ slice_set (lists_of users.old) (position - 1)
+        (get_or (lists_of users.old) (position - 1) [] ++ at ∷ [])) }
+{
+    let list = &mut users[position - 1];
+    list.push(at)?;
+    Ok(())
+}
+
+/// Returns the positions of the `$a` among these, and of those that the statements there rest on, in ascending order, each
+/// once.
+fn axioms_at(
+    statements: &[Stmt],
+    axioms: &[Vec<usize>],
+    cited: &[usize],
+    collector: &mut Collector,
+) -> Result<Vec<usize>, AllocError>
+    requires axioms { AreWithin (length axioms.now) cited.now }
+    requires statements { length axioms.now ≤ length statements.now }
+    ensures { IfOk result (λ list. AreThose (OfSome (Gives statements.now (lists_of axioms.now)) cited.now) list.items) }
+{
+    collector.begin()?;
+    for position in cited {
+        add_given(statements, axioms, *position, collector)?;
+    }
+    collector.ordered()
+}
+
+/// Collects the position, if a `$a` stands there, and those that the statement there rests on.
+fn add_given(
+    statements: &[Stmt],
+    axioms: &[Vec<usize>],
+    position: usize,
+    collector: &mut Collector,
+) -> Result<(), AllocError>
+    requires axioms { (0 < position) × (position ≤ length axioms.now) }
+    requires statements { length axioms.now ≤ length statements.now }
+    ensures { OnOk result (HasMore (Gives statements.now (lists_of axioms.now) position) collector.old collector.new) }
+{
+    add_axiom(&statements[position - 1], position, collector)?;
+    collector.add_all(axioms[position - 1].as_slice())
+}
+
+/// Collects the position of a statement, if it is a `$a`.
+fn add_axiom(statement: &Stmt, position: usize, collector: &mut Collector) -> Result<(), AllocError>
+    ensures { OnOk result (HasMore (λ p. IsTrue (is_axiom statement.now) × (p ≡ position)) collector.old collector.new) }
+{
+    match statement {
+        Stmt::Axiom { .. } => collector.add(position),
+        _ => Ok(()),
+    }
+}
