@@ -43,12 +43,7 @@ impl<G: Gate, K: Keep<Carried>> Desk<G, K> {
     /// Errors: those of `submit` but `Busy`, and those of `begin`; `Apart` where the cell is not of
     /// its node; `Memory`. After an error of a later try the entry may still be decided. Cost: 15
     /// events of each kind and 10,000,000 turns at most, and one pass over the entries of the node.
-    pub fn add<R: Wait>(
-        &self,
-        rt: &R,
-        k: u8,
-        entry: &Entry,
-    ) -> Result<Option<Verdict>, StepFault>
+    pub fn add<R: Wait>(&self, rt: &R, k: u8, entry: &Entry) -> Result<Option<Verdict>, StepFault>
         ensures outcome { IfOk result (IsOutcome k entry.now) }
         ensures no_node { self.now ≤ k → IsErr result }
         ensures refused { IfErr result (IsAddFault k entry.now) }

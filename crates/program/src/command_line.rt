@@ -36,14 +36,7 @@ pub fn run_with<
     O: Write,
     F: Write,
     S: Folder,
->(
-    rt: &R,
-    words: &[&str],
-    input: &mut I,
-    output: &mut O,
-    faults: &mut F,
-    folder: &mut S,
-) -> u8 {
+>(rt: &R, words: &[&str], input: &mut I, output: &mut O, faults: &mut F, folder: &mut S) -> u8 {
     let answered = match parse_words(rt.alloc(), words) {
         Ok(request) => answer(rt, request, input, output, faults, folder),
         Err(WordsFault::Memory) => Err(Fault::from(AllocError)),

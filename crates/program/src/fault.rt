@@ -40,10 +40,7 @@ pub enum Fault {
     BadLine { number: usize },
     /// A line of a session is none, and this may stand there.
     #[error("bad line {number}: {wanted}")]
-    NoLine {
-        number: usize,
-        wanted: &'static str,
-    },
+    NoLine { number: usize, wanted: &'static str },
     /// A write failed: nothing more is printed.
     #[error("")]
     Output,

@@ -61,7 +61,14 @@ fn judge_and_print<R: AllocGlobal + Threads + Sync, O: Write, F: Write, S: Folde
     };
     match judge(rt, library, bytes)? {
         Verdict::Refused(cause) => print_refused(rt, asked, text, cause, streams, folder),
-        _ => print_site(rt.alloc(), library, text.bytes, asked.folder, streams, folder),
+        _ => print_site(
+            rt.alloc(),
+            library,
+            text.bytes,
+            asked.folder,
+            streams,
+            folder,
+        ),
     }
 }
 
@@ -103,7 +110,14 @@ fn assume_and_print<R: AllocGlobal + Threads + Sync, O: Write, F: Write, S: Fold
         Verdict::Refused(cause) => print_refusal(rt.alloc(), text, cause, output, faults),
         _ => {
             let streams = Streams { output, faults };
-            print_site(rt.alloc(), library, text.bytes, asked.folder, streams, folder)
+            print_site(
+                rt.alloc(),
+                library,
+                text.bytes,
+                asked.folder,
+                streams,
+                folder,
+            )
         }
     }
 }

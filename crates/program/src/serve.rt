@@ -36,12 +36,7 @@ pub fn serve<
     R: AllocGlobal + Threads + Wait + Copy + Send + Sync + Drop + 'static,
     I: Read,
     O: Write,
->(
-    rt: &R,
-    serving: Serving,
-    input: &mut I,
-    output: &mut O,
-) -> Result<u8, Fault> {
+>(rt: &R, serving: Serving, input: &mut I, output: &mut O) -> Result<u8, Fault> {
     let mut lines = ServedLines::open(rt.alloc(), input, serving.is_live)?;
     let mut nodes = start_nodes(
         rt,
@@ -109,11 +104,7 @@ fn answer_serve_line<R: Wait>(
 }
 
 /// Submits an entry at a node until its verdict is known there, and returns it.
-fn added<R: Wait>(
-    rt: &R,
-    desk: &NodesDesk,
-    offered: &Offered,
-) -> Result<Option<Verdict>, StepFault>
+fn added<R: Wait>(rt: &R, desk: &NodesDesk, offered: &Offered) -> Result<Option<Verdict>, StepFault>
     ensures outcome { IfOk result (IsOutcome offered.now.node offered.now.entry) }
     ensures no_node { desk.now ≤ offered.now.node → IsErr result }
 {

@@ -31,9 +31,7 @@ impl<'a, I: Read> ServedLines<'a, I> {
         if is_live {
             return Ok(ServedLines::Session(Session::new(alloc, input)?));
         }
-        Ok(ServedLines::Script(
-            read_script(alloc, input)?.into_iter(),
-        ))
+        Ok(ServedLines::Script(read_script(alloc, input)?.into_iter()))
     }
 }
 

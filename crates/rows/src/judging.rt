@@ -112,7 +112,14 @@ impl<'a, 'w, R: AllocGlobal + Threads + Wait + Copy + Send + Sync + Drop + 'stat
         let mut output = Vec::new(self.rt.alloc());
         let mut faults = Vec::new(self.rt.alloc());
         let mut folder = LimitedFolder::new(self.rt.alloc(), self.row.files);
-        let status = run_with(self.rt, self.words, input, &mut output, &mut faults, &mut folder);
+        let status = run_with(
+            self.rt,
+            self.words,
+            input,
+            &mut output,
+            &mut faults,
+            &mut folder,
+        );
         let _ = push_files(&mut output, &folder.folder);
         Printed {
             output,
