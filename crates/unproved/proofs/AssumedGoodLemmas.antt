@@ -100,7 +100,7 @@ left S [] at s p = (p, tt)
 left S (x ∷ list) at s p =
     let w = left (slice_set S (x - 1) (as_axiom (get_or S (x - 1) Open))) list at s p in
     let v = left-one S x at s w.0 in
-    (v.0, v.1, w.1)
+    (v.0, (v.1, w.1))
 
 -- a position that is none of the list is that of a proved `$p`, if one stands there
 proved-else : (S : Database) (front end : ℕ) (list : List ℕ) (at : ℕ) → AreUnproved S front end list → front < at → at ≤ end → Avoids at list → StandsProved S at
