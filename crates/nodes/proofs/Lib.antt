@@ -2,4 +2,3 @@ pub mod Words
 mod ReportLemmas
 mod CountLemmas
 mod DeskLemmas
-mod AddingLemmas

@@ -16,13 +16,13 @@ use verify_pool::Gate;
 use world::Carried;
 
 /// How often an entry is submitted at most.
-const MOST_TRIES: u32 = 15;
+const MOST_TRIES: u32 = 17;
 
 /// How many turns are waited at least after the first try; after each further one, twice as many.
-const FIRST_WAIT: u64 = 4096;
+const FIRST_WAIT: u64 = 1024;
 
 /// How often the wait is doubled at most. So all waits together have fewer than 10,000,000 turns.
-const MOST_DOUBLINGS: u32 = 7;
+const MOST_DOUBLINGS: u32 = 9;
 
 /// In how many turns the outcome is asked once, since an ask takes the lock that the node needs.
 const TURNS_AN_ASK: u64 = 64;
@@ -33,7 +33,7 @@ const GOLDEN: u64 = 0x9E37_79B9_7F4A_7C15;
 impl<G: Gate, K: Keep<Carried>> Desk<G, K> {
     /// Submits an entry at node `k`, again and again until a verdict on it is known there, and has
     /// the node begin a ballot where it does not lead. Returns the verdict, or `Repeat` if the entry
-    /// decided under this author and serial number is another one; `None` if after 15 tries nothing
+    /// decided under this author and serial number is another one; `None` if after 17 tries nothing
     /// is known there.
     ///
     /// Each try waits longer than the one before it, and each node for another time, so that two
@@ -41,7 +41,7 @@ impl<G: Gate, K: Keep<Carried>> Desk<G, K> {
     /// is decided once.
     ///
     /// Errors: those of `submit` but `Busy`, and those of `begin`; `Apart` where the cell is not of
-    /// its node; `Memory`. After an error of a later try the entry may still be decided. Cost: 15
+    /// its node; `Memory`. After an error of a later try the entry may still be decided. Cost: 17
     /// events of each kind and 10,000,000 turns at most, and one pass over the entries of the node.
     pub fn add<R: Wait>(&self, rt: &R, k: u8, entry: &Entry) -> Result<Option<Verdict>, StepFault>
         ensures outcome { IfOk result (IsOutcome k entry.now) }

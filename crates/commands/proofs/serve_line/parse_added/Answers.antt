@@ -6,8 +6,8 @@ use Rattle.commands.proofs.serve_line.parse_added.Goals as goal
 pub returns-in_err-offered-in-Some : goal.returns-in_err-offered-in-Some
 returns-in_err-offered-in-Some c =
     said_fault (λ o. Add o) (serve_alone c.args.lines.now.lines c.args.verb.now c.args.words) c.args.words c.args.lines.now c.parse_text.new.lines
-    (add_form c.args.verb.now) c.in-Some.form c.in_err-offered-in-Some.field-0.0 c.from_residual-in_err-offered-in-Some.result
-    c.in-Some.ensures c.in_err-offered-in-Some.ensures c.from_residual-in_err-offered-in-Some.ensures.1
+    (add_form c.args.verb.now) c.in-Some.form c.in_err-offered-in-Some.field-0.0 c.from_residual.result
+    c.in-Some.ensures c.in_err-offered-in-Some.ensures c.from_residual.ensures.1
 
 pub returns-in-None : goal.returns-in-None
 returns-in-None c =
