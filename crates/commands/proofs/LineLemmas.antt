@@ -1,23 +1,25 @@
 -- A line that alone says something, and one that offers a text.
-use Rattle.std.specs.Prelude.{◌≡◌, ℕ, ◌+◌, List, drop, Option, Some, None, option_map, option_and_then, Result, Ok, Err, IsSome, IsErrAnd, ◌∷◌, refl}
+use Rattle.std.specs.Prelude.{◌≡◌, ℕ, ◌+◌, Bool, true, false, List, drop, Option, Some, None, option_map, option_and_then, Result, Ok, Err, IsSome, IsErrAnd, ◌∷◌, refl}
 use Rattle.std.proofs.Common.{◌∙◌, ap, sym, subst, arith}
 use Rattle.std.proofs.lemmas.Bool.{false≢true}
 use Rattle.library.specs.declared.entry.Entry.TheVariants.{Text}
 use Rattle.commands.specs.declared.line_words.EntryAt.{EntryAt}
-use Rattle.commands.specs.declared.node_line.NodeLine.{NodeLine}
-use Rattle.commands.specs.declared.node_line.NodeLine.TheVariants.{Offer}
 use Rattle.commands.specs.declared.offered.Offered.{Offered}
 use Rattle.commands.specs.declared.script.LineFault.{LineFault}
 use Rattle.commands.specs.declared.script.LineFault.TheVariants.{Bad, Memory as NoMemory}
+use Rattle.commands.specs.declared.serve_line.ServeLine.{ServeLine}
+use Rattle.commands.specs.declared.session_line.SessionLine.{SessionLine}
+use Rattle.commands.specs.declared.session_line.SessionLine.TheVariants.{Serve, Help}
 use Rattle.commands.specs.declared.text_form.TextForm.{TextForm}
 use Rattle.commands.specs.Pieces.{split_at}
 use Rattle.commands.specs.declared.line_words.TheConstants.{SPACE}
-use Rattle.commands.specs.LineWords.{Words, by_first, entry_at}
+use Rattle.commands.specs.LineWords.{Words, by_first, line_by, entry_at}
 use Rattle.commands.specs.Texts.{text_at}
 use Rattle.commands.specs.Offered.{text_offered}
 use Rattle.commands.specs.Remaining.{Remaining, IsPast}
 use Rattle.commands.specs.Scripts.{Parses, ParsesLine}
-use Rattle.commands.specs.NodeLines.{stands_alone, offer_or}
+use Rattle.commands.specs.NodeLines.{stands_alone, text_or}
+use Rattle.commands.specs.SessionLines.{help_or}
 
 -- no line is taken
 pub past_none : (lines : Remaining) → IsPast 0 lines lines
@@ -34,18 +36,18 @@ alone_parsed said lines (Ok x) h = (0, ap stands_alone h, past_none lines)
 alone_parsed said lines (Err Bad) h = ap stands_alone h
 alone_parsed said lines (Err NoMemory) h = alone_without_memory said lines h
 
--- an offer in place of what is offered
-abbrev pub offer_line : {L : Type 0} → (NodeLine → L) → Option (Offered × ℕ) → Option (L × ℕ)
-offer_line line offered = option_map (λ o. (line (Offer o.0), o.1)) offered
+-- a line in place of the offer that it gives
+abbrev pub text_line : {L : Type 0} → (Offered → L) → Option (Offered × ℕ) → Option (L × ℕ)
+text_line line offered = option_map (λ o. (line o.0, o.1)) offered
 
-pub offer_parsed : {L : Type 0} (line : NodeLine → L) (offered : Option (Offered × ℕ)) (old new : Remaining) (o : Offered)
-    → ParsesLine offered old new (Ok o) → ParsesLine (offer_line line offered) old new (Ok (line (Offer o)))
-offer_parsed line offered old new o h = (h.0, ap (offer_line line) h.1, h.2)
+pub text_parsed : {L : Type 0} (line : Offered → L) (offered : Option (Offered × ℕ)) (old new : Remaining) (o : Offered)
+    → ParsesLine offered old new (Ok o) → ParsesLine (text_line line offered) old new (Ok (line o))
+text_parsed line offered old new o h = (h.0, ap (text_line line) h.1, h.2)
 
-pub offer_unparsed : {L : Type 0} (line : NodeLine → L) (offered : Option (Offered × ℕ)) (old new : Remaining) (fault : LineFault)
-    → ParsesLine offered old new (Err fault) → ParsesLine (offer_line line offered) old new (Err fault)
-offer_unparsed line offered old new Bad h = ap (offer_line line) h
-offer_unparsed line offered old new NoMemory h = ((line (Offer (h.0).0), (h.0).1), ap (offer_line line) h.1, h.2)
+text_unparsed : {L : Type 0} (line : Offered → L) (offered : Option (Offered × ℕ)) (old new : Remaining) (fault : LineFault)
+    → ParsesLine offered old new (Err fault) → ParsesLine (text_line line offered) old new (Err fault)
+text_unparsed line offered old new Bad h = ap (text_line line) h
+text_unparsed line offered old new NoMemory h = ((line (h.0).0, (h.0).1), ap (text_line line) h.1, h.2)
 
 -- a text at a place
 abbrev pub text_at_place : EntryAt → List ℕ → Offered
@@ -68,27 +70,51 @@ handed_on : {L : Type 0} (r : Result L LineFault) (fault : LineFault) → IsErrA
 handed_on (Err f) fault h = ap Err (sym h)
 handed_on (Ok x) fault h = elim h [ ]
 
-module _ {L : Type 0} (line : NodeLine → L) (form : List ℕ → Option TextForm) (said : List ℕ → Words → Option L) where
-  -- what a line says, given those that follow
-  abbrev pub line_said : List ℕ → List (List ℕ) → Option (L × ℕ)
-  line_said bytes lines = by_first (λ verb ws. offer_or line (form verb) (said verb ws) ws lines) (split_at SPACE bytes)
+-- a line by its verb
+pub said_by : {L : Type 0} (by : List ℕ → Words → Option (L × ℕ)) (old new : Remaining) (bytes verb : List ℕ) (ws : Words) (r : Result L LineFault)
+    → split_at SPACE bytes ≡ verb ∷ ws → ParsesLine (by verb ws) old new r → ParsesLine (line_by by bytes) old new r
+said_by by old new bytes verb ws r words parses = subst (λ s. ParsesLine s old new r) (ap (by_first by) (sym words)) parses
 
-  -- a line whose verb offers no text
-  pub said_alone : (lines : Remaining) (bytes verb : List ℕ) (ws : Words) (r : Result L LineFault)
-      → split_at SPACE bytes ≡ verb ∷ ws → None ≡ form verb → Parses (said verb ws) r → ParsesLine (line_said bytes lines.lines) lines lines r
-  said_alone lines bytes verb ws r words none parses =
-      let is : stands_alone (said verb ws) ≡ line_said bytes lines.lines
-      = ap (λ f. offer_or line f (said verb ws) ws lines.lines) none
-      ∙ ap (by_first (λ verb ws. offer_or line (form verb) (said verb ws) ws lines.lines)) (sym words) in
-      subst (λ s. ParsesLine s lines lines r) is (alone_parsed (said verb ws) lines r parses)
+module _ {L : Type 0} (line : Offered → L) (said : Option (L × ℕ)) (ws : Words) (old new : Remaining) where
+  -- a verb that gives no text
+  pub said_other : (form : Option TextForm) (r : Result L LineFault) → None ≡ form → ParsesLine said old new r
+      → ParsesLine (text_or line form said ws old.lines) old new r
+  said_other form r none parses = subst (λ f. ParsesLine (text_or line f said ws old.lines) old new r) none parses
 
-  -- a line whose text is not parsed
-  pub said_fault : (old new : Remaining) (bytes verb : List ℕ) (ws : Words) (f : TextForm) (fault : LineFault) (r : Result L LineFault)
-      → split_at SPACE bytes ≡ verb ∷ ws → Some f ≡ form verb → ParsesLine (text_offered f ws old.lines) old new (Err fault)
-      → IsErrAnd r (λ f. f ≡ fault) → ParsesLine (line_said bytes old.lines) old new r
-  said_fault old new bytes verb ws f fault r words some parses handed =
-      let is : offer_line line (text_offered f ws old.lines) ≡ line_said bytes old.lines
-      = ap (λ f. offer_or line f (said verb ws) ws old.lines) some
-      ∙ ap (by_first (λ verb ws. offer_or line (form verb) (said verb ws) ws old.lines)) (sym words) in
-      subst (ParsesLine (line_said bytes old.lines) old new) (handed_on r fault handed)
-      (subst (λ s. ParsesLine s old new (Err fault)) is (offer_unparsed line (text_offered f ws old.lines) old new fault parses))
+  -- a text that is parsed
+  pub said_text : (form : Option TextForm) (f : TextForm) (o : Offered) → Some f ≡ form → ParsesLine (text_offered f ws old.lines) old new (Ok o)
+      → ParsesLine (text_or line form said ws old.lines) old new (Ok (line o))
+  said_text form f o some parses =
+      subst (λ g. ParsesLine (text_or line g said ws old.lines) old new (Ok (line o))) some (text_parsed line (text_offered f ws old.lines) old new o parses)
+
+  -- a text that is not parsed
+  pub said_fault : (form : Option TextForm) (f : TextForm) (fault : LineFault) (r : Result L LineFault) → Some f ≡ form
+      → ParsesLine (text_offered f ws old.lines) old new (Err fault) → IsErrAnd r (λ f. f ≡ fault)
+      → ParsesLine (text_or line form said ws old.lines) old new r
+  said_fault form f fault r some parses handed =
+      subst (λ g. ParsesLine (text_or line g said ws old.lines) old new r) some
+      (subst (ParsesLine (text_line line (text_offered f ws old.lines)) old new) (handed_on r fault handed)
+      (text_unparsed line (text_offered f ws old.lines) old new fault parses))
+
+-- a line of a script as one of a session
+abbrev serve_line : Option (ServeLine × ℕ) → Option (SessionLine × ℕ)
+serve_line said = option_map (λ l. (Serve l.0, l.1)) said
+
+session_unparsed : (said : Option (ServeLine × ℕ)) (old new : Remaining) (fault : LineFault) → ParsesLine said old new (Err fault)
+    → ParsesLine (serve_line said) old new (Err fault)
+session_unparsed said old new Bad h = ap serve_line h
+session_unparsed said old new NoMemory h = ((Serve (h.0).0, (h.0).1), ap serve_line h.1, h.2)
+
+pub session_help : (is_help : Bool) → is_help ≡ true → (said : Option (ServeLine × ℕ)) (lines : Remaining)
+    → ParsesLine (help_or is_help said) lines lines (Ok Help)
+session_help is_help is said lines = (0, ap (λ b. help_or b said) is, past_none lines)
+
+module _ (is_help : Bool) (other : is_help ≡ false) (said : Option (ServeLine × ℕ)) (old new : Remaining) where
+  pub session_parsed : (l : ServeLine) → ParsesLine said old new (Ok l) → ParsesLine (help_or is_help said) old new (Ok (Serve l))
+  session_parsed l h = (h.0, ap (λ b. help_or b said) other ∙ ap serve_line h.1, h.2)
+
+  pub session_fault : (fault : LineFault) (r : Result SessionLine LineFault) → ParsesLine said old new (Err fault) → IsErrAnd r (λ f. f ≡ fault)
+      → ParsesLine (help_or is_help said) old new r
+  session_fault fault r h handed =
+      subst (λ b. ParsesLine (help_or b said) old new r) (sym other)
+      (subst (ParsesLine (serve_line said) old new) (handed_on r fault handed) (session_unparsed said old new fault h))

@@ -7,4 +7,5 @@ pub mod NodeQuestions
 pub mod NodeLines
 pub mod PlayLines
 pub mod ServeLines
+pub mod SessionLines
 pub mod Scripts

@@ -9,6 +9,7 @@ use Rattle.commands.specs.LineWords.{Words, nothing_left, one_node, one_entry, t
 use Rattle.commands.specs.declared.text_form.TextForm.{TextForm}
 use Rattle.commands.specs.declared.node_question.LabelQuestion.{LabelQuestion}
 use Rattle.commands.specs.NodeQuestions.{label_question_of, question_asked}
+use Rattle.commands.specs.declared.offered.Offered.{Offered}
 use Rattle.commands.specs.Offered.{text_offered, charter_offered}
 
 -- a question about all that a node has, or about the history
@@ -38,10 +39,10 @@ ask_or None verb ws = short_node_line verb ws
 abbrev pub stands_alone : {L : Type 0} → Option L → Option (L × ℕ)
 stands_alone said = option_map (λ l. (l, 0)) said
 
--- an offer of a text, if the verb gives one in this form; else what the line alone says
-abbrev pub offer_or : {L : Type 0} → (NodeLine → L) → Option TextForm → Option L → Words → List (List ℕ) → Option (L × ℕ)
-offer_or line (Some form) said ws lines = option_map (λ o. (line (Offer o.0), o.1)) (text_offered form ws lines)
-offer_or line None said ws lines = stands_alone said
+-- a line that gives a text, if the verb gives one in this form; else what the line says otherwise
+abbrev pub text_or : {L : Type 0} → (Offered → L) → Option TextForm → Option (L × ℕ) → Words → List (List ℕ) → Option (L × ℕ)
+text_or line (Some form) said ws lines = option_map (λ o. (line o.0, o.1)) (text_offered form ws lines)
+text_or line None said ws lines = said
 
 abbrev pub node_line : List ℕ → Words → Option NodeLine
 node_line verb ws =

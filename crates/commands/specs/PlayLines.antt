@@ -7,8 +7,9 @@ use Rattle.commands.specs.declared.play_line.PlayLine.{PlayLine}
 use Rattle.commands.specs.declared.play_line.PlayLine.TheVariants.{Node, Deliver, Apply, Show}
 use Rattle.commands.specs.LineWords.{Words, line_by, one_number, one_node}
 use Rattle.commands.specs.declared.text_form.TextForm.{TextForm}
-use Rattle.commands.specs.declared.text_form.TextForm.TheVariants.{Rest, Lines, Bytes}
-use Rattle.commands.specs.NodeLines.{node_line, offer_or}
+use Rattle.commands.specs.declared.node_line.NodeLine.TheVariants.{Offer}
+use Rattle.commands.specs.Texts.{form_by}
+use Rattle.commands.specs.NodeLines.{node_line, stands_alone, text_or}
 
 -- the lines that `serve` does not have
 abbrev pub world_line : List ℕ → Words → Option PlayLine
@@ -24,14 +25,14 @@ or_node_line None verb ws = option_map (λ l. Node l) (node_line verb ws)
 
 -- how a verb gives the text that it offers
 abbrev pub play_text_form : List ℕ → Option TextForm
-play_text_form verb =
-    if bytes_eq verb (codes "offer") then Some Rest else (
-    if bytes_eq verb (codes "offer-lines") then Some Lines else (
-    if bytes_eq verb (codes "offer-bytes") then Some Bytes else None))
+play_text_form verb = form_by (codes "offer") (codes "offer-lines") (codes "offer-bytes") verb
+
+-- a line that offers no text
+abbrev pub play_alone : List (List ℕ) → List ℕ → Words → Option (PlayLine × ℕ)
+play_alone lines verb ws = stands_alone (or_node_line (world_line verb ws) verb ws)
 
 abbrev pub play_line_by : List (List ℕ) → List ℕ → Words → Option (PlayLine × ℕ)
-play_line_by lines verb ws =
-    offer_or (λ l. Node l) (play_text_form verb) (or_node_line (world_line verb ws) verb ws) ws lines
+play_line_by lines verb ws = text_or (λ o. Node (Offer o)) (play_text_form verb) (play_alone lines verb ws) ws lines
 
 -- what a line says to `play`, given the lines that follow, and how many of these it takes
 abbrev pub play_line_of : List ℕ → List (List ℕ) → Option (PlayLine × ℕ)

@@ -4,18 +4,19 @@
 use Rattle.std.specs.Prelude.{ℕ, List, codes, Option, Some, None, option_map, if◌then◌else◌}
 use Rattle.std.specs.Str.{bytes_eq}
 use Rattle.commands.specs.declared.serve_line.ServeLine.{ServeLine}
-use Rattle.commands.specs.declared.serve_line.ServeLine.TheVariants.{Node, Settle}
+use Rattle.commands.specs.declared.serve_line.ServeLine.TheVariants.{Node, Settle, Add}
 use Rattle.commands.specs.LineWords.{Words, line_by, one_entry}
 use Rattle.commands.specs.declared.text_form.TextForm.{TextForm}
-use Rattle.commands.specs.declared.text_form.TextForm.TheVariants.{Rest, Lines, Bytes}
-use Rattle.commands.specs.NodeLines.{node_line, offer_or}
+use Rattle.commands.specs.declared.node_line.NodeLine.TheVariants.{Offer}
+use Rattle.commands.specs.Texts.{form_by}
+use Rattle.commands.specs.NodeLines.{node_line, stands_alone, text_or}
 
--- how a verb gives the text that it offers
-abbrev pub serve_text_form : List ℕ → Option TextForm
-serve_text_form verb =
-    if bytes_eq verb (codes "submit") then Some Rest else (
-    if bytes_eq verb (codes "submit-lines") then Some Lines else (
-    if bytes_eq verb (codes "submit-bytes") then Some Bytes else None))
+-- how a verb gives the text that it submits, and how one gives the text that it adds
+abbrev pub submit_form : List ℕ → Option TextForm
+submit_form verb = form_by (codes "submit") (codes "submit-lines") (codes "submit-bytes") verb
+
+abbrev pub add_form : List ℕ → Option TextForm
+add_form verb = form_by (codes "add") (codes "add-lines") (codes "add-bytes") verb
 
 -- the line that `play` does not have, but for texts
 abbrev pub settle_line : List ℕ → Words → Option ServeLine
@@ -26,9 +27,16 @@ abbrev pub or_node_line : Option ServeLine → List ℕ → Words → Option Ser
 or_node_line (Some line) verb ws = Some line
 or_node_line None verb ws = option_map (λ l. Node l) (node_line verb ws)
 
+-- a line that gives no text
+abbrev pub serve_alone : List (List ℕ) → List ℕ → Words → Option (ServeLine × ℕ)
+serve_alone lines verb ws = stands_alone (or_node_line (settle_line verb ws) verb ws)
+
+-- a line that submits no text
+abbrev pub added_or : List (List ℕ) → List ℕ → Words → Option (ServeLine × ℕ)
+added_or lines verb ws = text_or (λ o. Add o) (add_form verb) (serve_alone lines verb ws) ws lines
+
 abbrev pub serve_line_by : List (List ℕ) → List ℕ → Words → Option (ServeLine × ℕ)
-serve_line_by lines verb ws =
-    offer_or (λ l. Node l) (serve_text_form verb) (or_node_line (settle_line verb ws) verb ws) ws lines
+serve_line_by lines verb ws = text_or (λ o. Node (Offer o)) (submit_form verb) (added_or lines verb ws) ws lines
 
 -- what a line says to `serve`, given the lines that follow, and how many of these it takes
 abbrev pub serve_line_of : List ℕ → List (List ℕ) → Option (ServeLine × ℕ)

@@ -10,6 +10,13 @@ use Rattle.commands.specs.declared.text_form.TextForm.{TextForm}
 use Rattle.commands.specs.declared.text_form.TextForm.TheVariants.{Rest, Lines, Bytes}
 use Rattle.commands.specs.LineWords.{◌>>=◌, Words, alone, one_number}
 
+-- how a verb gives a text: it is one of three, for a text on the line, on lines that follow, and as so many bytes
+abbrev pub form_by : List ℕ → List ℕ → List ℕ → List ℕ → Option TextForm
+form_by rest lines bytes verb =
+    if bytes_eq verb rest then Some Rest else (
+    if bytes_eq verb lines then Some Lines else (
+    if bytes_eq verb bytes then Some Bytes else None))
+
 -- the lines before the first that is the word alone, each with its line feed; the text takes that line too
 abbrev pub lines_before : List ℕ → List (List ℕ) → Option (List ℕ × ℕ)
 lines_before word [] = None

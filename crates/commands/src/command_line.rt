@@ -3,7 +3,7 @@ ghost use Rattle.std.specs.Prelude.{◌≤◌, IfOk};
 
 use crate::grammar::{commands, matches_of};
 use crate::hints::push_hint;
-use crate::request::{Asked, ProofForm, ProofQuestion, Question, Request, WordsFault};
+use crate::request::{Asked, ProofForm, ProofQuestion, Question, Request, Serving, WordsFault};
 use crate::weights::{WorkerCount, parse_weights};
 use clap::error::ErrorKind;
 use clap::{ArgMatches, Error};
@@ -62,11 +62,12 @@ fn request<'a>(alloc: Global, matches: &ArgMatches<'a>) -> Result<Request<'a>, W
             let nodes = node_count(alloc, options)?;
             let workers = worker_count(alloc, options)?;
             let weather = weather_seed(alloc, options)?;
-            Ok(Request::Serve {
+            Ok(Request::Serve(Serving {
                 weights: weights(alloc, options, nodes)?,
                 workers,
                 weather,
-            })
+                is_live: options.get_flag("live"),
+            }))
         }
         Some((command, options)) => Ok(Request::Ask(Asked {
             question: question(alloc, command, options)?,

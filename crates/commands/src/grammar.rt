@@ -113,6 +113,12 @@ const WEATHER: Argument = Argument {
     help: "Lose, repeat or delay one packet in four, as a generator with this seed draws",
 };
 
+const LIVE: Argument = Argument {
+    name: "live",
+    form: Form::Flag,
+    help: "Answer each line before the next one is read, and go on after a bad one",
+};
+
 const ALL: Argument = Argument {
     name: "all",
     form: Form::Flag,
@@ -222,7 +228,7 @@ const COMMANDS: [Shape; 13] = [
         "serve",
         "mmlib serve --nodes N --workers W < SCRIPT",
         "Serve the lines of a script on standard input by nodes that are threads: mmlib serve --nodes 3 --workers 2 < my.script",
-        &[NODES, WORKERS, WEIGHTS, WEATHER],
+        &[NODES, WORKERS, WEIGHTS, WEATHER, LIVE],
     ),
 ];
 

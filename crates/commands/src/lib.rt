@@ -2,15 +2,16 @@
 //!
 //! The crate above uses `parse_words` (a `Request` of a command line) and one contract:
 //! `parse_script` gives what the definition of the command's lines reads (`specs/PlayLines`,
-//! `specs/ServeLines`), or the number of the first line that is none of them. No other crate knows
-//! `clap`.
+//! `specs/ServeLines`, `specs/SessionLines`), or the number of the first line that is none of them.
+//! No other crate knows `clap`.
 //!
 //! Reading order: `request` (what a command line asks for), `weights` (numbers of a command line),
 //! `grammar` (its commands and options) with `script_help`, `hints` (on files among the words),
 //! `command_line`; `pieces` (a text between separators),
 //! `line_words` (the words of a line), `lines` (the lines of a script), `text_form` (a text on the
 //! line or on those that follow), `offered` (entries), `node_question` (labels), `node_line`,
-//! `play_line` and `serve_line` (what a line asks for), `script` (all lines).
+//! `play_line`, `serve_line` and `session_line` (what a line asks for), `session_texts` (where a text
+//! ends), `script` (all lines).
 #![tactic(auto)]
 
 mod command_line;
@@ -27,6 +28,8 @@ mod request;
 mod script;
 mod script_help;
 mod serve_line;
+mod session_line;
+mod session_texts;
 mod text_form;
 mod weights;
 
@@ -38,7 +41,10 @@ pub use node_line::NodeLine;
 pub use node_question::{LabelQuestion, NodeQuestion};
 pub use offered::Offered;
 pub use play_line::PlayLine;
-pub use request::{Asked, ProofForm, ProofQuestion, Question, Request, WordsFault};
+pub use request::{Asked, ProofForm, ProofQuestion, Question, Request, Serving, WordsFault};
 pub use script::{LINE_FEED, Line, LineFault, ScriptFault, parse_script};
+pub use script_help::{SERVE_LINES, first_word, wanted_line};
 pub use serve_line::ServeLine;
+pub use session_line::SessionLine;
+pub use session_texts::{TextEnd, text_end};
 pub use weights::{MOST_WORKERS, WorkerCount};

@@ -8,7 +8,7 @@ use crate::lines::Lines;
 use crate::node_line::{NodeLine, parse_node_line};
 use crate::offered::parse_text;
 use crate::script::{Line, LineFault};
-use crate::text_form::TextForm;
+use crate::text_form::{TextForm, form_of};
 use std::alloc::Global;
 
 /// A line of a script of `play`.
@@ -48,15 +48,12 @@ impl Line for PlayLine {
 fn text_form(verb: &[u8]) -> Option<TextForm>
     ensures { result ≡ play_text_form verb.now }
 {
-    if verb == b"offer".as_slice() {
-        Some(TextForm::Rest)
-    } else if verb == b"offer-lines".as_slice() {
-        Some(TextForm::Lines)
-    } else if verb == b"offer-bytes".as_slice() {
-        Some(TextForm::Bytes)
-    } else {
-        None
-    }
+    form_of(
+        verb,
+        b"offer".as_slice(),
+        b"offer-lines".as_slice(),
+        b"offer-bytes".as_slice(),
+    )
 }
 
 /// Parses the words after a verb that offers no text.

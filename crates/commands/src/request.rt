@@ -20,14 +20,20 @@ pub enum Request<'a> {
     Play {
         weights: Weights,
     },
-    /// `serve`: a script is served by nodes that are threads.
-    Serve {
-        weights: Weights,
-        /// How many threads check the proofs of one entry.
-        workers: WorkerCount,
-        /// The seed of the weather; `None` for one in which no packet is lost, repeated or delayed.
-        weather: Option<u64>,
-    },
+    /// `serve`: lines are served by nodes that are threads.
+    Serve(Serving),
+}
+
+/// The nodes that are to serve, and how their lines are read.
+#[derive(Drop)]
+pub struct Serving {
+    pub weights: Weights,
+    /// How many threads check the proofs of one entry.
+    pub workers: WorkerCount,
+    /// The seed of the weather; `None` for one in which no packet is lost, repeated or delayed.
+    pub weather: Option<u64>,
+    /// `--live`: each line is answered before the next one is read.
+    pub is_live: bool,
 }
 
 /// A question about a database, and how the database is taken.

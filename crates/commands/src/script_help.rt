@@ -1,4 +1,6 @@
 //! The lines of scripts, as the help of their commands lists them.
+use crate::line_words::SPACE;
+use crate::pieces::cut;
 
 /// The lines of `play`.
 pub(crate) const PLAY_LINES: &str = "\
@@ -14,13 +16,58 @@ Lines, K a node from 0:
   show N, log K, list K, export K    print a packet, a log, a library
   status K AUTHOR SERIAL             print what its library decided";
 
-/// The lines of `serve`.
-pub(crate) const SERVE_LINES: &str = "\
+/// The lines of `serve`: each after two spaces, and then what it asks for, after two spaces or
+/// more. A session has `help` too.
+pub const SERVE_LINES: &str = "\
 Lines, K a node from 0:
-  submit K AUTHOR SERIAL TEXT         submit a text at node K
-  submit-lines K AUTHOR SERIAL WORD   the same, the lines up to WORD alone
-  submit-bytes K AUTHOR SERIAL N      the same, the N bytes after the line
-  charter K AUTHOR SERIAL NAME ..     submit a charter of authors
-  begin K, restart K                  begin a ballot, restart node K
-  settle K AUTHOR SERIAL              wait for the verdict
-  status K AUTHOR SERIAL, list K      print a verdict, a library";
+  add K AUTHOR SERIAL TEXT           submit a text until it is decided
+  add-lines K AUTHOR SERIAL WORD     the same, the lines up to WORD alone
+  add-bytes K AUTHOR SERIAL N        the same, the N bytes after the line
+  submit K AUTHOR SERIAL TEXT        submit a text at node K
+  submit-lines K AUTHOR SERIAL WORD  the same, the lines up to WORD alone
+  submit-bytes K AUTHOR SERIAL N     the same, the N bytes after the line
+  charter K AUTHOR SERIAL NAME ..    submit a charter of authors
+  begin K                            begin a ballot
+  restart K                          restart node K
+  settle K AUTHOR SERIAL             wait for the verdict
+  status K AUTHOR SERIAL             print what its library decided
+  why K AUTHOR SERIAL                print why the entry was refused
+  list K                             print the assertions of its library
+  export K                           print the statements of its library
+  log K                              print the entries that it took over
+  state K                            print its role, promise and counts
+  trace K LABEL                      print the axioms of a proof
+  tree K LABEL                       print a derivation
+  usage K LABEL                      print who cites a statement
+  proof K LABEL                      print the steps of a proof
+  show K LABEL                       print a statement
+  compare J K                        print which library has more statements
+  events                             print the history, as lines of play
+With --live also:
+  help                               print these lines";
+
+/// The lines of a session by their first words.
+const SESSION_VERBS: &str = "add, add-lines, add-bytes, submit, submit-lines, submit-bytes, \
+    charter, begin, restart, settle, status, why, list, export, log, state, trace, tree, usage, \
+    proof, show, compare, events or help";
+
+/// Returns the line of a session that begins with a verb, or the verbs that there are.
+pub fn wanted_line(verb: &[u8]) -> &'static str {
+    for line in SERVE_LINES.lines() {
+        if let Some(line) = line.strip_prefix("  ") {
+            let form = match line.split_once("  ") {
+                Some((form, _meaning)) => form,
+                None => line,
+            };
+            if first_word(form.as_bytes()) == verb {
+                return form;
+            }
+        }
+    }
+    SESSION_VERBS
+}
+
+/// Returns the bytes before the first space.
+pub fn first_word(line: &[u8]) -> &[u8] {
+    cut(line, SPACE).0
+}

@@ -1,14 +1,15 @@
 //! The lines of `serve`.
 ghost use Rattle.std.specs.Prelude.{◌≡◌};
-ghost use Rattle.commands.specs.Scripts.{Parses};
-ghost use Rattle.commands.specs.ServeLines.{or_node_line, serve_line_of, serve_text_form, settle_line};
+ghost use Rattle.commands.specs.Scripts.{Parses, ParsesLine};
+ghost use Rattle.commands.specs.ServeLines.{add_form, added_or, or_node_line, serve_line_of};
+ghost use Rattle.commands.specs.ServeLines.{settle_line, submit_form};
 
 use crate::line_words::{EntryAt, Words};
 use crate::lines::Lines;
 use crate::node_line::{NodeLine, parse_node_line};
-use crate::offered::parse_text;
+use crate::offered::{Offered, parse_text};
 use crate::script::{Line, LineFault};
-use crate::text_form::TextForm;
+use crate::text_form::{TextForm, form_of};
 use std::alloc::Global;
 
 /// A line of a script of `serve`.
@@ -18,6 +19,8 @@ pub enum ServeLine {
     Node(NodeLine),
     /// `settle K AUTHOR SERIAL`: what the node's library decided, once it is known.
     Settle(EntryAt),
+    /// `add`, `add-lines` and `add-bytes`: a text is submitted until its verdict is known.
+    Add(Offered),
 }
 
 impl Line for ServeLine {
@@ -30,32 +33,60 @@ impl Line for ServeLine {
     ) -> Result<ServeLine, LineFault> {
         let mut words = Words::new(line);
         let verb = words.take().ok_or(LineFault::Bad)?;
-        match text_form(verb) {
+        match submitted_form(verb) {
             Some(form) => {
                 let offered = parse_text(alloc, form, words, lines)?;
                 Ok(ServeLine::Node(NodeLine::Offer(offered)))
             }
-            None => parse_alone(alloc, verb, words),
+            None => parse_added(alloc, verb, words, lines),
         }
     }
 }
 
-/// Returns how a verb gives the text that it offers, if it does.
-fn text_form(verb: &[u8]) -> Option<TextForm>
-    ensures { result ≡ serve_text_form verb.now }
+/// Returns how a verb gives the text that it submits, if it does.
+pub(crate) fn submitted_form(verb: &[u8]) -> Option<TextForm>
+    ensures { result ≡ submit_form verb.now }
 {
-    if verb == b"submit".as_slice() {
-        Some(TextForm::Rest)
-    } else if verb == b"submit-lines".as_slice() {
-        Some(TextForm::Lines)
-    } else if verb == b"submit-bytes".as_slice() {
-        Some(TextForm::Bytes)
-    } else {
-        None
+    form_of(
+        verb,
+        b"submit".as_slice(),
+        b"submit-lines".as_slice(),
+        b"submit-bytes".as_slice(),
+    )
+}
+
+/// Returns how a verb gives the text that it adds, if it does.
+pub(crate) fn added_form(verb: &[u8]) -> Option<TextForm>
+    ensures { result ≡ add_form verb.now }
+{
+    form_of(
+        verb,
+        b"add".as_slice(),
+        b"add-lines".as_slice(),
+        b"add-bytes".as_slice(),
+    )
+}
+
+/// Parses the words after a verb that submits no text.
+fn parse_added<'a>(
+    alloc: Global,
+    verb: &[u8],
+    words: Words<'a>,
+    lines: &mut Lines<'a>,
+) -> Result<ServeLine, LineFault>
+    ensures { ParsesLine (added_or lines.old.lines verb.now words.entry)
+        lines.old lines.new result }
+{
+    match added_form(verb) {
+        Some(form) => {
+            let offered = parse_text(alloc, form, words, lines)?;
+            Ok(ServeLine::Add(offered))
+        }
+        None => parse_alone(alloc, verb, words),
     }
 }
 
-/// Parses the words after a verb that offers no text.
+/// Parses the words after a verb that gives no text.
 fn parse_alone(alloc: Global, verb: &[u8], words: Words<'_>) -> Result<ServeLine, LineFault>
     ensures { Parses (or_node_line (settle_line verb.now words.entry) verb.now words.entry) result }
 {

@@ -3,7 +3,7 @@ ghost use Rattle.std.specs.Prelude.{◌≡◌, ℕ, ◌==◌, ◌≤◌, Some, N
 ghost use Rattle.std.specs.Prelude.{count_by, option_map, slice_index, IsTrue, ◌<◌};
 ghost use Rattle.commands.specs.Pieces.{split_at};
 ghost use Rattle.commands.specs.Remaining.{IsPast};
-ghost use Rattle.commands.specs.Texts.{bytes_before, lines_before, one_word, text_at};
+ghost use Rattle.commands.specs.Texts.{bytes_before, form_by, lines_before, one_word, text_at};
 
 use crate::line_words::Words;
 use crate::lines::Lines;
@@ -19,6 +19,22 @@ pub enum TextForm {
     Lines,
     /// A given number of bytes that follow the line, and then a line feed.
     Bytes,
+}
+
+/// Returns how a verb gives a text, if it is one of these three: that of a text on the line, of one
+/// on the lines that follow, and of one of so many bytes.
+pub(crate) fn form_of(verb: &[u8], rest: &[u8], lines: &[u8], bytes: &[u8]) -> Option<TextForm>
+    ensures { result ≡ form_by rest.now lines.now bytes.now verb.now }
+{
+    if verb == rest {
+        Some(TextForm::Rest)
+    } else if verb == lines {
+        Some(TextForm::Lines)
+    } else if verb == bytes {
+        Some(TextForm::Bytes)
+    } else {
+        None
+    }
 }
 
 /// Returns the text that the words give, and takes the lines that it stands on. Returns `None` if

@@ -2,3 +2,4 @@ pub mod Words
 pub mod Report
 pub mod Desk
 pub mod Questions
+pub mod Adding

@@ -5,9 +5,10 @@
 //! a `Report` keeps that its counts add up.
 //!
 //! Read `weather`, `shared_switch` and `shared_cell` (what the switch's and a node's lock guard), `shared_nodes` (the locks),
-//! `node_loop` (a node's thread), then `node_threads`, `desk`, `questions` and `report`.
+//! `node_loop` (a node's thread), then `node_threads`, `desk`, `questions`, `adding` and `report`.
 #![tactic(auto)]
 
+mod adding;
 mod desk;
 mod node_loop;
 mod node_threads;

@@ -51,10 +51,6 @@ fn answer<
         Request::Outline { name } => print_outline(rt.alloc(), name, input, output, faults),
         Request::Ask(asked) => ask(rt, &asked, input, output, faults),
         Request::Play { weights } => play(rt.alloc(), weights, input, output),
-        Request::Serve {
-            weights,
-            workers,
-            weather,
-        } => serve(rt, weights, workers, weather, input, output),
+        Request::Serve(serving) => serve(rt, serving, input, output),
     }
 }

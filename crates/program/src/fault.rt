@@ -30,6 +30,9 @@ pub enum Fault {
     /// A line is none of its command's. The least such line is counted from 1, empty lines too.
     #[error("bad line {number}")]
     BadLine { number: usize },
+    /// A line of a session is none, and this may stand there.
+    #[error("bad line {number}: {wanted}")]
+    NoLine { number: usize, wanted: &'static str },
     /// A write failed: nothing more is printed.
     #[error("")]
     Output,
@@ -45,24 +48,31 @@ impl Fault {
         print(output, b"")
     }
 
-    /// Prints that line, and returns the exit status: 2 for a bad script, else 1.
-    pub fn print<O: Write>(&self, output: &mut O) -> u8 {
-        match (self.write(output), self) {
-            (Ok(()), Fault::BadLine { .. }) => 2,
+    /// Returns the exit status that it asks for: 2 for a bad line, else 1.
+    pub fn status(&self) -> u8 {
+        match self {
+            Fault::BadLine { .. } | Fault::NoLine { .. } => 2,
             _ => 1,
+        }
+    }
+
+    /// Prints that line, and returns the exit status: 1 if it cannot be written.
+    pub fn print<O: Write>(&self, output: &mut O) -> u8 {
+        match self.write(output) {
+            Ok(()) => self.status(),
+            Err(_) => 1,
         }
     }
 
     /// Prints that line, and on the standard error why the input or the output is at fault; returns
     /// the exit status, as `print` does.
     pub fn end<O: Write, F: Write>(&self, output: &mut O, faults: &mut F) -> u8 {
-        match (self.write(output), self) {
-            (Ok(()), Fault::BadLine { .. }) => 2,
-            (Ok(()), _) => {
+        match self.write(output) {
+            Ok(()) => {
                 self.tell(faults);
-                1
+                self.status()
             }
-            (Err(unwritten), _) => {
+            Err(unwritten) => {
                 unwritten.tell(faults);
                 1
             }

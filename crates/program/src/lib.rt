@@ -8,7 +8,7 @@
 //! (what is not proved taken as axioms), `refused_texts` and `refused_questions` (why there is no
 //! answer); `scripts` (the lines of a script, answered one by one), `node_answers` (about the
 //! library of a node), `why` (an entry is refused there), `play`; `served_weather`, `served_nodes`,
-//! `desk_answers` and `serve`.
+//! `desk_answers`, `session` (the lines of `serve`) and `serve`.
 #![tactic(auto)]
 
 mod answers;
@@ -29,6 +29,7 @@ mod searches;
 mod serve;
 mod served_nodes;
 mod served_weather;
+mod session;
 mod shown;
 mod streams;
 mod why;

@@ -15,6 +15,7 @@ use printed::{
 };
 use std::alloc::{AllocError, Global};
 use std::io::{Read, Write};
+use std::vec::IntoIter;
 use synod::Weights;
 use world::World;
 
@@ -25,9 +26,9 @@ pub fn play<I: Read, O: Write>(
     input: &mut I,
     output: &mut O,
 ) -> Result<u8, Fault> {
-    let lines = read_script(alloc, input)?;
+    let mut lines = read_script(alloc, input)?.into_iter();
     let mut world = World::new(alloc, weights)?;
-    answer_lines::<PlayLine, World, O>(alloc, &mut world, lines, output)
+    answer_lines::<PlayLine, World, IntoIter<PlayLine>, O>(alloc, &mut world, &mut lines, output)
 }
 
 impl Answers<PlayLine> for World {

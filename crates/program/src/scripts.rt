@@ -1,9 +1,10 @@
-//! Scripts: read whole, and answered line by line.
+//! Scripts: their lines, answered one by one.
 use crate::fault::Fault;
 use crate::streams::{print, read_at_most};
 use commands::{Line, parse_script};
 use std::alloc::Global;
 use std::io::{Read, Write};
+use std::vec::IntoIter;
 
 /// The bytes that the answer of an event or a verdict needs at most.
 const ANSWER_ROOM: usize = 128;
@@ -15,48 +16,75 @@ pub trait Answers<L> {
     fn answer(&mut self, line: L, text: &mut Vec<u8>) -> Result<(), Fault>;
 }
 
+/// Where the lines of a script come from.
+pub trait Source<L> {
+    /// Returns the next line, or `None` at the end.
+    ///
+    /// Errors: no further line can be had.
+    fn next_line(&mut self) -> Result<Option<L>, Fault>;
+
+    /// Tells whether someone may wait for an answer before the next line is there.
+    fn is_live(&self) -> bool;
+}
+
+impl<L: Drop> Source<L> for IntoIter<L> {
+    fn next_line(&mut self) -> Result<Option<L>, Fault> {
+        Ok(self.next())
+    }
+
+    fn is_live(&self) -> bool {
+        false
+    }
+}
+
 /// Reads the whole input as the lines of a command.
 pub fn read_script<L: Line, I: Read>(alloc: Global, input: &mut I) -> Result<Vec<L>, Fault> {
     let script = read_at_most(alloc, input, usize::MAX)?;
     Ok(parse_script(alloc, script.as_slice())?)
 }
 
-/// Prints the answer to each line, and returns the exit status.
+/// Prints the answer to each line, and returns the exit status. If the source is live, each answer
+/// is flushed.
 ///
-/// Errors: an allocation fails before anything is printed; a write fails.
-pub fn answer_lines<L: Drop, N: Answers<L>, O: Write>(
+/// Errors: no further line can be had; an allocation fails before anything is printed; a write
+/// fails.
+pub fn answer_lines<L: Drop, N: Answers<L>, S: Source<L>, O: Write>(
     alloc: Global,
     nodes: &mut N,
-    lines: Vec<L>,
+    lines: &mut S,
     output: &mut O,
 ) -> Result<u8, Fault> {
     let mut text = Vec::with_capacity(alloc, ANSWER_ROOM)?;
     let mut status = 0;
-    for line in lines {
-        if !print_answer(nodes, line, &mut text, output)? {
-            status = 1;
+    for _ in 0..u64::MAX {
+        let Some(line) = lines.next_line()? else {
+            break;
+        };
+        status = status.max(print_answer(nodes, line, &mut text, output)?);
+        if lines.is_live() {
+            print(output, b"")?;
         }
     }
     print(output, b"")?;
     Ok(status)
 }
 
-/// Prints the answer to a line, and tells whether it is no refusal. The text is a buffer.
+/// Prints the answer to a line, and returns the exit status that it asks for. The text is a buffer.
 fn print_answer<L: Drop, N: Answers<L>, O: Write>(
     nodes: &mut N,
     line: L,
     text: &mut Vec<u8>,
     output: &mut O,
-) -> Result<bool, Fault> {
+) -> Result<u8, Fault> {
     text.clear();
     match nodes.answer(line, text) {
         Ok(()) => {
             output.write_all(text.as_slice())?;
-            Ok(!text.starts_with(b"refused"))
+            Ok(if text.starts_with(b"refused") { 1 } else { 0 })
         }
         Err(fault) => {
             fault.write(output)?;
-            Ok(false)
+            Ok(fault.status())
         }
     }
 }

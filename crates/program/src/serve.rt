@@ -1,24 +1,28 @@
-//! The command `serve`: a script at the desk of a cluster, whose nodes are threads.
-ghost use Rattle.std.specs.Prelude.{◌≡◌, ◌++◌, ◌≤◌, ◌<◌, List, Err, OnOk, IfOk, IsOkUnless};
+//! The command `serve`: lines at the desk of a cluster, whose nodes are threads.
+ghost use Rattle.std.specs.Prelude.{◌≡◌, ◌++◌, ◌≤◌, ◌<◌, List, Err, OnOk, IfOk, IsErr, IsOkUnless};
 ghost use Rattle.library.specs.declared.listed.Listed.{Listed};
 ghost use Rattle.net.specs.declared.fault.StepFault.TheVariants.{NoNode, Apart};
+ghost use Rattle.nodes.specs.Adding.{IsOutcome};
 ghost use Rattle.nodes.specs.Desk.{IsListed, IsStatus};
 ghost use Rattle.printed.specs.Printed.{list_text};
 
 use crate::desk_answers::Asked;
 use crate::fault::Fault;
-use crate::scripts::{Answers, answer_lines, read_script};
+use crate::scripts::{Answers, Source, answer_lines};
 use crate::served_nodes::{Nodes, NodesDesk, start_nodes, stop_nodes};
+use crate::session::{ServedLine, ServedLines};
 use crate::streams::print;
-use commands::{EntryAt, NodeLine, ServeLine, WorkerCount};
+use commands::{
+    EntryAt, LINE_FEED, NodeLine, Offered, SERVE_LINES, ServeLine, Serving, SessionLine,
+};
 use library::Verdict;
 use net::StepFault;
-use printed::{push_decided, push_list};
+use printed::{push_counted, push_decided, push_list};
+use std::alloc::Global;
 use std::io::{Read, Write};
 use std::sync::Wait;
 use std::thread;
 use std::thread::Threads;
-use synod::Weights;
 
 /// How many turns `settle` waits at most.
 const MOST_TURNS: u32 = 10_000_000;
@@ -26,23 +30,22 @@ const MOST_TURNS: u32 = 10_000_000;
 /// In how many turns `settle` asks once, since an ask takes the lock that the node needs.
 const TURNS_AN_ASK: u32 = 64;
 
-/// Reads a script, starts the nodes, prints the answers to the lines, and stops the nodes; returns
-/// the exit status. Every thread is joined, also after a write that failed.
+/// Reads the script unless it is a session, starts the nodes, prints the answers to the lines, and
+/// stops the nodes; returns the exit status. Every thread is joined, also after a write that failed.
 pub fn serve<
     R: AllocGlobal + Threads + Wait + Copy + Send + Sync + Drop + 'static,
     I: Read,
     O: Write,
->(
-    rt: &R,
-    weights: Weights,
-    workers: WorkerCount,
-    weather: Option<u64>,
-    input: &mut I,
-    output: &mut O,
-) -> Result<u8, Fault> {
-    let lines = read_script(rt.alloc(), input)?;
-    let mut nodes = start_nodes(rt, rt.alloc(), weights, workers, weather)?;
-    let answered = answer_at_desk(rt, &nodes, lines, output);
+>(rt: &R, serving: Serving, input: &mut I, output: &mut O) -> Result<u8, Fault> {
+    let mut lines = ServedLines::open(rt.alloc(), input, serving.is_live)?;
+    let mut nodes = start_nodes(
+        rt,
+        rt.alloc(),
+        serving.weights,
+        serving.workers,
+        serving.weather,
+    )?;
+    let answered = answer_at_desk(rt, &nodes, &mut lines, output);
     let stopped = stop_nodes(rt, &mut nodes);
     let status = answered?;
     stopped?;
@@ -51,10 +54,10 @@ pub fn serve<
 }
 
 /// Prints the answers to the lines at a desk of the nodes, and returns the exit status.
-fn answer_at_desk<R: AllocGlobal + Wait, O: Write>(
+fn answer_at_desk<R: AllocGlobal + Wait, S: Source<ServedLine>, O: Write>(
     rt: &R,
     nodes: &Nodes,
-    lines: Vec<ServeLine>,
+    lines: &mut S,
     output: &mut O,
 ) -> Result<u8, Fault> {
     let desk = nodes.desk()?;
@@ -63,18 +66,49 @@ fn answer_at_desk<R: AllocGlobal + Wait, O: Write>(
         alloc: rt.alloc(),
         desk: &desk,
     };
-    answer_lines::<ServeLine, Asked<'_, R>, O>(rt.alloc(), &mut asked, lines, output)
+    answer_lines::<ServedLine, Asked<'_, R>, S, O>(rt.alloc(), &mut asked, lines, output)
 }
 
-impl<R: Wait> Answers<ServeLine> for Asked<'_, R> {
-    fn answer(&mut self, line: ServeLine, text: &mut Vec<u8>) -> Result<(), Fault> {
-        match line {
-            ServeLine::Node(line) => answer_node_line(self, line, text),
-            ServeLine::Settle(at) => {
-                Ok(push_decided(text, settled(self.rt, self.desk, at)?, b"unknown")?)
-            }
+impl<R: Wait> Answers<ServedLine> for Asked<'_, R> {
+    fn answer(&mut self, line: ServedLine, text: &mut Vec<u8>) -> Result<(), Fault> {
+        match line? {
+            SessionLine::Serve(line) => answer_serve_line(self, line, text),
+            SessionLine::Help => push_help(self.alloc, text),
         }
     }
+}
+
+/// Appends the lines of a session, after their count.
+fn push_help(alloc: Global, text: &mut Vec<u8>) -> Result<(), Fault> {
+    let mut lines = Vec::from_slice(alloc, SERVE_LINES.as_bytes())?;
+    lines.push(LINE_FEED)?;
+    Ok(push_counted(text, b"help", lines.as_slice())?)
+}
+
+/// Does what a line of a script asks for, and appends its answer.
+fn answer_serve_line<R: Wait>(
+    asked: &Asked<'_, R>,
+    line: ServeLine,
+    text: &mut Vec<u8>,
+) -> Result<(), Fault> {
+    match line {
+        ServeLine::Node(line) => answer_node_line(asked, line, text),
+        ServeLine::Settle(at) => {
+            Ok(push_decided(text, settled(asked.rt, asked.desk, at)?, b"unknown")?)
+        }
+        ServeLine::Add(offered) => {
+            let outcome = added(asked.rt, asked.desk, &offered)?;
+            Ok(push_decided(text, outcome, b"unknown")?)
+        }
+    }
+}
+
+/// Submits an entry at a node until its verdict is known there, and returns it.
+fn added<R: Wait>(rt: &R, desk: &NodesDesk, offered: &Offered) -> Result<Option<Verdict>, StepFault>
+    ensures outcome { IfOk result (IsOutcome offered.now.node offered.now.entry) }
+    ensures no_node { desk.now ≤ offered.now.node → IsErr result }
+{
+    desk.add(rt, offered.node, &offered.entry)
 }
 
 /// Does what a line asks for that `play` has too, and appends its answer.

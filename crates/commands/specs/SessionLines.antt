@@ -1,0 +1,54 @@
+-- The lines of a session of `serve`, and where the text ends that a line begins.
+-- Source: this project's own form.
+-- The code reads a session line by line, and the lines of a text before it parses them with the line that gives it.
+use Rattle.std.specs.Prelude.{ℕ, Bool, true, false, List, codes, Option, Some, None, option_map}
+use Rattle.std.specs.Str.{bytes_eq}
+use Rattle.commands.specs.declared.serve_line.ServeLine.{ServeLine}
+use Rattle.commands.specs.declared.session_line.SessionLine.{SessionLine}
+use Rattle.commands.specs.declared.session_line.SessionLine.TheVariants.{Serve, Help}
+use Rattle.commands.specs.declared.text_form.TextForm.{TextForm}
+use Rattle.commands.specs.declared.text_form.TextForm.TheVariants.{Rest, Lines, Bytes}
+use Rattle.commands.specs.declared.session_texts.TextEnd.{TextEnd}
+use Rattle.commands.specs.declared.session_texts.TextEnd.TheVariants.{AtWord, AfterBytes}
+use Rattle.commands.specs.LineWords.{◌>>=◌, Words, line_by, entry_at, one_number}
+use Rattle.commands.specs.Texts.{one_word}
+use Rattle.commands.specs.ServeLines.{submit_form, add_form, serve_line_of}
+
+-- the line that a script does not have, or one that it has
+abbrev pub help_or : Bool → Option (ServeLine × ℕ) → Option (SessionLine × ℕ)
+help_or true said = Some (Help, 0)
+help_or false said = option_map (λ l. (Serve l.0, l.1)) said
+
+-- what a line says to a session, given the lines that follow, and how many of these it takes
+abbrev pub session_line_of : List ℕ → List (List ℕ) → Option (SessionLine × ℕ)
+session_line_of line lines = help_or (bytes_eq line (codes "help")) (serve_line_of line lines)
+
+-- the first of two forms that is one
+abbrev pub or_form : Option TextForm → Option TextForm → Option TextForm
+or_form (Some form) other = Some form
+or_form None other = other
+
+-- where a text ends: with the line that is a word alone, or with the line feed after so many bytes
+pub data End : Type 0 where
+  word : List ℕ → End
+  bytes : ℕ → End
+
+abbrev pub end_view : TextEnd → End
+end_view (AtWord w) = word w.now
+end_view (AfterBytes n) = bytes n
+
+-- where a text in this form ends, by the words after the entry; a text on the line has no end after it
+abbrev pub end_by : TextForm → Words → Option End
+end_by Rest ws = None
+end_by Lines ws = option_map (λ w. word w) (one_word ws)
+end_by Bytes ws = option_map (λ n. bytes n) (one_number ws)
+
+abbrev pub text_end_by : List ℕ → Words → Option End
+text_end_by verb ws = do
+  form ← or_form (submit_form verb) (add_form verb)
+  e ← entry_at ws
+  end_by form e.1
+
+-- where the text ends that the line gives on those that follow, if it gives one there
+abbrev pub text_end_of : List ℕ → Option End
+text_end_of line = line_by text_end_by line

@@ -1,0 +1,32 @@
+//! The lines of a session of `serve`.
+ghost use Rattle.commands.specs.SessionLines.{session_line_of};
+
+use crate::lines::Lines;
+use crate::script::{Line, LineFault};
+use crate::serve_line::ServeLine;
+use std::alloc::Global;
+
+/// A line of a session of `serve`.
+#[derive(Drop)]
+pub enum SessionLine {
+    /// A line that a script has too.
+    Serve(ServeLine),
+    /// `help`: the lines and what they ask for.
+    Help,
+}
+
+impl Line for SessionLine {
+    ghost said = { session_line_of };
+
+    fn parse<'a>(
+        alloc: Global,
+        line: &'a [u8],
+        lines: &mut Lines<'a>,
+    ) -> Result<SessionLine, LineFault> {
+        if line == b"help".as_slice() {
+            return Ok(SessionLine::Help);
+        }
+        let line = ServeLine::parse(alloc, line, lines)?;
+        Ok(SessionLine::Serve(line))
+    }
+}

@@ -1,0 +1,49 @@
+//! Where the text ends that a line of `serve` gives on the lines that follow it.
+ghost use Rattle.std.specs.Prelude.{◌≡◌, option_map};
+ghost use Rattle.commands.specs.SessionLines.{end_by, end_view, or_form, text_end_of};
+ghost use Rattle.commands.specs.ServeLines.{add_form, submit_form};
+
+use crate::line_words::Words;
+use crate::serve_line::{added_form, submitted_form};
+use crate::text_form::{TextForm, only_word};
+
+/// Where a text ends.
+#[derive(Clone, Copy, Debug, PartialEq, Eq)]
+pub enum TextEnd<'a> {
+    /// With the line that is this word alone.
+    AtWord(&'a [u8]),
+    /// With a line feed after so many bytes.
+    AfterBytes(u64),
+}
+
+/// Returns where the text ends that the line gives on those that follow. Returns `None` if it gives
+/// none there, or is no line of `serve` whatever follows. Does not allocate.
+pub fn text_end(line: &[u8]) -> Option<TextEnd<'_>>
+    ensures { option_map end_view result ≡ text_end_of line.now }
+{
+    let mut words = Words::new(line);
+    let form = text_form(words.take()?)?;
+    let _at = words.entry()?;
+    end_of(form, words)
+}
+
+/// Returns how a verb gives a text, if it does.
+fn text_form(verb: &[u8]) -> Option<TextForm>
+    ensures { result ≡ or_form (submit_form verb.now) (add_form verb.now) }
+{
+    match submitted_form(verb) {
+        Some(form) => Some(form),
+        None => added_form(verb),
+    }
+}
+
+/// Returns where a text in this form ends, by the words after its entry.
+fn end_of(form: TextForm, words: Words<'_>) -> Option<TextEnd<'_>>
+    ensures { option_map end_view result ≡ end_by form words.entry }
+{
+    match form {
+        TextForm::Rest => None,
+        TextForm::Lines => Some(TextEnd::AtWord(only_word(words)?)),
+        TextForm::Bytes => Some(TextEnd::AfterBytes(words.only_number()?)),
+    }
+}

@@ -1,0 +1,215 @@
+//! Seeing an entry through to its verdict at a node.
+ghost use Rattle.std.specs.Prelude.{◌≡◌, ◌↔◌, ◌≤◌, ◌<◌, Some, Err, IfErr, IfOk, IsErr, IsOkUnless, IsTrue};
+ghost use Rattle.net.specs.declared.event.Event.TheVariants.{Begin};
+ghost use Rattle.net.specs.declared.fault.StepFault.TheVariants.{Apart, NoNode};
+ghost use Rattle.nodes.specs.Desk.{IsPlayFault};
+ghost use Rattle.nodes.specs.Adding.{IsAddFault, IsOutcome, IsOutcomeOf, first_under, is_under};
+
+use crate::desk::Desk;
+use cluster::NodeCell;
+use library::{Entry, Submission, Verdict};
+use net::StepFault;
+use std::sync::Wait;
+use std::thread;
+use synod::{Keep, Role};
+use verify_pool::Gate;
+use world::Carried;
+
+/// How often an entry is submitted at most.
+const MOST_TRIES: u32 = 17;
+
+/// How many turns are waited at least after the first try; after each further one, twice as many.
+const FIRST_WAIT: u64 = 1024;
+
+/// How often the wait is doubled at most. So all waits together have fewer than 10,000,000 turns.
+const MOST_DOUBLINGS: u32 = 9;
+
+/// In how many turns the outcome is asked once, since an ask takes the lock that the node needs.
+const TURNS_AN_ASK: u64 = 64;
+
+/// The golden ratio's fraction of 2^64: the fractions of its multiples lie far from one another.
+const GOLDEN: u64 = 0x9E37_79B9_7F4A_7C15;
+
+impl<G: Gate, K: Keep<Carried>> Desk<G, K> {
+    /// Submits an entry at node `k`, again and again until a verdict on it is known there, and has
+    /// the node begin a ballot where it does not lead. Returns the verdict, or `Repeat` if the entry
+    /// decided under this author and serial number is another one; `None` if after 17 tries nothing
+    /// is known there.
+    ///
+    /// Each try waits longer than the one before it, and each node for another time, so that two
+    /// that begin ballots do not keep stopping each other. An entry that is submitted several times
+    /// is decided once.
+    ///
+    /// Errors: those of `submit` but `Busy`, and those of `begin`; `Apart` where the cell is not of
+    /// its node; `Memory`. After an error of a later try the entry may still be decided. Cost: 17
+    /// events of each kind and 10,000,000 turns at most, and one pass over the entries of the node.
+    pub fn add<R: Wait>(&self, rt: &R, k: u8, entry: &Entry) -> Result<Option<Verdict>, StepFault>
+        ensures outcome { IfOk result (IsOutcome k entry.now) }
+        ensures no_node { self.now ≤ k → IsErr result }
+        ensures refused { IfErr result (IsAddFault k entry.now) }
+    {
+        for turn in 0..MOST_TRIES {
+            self.submit_again(rt, k, entry)?;
+            let known = self.outcome(rt, k, entry)?;
+            if known.is_some() {
+                return Ok(known);
+            }
+            self.lead(rt, k)?;
+            let known = self.awaited(rt, k, entry, wait_after(k, turn))?;
+            if known.is_some() {
+                return Ok(known);
+            }
+        }
+        self.outcome(rt, k, entry)
+    }
+
+    /// Submits a copy of the entry at node `k`, unless too many wait there.
+    fn submit_again<R: Wait>(&self, rt: &R, k: u8, entry: &Entry) -> Result<(), StepFault>
+        ensures { IfErr result (IsAddFault k entry.now) }
+    {
+        match self.submit(rt, k, entry.copy()?) {
+            Err(StepFault::Busy) => Ok(()),
+            answer => answer,
+        }
+    }
+
+    /// Has node `k` begin a ballot, unless it leads.
+    fn lead<R: Wait>(&self, rt: &R, k: u8) -> Result<(), StepFault>
+        ensures { IfErr result (IsPlayFault (Begin k)) }
+    {
+        if self.leads(rt, k) {
+            return Ok(());
+        }
+        self.begin(rt, k)
+    }
+
+    /// Tells whether node `k` leads.
+    fn leads<R: Wait>(&self, rt: &R, k: u8) -> bool {
+        let shared = self.shared.switch.lock(rt);
+        match shared.switch.state(k) {
+            Ok(state) => matches!(state.role, Role::Leading { .. }),
+            Err(_) => false,
+        }
+    }
+
+    /// Returns the outcome of the entry at node `k` once it is known, or after so many turns.
+    fn awaited<R: Wait>(
+        &self,
+        rt: &R,
+        k: u8,
+        entry: &Entry,
+        turns: u64,
+    ) -> Result<Option<Verdict>, StepFault>
+        ensures outcome { IfOk result (IsOutcome k entry.now) }
+        ensures no_node { self.now ≤ k → result ≡ Err NoNode }
+        ensures only_apart { k < self.now → IsOkUnless result Apart }
+    {
+        for turn in 0..turns {
+            if turn % TURNS_AN_ASK == 0 {
+                let known = self.outcome(rt, k, entry)?;
+                if known.is_some() {
+                    return Ok(known);
+                }
+            }
+            thread::yield_now();
+        }
+        self.outcome(rt, k, entry)
+    }
+
+    /// Returns the outcome of the entry at node `k`, if it is known there.
+    fn outcome<R: Wait>(&self, rt: &R, k: u8, entry: &Entry) -> Result<Option<Verdict>, StepFault>
+        ensures outcome { IfOk result (IsOutcome k entry.now) }
+        ensures no_node { self.now ≤ k → result ≡ Err NoNode }
+        ensures only_apart { k < self.now → IsOkUnless result Apart }
+    {
+        self.ask(rt, k, |cell| outcome_on(cell, entry))
+    }
+}
+
+/// Returns what a cell decided on the entry, or `Repeat` if the one decided under its author and
+/// serial number is another one. Returns `None` if nothing is decided.
+///
+/// Cost: that of `Library::status`; one pass over the entries taken over if something is decided.
+fn outcome_on(cell: &NodeCell, entry: &Entry) -> Option<Verdict>
+    ensures { IsOutcomeOf cell.now entry.now result }
+{
+    let verdict = cell.library().status(entry.author(), entry.serial())?;
+    if is_first(cell.entries(), entry) {
+        Some(verdict)
+    } else {
+        Some(Verdict::Repeat)
+    }
+}
+
+/// Tells whether the entry is the first under its author and serial number.
+fn is_first(entries: &[Option<Carried>], entry: &Entry) -> bool
+    ensures { IsTrue result ↔ (first_under entry.now entries.now ≡ Some (record { 0 = entry.now })) }
+{
+    for found in entries {
+        if is_under(found, entry) {
+            return is_found(found, entry);
+        }
+    }
+    false
+}
+
+/// Tells whether an entry is there and has the author and serial number of another.
+fn is_under(found: &Option<Carried>, entry: &Entry) -> bool
+    ensures { result ≡ is_under entry.now found.now }
+{
+    match found {
+        Some(Carried(found)) => {
+            entry.author() == found.author() && entry.serial() == found.serial()
+        }
+        None => false,
+    }
+}
+
+/// Tells whether it is the entry that was found.
+fn is_found(found: &Option<Carried>, entry: &Entry) -> bool
+    ensures { IsTrue result ↔ (found.now ≡ Some (record { 0 = entry.now })) }
+{
+    match found {
+        Some(Carried(found)) => is_same(found, entry),
+        None => false,
+    }
+}
+
+/// Tells whether two entries are the same.
+fn is_same(one: &Entry, other: &Entry) -> bool
+    ensures { IsTrue result ↔ (one.now ≡ other.now) }
+{
+    match (one, other) {
+        (Entry::Text(one), Entry::Text(other)) => is_same_text(one, other),
+        (
+            Entry::Charter {
+                author,
+                serial,
+                names,
+            },
+            Entry::Charter {
+                author: by,
+                serial: number,
+                names: others,
+            },
+        ) => *author == *by && *serial == *number && names.as_slice() == others.as_slice(),
+        _ => false,
+    }
+}
+
+/// Tells whether two texts are the same.
+fn is_same_text(one: &Submission, other: &Submission) -> bool
+    ensures { IsTrue result ↔ (one.now ≡ other.now) }
+{
+    one.author == other.author
+        && one.serial == other.serial
+        && one.text.as_slice() == other.text.as_slice()
+}
+
+/// Returns how many turns node `k` waits after a try, from 0: more than after the one before it,
+/// and up to twice as many as that by a fraction drawn for the node and the try.
+fn wait_after(k: u8, turn: u32) -> u64 {
+    let least = FIRST_WAIT << turn.min(MOST_DOUBLINGS);
+    let drawn = (u64::from(turn) * 256 + u64::from(k) + 1).wrapping_mul(GOLDEN) >> 32;
+    least.saturating_add(drawn.saturating_mul(least) >> 32)
+}

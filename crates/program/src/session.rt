@@ -1,0 +1,170 @@
+//! The lines that `serve` answers: those of a script that is read whole, or those of a session.
+ghost use Rattle.std.specs.Prelude.{◌≤◌, OnOk, vec_len};
+
+use crate::fault::Fault;
+use crate::scripts::{Source, read_script};
+use commands::{
+    LINE_FEED, ScriptFault, ServeLine, SessionLine, TextEnd, first_word, parse_script, text_end,
+    wanted_line,
+};
+use std::alloc::{AllocError, Global};
+use std::io::{BufRead, BufReader, ErrorKind, Read};
+use std::vec::IntoIter;
+
+/// A line that `serve` answers, or why it has no other answer.
+pub type ServedLine = Result<SessionLine, Fault>;
+
+/// Where the lines that `serve` answers come from.
+#[derive(Drop)]
+pub enum ServedLines<'a, I: Read> {
+    /// A script that was read whole.
+    Script(IntoIter<ServeLine>),
+    /// A session.
+    Session(Session<'a, I>),
+}
+
+impl<'a, I: Read> ServedLines<'a, I> {
+    /// Reads the script, or begins a session.
+    ///
+    /// Errors: the input cannot be read; a line of the script is bad; an allocation fails.
+    pub fn open(alloc: Global, input: &'a mut I, is_live: bool) -> Result<Self, Fault> {
+        if is_live {
+            return Ok(ServedLines::Session(Session::new(alloc, input)?));
+        }
+        Ok(ServedLines::Script(read_script(alloc, input)?.into_iter()))
+    }
+}
+
+impl<I: Read> Source<ServedLine> for ServedLines<'_, I> {
+    fn next_line(&mut self) -> Result<Option<ServedLine>, Fault> {
+        match self {
+            ServedLines::Script(lines) => Ok(lines.next().map(|line| Ok(SessionLine::Serve(line)))),
+            ServedLines::Session(session) => session.next_line(),
+        }
+    }
+
+    fn is_live(&self) -> bool {
+        match self {
+            ServedLines::Script(_) => false,
+            ServedLines::Session(_) => true,
+        }
+    }
+}
+
+/// The lines of a session that are not read yet.
+#[derive(Drop)]
+pub struct Session<'a, I: Read> {
+    alloc: Global,
+    input: BufReader<&'a mut I>,
+    /// The line that is done, with the lines of its text.
+    text: Vec<u8>,
+    /// How many lines were read.
+    number: usize,
+}
+
+impl<'a, I: Read> Session<'a, I> {
+    /// Begins a session. Reads nothing yet.
+    fn new(alloc: Global, input: &'a mut I) -> Result<Self, Fault> {
+        Ok(Session {
+            alloc,
+            input: BufReader::new(alloc, input).map_err(|_| Fault::Memory(AllocError))?,
+            text: Vec::new(alloc),
+            number: 0,
+        })
+    }
+
+    /// Reads the next line that is not empty, with the lines of its text, and parses it. Returns
+    /// `None` at the end of the input.
+    ///
+    /// Errors: the input cannot be read; an allocation fails for what is read.
+    fn next_line(&mut self) -> Result<Option<ServedLine>, Fault> {
+        for _ in 0..u64::MAX {
+            self.text.clear();
+            if !self.read_line()? {
+                return Ok(None);
+            }
+            let number = self.number;
+            self.read_text()?;
+            match self.parsed(number) {
+                Ok(None) => {}
+                Ok(Some(line)) => return Ok(Some(Ok(line))),
+                Err(fault) => return Ok(Some(Err(fault))),
+            }
+        }
+        Ok(None)
+    }
+
+    /// Parses what is read, whose first line has this number. Returns `None` if that line is empty.
+    fn parsed(&self, number: usize) -> Result<Option<SessionLine>, Fault> {
+        match parse_script::<SessionLine>(self.alloc, self.text.as_slice()) {
+            Ok(mut lines) => Ok(lines.pop()),
+            Err(ScriptFault::Memory) => Err(Fault::Memory(AllocError)),
+            Err(ScriptFault::BadLine { .. }) => Err(Fault::NoLine {
+                number,
+                wanted: wanted_line(first_word(first_line(self.text.as_slice()))),
+            }),
+        }
+    }
+
+    /// Appends the lines of the text that the line gives, if it gives one on those that follow.
+    fn read_text(&mut self) -> Result<(), Fault> {
+        let line = self.text.len();
+        match text_end(first_line(self.text.as_slice())) {
+            None => Ok(()),
+            Some(TextEnd::AfterBytes(count)) => {
+                self.read_bytes(line.saturating_add(count as usize).saturating_add(1))
+            }
+            Some(TextEnd::AtWord(word)) => {
+                let word = Vec::from_slice(self.alloc, word)?;
+                self.read_until(word.as_slice())
+            }
+        }
+    }
+
+    /// Appends lines until there are so many bytes, or the input ends.
+    fn read_bytes(&mut self, wanted: usize) -> Result<(), Fault> {
+        for _ in 0..u64::MAX {
+            if self.text.len() >= wanted || !self.read_line()? {
+                break;
+            }
+        }
+        Ok(())
+    }
+
+    /// Appends lines until one is the word alone, or the input ends.
+    fn read_until(&mut self, word: &[u8]) -> Result<(), Fault> {
+        for _ in 0..u64::MAX {
+            let start = self.text.len();
+            if !self.read_line()? || first_line(&self.text[start..]) == word {
+                break;
+            }
+        }
+        Ok(())
+    }
+
+    /// Appends the next line with its line feed, which the last may lack. Returns false if the input
+    /// has ended.
+    fn read_line(&mut self) -> Result<bool, Fault>
+        ensures { OnOk result (vec_len self.old.text ≤ vec_len self.new.text) }
+    {
+        match self.input.read_until(LINE_FEED, &mut self.text) {
+            Ok(0) => Ok(false),
+            Ok(_) => {
+                self.number = self.number.saturating_add(1);
+                Ok(true)
+            }
+            Err(error) if error.kind() == ErrorKind::OutOfMemory => {
+                Err(Fault::Memory(AllocError))
+            }
+            Err(_) => Err(Fault::Input),
+        }
+    }
+}
+
+/// Returns the bytes before the first line feed.
+fn first_line(text: &[u8]) -> &[u8] {
+    match text.iter().position(|byte| *byte == LINE_FEED) {
+        Some(end) => &text[..end],
+        None => text,
+    }
+}
