@@ -116,14 +116,19 @@ fn write_theorem<O: Write>(
             steps: proof.steps,
             essential: &essential,
         }),
-        neighbours: Neighbours {
-            axioms: &axioms,
-            users: &users,
-            description: None,
-        },
+        neighbours: neighbours_of(&axioms, &users),
     };
     write_page(alloc, output, &contents, !asked.is_essential)?;
     Ok(())
+}
+
+/// Returns the neighbours of a theorem whose description is not shown.
+fn neighbours_of<'a>(axioms: &'a [u32], users: &'a [u32]) -> Neighbours<'a> {
+    Neighbours {
+        axioms,
+        users,
+        description: None,
+    }
 }
 
 /// Returns the positions of the statements with these labels.
