@@ -1,20 +1,21 @@
 -- A run whose world takes a step.
-use Rattle.std.specs.Prelude.{◌≡◌, ◌<◌, ◌≤◌, ℕ, false, List, [], ◌∷◌, ◌++◌, Bool, true, nat_lt, Option, Some, None, Result, Ok, Err, IfOk, IfSome, IsSomeAnd, IsOk, OnErr, length, filter, refl}
-use Rattle.std.proofs.Common.{sym, ◌∙◌, ap, arith, subst}
-use Rattle.std.proofs.lemmas.Grind.{nat_tests}
+use Rattle.std.specs.Prelude.{◌≡◌, ℕ, false, List, [], ◌∷◌, ◌++◌, Option, Some, None, Result, Ok, Err, IfOk, IfSome, IsSomeAnd, OnErr, length, filter}
+use Rattle.std.proofs.Common.{sym, ◌∙◌, ap}
 use Rattle.net.specs.declared.event.Event.{Event}
 use Rattle.net.specs.declared.fault.StepFault.{StepFault}
-use Rattle.net.specs.declared.fault.StepFault.TheVariants.{NoNode}
-use Rattle.net.specs.Taken.{Taken, with_event}
+use Rattle.net.specs.Taken.{Taken, with_event, world_of}
 use Rattle.net.specs.World.{packets_after}
 use Rattle.library.specs.declared.entry.Entry.{Entry}
 use Rattle.library.specs.declared.verdict.Verdict.{Verdict}
 use Rattle.world.specs.declared.carried.Carried.{Carried}
+use Rattle.world.specs.Carried.{carried_size}
 use Rattle.world.specs.Replicas.{Replicas, new_replicas, then_event, next_entry, IsApplied}
 use Rattle.run_pictures.specs.declared.step.Step.{Step}
-use Rattle.run_pictures.specs.Steps.{is_event, steps_of}
+use Rattle.run_pictures.specs.declared.step.Begun.{Begun}
+use Rattle.run_pictures.specs.Begun.{ended_of}
+use Rattle.run_pictures.specs.Steps.{Reached, begun_of, is_event, learned_in, node_in, step_of, steps_of}
 use Rattle.run_pictures.specs.RunView.{IsRecorded, packets_of}
-use Rattle.run_pictures.proofs.StepsLemmas.{next_step, one_more, none_more}
+use Rattle.run_pictures.proofs.StepsLemmas.{next_is, one_more, none_more}
 
 -- new nodes have no step
 pub new_recorded : (world : Replicas) (weights : List ℕ) → world ≡ new_replicas weights → IsRecorded world [] 0
@@ -23,12 +24,32 @@ new_recorded world weights is = record {
   count = ap (λ (r : Replicas). length (packets_of r)) (sym is);
 }
 
+-- the step that an event makes, by its parts
+pub step_is : (old new : Replicas) (e : Event Carried) (begun : Begun) (posted learned : ℕ) (step : Step)
+    → step ≡ ended_of begun posted learned
+    → begun ≡ begun_of (length old.taken.events) (world_of carried_size old.taken) e
+    → new ≡ then_event old e
+    → posted ≡ length (packets_after (world_of carried_size new.taken))
+    → learned ≡ learned_in (world_of carried_size new.taken) begun.node
+    → step ≡ step_of (length old.taken.events) (world_of carried_size old.taken) e (world_of carried_size (with_event old.taken e))
+step_is old new e begun posted learned step ended begins taken counted learns =
+    let same : new.taken ≡ with_event old.taken e = ap (λ (r : Replicas). r.taken) taken in
+    let reached : world_of carried_size new.taken ≡ world_of carried_size (with_event old.taken e) = ap (λ (t : Taken Carried). world_of carried_size t) same in
+    let count : posted ≡ length (packets_after (world_of carried_size (with_event old.taken e))) = counted ∙ ap (λ (r : Reached). length (packets_after r)) reached in
+    let more : learned ≡ learned_in (world_of carried_size (with_event old.taken e)) (node_in (world_of carried_size old.taken) e) =
+    learns ∙ (ap (λ (r : Reached). learned_in r begun.node) reached
+    ∙ ap (λ (b : Begun). learned_in (world_of carried_size (with_event old.taken e)) b.node) begins) in
+    ended ∙ (ap (λ (b : Begun). ended_of b posted learned) begins
+    ∙ (ap (λ (n : ℕ). ended_of (begun_of (length old.taken.events) (world_of carried_size old.taken) e) n learned) count
+    ∙ ap (λ (n : ℕ). ended_of (begun_of (length old.taken.events) (world_of carried_size old.taken) e) (length (packets_after (world_of carried_size (with_event old.taken e)))) n) more))
+
 -- an event is taken, and its step recorded
 pub event_recorded : (old new : Replicas) (steps more : List Step) (posted count : ℕ) (e : Event Carried) (step : Step)
-    → IsRecorded old steps posted → new ≡ then_event old e → more ≡ steps ++ step ∷ [] → step ≡ next_step old.taken e
+    → IsRecorded old steps posted → new ≡ then_event old e → more ≡ steps ++ step ∷ []
+    → step ≡ step_of (length old.taken.events) (world_of carried_size old.taken) e (world_of carried_size (with_event old.taken e))
     → count ≡ length (packets_of new) → IsRecorded new more count
 event_recorded old new steps more posted count e step recorded taken added is counted = record {
-  events = ap (λ ss. filter is_event ss) added ∙ one_more steps old.taken e step recorded.events is ∙ ap steps_of (sym (ap (λ (r : Replicas). r.taken) taken));
+  events = ap (λ ss. filter is_event ss) added ∙ one_more steps old.taken e step recorded.events (is ∙ sym (next_is old.taken e)) ∙ ap steps_of (sym (ap (λ (r : Replicas). r.taken) taken));
   count = counted;
 }
 
@@ -55,14 +76,3 @@ taken_stays old new k None r is applied same err = ap (λ (r : Replicas). r.take
 taken_stays old new k (Some entry) (Ok (Some verdict)) is applied same err = ap (λ (r : Replicas). r.taken) applied.becomes
 taken_stays old new k (Some entry) (Ok None) is applied same err = absurd applied
 taken_stays old new k (Some entry) (Err fault) is applied same err = ap (λ (r : Replicas). r.taken) err
-
--- an error is no Ok
-no_error : {A : Type 0} (a : A) (fault : StepFault) → Ok a ≡ Err fault → ⊥
-no_error {A} a fault e = let P : Result A StepFault → Type 0 = λ r. IsOk r in subst P e tt
-
--- a node that answers is there
-pub is_there : {A : Type 0} (k n : ℕ) (a : A) (r : Result A StepFault) → r ≡ Ok a → (n ≤ k → r ≡ Err NoNode) → k < n
-is_there {A} k n a r is past = by_test (nat_lt k n) refl where
-  by_test : (t : Bool) → nat_lt k n ≡ t → k < n
-  by_test true test = grind (arith, nat_tests)
-  by_test false test = absurd (no_error a NoNode (sym is ∙ past (grind (arith, nat_tests))))

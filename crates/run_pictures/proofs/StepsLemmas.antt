@@ -5,7 +5,7 @@ use Rattle.std.proofs.lemmas.List.Elements.{filter-append}
 use Rattle.net.specs.declared.event.Event.{Event}
 use Rattle.net.specs.declared.event.Event.TheVariants.{Offer, Begin, Deliver, Restart}
 use Rattle.net.specs.declared.fault.StepFault.{StepFault}
-use Rattle.net.specs.World.{after, all_happen}
+use Rattle.net.specs.World.{all_happen}
 use Rattle.net.specs.Taken.{Taken, with_event, world_of}
 use Rattle.world.specs.declared.carried.Carried.{Carried}
 use Rattle.world.specs.Carried.{carried_size}
@@ -29,21 +29,14 @@ last_happens (x ∷ es) e (Ok w) = last_happens es e (then_event (Ok w) x)
 last_happens (x ∷ es) e (Err fault) = refl
 
 -- the steps of the events, and the step of the last one
-abbrev last_step : ℕ → Reached → List (Event Carried) → Event Carried → Step
-last_step n r es e = step_of n (all_happen carried_size es r) e (then_event (all_happen carried_size es r) e)
-
 steps_from-append : (index : ℕ) (r : Reached) (es : List (Event Carried)) (e : Event Carried)
-    → steps_from index r (es ++ e ∷ []) ≡ steps_from index r es ++ last_step (index + length es) r es e ∷ []
-steps_from-append index r [] e =
-    let same : index ≡ index + length [] = omega arith in
-    ap (λ (n : ℕ). step_of n r e (then_event r e) ∷ []) same
+    → steps_from index r (es ++ e ∷ [])
+    ≡ steps_from index r es ++ step_of (index + length es) (all_happen carried_size es r) e (then_event (all_happen carried_size es r) e) ∷ []
+steps_from-append index r [] e = ap (λ n. step_of n r e (then_event r e) ∷ []) (omega arith)
 steps_from-append index r (x ∷ es) e =
-    let next : Reached = then_event r x in
-    let moved : suc index + length es ≡ index + length (x ∷ es) = omega arith in
-    let step : Step = step_of index r x next in
-    ap (λ (steps : List Step). step ∷ steps) (steps_from-append (suc index) next es e
-    ∙ (ap (λ (n : ℕ). steps_from (suc index) next es ++ last_step n next es e ∷ []) moved
-    ∙ ap (λ (s : Reached). steps_from (suc index) next es ++ step_of (index + length (x ∷ es)) s e (then_event s e) ∷ []) (first_happens x es r)))
+    ap (λ steps. step_of index r x (then_event r x) ∷ steps) (steps_from-append (suc index) (then_event r x) es e
+    ∙ ap (λ n. steps_from (suc index) (then_event r x) es ++ step_of n (all_happen carried_size es (then_event r x)) e (then_event (all_happen carried_size es (then_event r x)) e) ∷ []) (omega arith)
+    ∙ ap (λ s. steps_from (suc index) (then_event r x) es ++ step_of (index + length (x ∷ es)) s e (then_event s e) ∷ []) (first_happens x es r))
 
 -- the act of an event is that of an event
 is_event-act_of : (index : ℕ) (e : Event Carried) → is_event_act (act_of index e) ≡ true
@@ -53,16 +46,20 @@ is_event-act_of index (Deliver number) = refl
 is_event-act_of index (Restart k) = refl
 
 -- the step of one event more of the history
-abbrev pub next_step : Taken Carried → Event Carried → Step
+pub next_step : Taken Carried → Event Carried → Step
 next_step taken e = step_of (length taken.events) (world_of carried_size taken) e (world_of carried_size (with_event taken e))
 
+-- its parts
+pub next_is : (taken : Taken Carried) (e : Event Carried) → next_step taken e ≡ step_of (length taken.events) (world_of carried_size taken) e (world_of carried_size (with_event taken e))
+unfolding next_step
+next_is taken e = refl
+
 steps_of-with_event : (taken : Taken Carried) (e : Event Carried) → steps_of (with_event taken e) ≡ steps_of taken ++ next_step taken e ∷ []
+unfolding next_step
 steps_of-with_event taken e =
-    let start : Reached = after carried_size taken.weights [] in
-    let from_none : 0 + length taken.events ≡ length taken.events = omega arith in
-    steps_from-append 0 start taken.events e
-    ∙ (ap (λ (n : ℕ). steps_of taken ++ step_of n (world_of carried_size taken) e (then_event (world_of carried_size taken) e) ∷ []) from_none
-    ∙ ap (λ (s : Reached). steps_of taken ++ step_of (length taken.events) (world_of carried_size taken) e s ∷ []) (sym (last_happens taken.events e start)))
+    steps_from-append 0 (all_happen carried_size [] (world_of carried_size (record { weights = taken.weights; events = [] }))) taken.events e
+    ∙ ap (λ n. steps_of taken ++ step_of n (world_of carried_size taken) e (then_event (world_of carried_size taken) e) ∷ []) (omega arith)
+    ∙ ap (λ s. steps_of taken ++ step_of (length taken.events) (world_of carried_size taken) e s ∷ []) (sym (last_happens taken.events e (world_of carried_size (record { weights = taken.weights; events = [] }))))
 
 -- a step that is an event is kept by the filter
 kept_one : (s : Step) → is_event s ≡ true → filter is_event (s ∷ []) ≡ s ∷ []
@@ -71,13 +68,13 @@ kept_one s e = rw e refl
 -- the recorded steps are those of the history with one event more
 pub one_more : (steps : List Step) (taken : Taken Carried) (e : Event Carried) (step : Step)
     → filter is_event steps ≡ steps_of taken → step ≡ next_step taken e → filter is_event (steps ++ step ∷ []) ≡ steps_of (with_event taken e)
+unfolding next_step
 one_more steps taken e step recorded is =
-    let event : is_event step ≡ true = ap (λ (s : Step). is_event s) is ∙ is_event-act_of (length taken.events) e in
     filter-append is_event steps (step ∷ [])
-    ∙ (ap (λ (more : List Step). filter is_event steps ++ more) (kept_one step event)
-    ∙ (ap (λ (done : List Step). done ++ step ∷ []) recorded
-    ∙ (ap (λ (s : Step). steps_of taken ++ s ∷ []) is
-    ∙ sym (steps_of-with_event taken e))))
+    ∙ ap (λ more. filter is_event steps ++ more) (kept_one step (ap (λ s. is_event s) is ∙ is_event-act_of (length taken.events) e))
+    ∙ ap (λ done. done ++ step ∷ []) recorded
+    ∙ ap (λ s. steps_of taken ++ s ∷ []) is
+    ∙ sym (steps_of-with_event taken e)
 
 -- an application of an entry is not kept by the filter
 pub none_more : (steps : List Step) (step : Step) (all : List Step)

@@ -128,7 +128,6 @@ impl Run {
 /// Returns what is known of the step of an event before the event.
 ///
 /// Errors: `NoNode`, where there is no such node.
-#[tactic(auto, using(crate::proofs::RunLemmas::is_there))]
 fn begun(world: &World, posted: u64, event: &Event<Entry>) -> Result<Begun, StepFault>
     requires { posted ≡ length (packets_after (world_of carried_size world.now.taken)) }
     ensures begun { IfOk result (λ begun. begun
