@@ -1,5 +1,5 @@
 -- Files that are written one after another.
-use Rattle.std.specs.Prelude.{◌≡◌, ℕ, suc, ◌+◌, ◌<◌, ◌≤◌, List, [], ◌∷◌, ◌++◌, length, take, get_or, slice_get, Some, option_map}
+use Rattle.std.specs.Prelude.{◌≡◌, ℕ, suc, ◌+◌, ◌<◌, ◌≤◌, List, [], ◌∷◌, ◌++◌, length, take, get_or, slice_get, Some, option_map, Result, Ok, Err, OnOk}
 use Rattle.std.proofs.Common.{sym, ◌∙◌, ap, subst, refl, arith, append_assoc, append-nil}
 use Rattle.std.proofs.lemmas.List.{take_more, length-take-le}
 use Rattle.frame.specs.FrameOf.{HasAssertion}
@@ -20,6 +20,14 @@ writes-then gains old mid new (name ∷ names) more w v = (w.0, w.1, w.2, writes
 
 pub writes-one : {F : Type 0} (gains : F → List ℕ → List ℕ → F → Type 0) (old new : F) (name bytes : List ℕ) → gains old name bytes new → WritesNamed gains old (name ∷ []) new
 writes-one gains old new name bytes g = (bytes, new, g, refl)
+
+-- the style sheet, pages, and the list
+pub site-written : {F E : Type 0} (gains : F → List ℕ → List ℕ → F → Type 0) (opened first last new : F) (style index : List ℕ) (pages : List (List ℕ)) (r : Result (Unit {0}) E)
+    → WritesNamed gains opened (style ∷ []) first → WritesNamed gains first pages last → OnOk r (WritesNamed gains last (index ∷ []) new)
+    → OnOk r ((x : F) × WritesNamed gains x (style ∷ (pages ++ index ∷ [])) new)
+site-written gains opened first last new style index pages (Ok u) w v h =
+    (opened, writes-then gains opened first new (style ∷ []) (pages ++ index ∷ []) w (writes-then gains first last new pages (index ∷ []) v h))
+site-written gains opened first last new style index pages (Err e) w v h = tt
 
 -- ---- the pages of the first statements
 

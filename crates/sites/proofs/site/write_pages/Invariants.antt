@@ -3,4 +3,4 @@ use Rattle.sites.specs.SiteFiles.{WritesNamed, page_names}
 use Rattle.sites.proofs.site.write_pages.Given as goal
 
 abbrev pub invariant-loop-index : goal.invariant-loop-index
-invariant-loop-index g l = WritesNamed g.S.Folder.gains l.fn.folder (page_names 1 (take l.index l.site.library.replica.statements)) l.folder
+invariant-loop-index g l = WritesNamed g.S.Folder.gains l.fn.folder (page_names 1 (take l.index l.site.library.now.replica.statements)) l.folder

@@ -1,0 +1,17 @@
+use Rattle.std.specs.Prelude.{◌≡◌, ℕ, ◌+◌, Some, slice_get}
+use Rattle.std.proofs.Common.{◌∙◌, ap, sym, subst}
+use Rattle.std.proofs.lemmas.Option.{slice_get-get_or}
+use Rattle.frame.specs.FrameOf.{HasAssertion}
+use Rattle.mm_read.specs.declared.stmt.Stmt.{Stmt}
+use Rattle.scope.specs.Active.{bares}
+use Rattle.sites.proofs.SiteLemmas.{assertion-at}
+use Rattle.sites.proofs.assertion_page.push_page.Goals as goal
+
+pub push_axiom-requires : goal.push_axiom-requires
+push_axiom-requires c =
+    let x = c.in-Some-Axiom.field-0.now in
+    let T = c.statements.result.now in
+    let stands : slice_get T c.args.index ≡ Some x =
+    slice_get-get_or T c.args.index x c.in-Some-Axiom.ensures.lookup.3.0 ∙ ap Some (sym c.in-Some-Axiom.ensures.lookup.1) in
+    subst (λ U. (s : Stmt) × HasAssertion (bares U) (c.args.index + 1) s) c.statements.ensures.statements
+    (assertion-at T c.args.index _ _ (stands ∙ ap Some c.in-Some-Axiom.field-0-is))

@@ -1,0 +1,12 @@
+use Rattle.std.specs.Prelude.{◌∷◌, [], codes}
+use Rattle.std.proofs.Common.{subst}
+use Rattle.sites.specs.SiteFiles.{WritesNamed}
+use Rattle.sites.proofs.SiteLemmas.{site-written}
+use Rattle.sites.proofs.site.write_site.Goals as goal
+
+pub returns : goal.returns
+returns g c =
+    site-written g.S.Folder.gains c.open_folder.new.folder c.write_file.new.folder c.write_pages.new.folder c.write_list.new.folder
+    (codes "style.css") (codes "index.html") _ c.write_list.result
+    (subst (λ name. WritesNamed g.S.Folder.gains c.open_folder.new.folder (name ∷ []) c.write_file.new.folder) c.as_bytes.ensures.value c.in_ok-write_file.ensures)
+    c.in_ok-write_pages.ensures c.write_list.ensures
