@@ -22,4 +22,4 @@ IsLabelAnswer S Usage label text =
     (labels : List Name) × IsUsage S label false labels × (text ≡ labels_text (codes "usage") labels)
 IsLabelAnswer S Tree label text =
     (t : Derivation) × IsTreeOf S label t × (text ≡ counted_text (codes "tree") (tree_lines S 0 t))
-IsLabelAnswer S kind label text = ⊤
+IsLabelAnswer S kind label text = Unit {0}

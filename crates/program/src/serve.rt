@@ -10,7 +10,7 @@ use crate::desk_answers::Asked;
 use crate::fault::Fault;
 use crate::scripts::{Answers, Source, answer_lines};
 use crate::served_nodes::{Nodes, NodesDesk, start_nodes, stop_nodes};
-use crate::session::{ServedLine, ServedLines};
+use crate::session::{Script, ServedLine, Session};
 use crate::streams::print;
 use commands::{
     EntryAt, LINE_FEED, NodeLine, Offered, SERVE_LINES, ServeLine, Serving, SessionLine,
@@ -31,13 +31,27 @@ const MOST_TURNS: u32 = 10_000_000;
 const TURNS_AN_ASK: u32 = 64;
 
 /// Reads the script unless it is a session, starts the nodes, prints the answers to the lines, and
-/// stops the nodes; returns the exit status. Every thread is joined, also after a write that failed.
+/// stops the nodes; returns the exit status.
 pub fn serve<
     R: AllocGlobal + Threads + Wait + Copy + Send + Sync + Drop + 'static,
     I: Read,
     O: Write,
 >(rt: &R, serving: Serving, input: &mut I, output: &mut O) -> Result<u8, Fault> {
-    let mut lines = ServedLines::open(rt.alloc(), input, serving.is_live)?;
+    if serving.is_live {
+        let mut session = Session::new(rt.alloc(), input)?;
+        return serve_lines(rt, &serving, &mut session, output);
+    }
+    let mut script = Script::read(rt.alloc(), input)?;
+    serve_lines(rt, &serving, &mut script, output)
+}
+
+/// Starts the nodes, prints the answers to the lines, and stops the nodes; returns the exit status.
+/// Every thread is joined, also after a write that failed.
+fn serve_lines<
+    R: AllocGlobal + Threads + Wait + Copy + Send + Sync + Drop + 'static,
+    S: Source<ServedLine>,
+    O: Write,
+>(rt: &R, serving: &Serving, lines: &mut S, output: &mut O) -> Result<u8, Fault> {
     let mut nodes = start_nodes(
         rt,
         rt.alloc(),
@@ -45,7 +59,7 @@ pub fn serve<
         serving.workers,
         serving.weather,
     )?;
-    let answered = answer_at_desk(rt, &nodes, &mut lines, output);
+    let answered = answer_at_desk(rt, &nodes, lines, output);
     let stopped = stop_nodes(rt, &mut nodes);
     let status = answered?;
     stopped?;

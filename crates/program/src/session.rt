@@ -14,40 +14,33 @@ use std::vec::IntoIter;
 /// A line that `serve` answers, or why it has no other answer.
 pub type ServedLine = Result<SessionLine, Fault>;
 
-/// Where the lines that `serve` answers come from.
+/// The lines of a script that was read whole.
 #[derive(Drop)]
-pub enum ServedLines<'a, I: Read> {
-    /// A script that was read whole.
-    Script(IntoIter<ServeLine>),
-    /// A session.
-    Session(Session<'a, I>),
+pub struct Script {
+    lines: IntoIter<ServeLine>,
 }
 
-impl<'a, I: Read> ServedLines<'a, I> {
-    /// Reads the script, or begins a session.
+impl Script {
+    /// Reads a script.
     ///
-    /// Errors: the input cannot be read; a line of the script is bad; an allocation fails.
-    pub fn open(alloc: Global, input: &'a mut I, is_live: bool) -> Result<Self, Fault> {
-        if is_live {
-            return Ok(ServedLines::Session(Session::new(alloc, input)?));
-        }
-        Ok(ServedLines::Script(read_script(alloc, input)?.into_iter()))
+    /// Errors: the input cannot be read; a line is bad; an allocation fails.
+    pub fn read<I: Read>(alloc: Global, input: &mut I) -> Result<Script, Fault> {
+        Ok(Script {
+            lines: read_script(alloc, input)?.into_iter(),
+        })
     }
 }
 
-impl<I: Read> Source<ServedLine> for ServedLines<'_, I> {
+impl Source<ServedLine> for Script {
     fn next_line(&mut self) -> Result<Option<ServedLine>, Fault> {
-        match self {
-            ServedLines::Script(lines) => Ok(lines.next().map(|line| Ok(SessionLine::Serve(line)))),
-            ServedLines::Session(session) => session.next_line(),
+        match self.lines.next() {
+            Some(line) => Ok(Some(Ok(SessionLine::Serve(line)))),
+            None => Ok(None),
         }
     }
 
     fn is_live(&self) -> bool {
-        match self {
-            ServedLines::Script(_) => false,
-            ServedLines::Session(_) => true,
-        }
+        false
     }
 }
 
@@ -62,9 +55,21 @@ pub struct Session<'a, I: Read> {
     number: usize,
 }
 
+impl<I: Read> Source<ServedLine> for Session<'_, I> {
+    fn next_line(&mut self) -> Result<Option<ServedLine>, Fault> {
+        self.read_next()
+    }
+
+    fn is_live(&self) -> bool {
+        true
+    }
+}
+
 impl<'a, I: Read> Session<'a, I> {
     /// Begins a session. Reads nothing yet.
-    fn new(alloc: Global, input: &'a mut I) -> Result<Self, Fault> {
+    ///
+    /// Errors: an allocation fails.
+    pub fn new(alloc: Global, input: &'a mut I) -> Result<Self, Fault> {
         Ok(Session {
             alloc,
             input: BufReader::new(alloc, input).map_err(|_| Fault::Memory(AllocError))?,
@@ -77,7 +82,7 @@ impl<'a, I: Read> Session<'a, I> {
     /// `None` at the end of the input.
     ///
     /// Errors: the input cannot be read; an allocation fails for what is read.
-    fn next_line(&mut self) -> Result<Option<ServedLine>, Fault> {
+    fn read_next(&mut self) -> Result<Option<ServedLine>, Fault> {
         for _ in 0..u64::MAX {
             self.text.clear();
             if !self.read_line()? {
