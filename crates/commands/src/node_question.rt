@@ -11,7 +11,7 @@ use bytes::Bytes;
 use std::alloc::{AllocError, Global};
 use std::str;
 
-/// What is asked about a label.
+/// A question about a label.
 #[derive(Clone, Copy, Debug, PartialEq, Eq)]
 pub enum LabelQuestion {
     /// `trace`: the `$a` that the proof of the `$p` uses.

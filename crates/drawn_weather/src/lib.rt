@@ -8,7 +8,7 @@ use nodes::{Fate, Weather};
 use rand_core::utils::NextWord;
 use rand_pcg::Pcg32;
 
-/// Of so many words, one draws each fate that is not `Pass`: together one hint in four.
+/// How many numbers a fate is drawn from. One of them stands for each fate but `Pass`, so one hint in four does not pass.
 const FATES: u32 = 12;
 
 /// A weather that loses, repeats or delays one hint in four, as a generator draws.

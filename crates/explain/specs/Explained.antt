@@ -20,7 +20,7 @@ pub data Gives (S : Database) (at i : ℕ) (s : Stmt) (stack below : List Expr) 
   of_hypothesis : IsHypothesis S at i s → e ≡ expr_of s → stack ≡ below → Gives S at i s stack below e
   of_assertion : (σ : Images) → IsInstance S at i s σ → stack ≡ below ++ premises S i s σ → e ≡ applied σ (expr_of s) → Gives S at i s stack below e
 
--- the results, by name, behind those that are kept for labels
+-- the results, by name, after those that are kept for labels
 abbrev pub named_behind : Numbered → ℕ → HeldResults → State
 named_behind f labels results = named f.names (behind labels results.results)
 

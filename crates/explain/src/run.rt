@@ -77,7 +77,7 @@ fn fault_at(
     }
 }
 
-/// Returns the fault of a recall that cannot be made, by the index of the result behind those that are kept for labels.
+/// Returns the fault of a recall that cannot be made, by the index of the result after those that are kept for labels.
 fn recall_fault(results: &Results, labels: usize, index: usize) -> Fault
     ensures marked { index < length results.now.results.saved - labels → result ≡ Heavy }
     ensures unmarked { length results.now.results.saved - labels ≤ index → result ≡ Unmarked }

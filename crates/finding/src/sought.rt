@@ -1,10 +1,10 @@
-//! What is sought, and where.
+//! The pattern or the words that are sought, and where.
 use frame::Frames;
 use mm_lex::Span;
 use mm_read::Stmt;
 use patterns::{Pattern, SearchWords};
 
-/// What is sought of assertions.
+/// A pattern or words that assertions are searched for.
 #[derive(Drop)]
 pub enum Sought<'a> {
     /// A pattern in the expression.

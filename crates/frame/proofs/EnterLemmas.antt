@@ -164,7 +164,7 @@ module _ {old new : Storage} {s : Stmt} {h : EntryHeader} {a : Assertion} {codes
   len : length (statements_of old) ≡ length old.entries
   len = length-map old.entries (stmt_of (names_in old) (labels_in old))
 
-  -- the statements before an entry that was there, and before the new one
+  -- the earlier statements of an entry that was there, and of the new one
   early : (i : ℕ) → i < length old.entries → take i (map (stmt_of (names_in new) (labels_in new)) entries) ≡ take i (statements_of old)
   early i lt = ap (take i) pushed-statements ∙ take-append-le i (statements_of old) (bare s ∷ []) (omega (arith, lt, len))
 
@@ -174,7 +174,7 @@ module _ {old new : Storage} {s : Stmt} {h : EntryHeader} {a : Assertion} {codes
   found : (i : ℕ) (d : Entry) → slice_get entries i ≡ Some d → ((i < length old.entries) × (slice_get old.entries i ≡ Some d)) ⊎ ((i ≡ length old.entries) × (e ≡ d))
   found i d h = get-push old.entries e d i (ap (λ r. slice_get r i) (sym entries-more) ∙ h)
 
-  -- each entry has the `LastActive` of the statements before it
+  -- each entry has the `LastActive` of the earlier statements
   linked' : (i : ℕ) (d : Entry) → slice_get entries i ≡ Some d → d.last_active ≡ last_active_of (take i (map (stmt_of (names_in new) (labels_in new)) entries))
   linked' i d h = by (found i d h)
     where

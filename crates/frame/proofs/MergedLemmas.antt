@@ -38,7 +38,7 @@ count-each q (p ∷ ps) xs m =
     let one = count-with q p (with_each ps xs) (not-yet p ps xs m) in
     let all = count-cons q p ps in omega arith
 
--- one of its own stands behind those of the set that are below it, and its own before it
+-- one of its own stands after those of the set that are below it, and its own before it
 pub get-own : (own xs : List ℕ) (j k p : ℕ) → AreMissing xs own → slice_get own j ≡ Some p → k ≡ count_below p xs + j → slice_get (with_each own xs) k ≡ Some p
 get-own own xs j k p m at is =
     let has : has_position p (with_each own xs) ≡ true = has-each p own xs ∙ ap (λ b. b || has_position p xs) (has-get p own j at) in

@@ -78,7 +78,7 @@ pub taken_front : {X A : Type 0} (s : IntoIter X A) (xs : List X) (t : IntoIter 
 taken_front s [] t y = ap into_iter_items y
 taken_front s (x ∷ xs) t y = y.1.0 ∙ ap (λ ys. x ∷ ys) (taken_front y.0 xs t y.2)
 
--- the run stops at the event behind those taken, with the fault that was answered
+-- the run stops at the event after those taken, with the fault that was answered
 pub stops_there : {V : Type 0} (size : V → ℕ) (weights : List ℕ) (events done rest : List (Event V)) (e : Event V) (old now : Taken V) (shown : List (Event V)) (fault : StepFault)
     → events ≡ done ++ e ∷ rest → old ≡ record { weights = weights; events = done } → now ≡ old → shown ≡ now.events → IsOk (world_of size now)
     → IfErr (world_of size (with_event old e)) (λ met. let answer : Result ℕ StepFault = Err fault in answer ≡ Err met) → OnOk (world_of size (with_event old e)) (fault ≡ Memory)

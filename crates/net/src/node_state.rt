@@ -1,4 +1,4 @@
-//! What a node of a world tells of itself.
+//! The state that a node of a world reports.
 ghost use Rattle.std.specs.Prelude.{◌≡◌, ◌≤◌, ◌<◌, Err, Some, length, IfOk, IsOk};
 
 use crate::fault::StepFault;

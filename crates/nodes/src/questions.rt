@@ -17,7 +17,7 @@ use world::Carried;
 /// How a node stands.
 #[derive(Clone, Copy, PartialEq, Eq)]
 pub struct NodeStanding {
-    /// What it tells of itself.
+    /// The state that it reports.
     pub state: NodeState,
     /// How many entries of its log were applied.
     pub applied: u32,

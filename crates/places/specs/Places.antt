@@ -16,7 +16,7 @@ pub record HasToken (S : Database) (statement token : ℕ) : Type 0 where
   pub first : 1 ≤ token
   pub within : token ≤ length (stmt_tokens stmt)
 
--- which token of the text that is, counted from 0: those of the statements before stand before it
+-- which token of the text that is, counted from 0: those of earlier statements stand before it
 abbrev pub index_of : Database → ℕ → ℕ → ℕ
 index_of S statement token = length (spelled (take (statement - 1) S)) + (token - 1)
 

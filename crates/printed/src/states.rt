@@ -1,4 +1,4 @@
-//! What a node tells of itself.
+//! The state that a node reports, as text.
 ghost use Rattle.std.specs.Prelude.{◌≡◌, ◌++◌, OnOk};
 ghost use Rattle.printed.specs.States.{role_text, role_and_promise, count_text, counts_text};
 ghost use Rattle.printed.specs.States.{down_text, state_text};

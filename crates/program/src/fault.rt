@@ -10,7 +10,7 @@ use std::alloc::AllocError;
 use std::io::{self, Write};
 use thiserror::Error;
 
-/// What is said of a run of which a picture has no room for the steps.
+/// The message for a run with more steps than a picture shows.
 const LONG_RUN: &[u8] =
     b"the run has more steps than the 200 of a picture; give --events M, and --from N for later ones\n";
 

@@ -13,7 +13,7 @@ use printed::push_counted;
 use std::alloc::{AllocError, Global};
 use std::collections::BTreeSet;
 
-/// What a node decided on an entry.
+/// The decision of a node on an entry.
 #[derive(Drop)]
 pub enum Decision {
     /// Nothing.

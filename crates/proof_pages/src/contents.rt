@@ -13,7 +13,7 @@ pub struct PageContents<'a> {
     pub at: usize,
     /// The steps of its proof, if it has one.
     pub proof: Option<ProofSteps<'a>>,
-    /// What the page says of other statements.
+    /// The statements that the page refers to.
     pub neighbours: Neighbours<'a>,
 }
 
@@ -26,7 +26,7 @@ pub struct ProofSteps<'a> {
     pub essential: &'a ProofTable,
 }
 
-/// What stands around an assertion in its database.
+/// The surroundings of an assertion in its database.
 #[derive(Drop)]
 pub struct Neighbours<'a> {
     /// The positions of the axioms that it rests on, ascending.

@@ -18,7 +18,7 @@ pub struct Step {
     pub learned: u32,
 }
 
-/// What happens in a step.
+/// The event of a step.
 #[derive(Clone, Copy, PartialEq, Eq)]
 pub enum Act {
     /// An entry is offered by the event of the history at this index.
@@ -33,7 +33,7 @@ pub enum Act {
     Apply { slot: u32, verdict: Verdict },
 }
 
-/// What is known of the step of an event before the event.
+/// A step as it is known before its event.
 #[derive(Clone, Copy)]
 pub(crate) struct Begun {
     pub(crate) node: u8,

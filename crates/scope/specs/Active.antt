@@ -14,7 +14,7 @@ abbrev pub stmt_at : Database → ℕ → Option Stmt
 stmt_at S zero = None
 stmt_at S (suc n) = slice_get S n
 
--- the statements before a position
+-- the statements at earlier positions
 abbrev pub before : Database → ℕ → Database
 before S at = take (at - 1) S
 

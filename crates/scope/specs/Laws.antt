@@ -28,7 +28,7 @@ ActiveMore = (S : Database) (s : Stmt) → is_close s ≡ false → active (S ++
 abbrev pub has_open : List (ℕ × Stmt) → Bool
 has_open es = list_any (λ p. is_open p.1) es
 
--- the statements before the last `${`
+-- the statements that precede the last `${`
 abbrev pub before_open : List (ℕ × Stmt) → List (ℕ × Stmt)
 before_open [] = []
 before_open (p ∷ es) = if has_open es then p ∷ before_open es else []

@@ -12,7 +12,7 @@ use proof_pages::{Neighbours, PageContents, ProofSteps, write_site_page};
 use std::alloc::{AllocError, Global};
 use steps::{essential_table, proof_table};
 
-/// What pages are made of.
+/// The library and the tables that pages are made from.
 #[derive(Drop)]
 pub struct Contents<'a> {
     pub site: &'a Site<'a>,

@@ -1,9 +1,9 @@
-//! How many of many pages are written.
+//! The progress of a site with many pages.
 use numbers::push_number;
 use std::alloc::{AllocError, Global};
 use std::io::Write;
 
-/// From how many pages on it is told how many are written.
+/// The least number of pages for which progress is printed.
 const MANY: u64 = 5_000;
 
 /// Prints how many pages are written, at each tenth of many.

@@ -54,8 +54,8 @@ impl From<AskFault> for SiteFault {
     }
 }
 
-/// Writes the style sheet, a page for each assertion and the list of them into the folder at a path. How
-/// many of many pages are written goes to `faults`.
+/// Writes the style sheet, a page for each assertion and the list of them into the folder at a path. The
+/// progress of a site with many pages goes to `faults`.
 ///
 /// Errors: `Memory`; `Folder`, `File`, after which the files before it are written. Cost: that of
 /// `cross_references`, of each proof's steps, and the bytes written; one page is held back.

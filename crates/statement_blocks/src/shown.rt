@@ -1,4 +1,4 @@
-//! What is shown of a statement.
+//! The parts of a statement that are shown.
 use frame::Frames;
 use mm_read::Stmt;
 use places::Position;

@@ -22,7 +22,7 @@ whole-rest (x ∷ xs) some = ap (λ r. x ∷ r) (sym (take_all (length (x ∷ xs
 pub some-range : (xs rest : List ℕ) (p : SymbolRange) (x : ℕ) → p.start ≤ p.end → p.end ≤ length xs → seen_at xs p ≡ x ∷ rest → p.start < p.end
 some-range xs rest p x low high e = let size = ap length e in omega (arith, length-seen xs p low high, size)
 
--- the images behind those that are long were taken away
+-- the images after those that are long were removed
 abbrev pub begun_of : RecordedImages → RecordedImages
 begun_of n = record { words = take n.kept n.words; list = []; kept = n.kept; read = []; long = n.long }
 

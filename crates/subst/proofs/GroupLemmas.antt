@@ -44,7 +44,7 @@ any-same : {A : Type 0} (p q : A → Bool) (xs : List A) → ((x : A) → p x �
 any-same p q [] h = refl
 any-same p q (x ∷ xs) h = ap (λ b. b || list_any p xs) (h x) ∙ ap (λ b. q x || b) (any-same p q xs h)
 
--- ---- the pair clause has no order
+-- ---- the disjoint variable condition has no order
 
 pair-swap : (D : Database) (x y : Name) → is_pair D x y ≡ is_pair D y x
 pair-swap D x y =

@@ -37,7 +37,7 @@ range-left s front at end within inside e =
     let whole : length (slice_range s at end) ≡ end - at = length-seen s (record { start = at; end = end }) within inside in
     omega (arith, ap length e, length-append front (slice_range s at end), whole, within)
 
--- symbols behind those that count change nothing
+-- symbols after those that count change nothing
 pub apply-more : (xs ys : List ℕ) (ps : List (ℕ × SymbolRange)) (e : List ℕ) → AreInside (length xs) ps → code_apply (images_at (xs ++ ys) ps) e ≡ code_apply (images_at xs ps) e
 apply-more xs ys ps [] w = refl
 apply-more xs ys ps (x ∷ e) w =

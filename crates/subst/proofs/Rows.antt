@@ -1,4 +1,4 @@
--- Substitution and the pair clause, worked out.
+-- Substitution and the disjoint variable condition, worked out.
 use Rattle.subst.proofs.Words.{◌≡◌, [], ◌∷◌, codes, refl, true, false, before, apply, code_apply, are_disjoint, are_groups_disjoint}
 use Rattle.scope.proofs.Databases.{w, row_seven}
 

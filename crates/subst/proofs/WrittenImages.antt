@@ -1,7 +1,7 @@
 -- Images put in symbol by symbol.
 use Rattle.subst.proofs.Words.{◌≡◌, ℕ, zero, suc, ◌+◌, ◌≤◌, ◌<◌, List, [], ◌∷◌, ◌++◌, length, take, get_or, sym, ◌∙◌, ap, arith, add-one, append_assoc, append-nil, length-append, CodeImages, code_image, code_apply}
 
--- one symbol more is put in behind those before it
+-- one more symbol is put in after earlier ones
 more_taken : (σ : CodeImages) (e : List ℕ) (i : ℕ) → i < length e
     → code_apply σ (take (suc i) e) ≡ code_apply σ (take i e) ++ code_image σ (get_or e i 0)
 more_taken σ [] i h = absurd (omega arith)

@@ -1,4 +1,4 @@
-//! What is known of the variables of one proof.
+//! The facts about the variables of one proof.
 ghost use Rattle.std.specs.Prelude.{◌≡◌, ◌++◌, ◌≤◌, List, ℕ, [], length, map, IfOk};
 ghost use Rattle.frame.specs.Below.{AllBelow, AreBelow};
 ghost use Rattle.frame.specs.Disjoint.{are_groups_disjoint};
@@ -18,7 +18,7 @@ use frame::Pairs;
 use std::alloc::{AllocError, Global};
 use std::marker::Model;
 
-/// What is known of the variables of one proof: which symbols are variables, which variables were found to be disjoint, and
+/// The facts about the variables of one proof: which symbols are variables, which variables were found to be disjoint, and
 /// the variables of long results.
 ///
 /// Contracts see the statements and names that it holds for, and the symbols over which it was filled last. Its buffers

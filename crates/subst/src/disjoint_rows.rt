@@ -14,7 +14,7 @@ use frame::{PairMemo, Pairs};
 use std::alloc::{AllocError, Global};
 use std::marker::Model;
 
-/// What was found is recorded of so many places.
+/// How many places have their facts recorded.
 const NOTED_PLACES: u32 = 8192;
 
 /// So many of the last active `$d` are read in a proof before the first question.

@@ -1,4 +1,4 @@
-//! What a cache holds for, as contracts alone see it.
+//! The statements and the position that a cache holds for, which contracts alone see.
 ghost use Rattle.std.specs.Prelude.{◌≡◌, ℕ, List, []};
 ghost use Rattle.std.specs.Borrow.{ftrue};
 ghost use Rattle.frame.specs.Parts.{Numbered};

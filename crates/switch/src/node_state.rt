@@ -1,4 +1,4 @@
-//! What a node of a switch tells of itself.
+//! The state that a node of a switch reports.
 ghost use Rattle.std.specs.Prelude.{◌≡◌, ◌≤◌, ◌<◌, Err, Some, length, IfOk, IsOk};
 ghost use Rattle.net.specs.NodeStates.{state_after};
 ghost use Rattle.net.specs.declared.fault.StepFault.TheVariants.{NoNode};

@@ -19,7 +19,7 @@ use Rattle.unproved.specs.Unproved.{as_axiom}
 abbrev pub plains : Database → Database
 plains S = map as_axiom S
 
--- a property that is the same of a `$p` and of the `$a` with its label and expression
+-- a property that a `$p` shares with the `$a` of its label and expression
 pub plain-same : {A : Type 0} (f : Stmt → A) → ((label : Name) (expr : Expr) (proof : List Name) → f (Axiom label expr) ≡ f (Prove label expr proof)) → (s : Stmt) → f (as_axiom s) ≡ f s
 plain-same f h (Prove label expr proof) = h label expr proof
 plain-same f h Open = refl

@@ -78,7 +78,7 @@ impl Entered {
         &self.frames
     }
 
-    /// Finds every `$p` that is not proved, each judged against the statements before it. Returns
+    /// Finds every `$p` that is not proved, each judged against earlier statements. Returns
     /// their positions, in order. No answer depends on the number of workers.
     ///
     /// Errors: an allocation fails. Cost: that of the proofs over the workers, and for each 4,096

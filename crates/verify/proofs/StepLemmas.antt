@@ -79,7 +79,7 @@ items-rest labels numbers i h =
 pub all-taken : {A B : Type 0} (f : A → B) (xs : List A) (n : ℕ) → length xs ≤ n → map f (take n xs) ≡ map f xs
 all-taken f xs n h = ap (map f) (take_all n xs h)
 
--- ---- results behind those of the labels
+-- ---- results after those of the labels
 
 module _ (S : Database) (names : List Name) (at : ℕ) where
   named-behind : (n : ℕ) (st : Results ℕ) → named names (behind n st) ≡ (let r : State = record { stack = map (decode names) st.stack; saved = drop n (map (decode names) st.saved); weight = st.weight } in r)

@@ -36,7 +36,7 @@ abbrev pub SpellingsRun : Type 0
 SpellingsRun = (S : Database) (at : ℕ) → IsSingle S at → (items : List Item) (t : Derivation) (after : List Derivation) (weight : ℕ)
     → Spells S at [] items t after weight → RunsTo S at items t weight
 
--- each statement keeps the rules behind those before it
+-- each statement keeps the rules after earlier ones
 abbrev pub AreLegalThroughout : Database → Type 0
 AreLegalThroughout S = (j : ℕ) (s : Stmt) → stmt_at S j ≡ Some s → IsLegal (before S j) s
 

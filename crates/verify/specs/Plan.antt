@@ -18,7 +18,7 @@ abbrev pub derive : List Derivation → Node → Derivation
 derive ts (Hyp i) = hyp i
 derive ts (Apply a kids) = apply a (from_list (map (pick ts) kids.items))
 
--- the derivations of nodes, behind those that stand already
+-- the derivations of nodes, after those that stand already
 abbrev pub built_from : List Derivation → List Node → List Derivation
 built_from ts [] = ts
 built_from ts (n ∷ ns) = built_from (ts ++ derive ts n ∷ []) ns

@@ -22,7 +22,7 @@ abbrev pub IsOther : List Name → Results ℕ → Stmt → Type 0
 IsOther names st s = map (decode names) st.stack ≡ expr_of s ∷ [] → ⊥
 
 -- the first item that cannot be done, or the end, where the results are others than the statement's expression; in both
--- cases the results are those before it, within the limit, behind those that are kept for labels
+-- cases the results are those before it, within the limit, after those that are kept for labels
 pub record IsStopped (S : Database) (at : ℕ) (names : List Name) (items : List Item) (done labels : ℕ) (st : Results ℕ) : Type 0 where
   pub stops : StopsAt S at names items done (behind labels st)
   pub light : st.weight ≤ weight_limit

@@ -1,4 +1,4 @@
-//! What a node tells of itself.
+//! The state that a node reports.
 ghost use Rattle.std.specs.Prelude.{◌≡◌};
 
 use crate::ballot::Ballot;
@@ -6,7 +6,7 @@ use crate::node::NodeCore;
 use crate::proposer::Role;
 use crate::value::Value;
 
-/// What a node tells of itself.
+/// The state that a node reports.
 #[derive(Clone, Copy, PartialEq, Eq)]
 pub struct NodeState {
     /// The role of its proposer.
