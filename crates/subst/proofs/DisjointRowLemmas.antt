@@ -1,9 +1,9 @@
 -- Variables that were found to be disjoint.
 use Rattle.subst.proofs.Words.{◌≡◌, ℕ, ◌+◌, ◌*◌, ◌^◌, ◌<◌, ◌≤◌, ◌⊎◌, true, List, [], ◌∷◌, ◌++◌, length, get_or, slice_set, bit_at, bit_and, bit_not, bit_or, w64, sym, ◌∙◌, ap, subst, arith, inl, inr, cases_eq, cases_lt, get_or_append_left, get_or_push, get_or-set_same, get_or-set_other, length-set, length_push, Numbered}
-use Rattle.subst.proofs.Words.{PlaceWord, HasAmong, HasBit, HasPlace, no_word, RowWord, no_row, IsRowAt, HasFact, IsFact, AreFacts, RecordsWord, TellsWord, TellsAll, TellsBits, TellsEach, Places, is_kept, Grows}
+use Rattle.subst.proofs.Words.{PlaceWord, HasAmong, HasBit, HasPlace, near_word, no_word, RowWord, no_row, IsRowAt, HasFact, IsFact, AreFacts, RecordsWord, TellsWord, TellsAll, TellsBits, TellsEach, Places, is_kept, Grows}
 use Rattle.subst.proofs.BitsLemmas.{zero-none, or-either, and-left, and-rest, IsTaken}
 use Rattle.subst.proofs.VariablePlaceLemmas.{kept-grown, place-grown}
-use Rattle.subst.proofs.PlaceSetLemmas.{word-more}
+use Rattle.subst.proofs.PlaceSetLemmas.{word-alone, word-more}
 
 pub facts-none : (v : Numbered) (f : Places) → AreFacts v f []
 facts-none v f = record { each = λ p q h. (let low = h.there in absurd (omega (arith, low))) }
@@ -98,6 +98,32 @@ told-word v f rows p w known fits other facts recorded asked = λ q h. elim (and
 
 pub missing-bit : (w : PlaceWord) (known q : ℕ) → HasBit (record { index = w.index; bits = bit_and w.bits (bit_not w64 known) }) q → HasBit w q
 missing-bit w known q h = record { bit = h.bit; place = h.place; set = and-left w.bits (bit_not w64 known) h.bit h.set }
+
+-- ---- words of the first 64 places
+
+-- what is not recorded of them is nothing
+pub found-bits : (rows : List RowWord) (p others known : ℕ) → others < 2 ^ 64 → known < 2 ^ 64 → ((b : ℕ) → bit_at known b ≡ 1 → HasFact rows p (64 * 0 + b)) → bit_and others (bit_not w64 known) ≡ 0 → (q : ℕ) → bit_at others q ≡ 1 → HasFact rows p q
+found-bits rows p others known fits other recorded none q h = elim (and-rest others known q fits other h) [
+  | inl old ↦ subst (HasFact rows p) (let e : 64 * 0 + q ≡ q = omega arith in e) (recorded q old)
+  | inr rest ↦ absurd (zero-none q (rw none at rest))
+]
+
+pub found-all : (rows : List RowWord) (bits others rest : ℕ) → rest ≡ 0 → IsTaken (λ b. (q : ℕ) → bit_at others q ≡ 1 → HasFact rows b q) bits rest → (p q : ℕ) → HasBit (near_word bits) p → HasBit (near_word others) q → HasFact rows p q
+found-all rows bits others rest none taken p q h k =
+    let here = h.place in
+    let there = k.place in
+    let one : h.bit ≡ p = omega (arith, here) in
+    let two : k.bit ≡ q = omega (arith, there) in
+    elim (taken.done h.bit h.set) [
+      | inl left ↦ absurd (zero-none h.bit (rw none at left))
+      | inr found ↦ subst (λ m. HasFact rows m q) one (subst (HasFact rows h.bit) two (found k.bit k.set))
+    ]
+
+pub found-none : (rows : List RowWord) (bits others : ℕ) → others ≡ 0 → (p q : ℕ) → HasBit (near_word bits) p → HasBit (near_word others) q → HasFact rows p q
+found-none rows bits others none p q h k = absurd (zero-none k.bit (rw none at k.set))
+
+pub found-tells : (v : Numbered) (f : Places) (rows : List RowWord) (bits before : ℕ) → AreFacts v f rows → ((p q : ℕ) → HasBit (near_word bits) p → HasBit (near_word before) q → HasFact rows p q) → TellsEach v f (near_word bits ∷ []) (near_word before ∷ []) true
+found-tells v f rows bits before facts found = λ p q h k. (facts.each p q (found p q (word-alone (near_word bits) p h) (word-alone (near_word before) q k))).kept
 
 -- ---- the places of a word, and of a list of words
 

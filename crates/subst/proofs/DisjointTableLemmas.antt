@@ -1,8 +1,10 @@
 -- The tables of a cache, as images are listed in them.
-use Rattle.subst.proofs.Words.{◌≡◌, ℕ, ◌+◌, ◌-◌, ◌<◌, ◌≤◌, ◌==◌, false, List, [], ◌∷◌, ◌++◌, length, take, take_all, drop, get_or, sym, ap, subst, arith, Numbered, SymbolRange, seen_at}
-use Rattle.subst.proofs.Words.{Places, ArePlaced, Grows, AreImagesRecorded, RecordedImages, KeepsRest, AddsSymbols, HasPlace, RecordsImage, AreTables}
+use Rattle.subst.proofs.Words.{◌≡◌, ℕ, zero, suc, ◌+◌, ◌-◌, ◌<◌, ◌≤◌, ◌==◌, false, List, [], ◌∷◌, ◌++◌, length, take, take_all, drop, get_or, sym, ap, subst, arith, Numbered, SymbolRange, seen_at, CodeImages, code_apply, code_image}
+use Rattle.subst.proofs.Words.{Places, ArePlaced, Grows, IsAmong, AreImagesRecorded, RecordedImages, KeepsRest, AddsSymbols, HasPlace, RecordsImage, AreTables}
 use Rattle.subst.specs.declared.disjoint_tables.DisjointTables.{DisjointTables}
 use Rattle.subst.proofs.SymbolRangeLemmas.{length-seen}
+use Rattle.subst.proofs.PlaceSetLemmas.{among-left, among-right, symbols-again}
+use Rattle.subst.proofs.WrittenImages.{apply-take}
 use Rattle.subst.proofs.DisjointRowLemmas.{facts-grown}
 use Rattle.subst.proofs.ImageVariableLemmas.{recorded-over, recorded-begin, recorded-most, recorded-long, rest-most, seen-behind}
 
@@ -17,6 +19,20 @@ rest_of e = take (length e - 1) (drop 1 e)
 pub whole-rest : (e : List ℕ) → (length e == 0) ≡ false → e ≡ get_or e 0 0 ∷ rest_of e
 whole-rest [] none = cc
 whole-rest (x ∷ xs) some = ap (λ r. x ∷ r) (sym (take_all (length (x ∷ xs) - 1) xs (omega arith)))
+
+-- the image of one of the first n symbols is among what these give
+image-among : (σ : CodeImages) (e : List ℕ) (i n x : ℕ) → i < n → n ≤ length e → IsAmong (length (code_image σ (get_or e i 0))) (code_image σ (get_or e i 0)) x → IsAmong (length (code_apply σ (take n e))) (code_apply σ (take n e)) x
+image-among σ e i zero x low high p = absurd (omega (arith, low))
+image-among σ [] i (suc n) x low high p = absurd (omega (arith, high))
+image-among σ (y ∷ e) zero (suc n) x low high p = among-left (code_image σ y) (code_apply σ (take n e)) x p
+image-among σ (y ∷ e) (suc i) (suc n) x low high p = among-right (code_image σ y) (code_apply σ (take n e)) x (image-among σ e i n x (omega (arith, low)) (omega (arith, high)) p)
+
+-- a symbol that stands before adds nothing
+pub symbol-again : (v : Numbered) (f : Places) (Old New : ℕ → Type 0) (σ : CodeImages) (e : List ℕ) (i n : ℕ) → i < n → n < length e → get_or e i 0 ≡ get_or e n 0 → AddsSymbols v f Old New (length (code_apply σ (take n e))) (code_apply σ (take n e))
+    → AddsSymbols v f Old New (length (code_apply σ (take (n + 1) e))) (code_apply σ (take (n + 1) e))
+symbol-again v f Old New σ e i n low high same h =
+    rw (apply-take σ e n high) (symbols-again v f Old New (code_apply σ (take n e)) (code_image σ (get_or e n 0))
+    (λ x p. image-among σ e i n x low (omega (arith, high)) (subst (λ y. IsAmong (length (code_image σ y)) (code_image σ y) x) (sym same) p)) h)
 
 -- a range of some symbols
 pub some-range : (xs rest : List ℕ) (p : SymbolRange) (x : ℕ) → p.start ≤ p.end → p.end ≤ length xs → seen_at xs p ≡ x ∷ rest → p.start < p.end

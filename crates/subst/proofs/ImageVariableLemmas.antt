@@ -1,6 +1,6 @@
 -- The words of the variables of images, and where they lie.
 use Rattle.subst.proofs.Words.{◌≡◌, ℕ, ◌+◌, ◌-◌, ◌<◌, ◌≤◌, List, [], ◌∷◌, ◌++◌, length, take, drop, get_or, slice_range, refl, sym, ◌∙◌, ap, subst, arith, inl, inr, append-nil, get_or_append_left, get_or-append_right, get_or-append-add, get_or-drop, get_or-take, drop-drop, drop-take, length-append, length-take, length-drop, Numbered, code_image, SymbolRange, seen_at, images_at}
-use Rattle.subst.proofs.Words.{Places, Grows, IsAmong, PlaceWord, HasBit, HasPlace, no_word, AddsSymbols, AddsWords, RecordedImages, WordRange, ReadImage, LongImage, IsIn, IsRangeOf, IsLong, AreImagesRecorded, AreRead, Appends, KeepsMost, KeepsRest, KeepsImage, RecordsImage}
+use Rattle.subst.proofs.Words.{Places, Grows, IsAmong, PlaceWord, HasBit, HasPlace, near_word, no_word, AddsSymbols, AddsWords, RecordedImages, WordRange, ReadImage, LongImage, IsIn, IsRangeOf, IsLong, AreImagesRecorded, AreRead, Appends, AppendsWord, KeepsMost, KeepsRest, KeepsImage, RecordsImage}
 use Rattle.subst.proofs.VariablePlaceLemmas.{grows-own, has-more, places-same}
 use Rattle.subst.proofs.PlaceSetLemmas.{place-none}
 use Rattle.subst.proofs.SymbolRangeLemmas.{seen-more}
@@ -176,6 +176,15 @@ module _ (words list : List PlaceWord) where
 
 pub appended-range : (v : Numbered) (f : Places) (old new : RecordedImages) (r : WordRange) (image : List ℕ) → Appends old new r → AddsSymbols v f (HasPlace []) (HasPlace old.list) (length image) image → IsRangeOf v f new.words r image
 appended-range v f old new r image appends adds = rw (appends.whole, appends.range) (list-range old.words old.list v f image adds)
+
+pub word-range : (v : Numbered) (f : Places) (old new : RecordedImages) (w : PlaceWord) (r : WordRange) (image : List ℕ) → AppendsWord old new w r → AddsSymbols v f (HasPlace []) (HasPlace (w ∷ [])) (length image) image → IsRangeOf v f new.words r image
+word-range v f old new w r image appends adds = rw (appends.whole, appends.range) (list-range old.words (w ∷ []) v f image adds)
+
+-- a list of one word of the first 64 places
+pub one-near : (ws : List PlaceWord) (w : PlaceWord) → length ws ≡ 1 → get_or ws 0 w ≡ w → w.index ≡ 0 → ws ≡ near_word w.bits ∷ []
+one-near [] w size same index = absurd (omega (arith, size))
+one-near (x ∷ []) w size same index = rw same (ap (λ i. (record { index = i; bits = w.bits }) ∷ []) index)
+one-near (x ∷ y ∷ ws) w size same index = absurd (omega (arith, size))
 
 -- ---- what was found
 

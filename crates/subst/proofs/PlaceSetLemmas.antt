@@ -1,6 +1,6 @@
 -- Places as words of bits.
 use Rattle.subst.proofs.Words.{◌≡◌, ℕ, ◌+◌, ◌-◌, ◌*◌, ◌%◌, ◌^◌, ◌<◌, ◌⊎◌, false, List, [], ◌∷◌, ◌++◌, length, get_or, slice_set, refl, bit_at, bit_or, sym, ◌∙◌, ap, subst, arith, inl, inr, cases_eq, cases_lt, get_or_append_left, get_or_push, get_or-set_same, get_or-set_other, length-set, length_push, length-append, get_or-append_right, get_or-append-add, Numbered, is_variable, name_at}
-use Rattle.subst.proofs.Words.{PlaceWord, HasBit, HasAmong, HasPlace, HasEither, no_word, AddsFirst, AddsWord, TakesPlace, AddsSymbols, Places, IsAt, Grows, IsAmong}
+use Rattle.subst.proofs.Words.{PlaceWord, near_word, HasBit, HasAmong, HasPlace, HasEither, no_word, AddsFirst, AddsWord, AddsWords, TakesPlace, AddsSymbols, Places, IsAt, Grows, IsAmong}
 use Rattle.subst.proofs.BitsLemmas.{one-own, one-only, or-left, or-right, or-either, zero-none}
 use Rattle.subst.proofs.VariablePlaceLemmas.{grows-own, has-more, among-none, among-more, among-before, among-last}
 
@@ -120,6 +120,19 @@ adds-more old ws new n words first next = record {
   ];
 }
 
+-- ---- one word of the first 64 places
+
+pub word-alone : (w : PlaceWord) (j : ℕ) → HasPlace (w ∷ []) j → HasBit w j
+word-alone w j h = elim (word-more 0 (w ∷ []) j h) [ inl none ↦ let low = none.there in absurd (omega (arith, low)) | inr own ↦ own ]
+
+pub near-none : (j : ℕ) → HasPlace (near_word 0 ∷ []) j → ⊥
+near-none j h = let own = word-alone (near_word 0) j h in zero-none own.bit own.set
+
+pub adds-near : (before bits : ℕ) → AddsWords (near_word before ∷ []) (near_word (bit_or before bits) ∷ []) (near_word bits ∷ [])
+adds-near before bits =
+    let ws : List PlaceWord = near_word before ∷ [] in
+    adds-more ws ws (near_word (bit_or before bits) ∷ []) 0 (near_word bits ∷ []) (adds-none ws (near_word bits ∷ [])) (adds-set ws 0 before (near_word bits) (omega arith) refl refl)
+
 -- ---- symbols
 
 pub symbols-none : (v : Numbered) (f : Places) (Old : ℕ → Type 0) (image : List ℕ) → AddsSymbols v f Old Old 0 image
@@ -167,6 +180,16 @@ symbols-variable v f g Old ws new w next n place image grows at takes h = record
   ];
 }
 
+-- a variable more below 64
+pub symbols-near : (v : Numbered) (f : Places) (bits n place : ℕ) (image : List ℕ) → place < 64 → IsAt f place (get_or image n 0) → AddsSymbols v f (HasPlace []) (HasEither [] (near_word bits)) n image
+    → AddsSymbols v f (HasPlace []) (HasEither [] (near_word (bit_or bits (1 * 2 ^ place % 2 ^ 64)))) (n + 1) image
+symbols-near v f bits n place image low at h =
+    symbols-variable v f f (HasPlace []) [] [] (near_word bits) (near_word (bit_or bits (1 * 2 ^ place % 2 ^ 64))) n place image (grows-own f) at (takes-here [] (near_word bits) place 0 place low (omega arith) refl) h
+
+pub symbols-near_end : (v : Numbered) (f : Places) (bits n : ℕ) (image : List ℕ) → n ≡ length image → AddsSymbols v f (HasPlace []) (HasEither [] (near_word bits)) n image → AddsSymbols v f (HasPlace []) (HasPlace (near_word bits ∷ [])) (length image) image
+symbols-near_end v f bits n image end h =
+    subst (λ m. AddsSymbols v f (HasPlace []) (HasPlace (near_word bits ∷ [])) m image) end (symbols-end v f (HasPlace []) [] (near_word bits ∷ []) (near_word bits) n image (adds-pushed [] (near_word bits)) h)
+
 -- ---- images one behind another
 
 pub among-left : (xs ys : List ℕ) (x : ℕ) → IsAmong (length xs) xs x → IsAmong (length (xs ++ ys)) (xs ++ ys) x
@@ -189,4 +212,12 @@ symbols-joined v f g Old Now New xs ys grows first next = record {
     | inl before ↦ elim (first.only j before) [ inl own ↦ inl own | inr o ↦ inr (o.0, among-left xs ys o.0 o.1, grows.each j o.0 o.2) ]
     | inr o ↦ inr (o.0, among-right xs ys o.0 o.1, o.2)
   ];
+}
+
+-- symbols that stand there already
+pub symbols-again : (v : Numbered) (f : Places) (Old New : ℕ → Type 0) (xs ys : List ℕ) → ((x : ℕ) → IsAmong (length ys) ys x → IsAmong (length xs) xs x) → AddsSymbols v f Old New (length xs) xs → AddsSymbols v f Old New (length (xs ++ ys)) (xs ++ ys)
+symbols-again v f Old New xs ys there h = record {
+  before = h.before;
+  added = λ x p. elim (among-either xs ys x p) [ inl left ↦ h.added x left | inr right ↦ h.added x (there x right) ];
+  only = λ j b. elim (h.only j b) [ inl own ↦ inl own | inr o ↦ inr (o.0, among-left xs ys o.0 o.1, o.2) ];
 }

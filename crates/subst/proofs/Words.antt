@@ -27,8 +27,8 @@ pub use Rattle.subst.specs.DisjointImages.{are_numbers_disjoint, are_two_disjoin
 pub use Rattle.subst.specs.SymbolRanges.{AreInside, AreWithin, images_at, seen_at}
 pub use Rattle.subst.specs.Stored.DisjointRows.{AreFacts, ArePairs, HasFact, IsFact, IsRowAt, RecordsWord, TellsAll, TellsBits, TellsEach, TellsWord, no_row}
 pub use Rattle.subst.specs.Stored.DisjointTables.{AreTables}
-pub use Rattle.subst.specs.Stored.ImageVariables.{AddsImage, Appends, AreImagesRecorded, AreRead, IsIn, IsLong, IsRangeOf, KeepsImage, KeepsMost, KeepsRest, RecordedImages, RecordsImage}
-pub use Rattle.subst.specs.Stored.PlaceSets.{AddsFirst, AddsSymbols, AddsWord, AddsWords, ArePlacesBelow, HasAmong, HasBit, HasEither, HasPlace, TakesPlace, no_word}
+pub use Rattle.subst.specs.Stored.ImageVariables.{AddsImage, Appends, AppendsWord, AreImagesRecorded, AreRead, IsIn, IsLong, IsRangeOf, KeepsImage, KeepsMost, KeepsRest, RecordedImages, RecordsImage}
+pub use Rattle.subst.specs.Stored.PlaceSets.{AddsFirst, AddsSymbols, AddsWord, AddsWords, ArePlacesBelow, HasAmong, HasBit, HasEither, HasPlace, TakesPlace, near_word, no_word}
 pub use Rattle.subst.specs.Stored.VariablePlaces.{AreBitsOf, ArePlaced, ArePlacesOf, Grows, HasVariable, IsAmong, IsAt, IsListed, IsPlace, IsVariable, Places, is_kept, variable_name}
 pub use Rattle.subst.specs.Images.{is_image_disjoint}
 pub use Rattle.subst.specs.Laws.{AreImagesDisjoint, PairClause, SubstitutionOverNames}

@@ -1,9 +1,9 @@
 //! Which variables of a proof were found to be disjoint.
-ghost use Rattle.std.specs.Prelude.{◌≡◌, ℕ, ◌+◌, ◌*◌, ◌<◌, [], length, IfOk, IfSome};
+ghost use Rattle.std.specs.Prelude.{◌≡◌, ℕ, ◌+◌, ◌*◌, ◌<◌, [], length, true, IfOk, IfSome};
 ghost use Rattle.std.specs.Int.{bit_at};
 ghost use Rattle.frame.specs.Below.{AreBelow};
 ghost use Rattle.subst.specs.Stored.DisjointRows.{AreFacts, ArePairs, HasFact, IsRowAt, RecordsWord, TellsAll, TellsBits, TellsEach, TellsWord};
-ghost use Rattle.subst.specs.Stored.PlaceSets.{ArePlacesBelow, HasBit};
+ghost use Rattle.subst.specs.Stored.PlaceSets.{ArePlacesBelow, HasBit, near_word};
 ghost use Rattle.subst.specs.Stored.VariablePlaces.{ArePlaced, Grows};
 
 use crate::hints::Hints;
@@ -220,6 +220,27 @@ impl DisjointRows {
         }
         self.record_word(place, word)?;
         Ok(true)
+    }
+
+    /// Returns whether each of the places below 64 of a word was found to be disjoint from each of those of another one.
+    ///
+    /// Cost: a step for each place of the first word.
+    #[inline(always)]
+    pub fn are_found(&self, bits: u64, others: u64) -> bool
+        ensures { result ≡ true → (p q : ℕ) → HasBit (near_word bits) p → HasBit (near_word others) q → HasFact self.now p q }
+    {
+        if others == 0 {
+            return true;
+        }
+        let mut rest = bits;
+        while rest != 0 {
+            let bit = lowest(rest);
+            if others & !self.bits(bit, 0) != 0 {
+                return false;
+            }
+            rest = without(rest, bit);
+        }
+        true
     }
 
     /// Whether the variable at a place is disjoint from each of those at the places of a set.

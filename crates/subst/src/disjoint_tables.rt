@@ -65,6 +65,8 @@ impl DisjointTables {
     ///
     /// Each image is held against the variables of all images before it. That a variable stands in a group twice is looked
     /// for only if its images are not disjoint.
+    #[cold]
+    #[inline(never)]
     fn is_group_disjoint(
         &mut self,
         pairs: &Pairs<'_>,
@@ -99,6 +101,44 @@ impl DisjointTables {
         Ok(true)
     }
 
+    /// Returns whether the images of each two variables of a group were found to be disjoint, where all their variables have
+    /// places below 64. Most groups are passed so.
+    ///
+    /// Errors: an allocation fails. Cost: the images that were not read in this citation, and a step for each variable of
+    /// each image.
+    #[inline(always)]
+    fn is_group_found(
+        &mut self,
+        pairs: &Pairs<'_>,
+        symbols: &[u32],
+        images: &ImageRanges,
+        group: &[u32],
+    ) -> Result<bool, AllocError>
+        requires tables { AreTables pairs.now symbols.now self.old }
+        requires read { AreRead pairs.now self.old.variables symbols.now images.now self.old.images }
+        requires named { AreOver pairs.now.names (images_at symbols.now images.now) }
+        requires inside { AreInside (length symbols.now) images.now }
+        requires below { AreBelow (length pairs.now.names) group.now }
+        ensures tables { AreTables pairs.now symbols.now self.new }
+        ensures read { AreRead pairs.now self.new.variables symbols.now images.now self.new.images }
+        ensures disjoint { IfOk result (λ ok. ok ≡ true → are_numbers_disjoint pairs.now.statements (image_named pairs.now.names (images_at symbols.now images.now)) group.now ≡ true) }
+    {
+        let mut before = 0;
+        for k in group {
+            let range = self
+                .images
+                .image_of(pairs, &mut self.variables, symbols, images, *k)?;
+            let Some(bits) = self.images.near_bits(range) else {
+                return Ok(false);
+            };
+            if !self.rows.are_found(bits, before) {
+                return Ok(false);
+            }
+            before |= bits;
+        }
+        Ok(true)
+    }
+
     /// Whether the images of each two variables of each group are disjoint.
     #[inline(never)]
     pub fn are_groups_disjoint(
@@ -121,7 +161,11 @@ impl DisjointTables {
             if is_repeated(groups, i) {
                 continue;
             }
-            if !self.is_group_disjoint(pairs, symbols, images, groups.get(i))? {
+            let group = groups.get(i);
+            if self.is_group_found(pairs, symbols, images, group)? {
+                continue;
+            }
+            if !self.is_group_disjoint(pairs, symbols, images, group)? {
                 return Ok(false);
             }
         }
@@ -129,6 +173,9 @@ impl DisjointTables {
     }
 
     /// Notes the variables of a long result from the images that it was made of, without reading it.
+    ///
+    /// Errors: an allocation fails. Cost: the symbols of the expression, and each image once, or the counts of its variables
+    /// if it is long.
     pub fn record_result(
         &mut self,
         pairs: &Pairs<'_>,
@@ -149,7 +196,11 @@ impl DisjointTables {
             return Ok(());
         }
         self.images.begin();
-        for symbol in &expr[1..] {
+        let rest = &expr[1..];
+        for (index, symbol) in rest.iter().enumerate() {
+            if self.images.stands_before(rest, index)? {
+                continue;
+            }
             let variables = &mut self.variables;
             self.images
                 .add_image(pairs, variables, symbols, images, *symbol)?;

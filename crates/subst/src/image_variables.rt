@@ -1,12 +1,12 @@
 //! The variables of images, each image read once.
-ghost use Rattle.std.specs.Prelude.{◌≡◌, ◌<◌, ◌≤◌, ◌++◌, [], length, slice_range, take, IfOk, IfSome, OnErr, OnOk};
+ghost use Rattle.std.specs.Prelude.{◌≡◌, ◌<◌, ◌≤◌, ◌++◌, ◌∷◌, [], ℕ, get_or, length, slice_range, take, true, IfOk, IfSome, OnErr, OnOk};
 ghost use Rattle.std.specs.List.{Contains};
 ghost use Rattle.frame.specs.Below.{AreBelow};
 ghost use Rattle.frame.specs.Substitution.{code_image};
 ghost use Rattle.subst.specs.Images.{AreOver};
 ghost use Rattle.subst.specs.SymbolRanges.{AreInside, images_at};
-ghost use Rattle.subst.specs.Stored.ImageVariables.{AddsImage, Appends, AreImagesRecorded, AreRead, IsRangeOf, KeepsImage, KeepsMost, KeepsRest, RecordsImage};
-ghost use Rattle.subst.specs.Stored.PlaceSets.{AddsWords};
+ghost use Rattle.subst.specs.Stored.ImageVariables.{AddsImage, Appends, AppendsWord, AreImagesRecorded, AreRead, IsRangeOf, KeepsImage, KeepsMost, KeepsRest, RecordsImage};
+ghost use Rattle.subst.specs.Stored.PlaceSets.{AddsWords, near_word};
 ghost use Rattle.subst.specs.Stored.VariablePlaces.{ArePlaced, Grows};
 
 use crate::hints::Hints;
@@ -128,6 +128,18 @@ impl ImageVariables {
         &self.words[range.start..range.end]
     }
 
+    /// Returns the places in a range as bits, if they are one word of places below 64.
+    #[inline(always)]
+    pub fn near_bits(&self, range: WordRange) -> Option<u64>
+        requires { (range.start ≤ range.end) × (range.end ≤ length self.now.words) }
+        ensures { IfSome result (λ bits. slice_range self.now.words range.start range.end ≡ near_word bits ∷ []) }
+    {
+        match self.words_in(range) {
+            [word] if word.index == 0 => Some(word.bits),
+            _ => None,
+        }
+    }
+
     /// Returns the range of the image of a symbol that was read in this citation.
     #[inline(always)]
     fn find(&self, symbol: u32) -> Option<WordRange>
@@ -232,6 +244,24 @@ impl ImageVariables {
         }
     }
 
+    /// Returns `true` if the symbol at an index of a list stands in it before, and it was asked for before.
+    ///
+    /// Errors: an allocation fails. Cost: constant.
+    #[inline(always)]
+    pub fn stands_before(&mut self, list: &[u32], index: usize) -> Result<bool, AllocError>
+        requires { index < length list.now }
+        ensures same { self.new ≡ self.old }
+        ensures stands { IfOk result (λ ok. ok ≡ true → (at : ℕ) × (at < index) × (get_or list.now at 0 ≡ get_or list.now index 0)) }
+    {
+        let symbol = list[index];
+        let at = self.hints.get(symbol as usize);
+        if at < index && list[at] == symbol {
+            return Ok(true);
+        }
+        self.hints.set(symbol, index)?;
+        Ok(false)
+    }
+
     /// Puts the words of the list at the end.
     #[inline(always)]
     fn append_list(&mut self) -> Result<WordRange, AllocError>
@@ -244,9 +274,45 @@ impl ImageVariables {
         Ok(WordRange { start, end })
     }
 
+    /// Puts a word at the end.
+    #[inline(always)]
+    fn append_word(&mut self, word: PlaceWord) -> Result<WordRange, AllocError>
+        ensures rest { KeepsMost self.old self.new }
+        ensures appended { IfOk result (AppendsWord self.old self.new word) }
+    {
+        let start = self.words.len();
+        append_words(&mut self.words, &[word])?;
+        let end = self.words.len();
+        Ok(WordRange { start, end })
+    }
+
     /// Reads the places of the variables of an image.
+    ///
+    /// Cost: a step for each symbol, or two if one of them was not met before or a place is not below 64.
     #[inline(always)]
     fn read(
+        &mut self,
+        pairs: &Pairs<'_>,
+        variables: &mut VariablePlaces,
+        image: &[u32],
+    ) -> Result<WordRange, AllocError>
+        requires placed { ArePlaced pairs.now variables.old }
+        requires below { AreBelow (length pairs.now.names) image.now }
+        ensures placed { ArePlaced pairs.now variables.new }
+        ensures grows { Grows variables.old variables.new }
+        ensures rest { KeepsMost self.old self.new }
+        ensures range { IfOk result (λ range. IsRangeOf pairs.now variables.new self.new.words range image.now) }
+    {
+        match variables.near_bits(pairs, image) {
+            Some(bits) => self.append_word(PlaceWord { index: 0, bits }),
+            None => self.read_far(pairs, variables, image),
+        }
+    }
+
+    /// Reads the places of the variables of an image, where not all are known and below 64.
+    #[cold]
+    #[inline(never)]
+    fn read_far(
         &mut self,
         pairs: &Pairs<'_>,
         variables: &mut VariablePlaces,
@@ -273,6 +339,7 @@ impl ImageVariables {
     }
 
     /// Returns the range of the places of the variables of the image of a symbol, which is read, or was recorded.
+    #[inline(always)]
     fn read_image(
         &mut self,
         pairs: &Pairs<'_>,
@@ -301,6 +368,7 @@ impl ImageVariables {
     }
 
     /// Keeps the range of the image of a symbol for this citation.
+    #[inline(always)]
     fn keep(&mut self, symbol: u32, words: WordRange) -> Result<(), AllocError>
         ensures { KeepsImage self.old self.new symbol words }
     {

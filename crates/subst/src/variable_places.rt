@@ -1,9 +1,10 @@
 //! The places of the variables of one proof.
-ghost use Rattle.std.specs.Prelude.{◌≡◌, ◌<◌, ℕ, [], get_or, length, IfOk, IfSome, Some};
+ghost use Rattle.std.specs.Prelude.{◌≡◌, ◌<◌, ◌∷◌, ℕ, [], get_or, length, IfOk, IfSome, Some};
 ghost use Rattle.std.specs.Int.{bit_at};
 ghost use Rattle.frame.specs.Below.{AreBelow};
 ghost use Rattle.names.specs.Codes.{name_at};
 ghost use Rattle.scope.specs.Active.{is_variable};
+ghost use Rattle.subst.specs.Stored.PlaceSets.{AddsSymbols, HasPlace, near_word};
 ghost use Rattle.subst.specs.Stored.VariablePlaces.{AreBitsOf, ArePlaced, Grows, IsListed, IsPlace};
 
 use crate::hints::Hints;
@@ -132,6 +133,26 @@ impl VariablePlaces {
         };
         self.variables.push(symbol)?;
         Ok(Some(place))
+    }
+
+    /// Returns the places of the variables among the symbols, as bits, or `None` if a symbol was not met before or a place
+    /// is not below 64.
+    ///
+    /// Cost: a step for each symbol.
+    #[inline(always)]
+    pub fn near_bits(&self, pairs: &Pairs<'_>, image: &[u32]) -> Option<u64>
+        requires { ArePlaced pairs.now self.now }
+        ensures { IfSome result (λ bits. AddsSymbols pairs.now self.now (HasPlace []) (HasPlace (near_word bits ∷ [])) (length image.now) image.now) }
+    {
+        let mut bits = 0;
+        for symbol in image {
+            match self.known(*symbol)? {
+                Some(place) if place < 64 => bits |= 1u64 << place,
+                Some(_) => return None,
+                None => {}
+            }
+        }
+        Some(bits)
     }
 
     /// Returns the places below 64 of the variables in a list, as bits, each variable once.

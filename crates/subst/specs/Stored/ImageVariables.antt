@@ -65,6 +65,11 @@ pub record Appends (old new : RecordedImages) (r : WordRange) : Type 0 where
   pub whole : new ≡ record { words = old.words ++ old.list; list = old.list; kept = old.kept; read = old.read; long = old.long }
   pub range : r ≡ record { start = length old.words; end = length (old.words ++ old.list) }
 
+-- the word stands at the end, in this range
+pub record AppendsWord (old new : RecordedImages) (w : PlaceWord) (r : WordRange) : Type 0 where
+  pub whole : new ≡ record { words = old.words ++ w ∷ []; list = old.list; kept = old.kept; read = old.read; long = old.long }
+  pub range : r ≡ record { start = length old.words; end = length (old.words ++ w ∷ []) }
+
 -- the list has the places of the variables of an image besides
 abbrev pub AddsImage : Numbered → Places → RecordedImages → RecordedImages → List ℕ → Type 0
 AddsImage v f old new image = AddsSymbols v f (HasPlace old.list) (HasPlace new.list) (length image) image

@@ -10,6 +10,10 @@ use Rattle.subst.specs.Stored.VariablePlaces.{Places, IsAt, HasVariable, IsAmong
 abbrev pub no_word : PlaceWord
 no_word = record { index = 0; bits = 0 }
 
+-- the word of the first 64 places
+abbrev pub near_word : ℕ → PlaceWord
+near_word bits = record { index = 0; bits = bits }
+
 -- the word has this place
 pub record HasBit (w : PlaceWord) (j : ℕ) : Type 0 where
   pub bit : ℕ

@@ -21,20 +21,31 @@ loop-i-init c =
       refl,
     )
 
+pub is_group_found-requires-clause-below : goal.is_group_found-requires-clause-below
+is_group_found-requires-clause-below c = below-group (length c.args.pairs.now.names) c.args.groups.now c.loop-i.i c.get-group.result.now c.requires.below c.get-group.ensures
+
 pub is_group_disjoint-requires-clause-below : goal.is_group_disjoint-requires-clause-below
-is_group_disjoint-requires-clause-below c = below-group (length c.args.pairs.now.names) c.args.groups.now c.loop-i.i c.get.result.now c.requires.below c.get.ensures
+is_group_disjoint-requires-clause-below c = below-group (length c.args.pairs.now.names) c.args.groups.now c.loop-i.i c.get-group.result.now c.requires.below c.get-group.ensures
 
 pub returns-then-not-branch-clause-disjoint : goal.returns-then-not-branch-clause-disjoint
 returns-then-not-branch-clause-disjoint c =
-    sym (group-stops (are_numbers_disjoint c.args.pairs.now.statements (image_named c.args.pairs.now.names (images_at c.args.symbols.now c.args.images.now))) c.args.groups.now c.loop-i.i c.get.result.now c.get.ensures
+    sym (group-stops (are_numbers_disjoint c.args.pairs.now.statements (image_named c.args.pairs.now.names (images_at c.args.symbols.now c.args.images.now))) c.args.groups.now c.loop-i.i c.get-group.result.now c.get-group.ensures
     (sym c.in_ok-is_group_disjoint.ensures.disjoint ∙ c.if-not-branch.true))
 
 pub loop-i-preserved : goal.loop-i-preserved
 loop-i-preserved c = (
   c.is_group_disjoint.ensures.tables,
   c.is_group_disjoint.ensures.read,
-  group-goes_on (are_numbers_disjoint c.args.pairs.now.statements (image_named c.args.pairs.now.names (images_at c.args.symbols.now c.args.images.now))) c.args.groups.now c.loop-i.i c.get.result.now c.get.ensures
+  group-goes_on (are_numbers_disjoint c.args.pairs.now.statements (image_named c.args.pairs.now.names (images_at c.args.symbols.now c.args.images.now))) c.args.groups.now c.loop-i.i c.get-group.result.now c.get-group.ensures
       c.loop-i.invariant.2 (sym c.in_ok-is_group_disjoint.ensures.disjoint ∙ c.if-not-branch.false),
+)
+
+pub loop-i-preserved-then-branch : goal.loop-i-preserved-then-branch
+loop-i-preserved-then-branch c = (
+  c.is_group_found.ensures.tables,
+  c.is_group_found.ensures.read,
+  group-goes_on (are_numbers_disjoint c.args.pairs.now.statements (image_named c.args.pairs.now.names (images_at c.args.symbols.now c.args.images.now))) c.args.groups.now c.loop-i.i c.get-group.result.now c.get-group.ensures
+      c.loop-i.invariant.2 (c.in_ok-is_group_found.ensures.disjoint c.if-branch.true),
 )
 
 pub loop-i-preserved-then-is_repeated : goal.loop-i-preserved-then-is_repeated

@@ -3,8 +3,8 @@ use Rattle.subst.proofs.DisjointTableLemmas.{rest_of}
 use Rattle.subst.proofs.disjoint_tables.DisjointTables.record_result.Given as goal
 
 -- the variables of the images so far were listed
-abbrev pub invariant-loop-symbol : goal.invariant-loop-symbol
-invariant-loop-symbol l =
+abbrev pub invariant-loop-index : goal.invariant-loop-index
+invariant-loop-index l =
     AreTables l.pairs l.symbols l.self
     × KeepsRest l.initial.self.images l.self.images
-    × AddsImage l.pairs l.self.variables l.initial.self.images l.self.images (code_apply (images_at l.symbols l.images) (take l.symbol-index (rest_of l.expr)))
+    × AddsImage l.pairs l.self.variables l.initial.self.images l.self.images (code_apply (images_at l.symbols l.images) (take l.index (rest_of l.expr)))

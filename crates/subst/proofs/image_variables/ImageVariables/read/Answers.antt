@@ -1,19 +1,8 @@
+use Rattle.subst.proofs.Words.{[], ◌∷◌, near_word}
 use Rattle.std.proofs.lemmas.Result.{IfOk-weaker}
-use Rattle.subst.proofs.ImageVariableLemmas.{appended-range, most-twice, rest-cleared, rest-most}
+use Rattle.subst.proofs.ImageVariableLemmas.{word-range}
 use Rattle.subst.proofs.image_variables.ImageVariables.read.Goals as goal
 
-pub returns-in_err-add_symbols-clause-rest : goal.returns-in_err-add_symbols-clause-rest
-returns-in_err-add_symbols-clause-rest c = rest-most c.args.self.now c.add_symbols.new.self (rest-cleared c.args.self.now c.clear_list.new.self c.add_symbols.new.self c.clear_list.ensures c.add_symbols.ensures.rest)
-
-pub returns-clause-rest : goal.returns-clause-rest
-returns-clause-rest c =
-    most-twice c.args.self.now c.add_symbols.new.self c.append_list.new.self (rest-cleared c.args.self.now c.clear_list.new.self c.add_symbols.new.self c.clear_list.ensures c.add_symbols.ensures.rest) c.append_list.ensures.rest
-
-pub returns-clause-range : goal.returns-clause-range
-returns-clause-range c =
-    let v = c.args.pairs.now in
-    let f = c.add_symbols.new.variables in
-    let xs = c.args.image.now in
-    let old = c.add_symbols.new.self in
-    let adds = rw c.clear_list.ensures at c.in_ok-add_symbols.ensures.added in
-    IfOk-weaker c.append_list.result _ _ (λ r a. appended-range v f old c.append_list.new.self r xs a adds) c.append_list.ensures.appended
+pub returns-in-Some-clause-range : goal.returns-in-Some-clause-range
+returns-in-Some-clause-range c =
+    IfOk-weaker c.append_word.result _ _ (λ r a. word-range c.args.pairs.now c.args.variables.now c.args.self.now c.append_word.new.self (near_word c.in-Some.bits) r c.args.image.now a c.in-Some.ensures) c.append_word.ensures.appended

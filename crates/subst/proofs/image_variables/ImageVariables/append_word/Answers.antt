@@ -1,0 +1,11 @@
+use Rattle.subst.proofs.Words.{[], ◌∷◌, refl, RecordedImages}
+use Rattle.subst.proofs.ImageVariableLemmas.{most-own}
+use Rattle.subst.proofs.image_variables.ImageVariables.append_word.Goals as goal
+
+pub returns-in_err-append_words-clause-rest : goal.returns-in_err-append_words-clause-rest
+returns-in_err-append_words-clause-rest c =
+    let n : RecordedImages = record { words = c.self.inside.words.items; list = c.self.inside.list; kept = c.self.inside.kept; read = c.self.inside.read.items; long = c.self.inside.long.items } in
+    rw (← c.self.view_is) (rw c.in_err-append_words.ensures.err (most-own n))
+
+pub returns-clause-rest : goal.returns-clause-rest
+returns-clause-rest c = rw (← c.self.view_is) (rw c.in_ok-append_words.ensures.ok (c.args.word ∷ [], c.self.inside.list, refl))
