@@ -3,3 +3,4 @@ pub mod Cell
 pub mod Cells
 pub mod Belongs
 pub mod LongerRecord
+pub mod Outcome

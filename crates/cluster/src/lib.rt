@@ -6,15 +6,17 @@
 //! one `cells` call go on to belong to each other, and of two such cells `compare_on` tells which library is a prefix of the
 //! other.
 //!
-//! Read `memory_keep`, `cell`, `log` and `events`, then `compare`; the definitions are specs/Cell and Belongs.
+//! Read `memory_keep`, `cell`, `log` and `events`, then `asking` and `compare`; the definitions are specs/Cell and Belongs.
 #![tactic(auto)]
 
+mod asking;
 mod cell;
 mod compare;
 mod events;
 mod log;
 mod memory_keep;
 
+pub use asking::{ask_on, outcome_on};
 pub use cell::{NodeCell, apply_on, apply_on_with, belongs, cells, list_on, take_on};
 pub use compare::{Ahead, compare_on};
 pub use events::{begin_on, deliver_on, offer_on, restart_on};

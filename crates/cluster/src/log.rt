@@ -62,7 +62,7 @@ fn is_found(found: Option<&Option<Carried>>, entry: &Option<Carried>) -> bool
 }
 
 /// Tells whether two entries are the same.
-fn is_same(one: &Entry, other: &Entry) -> bool
+pub(crate) fn is_same(one: &Entry, other: &Entry) -> bool
     ensures { IsTrue result ↔ (one.now ≡ other.now) }
 {
     match (one, other) {

@@ -1,13 +1,13 @@
 //! Seeing an entry through to its verdict at a node.
-ghost use Rattle.std.specs.Prelude.{◌≡◌, ◌↔◌, ◌≤◌, ◌<◌, Some, Err, IfErr, IfOk, IsErr, IsOkUnless, IsTrue};
+ghost use Rattle.std.specs.Prelude.{◌≡◌, ◌≤◌, ◌<◌, Err, IfErr, IfOk, IsErr, IsOkUnless};
 ghost use Rattle.net.specs.declared.event.Event.TheVariants.{Begin};
 ghost use Rattle.net.specs.declared.fault.StepFault.TheVariants.{Apart, NoNode};
 ghost use Rattle.nodes.specs.Desk.{IsPlayFault};
-ghost use Rattle.nodes.specs.Adding.{IsAddFault, IsOutcome, IsOutcomeOf, first_under, is_under};
+ghost use Rattle.nodes.specs.Adding.{IsAddFault, IsOutcome};
 
 use crate::desk::Desk;
-use cluster::NodeCell;
-use library::{Entry, Submission, Verdict};
+use cluster::outcome_on;
+use library::{Entry, Verdict};
 use net::StepFault;
 use std::sync::Wait;
 use std::thread;
@@ -124,86 +124,6 @@ impl<G: Gate, K: Keep<Carried>> Desk<G, K> {
     {
         self.ask(rt, k, |cell| outcome_on(cell, entry))
     }
-}
-
-/// Returns what a cell decided on the entry, or `Repeat` if the one decided under its author and
-/// serial number is another one. Returns `None` if nothing is decided.
-///
-/// Cost: that of `Library::status`; one pass over the entries taken over if something is decided.
-fn outcome_on(cell: &NodeCell, entry: &Entry) -> Option<Verdict>
-    ensures { IsOutcomeOf cell.now entry.now result }
-{
-    let verdict = cell.library().status(entry.author(), entry.serial())?;
-    if is_first(cell.entries(), entry) {
-        Some(verdict)
-    } else {
-        Some(Verdict::Repeat)
-    }
-}
-
-/// Tells whether the entry is the first under its author and serial number.
-fn is_first(entries: &[Option<Carried>], entry: &Entry) -> bool
-    ensures { IsTrue result ↔ (first_under entry.now entries.now ≡ Some (record { 0 = entry.now })) }
-{
-    for found in entries {
-        if is_under(found, entry) {
-            return is_found(found, entry);
-        }
-    }
-    false
-}
-
-/// Tells whether an entry is there and has the author and serial number of another.
-fn is_under(found: &Option<Carried>, entry: &Entry) -> bool
-    ensures { result ≡ is_under entry.now found.now }
-{
-    match found {
-        Some(Carried(found)) => {
-            entry.author() == found.author() && entry.serial() == found.serial()
-        }
-        None => false,
-    }
-}
-
-/// Tells whether it is the entry that was found.
-fn is_found(found: &Option<Carried>, entry: &Entry) -> bool
-    ensures { IsTrue result ↔ (found.now ≡ Some (record { 0 = entry.now })) }
-{
-    match found {
-        Some(Carried(found)) => is_same(found, entry),
-        None => false,
-    }
-}
-
-/// Tells whether two entries are the same.
-fn is_same(one: &Entry, other: &Entry) -> bool
-    ensures { IsTrue result ↔ (one.now ≡ other.now) }
-{
-    match (one, other) {
-        (Entry::Text(one), Entry::Text(other)) => is_same_text(one, other),
-        (
-            Entry::Charter {
-                author,
-                serial,
-                names,
-            },
-            Entry::Charter {
-                author: by,
-                serial: number,
-                names: others,
-            },
-        ) => *author == *by && *serial == *number && names.as_slice() == others.as_slice(),
-        _ => false,
-    }
-}
-
-/// Tells whether two texts are the same.
-fn is_same_text(one: &Submission, other: &Submission) -> bool
-    ensures { IsTrue result ↔ (one.now ≡ other.now) }
-{
-    one.author == other.author
-        && one.serial == other.serial
-        && one.text.as_slice() == other.text.as_slice()
 }
 
 /// Returns how many turns node `k` waits after a try, from 0: more than after the one before it,

@@ -6,7 +6,7 @@ ghost use Rattle.cluster.specs.Cell.{Cell};
 ghost use Rattle.nodes.specs.Questions.{IsCellAt, IsHistory, IsStanding};
 
 use crate::desk::Desk;
-use cluster::NodeCell;
+use cluster::{NodeCell, ask_on};
 use net::{Event, StepFault};
 use std::alloc::{AllocError, Global};
 use std::sync::Wait;
@@ -43,10 +43,7 @@ impl<G: Gate, K: Keep<Carried>> Desk<G, K> {
         ensures only_apart { k < self.now → IsOkUnless result Apart }
     {
         let node = self.shared.cell(k)?.lock(rt);
-        if node.cell.at() != k {
-            return Err(StepFault::Apart);
-        }
-        Ok(question(&node.cell))
+        ask_on(&node.cell, k, question)
     }
 
     /// Returns how node `k` stands. Its cell and the switch are locked meanwhile.

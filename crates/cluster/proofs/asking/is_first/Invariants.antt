@@ -1,6 +1,6 @@
 use Rattle.std.proofs.Common.{◌≡◌, drop}
-use Rattle.nodes.specs.Adding.{first_under}
-use Rattle.nodes.proofs.adding.is_first.Given as goal
+use Rattle.cluster.specs.Outcome.{first_under}
+use Rattle.cluster.proofs.asking.is_first.Given as goal
 
 abbrev pub invariant-loop-found : goal.invariant-loop-found
 invariant-loop-found l = first_under l.entry l.entries ≡ first_under l.entry (drop l.found-index l.entries)
