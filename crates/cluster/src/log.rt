@@ -61,7 +61,8 @@ fn is_found(found: Option<&Option<Carried>>, entry: &Option<Carried>) -> bool
     }
 }
 
-/// Tells whether two entries are the same.
+/// Tells whether two entries are the same: two texts, or two charters, of one author and serial
+/// number, with the same bytes or names. Does not allocate.
 pub(crate) fn is_same(one: &Entry, other: &Entry) -> bool
     ensures { IsTrue result ↔ (one.now ≡ other.now) }
 {

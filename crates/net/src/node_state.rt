@@ -1,5 +1,5 @@
 //! The state that a node of a world reports.
-ghost use Rattle.std.specs.Prelude.{◌≡◌, ◌≤◌, ◌<◌, Err, Some, length, IfOk, IsOk};
+ghost use Rattle.std.specs.Prelude.{◌≡◌, ◌≤◌, ◌<◌, Err, Some, length, IfOk, IsOk, IsOkUnless};
 
 use crate::fault::StepFault;
 use crate::net::Net;
@@ -16,6 +16,7 @@ impl<V: Value> Net<V> {
             (λ state. state_after (world_of V.bytes self.now.taken) k ≡ Some state) }
         ensures no_node { length self.now.taken.weights ≤ k → result ≡ Err NoNode }
         ensures node { k < length self.now.taken.weights → IsOk result }
+        ensures only_no_node { IsOkUnless result NoNode }
     {
         match self.nodes.get(k as usize) {
             Some(node) => Ok(node.state()),

@@ -1,5 +1,5 @@
 //! Questions at a desk: about what a node has, and about the history.
-ghost use Rattle.std.specs.Prelude.{◌≡◌, ◌≤◌, ◌<◌, Err, IfOk, IsOkUnless};
+ghost use Rattle.std.specs.Prelude.{◌≡◌, ◌≤◌, ◌<◌, ◌⊎◌, Err, IfErr, IfOk, IsOkUnless};
 ghost use Rattle.std.specs.Fn.{FnOnceReturnsAt};
 ghost use Rattle.net.specs.declared.fault.StepFault.TheVariants.{Apart, Memory, NoNode};
 ghost use Rattle.cluster.specs.Cell.{Cell};
@@ -52,6 +52,7 @@ impl<G: Gate, K: Keep<Carried>> Desk<G, K> {
     pub fn standing<R: Wait>(&self, rt: &R, k: u8) -> Result<NodeStanding, StepFault>
         ensures standing { IfOk result (IsStanding k) }
         ensures no_node { self.now ≤ k → result ≡ Err NoNode }
+        ensures faults { IfErr result (λ fault. (fault ≡ NoNode) ⊎ (fault ≡ Apart)) }
     {
         let node = self.shared.cell(k)?.lock(rt);
         if node.cell.at() != k {

@@ -40,6 +40,7 @@ impl<G: Gate, K: Keep<Carried>> SharedNodes<G, K> {
     pub fn cell(&self, k: u8) -> Result<&Mutex<SharedCell>, StepFault>
         ensures found { k < vec_len self.now.cells → IsOk result }
         ensures no_node { vec_len self.now.cells ≤ k → result ≡ Err NoNode }
+        ensures only_no_node { IsOkUnless result NoNode }
     {
         match self.cells.get(usize::from(k)) {
             Some(cell) => Ok(cell),

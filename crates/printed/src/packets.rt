@@ -36,28 +36,17 @@ fn push_body(text: &mut Vec<u8>, body: &Body<Carried>) -> Result<(), AllocError>
             page,
             count,
             reports,
-        } => {
-            text.extend_from_slice(b"promise ")?;
-            push_ballot(text, *ballot)?;
-            push_page(text, *page, *count)?;
-            push_reports(text, reports.as_slice())
-        }
+        } => push_promise(text, *ballot, *page, *count, reports.as_slice()),
         Body::Accept {
             ballot,
             slot,
             value,
-        } => {
-            text.extend_from_slice(b"accept ")?;
-            push_vote(text, *ballot, *slot, value)
-        }
+        } => push_vote(text, b"accept ", *ballot, *slot, value),
         Body::Accepted {
             ballot,
             slot,
             value,
-        } => {
-            text.extend_from_slice(b"accepted ")?;
-            push_vote(text, *ballot, *slot, value)
-        }
+        } => push_vote(text, b"accepted ", *ballot, *slot, value),
         Body::Nack { ballot, promise } => {
             text.extend_from_slice(b"nack ")?;
             push_ballot(text, *ballot)?;
@@ -74,6 +63,24 @@ fn push_body(text: &mut Vec<u8>, body: &Body<Carried>) -> Result<(), AllocError>
             push_value(text, value)
         }
     }
+}
+
+/// Appends a page of a promise.
+fn push_promise(
+    text: &mut Vec<u8>,
+    ballot: Ballot,
+    page: u32,
+    count: u32,
+    reports: &[SlotReport<Carried>],
+) -> Result<(), AllocError>
+    ensures { OnOk result (text.new.items ≡ text.old.items
+        ++ (codes "promise " ++ ballot_text ballot ++ page_text page count
+        ++ flat_map report_text reports.now)) }
+{
+    text.extend_from_slice(b"promise ")?;
+    push_ballot(text, ballot)?;
+    push_page(text, page, count)?;
+    push_reports(text, reports)
 }
 
 /// Appends the number of the page, if there are more than one.
@@ -108,15 +115,18 @@ fn push_report(text: &mut Vec<u8>, report: &SlotReport<Carried>) -> Result<(), A
     push_ballot(text, report.ballot)
 }
 
-/// Appends a ballot, a slot and a value.
+/// Appends a word, a ballot, a slot and a value.
 fn push_vote(
     text: &mut Vec<u8>,
+    word: &[u8],
     ballot: Ballot,
     slot: u32,
     value: &Option<Carried>,
 ) -> Result<(), AllocError>
-    ensures { OnOk result (text.new.items ≡ text.old.items ++ vote_text ballot slot value.now) }
+    ensures { OnOk result (text.new.items
+        ≡ text.old.items ++ (word.now ++ vote_text ballot slot value.now)) }
 {
+    text.extend_from_slice(word)?;
     push_ballot(text, ballot)?;
     push_slot(text, slot)?;
     push_value(text, value)

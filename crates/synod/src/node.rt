@@ -31,7 +31,7 @@ pub struct NodeCore<V> {
     alloc: Global,
     me: u8,
     weights: Weights,
-    record: Record<V>,
+    kept_part: Record<V>,
     proposer: Proposer<V>,
     learner: Learner<V>,
 }
@@ -42,9 +42,9 @@ impl<V> Model for NodeCore<V> {
 
     ghost Value = { Core V };
 
-    ghost view = { λ n. core_of n.me n.weights n.record n.proposer n.learner };
+    ghost view = { λ n. core_of n.me n.weights n.kept_part n.proposer n.learner };
 
-    ghost invariant = { λ n. IsNode (assembled n.me n.weights n.record.kept n.proposer.state n.learner.state) };
+    ghost invariant = { λ n. IsNode (assembled n.me n.weights n.kept_part.kept n.proposer.state n.learner.state) };
 }
 
 impl<V: Value> NodeCore<V> {
@@ -70,7 +70,7 @@ impl<V: Value> NodeCore<V> {
             alloc,
             me,
             weights,
-            record: Record::new(alloc),
+            kept_part: Record::new(alloc),
             proposer: Proposer::new(alloc),
             learner: Learner::new(alloc),
         }
@@ -91,7 +91,7 @@ impl<V: Value> NodeCore<V> {
         ensures room { HasAtLeast self.old self.new }
         ensures posts { IfOk result (λ made. AllByRecursion (IsPost (length self.old.node.weights)) made.step.posts) }
     {
-        let last = std::cmp::max(self.record.round(), self.record.promise().round);
+        let last = std::cmp::max(self.kept_part.round(), self.kept_part.promise().round);
         if last == u64::MAX {
             return Err(Refusal::RoundsSpent);
         }
@@ -194,7 +194,7 @@ impl<V: Value> NodeCore<V> {
         ensures posts { result.items ≡ ready.step.posts }
     {
         let (staged, posts) = ready.into_staged();
-        self.record.change_by(staged.change);
+        self.kept_part.change_by(staged.change);
         self.proposer.propose(staged.proposer);
         self.learner.learn(staged.learner);
         posts
@@ -312,7 +312,7 @@ impl<V: Value> NodeCore<V> {
         ensures { self.new.node ≡ (reloaded self.old.node stored.kept).node }
     {
         prove!(stored.top() <= SLOTS);
-        self.record = stored;
+        self.kept_part = stored;
         self.commit_restart();
     }
 

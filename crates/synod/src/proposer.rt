@@ -1,5 +1,5 @@
 //! The proposer: its role, the promises that it has received, and the waiting values.
-ghost use Rattle.std.specs.Prelude.{◌≡◌, ◌<◌, ◌≤◌, ℕ, OnOk, IfOk, false, length, slice_index_or};
+ghost use Rattle.std.specs.Prelude.{◌≡◌, ◌<◌, ◌≤◌, ℕ, OnOk, IfOk, Some, false, length, slice_index_or};
 
 use crate::ballot::Ballot;
 use crate::packet::Reports;
@@ -205,56 +205,71 @@ impl<V: Drop> Proposer<V> {
         requires { CanUpdateProposer self.old update }
         ensures { self.new.state ≡ proposer_after self.old.state update }
     {
+        if let Some(update) = update {
+            self.apply(update);
+        }
+    }
+
+    /// Applies an update.
+    fn apply(&mut self, update: ProposerUpdate<V>)
+        requires { CanUpdateProposer self.old (Some update) }
+        ensures { self.new.state ≡ proposer_after self.old.state (Some update) }
+    {
         match update {
-            Some(ProposerUpdate::Wait(value)) => self.waiting.push_reserved(value),
-            Some(ProposerUpdate::Propose { ballot, next }) => self.role = Role::Leading {
+            ProposerUpdate::Wait(value) => self.waiting.push_reserved(value),
+            ProposerUpdate::Propose { ballot, next } => self.role = Role::Leading { ballot, next },
+            ProposerUpdate::Begin {
+                ballot,
+                first,
+                pages,
+            } => self.begin(ballot, first, pages),
+            ProposerUpdate::Page {
+                node,
+                page,
+                reports,
+            } => self.pages.put(node, page, reports),
+            ProposerUpdate::Hear(heard) => self.heard.push_reserved(heard),
+            ProposerUpdate::CompletePromise {
+                heard,
+                page,
+                reports,
+            } => self.complete_promise(heard, page, reports),
+            ProposerUpdate::Lead {
                 ballot,
                 next,
-            },
-            Some(
-                ProposerUpdate::Begin {
-                    ballot,
-                    first,
-                    pages,
-                },
-            ) => {
-                self.role = Role::Preparing { ballot, first };
-                self.pages = pages;
-                self.heard.clear();
-            }
-            Some(
-                ProposerUpdate::Page {
-                    node,
-                    page,
-                    reports,
-                },
-            ) => self.pages.put(node, page, reports),
-            Some(ProposerUpdate::Hear(heard)) => self.heard.push_reserved(heard),
-            Some(
-                ProposerUpdate::CompletePromise {
-                    heard,
-                    page,
-                    reports,
-                },
-            ) => {
-                self.pages.put(heard.node, page, reports);
-                self.heard.push_reserved(heard);
-            }
-            Some(
-                ProposerUpdate::Lead {
-                    ballot,
-                    next,
-                    taken,
-                },
-            ) => {
-                self.role = Role::Leading { ballot, next };
-                self.pages = PagesHad::none(self.alloc);
-                self.heard.clear();
-                self.waiting.drain(..taken);
-            }
-            Some(ProposerUpdate::Idle) => self.role = Role::Idle,
-            None => {}
+                taken,
+            } => self.lead(ballot, next, taken),
+            ProposerUpdate::Idle => self.role = Role::Idle,
         }
+    }
+
+    /// Begins a ballot, with empty maps of pages.
+    fn begin(&mut self, ballot: Ballot, first: u32, pages: PagesHad<V>)
+        ensures { self.new.state ≡ proposer_after self.old.state (Some (ProposerUpdate.Begin ballot first pages)) }
+    {
+        self.role = Role::Preparing { ballot, first };
+        self.pages = pages;
+        self.heard.clear();
+    }
+
+    /// Adds the page that completes a promise.
+    fn complete_promise(&mut self, heard: Heard, page: u32, reports: Reports<V>)
+        requires { CanUpdateProposer self.old (Some (ProposerUpdate.CompletePromise heard page reports)) }
+        ensures { self.new.state ≡ proposer_after self.old.state (Some (ProposerUpdate.CompletePromise heard page reports)) }
+    {
+        self.pages.put(heard.node, page, reports);
+        self.heard.push_reserved(heard);
+    }
+
+    /// Leads from the slot `next` on, and removes the first `taken` waiting values.
+    fn lead(&mut self, ballot: Ballot, next: u32, taken: usize)
+        requires { taken ≤ length self.old.state.waiting }
+        ensures { self.new.state ≡ proposer_after self.old.state (Some (ProposerUpdate.Lead ballot next taken)) }
+    {
+        self.role = Role::Leading { ballot, next };
+        self.pages = PagesHad::none(self.alloc);
+        self.heard.clear();
+        self.waiting.drain(..taken);
     }
 }
 

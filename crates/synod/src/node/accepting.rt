@@ -28,7 +28,7 @@ impl<V: Value> NodeCore<V> {
             to: from,
             body: Body::Nack {
                 ballot,
-                promise: self.record.promise(),
+                promise: self.kept_part.promise(),
             },
         })?;
         Ok(self.ready_posts(posts))
@@ -46,10 +46,10 @@ impl<V: Value> NodeCore<V> {
         ensures node { self.new.node ≡ self.old.node }
         ensures room { HasAtLeast self.old self.new }
     {
-        if !self.record.promise().is_under(ballot) {
+        if !self.kept_part.promise().is_under(ballot) {
             return self.ready_refusal(from, ballot);
         }
-        let posts = promise_posts(self.alloc, &self.record, self.me, from, ballot, first)?;
+        let posts = promise_posts(self.alloc, &self.kept_part, self.me, from, ballot, first)?;
         let staged = StagedStep {
             change: Some(Change::Promise(ballot)),
             proposer: None,
@@ -72,10 +72,10 @@ impl<V: Value> NodeCore<V> {
         ensures node { self.new.node ≡ self.old.node }
         ensures room { HasAtLeast self.old self.new }
     {
-        if ballot.is_under(self.record.promise()) {
+        if ballot.is_under(self.kept_part.promise()) {
             return self.ready_refusal(from, ballot);
         }
-        self.record.room(slot)?;
+        self.kept_part.room(slot)?;
         let mut posts = Vec::new(self.alloc);
         let message = Broadcast::Accepted {
             ballot,

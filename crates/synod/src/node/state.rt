@@ -28,7 +28,7 @@ impl<V: Value> NodeCore<V> {
     {
         NodeState {
             role: self.proposer.role(),
-            promise: self.record.promise(),
+            promise: self.kept_part.promise(),
             learned: self.learner.front(),
             waiting: self.proposer.waiting().len(),
         }

@@ -3,4 +3,4 @@ use Rattle.synod.proofs.node.NodeCore.nodes.Goals as goal
 
 pub returns-clause-node : goal.returns-clause-node
 returns-clause-node g c =
-    node_of_parts c.self.inside.me c.self.inside.weights c.self.inside.record c.self.inside.proposer c.self.inside.learner c.args.self.now c.self.view_is c.self.invariant
+    node_of_parts c.self.inside.me c.self.inside.weights c.self.inside.kept_part c.self.inside.proposer c.self.inside.learner c.args.self.now c.self.view_is c.self.invariant

@@ -5,11 +5,11 @@ use Rattle.synod.proofs.node.NodeCore.ready_offer_waiting.Goals as goal
 
 pub ready_waiting-requires : goal.ready_waiting-requires
 ready_waiting-requires g c =
-    let is : IsNode c.args.self.now.node = node_of_parts c.self.inside.me c.self.inside.weights c.self.inside.record c.self.inside.proposer c.self.inside.learner c.args.self.now c.self.view_is c.self.invariant in
+    let is : IsNode c.args.self.now.node = node_of_parts c.self.inside.me c.self.inside.weights c.self.inside.kept_part c.self.inside.proposer c.self.inside.learner c.args.self.now c.self.view_is c.self.invariant in
     record { keeps = value_waits c.args.self.now.node is c.args.value }
 
 pub returns-clause-posts : goal.returns-clause-posts
 returns-clause-posts g c =
-    let is : IsNode c.args.self.now.node = node_of_parts c.self.inside.me c.self.inside.weights c.self.inside.record c.self.inside.proposer c.self.inside.learner c.args.self.now c.self.view_is c.self.invariant in
+    let is : IsNode c.args.self.now.node = node_of_parts c.self.inside.me c.self.inside.weights c.self.inside.kept_part c.self.inside.proposer c.self.inside.learner c.args.self.now c.self.view_is c.self.invariant in
     memory_posts (length c.args.self.now.node.weights) c.ready_waiting.new.self (waits c.args.self.now.node c.args.value) c.ready_waiting.result c.or_memory.result c.ready_waiting.ensures.ready c.or_memory.ensures.ok c.or_memory.ensures.err
     (value_waits c.args.self.now.node is c.args.value)

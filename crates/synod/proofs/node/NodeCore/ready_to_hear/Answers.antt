@@ -11,7 +11,7 @@ ready_proposer-requires-2-clause-node g c =
     ap (λ (ps : List (List (Option (List (SlotReport g.row.V.Denot))))). page_of ps c.args.heard.node c.args.page) (sym c.pages.ensures.pages)
     ∙ none_is c.get.result (page_of (entries_of c.pages.result.now) c.args.heard.node c.args.page) _ c.is_some.result c.get.ensures c.is_some.ensures c.if-is_some.false in
     subst (λ (step : Stepped g.row.V.Denot). IsNode step.node)
-    (hear_step (assembled c.self.inside.me c.self.inside.weights c.self.inside.record.kept c.self.inside.proposer.state c.self.inside.learner.state) c.args.self.now.node same c.room_to_hear-2.new.self.state (c.room_to_hear-2.ensures.state ∙ c.room_for_page.ensures.state) c.args.page c.args.reports.now c.in_ok-reports.reports c.in_ok-reports.ensures c.new-2.result.items c.new-2.ensures.items c.args.heard none)
+    (hear_step (assembled c.self.inside.me c.self.inside.weights c.self.inside.kept_part.kept c.self.inside.proposer.state c.self.inside.learner.state) c.args.self.now.node same c.room_to_hear-2.new.self.state (c.room_to_hear-2.ensures.state ∙ c.room_for_page.ensures.state) c.args.page c.args.reports.now c.in_ok-reports.reports c.in_ok-reports.ensures c.new-2.result.items c.new-2.ensures.items c.args.heard none)
     c.requires.keeps.node
 
 pub returns-clause-ready : goal.returns-clause-ready
@@ -20,12 +20,12 @@ returns-clause-ready g c =
     let none : page_of c.self.inside.proposer.state.pages c.args.heard.node c.args.page ≡ None =
     ap (λ (ps : List (List (Option (List (SlotReport g.row.V.Denot))))). page_of ps c.args.heard.node c.args.page) (sym c.pages.ensures.pages)
     ∙ none_is c.get.result (page_of (entries_of c.pages.result.now) c.args.heard.node c.args.page) _ c.is_some.result c.get.ensures c.is_some.ensures c.if-is_some.false in
-    (c.ready_proposer-2.ensures.0, c.ready_proposer-2.ensures.1 ∙ sym (hear_step (assembled c.self.inside.me c.self.inside.weights c.self.inside.record.kept c.self.inside.proposer.state c.self.inside.learner.state) c.args.self.now.node same c.room_to_hear-2.new.self.state (c.room_to_hear-2.ensures.state ∙ c.room_for_page.ensures.state) c.args.page c.args.reports.now c.in_ok-reports.reports c.in_ok-reports.ensures c.new-2.result.items c.new-2.ensures.items c.args.heard none))
+    (c.ready_proposer-2.ensures.0, c.ready_proposer-2.ensures.1 ∙ sym (hear_step (assembled c.self.inside.me c.self.inside.weights c.self.inside.kept_part.kept c.self.inside.proposer.state c.self.inside.learner.state) c.args.self.now.node same c.room_to_hear-2.new.self.state (c.room_to_hear-2.ensures.state ∙ c.room_for_page.ensures.state) c.args.page c.args.reports.now c.in_ok-reports.reports c.in_ok-reports.ensures c.new-2.result.items c.new-2.ensures.items c.args.heard none))
 
 pub returns-clause-room : goal.returns-clause-room
 returns-clause-room g c =
     let page = c.room_for_page.ensures in
     let hear = c.room_to_hear-2.ensures in
-    proposer_room c.self.inside.me c.self.inside.weights c.self.inside.record c.self.inside.proposer c.self.inside.learner c.args.self.now c.self.view_is c.room_to_hear-2.new.self
+    proposer_room c.self.inside.me c.self.inside.weights c.self.inside.kept_part c.self.inside.proposer c.self.inside.learner c.args.self.now c.self.view_is c.room_to_hear-2.new.self
     (subst (λ (rooms : List ℕ). RoomsGrow c.self.inside.proposer.page_rooms rooms) (sym hear.pages) page.pages)
     (let same = page.heard in let more = hear.heard in omega (arith, same, more)) (let one = page.waiting in let two = hear.waiting in omega (arith, one, two))

@@ -11,7 +11,7 @@ lead_posts-requires-clause-reports g c =
 pub ready_proposer-requires-clause-node : goal.ready_proposer-requires-clause-node
 ready_proposer-requires-clause-node g c =
     subst (λ (step : Stepped g.row.V.Denot). IsNode step.node)
-    (lead_step (assembled c.self.inside.me c.self.inside.weights c.self.inside.record.kept c.self.inside.proposer.state c.self.inside.learner.state) c.args.self.now.node (ap (λ (core : Core g.row.V.Denot). core.node) c.self.view_is) (entries_of c.pages.result.now) c.pages.ensures.pages c.waiting-waiting.result.now c.waiting-waiting.ensures c.args.ballot c.args.first c.args.node c.args.page c.args.reports.now c.args.heard.now c.in_ok-lead.lead.posts.items c.in_ok-lead.lead.next c.in_ok-lead.lead.taken c.in_ok-lead.ensures)
+    (lead_step (assembled c.self.inside.me c.self.inside.weights c.self.inside.kept_part.kept c.self.inside.proposer.state c.self.inside.learner.state) c.args.self.now.node (ap (λ (core : Core g.row.V.Denot). core.node) c.self.view_is) (entries_of c.pages.result.now) c.pages.ensures.pages c.waiting-waiting.result.now c.waiting-waiting.ensures c.args.ballot c.args.first c.args.node c.args.page c.args.reports.now c.args.heard.now c.in_ok-lead.lead.posts.items c.in_ok-lead.lead.next c.in_ok-lead.lead.taken c.in_ok-lead.ensures)
     c.requires.keeps.node
 
 pub ready_proposer-requires-clause-room : goal.ready_proposer-requires-clause-room
@@ -21,4 +21,4 @@ ready_proposer-requires-clause-room g c =
     omega (arith, listed, seen, c.in_ok-lead.ensures.within)
 
 pub returns : goal.returns
-returns g c = (c.ready_proposer.ensures.0, c.ready_proposer.ensures.1 ∙ sym (lead_step (assembled c.self.inside.me c.self.inside.weights c.self.inside.record.kept c.self.inside.proposer.state c.self.inside.learner.state) c.args.self.now.node (ap (λ (core : Core g.row.V.Denot). core.node) c.self.view_is) (entries_of c.pages.result.now) c.pages.ensures.pages c.waiting-waiting.result.now c.waiting-waiting.ensures c.args.ballot c.args.first c.args.node c.args.page c.args.reports.now c.args.heard.now c.in_ok-lead.lead.posts.items c.in_ok-lead.lead.next c.in_ok-lead.lead.taken c.in_ok-lead.ensures))
+returns g c = (c.ready_proposer.ensures.0, c.ready_proposer.ensures.1 ∙ sym (lead_step (assembled c.self.inside.me c.self.inside.weights c.self.inside.kept_part.kept c.self.inside.proposer.state c.self.inside.learner.state) c.args.self.now.node (ap (λ (core : Core g.row.V.Denot). core.node) c.self.view_is) (entries_of c.pages.result.now) c.pages.ensures.pages c.waiting-waiting.result.now c.waiting-waiting.ensures c.args.ballot c.args.first c.args.node c.args.page c.args.reports.now c.args.heard.now c.in_ok-lead.lead.posts.items c.in_ok-lead.lead.next c.in_ok-lead.lead.taken c.in_ok-lead.ensures))
