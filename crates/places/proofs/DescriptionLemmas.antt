@@ -1,5 +1,5 @@
 -- The walk over the runs of a text finds the description of each statement.
-use Rattle.std.proofs.Common.{◌≡◌, ℕ, suc, ◌+◌, ◌<◌, ◌≤◌, Bool, true, false, not, ◌&&◌, ◌||◌, cond, List, [], ◌∷◌, ◌++◌, length, take, drop, map, flat_map, Option, Some, None, codes, refl, sym, ◌∙◌, ap, subst, arith, append_assoc, length-append}
+use Rattle.std.proofs.Common.{◌≡◌, ℕ, suc, ◌<◌, ◌≤◌, Bool, true, false, not, ◌&&◌, ◌||◌, cond, List, [], ◌∷◌, ◌++◌, length, drop, flat_map, Option, Some, None, codes, refl, sym, ◌∙◌, ap, arith, append_assoc, length-append}
 use Rattle.std.specs.List.{list_all}
 use Rattle.std.proofs.lemmas.Bool.{and_parts, and_from, both_ways}
 use Rattle.std.proofs.lemmas.List.{append-nil, map-append, length-map, length-drop}
@@ -43,6 +43,11 @@ listed_on text at walk next run w old new is runs_are same added step =
 
 pub listed_all : (text : List ℕ) (at : ℕ) (walk : Walk) (list : List (Option Span)) → IsListed text at walk list → runs_behind text at ≡ [] → list ≡ walk_over text at_start (runs text)
 listed_all text at walk list is none = sym (append-nil list) ∙ (ap (λ r. list ++ walk_over text walk r) (sym none) ∙ is)
+
+-- the walk goes on from a later place
+pub listed_later : (text : List ℕ) (at later : ℕ) (walk : Walk) (list : List (Option Span)) → IsListed text at walk list
+    → walk_over text walk (runs_behind text at) ≡ walk_over text walk (runs_behind text later) → IsListed text later walk list
+listed_later text at later walk list is same = ap (λ r. list ++ r) (sym same) ∙ is
 
 -- ---- the comments of the tokens that begin statements
 

@@ -1,4 +1,5 @@
 pub mod BeginLemmas
 pub mod TokenPlaceLemmas
 pub mod DescriptionLemmas
+pub mod WaitingLemmas
 mod Rows

@@ -1,8 +1,5 @@
 -- Descriptions on a small text.
-use Rattle.std.proofs.Common.{◌≡◌, List, [], ◌∷◌, Some, None, codes, refl}
-use Rattle.mm_lex.specs.declared.span.Span.{Span}
-use Rattle.mm_lex.specs.Alphabet.{runs, word}
-use Rattle.mm_read.specs.Statements.{Database, stmt_tokens}
+use Rattle.std.proofs.Common.{[], ◌∷◌, Some, None, codes, refl}
 use Rattle.mm_read.specs.declared.stmt.Stmt.TheVariants.{Const, Open, Close}
 use Rattle.places.specs.Descriptions.{AreDescriptions}
 

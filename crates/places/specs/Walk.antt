@@ -1,8 +1,9 @@
 -- The descriptions of a text, as a walk over its runs finds them.
 -- Source: none; for the private functions of `description`.
-use Rattle.std.specs.Prelude.{ℕ, Bool, true, if◌then◌else◌, List, [], ◌∷◌, ◌++◌, Option, Some, None}
+use Rattle.std.specs.Prelude.{◌≡◌, ℕ, ◌≤◌, true, false, if◌then◌else◌, List, [], ◌∷◌, ◌++◌, length, Option, Some, None}
 use Rattle.mm_lex.specs.declared.span.Span.{Span}
 use Rattle.mm_lex.specs.Alphabet.{Name, name_eq, word}
+use Rattle.mm_lex.specs.Comments.{runs_behind}
 use Rattle.mm_lex.specs.Tokens.{opener, closer}
 use Rattle.places.specs.declared.description.Walk.{Walk}
 use Rattle.places.specs.declared.description.Walk.TheVariants.{Inside, Outside}
@@ -26,3 +27,15 @@ begun (Outside last begins) w = if name_eq w opener then [] else if begins then 
 abbrev pub walk_over : List ℕ → Walk → List Span → List (Option Span)
 walk_over text walk [] = []
 walk_over text walk (r ∷ spans) = begun walk (word text r) ++ walk_over text (after_run walk (word text r) r) spans
+
+-- only a run that begins with `$` changes the walk or begins a statement
+abbrev pub IsWaiting : Walk → Type 0
+IsWaiting (Inside start begins) = Unit {0}
+IsWaiting (Outside None begins) = begins ≡ false
+IsWaiting (Outside (Some last) begins) = ⊥
+
+-- a walk that waits goes on from the later place as from the first
+pub record PassesDull (text : List ℕ) (at later : ℕ) : Type 0 where
+  pub order : at ≤ later
+  pub within : later ≤ length text
+  pub same : (walk : Walk) → IsWaiting walk → walk_over text walk (runs_behind text at) ≡ walk_over text walk (runs_behind text later)

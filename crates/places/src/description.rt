@@ -1,12 +1,15 @@
 //! The descriptions of statements.
-ghost use Rattle.std.specs.Prelude.{◌≡◌, ◌++◌, IfOk, OnOk};
+ghost use Rattle.std.specs.Prelude.{◌≡◌, ◌++◌, ◌-◌, ◌<◌, ◌≤◌, ℕ, length, slice_index, IfOk, IsTrue, OnOk};
 ghost use Rattle.std.specs.Option.{option_to_list};
+ghost use Rattle.mm_lex.specs.Alphabet.{is_white};
+ghost use Rattle.mm_lex.specs.Comments.{runs_behind};
 ghost use Rattle.mm_read.specs.Statements.{Database};
 ghost use Rattle.mm_read.specs.Reads.{Reads};
 ghost use Rattle.places.specs.Descriptions.{AreDescriptions};
-ghost use Rattle.places.specs.Walk.{after_run, begun};
+ghost use Rattle.places.specs.Walk.{IsWaiting, PassesDull, after_run, begun, walk_over};
 
 use crate::place::ends;
+use memchr::memchr;
 use mm_lex::Span;
 use runs::next_run;
 use std::alloc::{AllocError, Global};
@@ -45,13 +48,73 @@ pub fn descriptions(alloc: Global, text: &[u8]) -> Result<Vec<Option<Span>>, All
         begins: true,
     };
     let mut at = 0;
-    while let Some(span) = next_run(text, at) {
+    while let Some(span) = next_run(text, goes_on_at(text, at, walk)) {
         let word = &text[span.start..span.end];
         add_begun(&mut list, walk, word)?;
         walk = after_run(walk, word, span);
         at = span.end;
     }
     Ok(list)
+}
+
+/// Returns a place from which the walk goes on as from `at`, after runs that change nothing in it.
+///
+/// Does not allocate. Cost: the bytes up to the next `$`.
+fn goes_on_at(text: &[u8], at: usize, walk: Walk) -> usize
+    requires { at ≤ length text.now }
+    ensures within { (at ≤ result) × (result ≤ length text.now) }
+    ensures same { walk_over text.now walk (runs_behind text.now at)
+        ≡ walk_over text.now walk (runs_behind text.now result) }
+{
+    if is_waiting(walk) {
+        dull_end(text, at)
+    } else {
+        at
+    }
+}
+
+/// Tells whether no run changes the walk, or begins a statement, but one that begins with `$`.
+fn is_waiting(walk: Walk) -> bool
+    ensures { IsTrue result → IsWaiting walk }
+{
+    match walk {
+        Walk::Inside { .. } => true,
+        Walk::Outside { last, begins } => last.is_none() && !begins,
+    }
+}
+
+/// Returns where the run stands that has the next `$`, or else the last run.
+fn dull_end(text: &[u8], at: usize) -> usize
+    requires { at ≤ length text.now }
+    ensures { PassesDull text.now at result }
+{
+    let (_, rest) = text.split_at(at);
+    let (plain, _) = rest.split_at(count_plain(rest));
+    at + white_end(plain)
+}
+
+/// Returns how many bytes stand before the first `$`; all if there is none.
+fn count_plain(text: &[u8]) -> usize
+    ensures within { result ≤ length text.now }
+    ensures plain { (k : ℕ) → k < result → slice_index text.now k ≡ 36 → ⊥ }
+{
+    match memchr(b'$', text) {
+        Some(dollar) => dollar,
+        None => text.len(),
+    }
+}
+
+/// Returns where the last white byte ends, or 0.
+fn white_end(text: &[u8]) -> usize
+    ensures within { result ≤ length text.now }
+    ensures white { 0 < result → IsTrue (is_white (slice_index text.now (result - 1))) }
+{
+    for i in (0..text.len()).rev() {
+        if text[i].is_ascii_whitespace() {
+            return i + 1;
+        }
+    }
+    0
 }
 
 /// Appends the description of the statement that begins with the run of this word, if one does.

@@ -1,5 +1,5 @@
 use Rattle.std.proofs.Common.{arith, refl}
-use Rattle.places.proofs.DescriptionLemmas.{listed_none, listed_on, listed_all, walk_describes}
+use Rattle.places.proofs.DescriptionLemmas.{listed_none, listed_on, listed_all, listed_later, walk_describes}
 use Rattle.places.proofs.description.descriptions.Goals as goal
 
 pub loop-span-init : goal.loop-span-init
@@ -8,10 +8,13 @@ loop-span-init c = record { within = omega arith; listed = listed_none c.args.te
 pub loop-span-preserved : goal.loop-span-preserved
 loop-span-preserved c = record {
   within = c.in-Some.ensures.place.within;
-  listed = listed_on c.args.text.now c.loop-span.at c.loop-span.walk _ c.in-Some.span _ _ _ c.loop-span.invariant.listed c.in-Some.ensures.run refl c.in_ok-add_begun.ensures c.after_run-walk.ensures;
+  listed = listed_on c.args.text.now c.goes_on_at.result c.loop-span.walk _ c.in-Some.span _ _ _
+      (listed_later c.args.text.now c.loop-span.at c.goes_on_at.result c.loop-span.walk _ c.loop-span.invariant.listed c.goes_on_at.ensures.same)
+      c.in-Some.ensures.run refl c.in_ok-add_begun.ensures c.after_run-walk.ensures;
 }
 
 pub returns : goal.returns
 returns c = λ S reads.
     walk_describes c.args.text.now S c.loop-span.list.items reads
-    (listed_all c.args.text.now c.loop-span.at c.loop-span.walk c.loop-span.list.items c.loop-span.invariant.listed c.in_default.ensures.run)
+    (listed_all c.args.text.now c.goes_on_at.result c.loop-span.walk c.loop-span.list.items
+    (listed_later c.args.text.now c.loop-span.at c.goes_on_at.result c.loop-span.walk _ c.loop-span.invariant.listed c.goes_on_at.ensures.same) c.in_default.ensures.run)
