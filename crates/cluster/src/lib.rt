@@ -18,5 +18,6 @@ mod memory_keep;
 pub use cell::{NodeCell, apply_on, apply_on_with, belongs, cells, list_on, take_on};
 pub use compare::{Ahead, compare_on};
 pub use events::{begin_on, deliver_on, offer_on, restart_on};
+pub use log::is_same_entry;
 pub use memory_keep::MemoryKeep;
 pub use switch::Switch;

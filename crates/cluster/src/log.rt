@@ -55,15 +55,18 @@ fn is_found(found: Option<&Option<Carried>>, entry: &Option<Carried>) -> bool
     ensures { IsTrue result ↔ (option_map (λ e. e.now) found.entry ≡ Some entry.now) }
 {
     match (found, entry) {
-        (Some(Some(Carried(one))), Some(Carried(other))) => is_same(one, other),
+        (Some(Some(Carried(one))), Some(Carried(other))) => is_same_entry(one, other),
         (Some(None), None) => true,
         _ => false,
     }
 }
 
-/// Tells whether two entries are the same.
-fn is_same(one: &Entry, other: &Entry) -> bool
-    ensures { IsTrue result ↔ (one.now ≡ other.now) }
+/// Tells whether two entries are the same: two texts, or two charters, of one author and serial
+/// number, with the same bytes or names.
+///
+/// Does not allocate. Cost: the size of the smaller of the two.
+pub fn is_same_entry(one: &Entry, other: &Entry) -> bool
+    ensures same { IsTrue result ↔ (one.now ≡ other.now) }
 {
     match (one, other) {
         (Entry::Text(one), Entry::Text(other)) => is_same_text(one, other),

@@ -6,8 +6,8 @@ ghost use Rattle.nodes.specs.Desk.{IsPlayFault};
 ghost use Rattle.nodes.specs.Adding.{IsAddFault, IsOutcome, IsOutcomeOf, first_under, is_under};
 
 use crate::desk::Desk;
-use cluster::NodeCell;
-use library::{Entry, Submission, Verdict};
+use cluster::{NodeCell, is_same_entry};
+use library::{Entry, Verdict};
 use net::StepFault;
 use std::sync::Wait;
 use std::thread;
@@ -170,40 +170,9 @@ fn is_found(found: &Option<Carried>, entry: &Entry) -> bool
     ensures { IsTrue result ↔ (found.now ≡ Some (record { 0 = entry.now })) }
 {
     match found {
-        Some(Carried(found)) => is_same(found, entry),
+        Some(Carried(found)) => is_same_entry(found, entry),
         None => false,
     }
-}
-
-/// Tells whether two entries are the same.
-fn is_same(one: &Entry, other: &Entry) -> bool
-    ensures { IsTrue result ↔ (one.now ≡ other.now) }
-{
-    match (one, other) {
-        (Entry::Text(one), Entry::Text(other)) => is_same_text(one, other),
-        (
-            Entry::Charter {
-                author,
-                serial,
-                names,
-            },
-            Entry::Charter {
-                author: by,
-                serial: number,
-                names: others,
-            },
-        ) => *author == *by && *serial == *number && names.as_slice() == others.as_slice(),
-        _ => false,
-    }
-}
-
-/// Tells whether two texts are the same.
-fn is_same_text(one: &Submission, other: &Submission) -> bool
-    ensures { IsTrue result ↔ (one.now ≡ other.now) }
-{
-    one.author == other.author
-        && one.serial == other.serial
-        && one.text.as_slice() == other.text.as_slice()
 }
 
 /// Returns how many turns node `k` waits after a try, from 0: more than after the one before it,
