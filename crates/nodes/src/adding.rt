@@ -1,8 +1,6 @@
 //! Seeing an entry through to its verdict at a node.
 ghost use Rattle.std.specs.Prelude.{◌≡◌, ◌↔◌, ◌≤◌, ◌<◌, Some, Err, IfErr, IfOk, IsErr, IsOkUnless, IsTrue};
-ghost use Rattle.net.specs.declared.event.Event.TheVariants.{Begin};
 ghost use Rattle.net.specs.declared.fault.StepFault.TheVariants.{Apart, NoNode};
-ghost use Rattle.nodes.specs.Desk.{IsPlayFault};
 ghost use Rattle.nodes.specs.Adding.{IsAddFault, IsOutcome, IsOutcomeOf, first_under, is_under};
 
 use crate::desk::Desk;
@@ -19,6 +17,7 @@ use world::Carried;
 const MOST_TRIES: u32 = 17;
 
 /// How many turns are waited at least after the first try; after each further one, twice as many.
+/// In a turn other threads may run, so it lasts longer on a loaded machine.
 const FIRST_WAIT: u64 = 1024;
 
 /// How often the wait is doubled at most. So all waits together have fewer than 10,000,000 turns.
@@ -31,14 +30,15 @@ const TURNS_AN_ASK: u64 = 64;
 const GOLDEN: u64 = 0x9E37_79B9_7F4A_7C15;
 
 impl<G: Gate, K: Keep<Carried>> Desk<G, K> {
-    /// Submits an entry at node `k`, again and again until a verdict on it is known there, and has
-    /// the node begin a ballot where it does not lead. Returns the verdict, or `Repeat` if the entry
-    /// decided under this author and serial number is another one; `None` if after 17 tries nothing
-    /// is known there.
+    /// Submits an entry at node `k`, again and again until a verdict on it is known there. Returns
+    /// the verdict, or `Repeat` if the entry decided under this author and serial number is another
+    /// one; `None` if after 17 tries nothing is known there.
     ///
-    /// Each try waits longer than the one before it, and each node for another time, so that two
-    /// that begin ballots do not keep stopping each other. An entry that is submitted several times
-    /// is decided once.
+    /// The first try has the node begin a ballot if it does not lead, each later one always: a slot
+    /// whose packets were lost stays open until a ballot proposes it again, even at a node that
+    /// leads, and every later slot waits for it. Each try waits longer than the one before it, and
+    /// each node for another time, so that two that begin ballots do not keep stopping each other.
+    /// An entry that is submitted several times is decided once.
     ///
     /// Errors: those of `submit` but `Busy`, and those of `begin`; `Apart` where the cell is not of
     /// its node; `Memory`. After an error of a later try the entry may still be decided. Cost: 17
@@ -54,7 +54,9 @@ impl<G: Gate, K: Keep<Carried>> Desk<G, K> {
             if known.is_some() {
                 return Ok(known);
             }
-            self.lead(rt, k)?;
+            if turn > 0 || !self.leads(rt, k) {
+                self.begin(rt, k)?;
+            }
             let known = self.awaited(rt, k, entry, wait_after(k, turn))?;
             if known.is_some() {
                 return Ok(known);
@@ -71,16 +73,6 @@ impl<G: Gate, K: Keep<Carried>> Desk<G, K> {
             Err(StepFault::Busy) => Ok(()),
             answer => answer,
         }
-    }
-
-    /// Has node `k` begin a ballot, unless it leads.
-    fn lead<R: Wait>(&self, rt: &R, k: u8) -> Result<(), StepFault>
-        ensures { IfErr result (IsPlayFault (Begin k)) }
-    {
-        if self.leads(rt, k) {
-            return Ok(());
-        }
-        self.begin(rt, k)
     }
 
     /// Tells whether node `k` leads.
