@@ -2,3 +2,4 @@ pub mod Begun
 pub mod Steps
 pub mod Marks
 pub mod RunView
+pub mod Applied
