@@ -55,7 +55,7 @@ fn is_found(found: Option<&Option<Carried>>, entry: &Option<Carried>) -> bool
     ensures { IsTrue result ↔ (option_map (λ e. e.now) found.entry ≡ Some entry.now) }
 {
     match (found, entry) {
-        (Some(Some(Carried(one))), Some(Carried(other))) => is_same_entry(one, other),
+        (Some(Some(Carried(one))), Some(Carried(other))) => is_same(one, other),
         (Some(None), None) => true,
         _ => false,
     }
