@@ -17,7 +17,6 @@ use world::Carried;
 const MOST_TRIES: u32 = 17;
 
 /// How many turns are waited at least after the first try; after each further one, twice as many.
-/// In a turn other threads may run, so it lasts longer on a loaded machine.
 const FIRST_WAIT: u64 = 1024;
 
 /// How often the wait is doubled at most. So all waits together have fewer than 10,000,000 turns.
