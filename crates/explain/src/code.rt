@@ -1,7 +1,8 @@
 //! Finds the rule of proof code that tokens break.
-ghost use Rattle.std.specs.Prelude.{◌≡◌, ◌++◌, ◌<◌, ◌≤◌, ◌^◌, List, length, false, IsTrue, IsFalse, IfOk, MatchOption};
+ghost use Rattle.std.specs.Prelude.{◌≡◌, ◌++◌, ◌<◌, ◌≤◌, ◌^◌, List, length, false, IsTrue, IsFalse, IfOk, IfSome, MatchOption};
 ghost use Rattle.std.specs.List.{list_any, list_all};
 ghost use Rattle.mm_lex.specs.Alphabet.{is_label, has_name};
+ghost use Rattle.proof_code.specs.LabelNames.{AreNames};
 ghost use Rattle.proof_code.specs.declared.item.Item.{Item};
 ghost use Rattle.proof_code.specs.Writes.{Writes, is_compressed, is_unfinished};
 ghost use Rattle.explain.specs.Breaks.{IsFirst, IsBreak, fails, joined};
@@ -9,8 +10,9 @@ ghost use Rattle.explain.specs.Breaks.{IsFirst, IsBreak, fails, joined};
 use crate::broken_letters::letter_break;
 use crate::why::CodeBreak;
 use mm_lex::{WordIter, Words, is_label};
-use proof_code::{MOST_LETTERS, is_compressed};
+use proof_code::{MOST_LETTERS, is_compressed, names_of};
 use std::alloc::{AllocError, Global};
+use std::collections::BTreeSet;
 
 /// A fault of a token of a proof.
 #[derive(Clone, Copy, Drop)]
@@ -35,13 +37,13 @@ pub(crate) fn code_break(
     if tokens.len() > MOST_LETTERS {
         return Err(AllocError);
     }
-    if let Some((token, _)) = first_of(&mut tokens.iter(), mandatory, Test::Unfinished) {
+    if let Some((token, _)) = first_of(&mut tokens.iter(), mandatory, None, Test::Unfinished) {
         return Ok(CodeBreak::Unfinished { token });
     }
     if is_compressed(tokens) {
         return compressed_break(alloc, tokens, mandatory);
     }
-    match first_of(&mut tokens.iter(), mandatory, Test::NotLabel) {
+    match first_of(&mut tokens.iter(), mandatory, None, Test::NotLabel) {
         Some((token, _)) => Ok(CodeBreak::NotLabel { token }),
         None => unreachable!(),
     }
@@ -59,12 +61,32 @@ fn compressed_break(
     requires none { (items : List Item) → ¬ Writes tokens.now mandatory.now items }
     ensures { IfOk result (IsBreak tokens.now mandatory.now) }
 {
+    match names_of(alloc, mandatory) {
+        Some(names) => listed_break(alloc, tokens, mandatory, &names),
+        None => Err(AllocError),
+    }
+}
+
+/// Returns the same, by the names of the mandatory labels.
+fn listed_break(
+    alloc: Global,
+    tokens: &Words,
+    mandatory: &Words,
+    names: &BTreeSet<&[u8]>,
+) -> Result<CodeBreak, AllocError>
+    requires compressed { IsTrue (is_compressed tokens.now) }
+    requires finished { IsFalse (is_unfinished tokens.now) }
+    requires few { length tokens.now ≤ 2 ^ 30 }
+    requires none { (items : List Item) → ¬ Writes tokens.now mandatory.now items }
+    requires named { AreNames names.now mandatory.now }
+    ensures { IfOk result (IsBreak tokens.now mandatory.now) }
+{
     if mandatory.len() > MOST_LETTERS {
         return Err(AllocError);
     }
     let mut words = tokens.iter();
     let _ = words.next();
-    let Some((listed, word)) = first_of(&mut words, mandatory, Test::NotListed) else {
+    let Some((listed, word)) = first_of(&mut words, mandatory, Some(names), Test::NotListed) else {
         return Ok(CodeBreak::Unclosed);
     };
     if word == b")".as_slice() {
@@ -86,18 +108,22 @@ fn compressed_break(
 }
 
 /// Returns the first of the words with this fault, and its index; it and the earlier words are passed.
+///
+/// Cost: the words, times the logarithm of the number of mandatory labels if their names are given, else times that number.
 fn first_of<'a>(
     words: &mut WordIter<'a>,
     mandatory: &Words,
+    names: Option<&BTreeSet<&[u8]>>,
     test: Test,
 ) -> Option<(usize, &'a [u8])>
-    requires { length words.old < 2 ^ 64 }
+    requires few { length words.old < 2 ^ 64 }
+    requires names { IfSome names (λ set. AreNames set.now mandatory.now) }
     ensures { MatchOption result (list_any (fails mandatory.now test) words.old ≡ false)
         (λ r. IsFirst (fails mandatory.now test) words.old r.0 r.1.now words.new) }
 {
     let mut index = 0usize;
     while let Some(word) = words.next() {
-        if fails(word, mandatory, test) {
+        if fails(word, mandatory, names, test) {
             return Some((index, word));
         }
         index += 1;
@@ -106,13 +132,14 @@ fn first_of<'a>(
 }
 
 /// Returns whether the token has this fault.
-fn fails(token: &[u8], mandatory: &Words, test: Test) -> bool
+fn fails(token: &[u8], mandatory: &Words, names: Option<&BTreeSet<&[u8]>>, test: Test) -> bool
+    requires { IfSome names (λ set. AreNames set.now mandatory.now) }
     ensures { result ≡ fails mandatory.now test token.now }
 {
     match test {
         Test::Unfinished => token.contains(&b'?'),
         Test::NotLabel => !is_label(token),
-        Test::NotListed => !is_label(token) || has(mandatory, token),
+        Test::NotListed => !is_label(token) || has(mandatory, names, token),
     }
 }
 
@@ -127,8 +154,13 @@ fn join(alloc: Global, words: &mut WordIter<'_>) -> Result<Vec<u8>, AllocError>
     Ok(letters)
 }
 
-fn has(names: &Words, name: &[u8]) -> bool
-    ensures { result ≡ has_name name.now names.now }
+/// Returns whether it is one of the labels, whose names may be given as a set.
+fn has(labels: &Words, names: Option<&BTreeSet<&[u8]>>, name: &[u8]) -> bool
+    requires { IfSome names (λ set. AreNames set.now labels.now) }
+    ensures { result ≡ has_name name.now labels.now }
 {
-    names.iter().any(|other| name == other)
+    match names {
+        Some(names) => names.contains(name),
+        None => labels.iter().any(|other| name == other),
+    }
 }

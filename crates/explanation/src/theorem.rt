@@ -1,7 +1,6 @@
 //! A `$p` of a text: its parts, and where its proof stands.
-ghost use Rattle.std.specs.Prelude.{IfSome};
-ghost use Rattle.mm_read.specs.declared.stmt.Stmt.{Stmt as Statement};
-ghost use Rattle.verify.specs.Right.{IsProvable};
+ghost use Rattle.std.specs.Prelude.{◌≡◌, IfSome, Some};
+ghost use Rattle.scope.specs.Active.{stmt_at};
 
 use crate::item_spots::Spot;
 use crate::statement_symbols::label_of;
@@ -29,7 +28,9 @@ impl<'a> Theorem<'a> {
         statements: &'a [Stmt],
         at: usize,
     ) -> Option<Theorem<'a>>
-        ensures { IfSome result (λ theorem. (s : Statement) × IsProvable statements.now theorem.at s) }
+        ensures place { IfSome result (λ theorem. theorem.at ≡ at) }
+        ensures parts { IfSome result (λ theorem. stmt_at statements.now theorem.at
+            ≡ Some (Stmt.Prove theorem.label.now theorem.expr.now theorem.proof.now)) }
     {
         let index = at.checked_sub(1)?;
         let Some(Stmt::Prove { label, expr, proof }) = statements.get(index) else {

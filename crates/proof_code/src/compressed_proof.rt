@@ -80,7 +80,7 @@ fn is_among(label: &[u8], labels: &Words) -> bool
 /// Returns the names of the labels in order, or `None` if an allocation failed. Cost: the size of the labels,
 /// times the logarithm of their number.
 #[tactic(auto, using(crate::proofs::LabelNameLemmas::names_more))]
-fn names_of<'a>(alloc: Global, labels: &'a Words) -> Option<BTreeSet<&'a [u8]>>
+pub fn names_of<'a>(alloc: Global, labels: &'a Words) -> Option<BTreeSet<&'a [u8]>>
     ensures { IfSome result (λ names. AreNames names labels.entry.now) }
 {
     let mut names = BTreeSet::new(alloc);

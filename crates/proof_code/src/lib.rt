@@ -19,7 +19,7 @@ mod listing;
 mod normal_proof;
 mod reader;
 
-pub use compressed_proof::{is_compressed, packed};
+pub use compressed_proof::{is_compressed, names_of, packed};
 pub use fault::{CodeFault, is_unfinished, written};
 pub use item::Item;
 pub use items::{Items, Parts};

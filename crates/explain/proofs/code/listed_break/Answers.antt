@@ -2,7 +2,7 @@ use Rattle.std.proofs.Common.{◌≡◌, ◌∷◌, sym, ◌∙◌}
 use Rattle.proof_code.specs.Writes.{begin}
 use Rattle.proof_code.proofs.WritesLemmas.{begins}
 use Rattle.explain.proofs.TokenLemmas.{not-label-listed, finish-listing, letters-broken, letters-write}
-use Rattle.explain.proofs.code.compressed_break.Goals as goal
+use Rattle.explain.proofs.code.listed_break.Goals as goal
 
 pub unreachable-requires : goal.unreachable-requires
 unreachable-requires c =
