@@ -1,6 +1,6 @@
 //! Lines and columns.
 ghost use Rattle.std.specs.Prelude.{◌≡◌, ◌≤◌, length};
-ghost use Rattle.places.specs.Lines.{line_of, IsColumn};
+ghost use Rattle.places.specs.Lines.{BeginsLine, IsColumn, line_of};
 
 /// A line and a column, both counted from 1; columns count bytes.
 #[derive(Clone, Copy, Debug, Drop, PartialEq, Eq)]
@@ -15,16 +15,36 @@ pub fn line_and_column(text: &[u8], offset: usize) -> Position
     ensures line { result.line ≡ line_of text.now offset }
     ensures column { IsColumn text.now offset result.column }
 {
+    let start = line_start(text, offset);
+    Position {
+        line: line_at(text, offset),
+        column: offset - start + 1,
+    }
+}
+
+/// Returns the line of an offset.
+fn line_at(text: &[u8], offset: usize) -> usize
+    requires { offset ≤ length text.now }
+    ensures { result ≡ line_of text.now offset }
+{
     let mut line = 1;
-    let mut start = 0;
     for i in 0..offset {
         if text[i] == b'\n' {
             line += 1;
-            start = i + 1;
         }
     }
-    Position {
-        line,
-        column: offset - start + 1,
+    line
+}
+
+/// Returns where the line of an offset begins.
+fn line_start(text: &[u8], offset: usize) -> usize
+    requires { offset ≤ length text.now }
+    ensures { BeginsLine text.now offset result }
+{
+    for i in (0..offset).rev() {
+        if text[i] == b'\n' {
+            return i + 1;
+        }
     }
+    0
 }
