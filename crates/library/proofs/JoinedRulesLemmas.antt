@@ -1,6 +1,9 @@
 -- The rules over two lists, one after the other.
-use Rattle.library.proofs.Words.{◌≡◌, ℕ, zero, suc, ◌+◌, ◌-◌, [], ◌∷◌, ◌++◌, map, take, slice_get, Option, Some, None, refl, sym, ◌∙◌, ap, subst, arith, append_assoc, append-nil, map-append, Stmt, Prove, Database, bare, bares, before, stmt_at, broken_rule, end_rule, first_broken, or_later, numbered, AllLegal, IsLegal}
+use Rattle.library.proofs.Words.{◌≡◌, ℕ, zero, suc, Bool, true, false, cond, IsTrue, ◌+◌, ◌-◌, [], ◌∷◌, ◌++◌, map, take, slice_get, Option, Some, None, refl, sym, ◌∙◌, ap, subst, arith, append_assoc, append-nil, map-append, Stmt, Prove, Database, bare, bares, before, stmt_at, broken_rule, end_rule, first_broken, or_later, numbered, AllLegal, IsLegal}
 use Rattle.scope.specs.declared.rule.Rule.{Rule}
+use Rattle.scope.specs.declared.rule.Rule.TheVariants.{G10}
+use Rattle.library.specs.Words.{is_closed}
+use Rattle.library.specs.Good.{Good}
 use Rattle.scope.proofs.BareLemmas.{broken_rule-bares, end_rule-bares}
 
 -- each of the statements keeps the rules after those before it
@@ -76,3 +79,14 @@ pub first_broken-taken : (at : ℕ) (S : Database) (s : Stmt) (T : Database) →
 first_broken-taken at S s T legal =
     ap (λ r. or_later at r (first_broken (at + 1) (S ++ s ∷ []) T)) legal
     ∙ first_broken-bares (at + 1) (S ++ s ∷ []) (S ++ bare s ∷ []) T (map-append bare S (s ∷ []) ∙ (ap (λ v. map bare S ++ v ∷ []) (sym (bare-bare s)) ∙ sym (map-append bare S (bare s ∷ []))))
+
+-- where no block breaks a rule at the end, all are closed
+none-open : (at : ℕ) (closed : Bool) → numbered at (cond closed None (Some G10)) ≡ None → closed ≡ true
+none-open at true h = refl
+none-open at false h = cc
+
+-- the blocks of good statements are closed
+pub good_closed : (rules S : Database) → rules ≡ bares S → Good S → IsTrue (is_closed rules)
+good_closed rules S same good =
+    let none : numbered 1 (end_rule S) ≡ None = (none-split 1 1 [] S [] (ap (first_broken 1 []) (append-nil S) ∙ good.legal)).1 in
+    ap is_closed same ∙ none-open 1 (is_closed (bares S)) (ap (numbered 1) (end_rule-bares S) ∙ none)

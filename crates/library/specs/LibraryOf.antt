@@ -40,6 +40,10 @@ pub record Replica : Type 0 where
 abbrev pub empty : Replica
 empty = record { statements = []; decided = []; charter = None }
 
+-- these statements, without verdicts and charter
+abbrev pub holding : Database → Replica
+holding S = record { statements = S; decided = []; charter = None }
+
 -- the verdict first decided on an author's entry of that number
 abbrev pub status : List Decided → ℕ → ℕ → Option Verdict
 status [] author serial = None

@@ -56,6 +56,28 @@ impl CheckedDatabase {
         }
     }
 
+    /// Returns a database of good statements, whose rules and frames these are. Does not allocate.
+    #[tactic(auto, using(crate::proofs::JoinedRulesLemmas::good_closed))]
+    pub(crate) fn of_good(
+        alloc: Global,
+        statements: Vec<Stmt>,
+        mut rules: Rules,
+        frames: Frames,
+    ) -> CheckedDatabase
+        requires good { Good statements.items }
+        requires shaped { AreShaped statements.items }
+        requires rules { rules.statements ≡ bares statements.items }
+        requires frames { frames.statements ≡ bares statements.items }
+        ensures { result ≡ statements.items }
+    {
+        rules.mark();
+        CheckedDatabase {
+            statements,
+            tables: Tables { rules, frames },
+            checkers: Checkers::new(alloc),
+        }
+    }
+
     /// Returns the statements.
     pub(crate) fn statements(&self) -> &[Stmt]
         ensures statements { result.now ≡ self.now }

@@ -3,10 +3,11 @@ ghost use Rattle.std.specs.Prelude.{◌≡◌, ◌≤◌, None, Some, IfOk, IfSo
 ghost use Rattle.library.specs.Added.{Adds};
 ghost use Rattle.library.specs.Good.{Good};
 ghost use Rattle.library.specs.Judging.{ReadsTexts};
-ghost use Rattle.library.specs.LibraryOf.{Applies, empty, status};
+ghost use Rattle.library.specs.LibraryOf.{Applies, empty, holding, status};
 ghost use Rattle.library.specs.LibraryState.{IsDecision, IsWithinSteps, verdict_of};
 ghost use Rattle.library.specs.Unproved.{FindsLeast};
 ghost use Rattle.mm_read.specs.Statements.{AreShaped};
+ghost use Rattle.scope.specs.Active.{bares};
 ghost use Rattle.std.specs.Fn.{FnReturnsAt};
 
 use crate::adding::{Added, Parallel, StepCounts, Tables, add_all, add_all_verifying};
@@ -17,9 +18,10 @@ use crate::entry::Entry;
 use crate::entry_text::{may_declare, read_text};
 use crate::unproved::Proofs;
 use crate::verdict::{Cause, Verdict};
+use frame::Frames;
 use mm_read::{ReadFault, Stmt, read};
 use read_pool::read_by;
-use scope::Steps;
+use scope::{Rules, Steps};
 use std::alloc::{AllocError, Global};
 use std::collections::BTreeMap;
 use std::marker::Model;
@@ -59,6 +61,30 @@ impl Library {
     {
         Library {
             database: CheckedDatabase::new(alloc),
+            standings: BTreeMap::new(alloc),
+            decided: DecidedEntries::none(),
+            charter: None,
+            steps: StepCounts {
+                calling: Steps::new(),
+                ahead: Steps::new(),
+            },
+        }
+    }
+
+    /// Returns a library of good statements, whose rules and frames these are, without verdicts and charter. Does not
+    /// allocate. Nothing is judged: that the statements are good is what the caller knows.
+    ///
+    /// Cost: a constant.
+    pub fn of_good(alloc: Global, statements: Vec<Stmt>, rules: Rules, frames: Frames) -> Library
+        requires good { Good statements.items }
+        requires shaped { AreShaped statements.items }
+        requires rules { rules.statements ≡ bares statements.items }
+        requires frames { frames.statements ≡ bares statements.items }
+        ensures replica { result.replica ≡ holding statements.items }
+        ensures steps { result.steps ≡ 0 }
+    {
+        Library {
+            database: CheckedDatabase::of_good(alloc, statements, rules, frames),
             standings: BTreeMap::new(alloc),
             decided: DecidedEntries::none(),
             charter: None,
