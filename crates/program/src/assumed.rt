@@ -1,15 +1,11 @@
 //! Questions about a database whose `$p` without a right proof are taken as `$a`.
-ghost use Rattle.std.specs.Prelude.{◌≡◌};
-ghost use Rattle.library.specs.LibraryOf.{empty};
 
 use crate::databases::answer_good;
-use crate::each_proof::enter_text;
 use crate::fault::Fault;
 use crate::named_text::NamedText;
-use crate::refused_texts::print_refusal;
 use crate::streams::print;
 use commands::Asked;
-use library::{Library, Verdict};
+use library::Library;
 use mm_read::Stmt;
 use numbers::push_number;
 use std::alloc::{AllocError, Global};
@@ -23,43 +19,44 @@ use verify_pool::Workers;
 const MOST_NAMED: usize = 10;
 
 /// Prints the answer about the statements of a text, each `$p` that is not proved taken as a `$a`;
-/// returns the exit status. Which these are goes to `faults`. No statement of the text breaks a
-/// rule.
+/// returns the exit status. Which these are goes to `faults`.
+///
+/// The library is left to the end of the process, which frees all of it at once.
 pub fn answer_assuming<R: AllocGlobal + Threads + Sync, O: Write, F: Write>(
     rt: &R,
     asked: &Asked<'_>,
     text: NamedText<'_>,
+    entered: Entered,
     output: &mut O,
     faults: &mut F,
 ) -> Result<u8, Fault> {
-    let mut library = Library::new(rt.alloc());
-    let answered = match assume_text(rt, text, &mut library, faults) {
-        Ok(Verdict::Refused(cause)) => print_refusal(rt.alloc(), text, cause, output, faults),
-        Ok(_) => answer_good(rt.alloc(), &library, text, &asked.question, output, faults),
-        Err(fault) => Err(fault),
-    };
+    let library = assume_unproved(rt, entered, faults)?;
+    let answered = answer_good(rt.alloc(), &library, text, &asked.question, output, faults);
     forget(library);
     answered
 }
 
-/// Adds the statements of a text to a library without entries, each `$p` that is not proved taken as
-/// a `$a`; returns the verdict. Which these are goes to `faults`. No statement of the text breaks a
-/// rule.
-pub fn assume_text<R: AllocGlobal + Threads + Sync, F: Write>(
+/// Returns a library of the statements of a text, each `$p` that is not proved taken as a `$a`.
+/// Which these are goes to `faults`.
+pub fn assume_unproved<R: AllocGlobal + Threads + Sync, F: Write>(
     rt: &R,
-    text: NamedText<'_>,
-    library: &mut Library,
+    entered: Entered,
     faults: &mut F,
-) -> Result<Verdict, Fault>
-    requires { library.old.replica ≡ empty }
-{
-    let entered = enter_text(rt.alloc(), text)?;
-    let workers = Workers::offered(rt);
-    let unproved = entered.unproved(rt, workers)?;
-    if let Ok(line) = assumed_line(rt.alloc(), &entered, unproved.as_slice()) {
+) -> Result<Library, AllocError> {
+    let unproved = entered.unproved(rt, Workers::offered(rt))?;
+    tell_assumed(rt.alloc(), &entered, unproved.as_slice(), faults);
+    entered.assume(unproved.as_slice())
+}
+
+/// Prints how many theorems are taken as axioms and the labels of the first, if there are any and if
+/// allocation succeeds.
+fn tell_assumed<F: Write>(alloc: Global, entered: &Entered, unproved: &[usize], faults: &mut F) {
+    if unproved.is_empty() {
+        return;
+    }
+    if let Ok(line) = assumed_line(alloc, entered, unproved) {
         let _ = print(faults, line.as_slice());
     }
-    Ok(entered.assume_into(rt, library, unproved.as_slice(), workers)?)
 }
 
 /// Returns the line that tells how many theorems are taken as axioms, and the labels of the first.

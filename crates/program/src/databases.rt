@@ -1,7 +1,6 @@
 //! A database: read, judged and asked.
 use crate::answers::write_answer;
-use crate::assumed::answer_assuming;
-use crate::each_proof::print_each;
+use crate::each_proof::{answer_bearing, bears_unproved, may_be_unfinished};
 use crate::fault::Fault;
 use crate::named_text::NamedText;
 use crate::refused_questions::print_refused;
@@ -74,6 +73,11 @@ fn ask_library<R: AllocGlobal + Threads + Sync, O: Write, F: Write>(
         name: asked.name,
         bytes: bytes.as_slice(),
     };
+    if bears_unproved(asked) && may_be_unfinished(text.bytes) {
+        if let Some(status) = answer_bearing(rt, asked, text, output, faults)? {
+            return Ok(status);
+        }
+    }
     match judge(rt, library, bytes)? {
         Verdict::Refused(cause) => answer_refused(rt, asked, text, cause, output, faults),
         _ => answer_good(rt.alloc(), library, text, &asked.question, output, faults),
@@ -132,12 +136,10 @@ fn answer_refused<R: AllocGlobal + Threads + Sync, O: Write, F: Write>(
     output: &mut O,
     faults: &mut F,
 ) -> Result<u8, Fault> {
-    if let Cause::Proof { .. } | Cause::Unfinished { .. } = cause {
-        if let Question::CheckEach = asked.question {
-            return print_each(rt, text, output, faults);
-        }
-        if asked.assumes {
-            return answer_assuming(rt, asked, text, output, faults);
+    let is_unproved = matches!(cause, Cause::Proof { .. } | Cause::Unfinished { .. });
+    if is_unproved && bears_unproved(asked) {
+        if let Some(status) = answer_bearing(rt, asked, text, output, faults)? {
+            return Ok(status);
         }
     }
     print_refusal(rt.alloc(), text, cause, output, faults)

@@ -1,18 +1,23 @@
-//! The command `check --all`: each `$p` that is not proved.
+//! Questions about a text whose `$p` need not be proved.
 ghost use Rattle.std.specs.Prelude.{length};
 ghost use Rattle.std.specs.List.{All};
 ghost use Rattle.unproved.specs.Unproved.{IsWithin};
 
 use crate::answers::push_proved;
+use crate::assumed::answer_assuming;
 use crate::fault::Fault;
 use crate::named_text::NamedText;
 use crate::streams::print;
+use commands::{Asked, Question};
 use explanation::{TextTokens, explain_unproved};
-use library::Verdict;
-use mm_read::read;
+use library::{MOST_BYTES, Verdict};
+use memchr::memchr2_iter;
+use mm_read::ReadFault;
 use printed::push_verdict;
+use read_pool::read_by;
 use std::alloc::{AllocError, Global};
 use std::io::Write;
+use std::mem::forget;
 use std::thread::Threads;
 use unproved::Entered;
 use verify_pool::Workers;
@@ -20,16 +25,77 @@ use verify_pool::Workers;
 /// How many lines are explained.
 const MOST_EXPLAINED: usize = 100;
 
-/// Prints a line for each `$p` of a text that is not proved, how many are proved, and the reasons of
-/// the first lines on `faults`; returns the exit status. No statement of the text breaks a rule.
-pub fn print_each<R: AllocGlobal + Threads + Sync, O: Write, F: Write>(
+/// Tells whether the answer to a question is known although some `$p` are not proved.
+pub fn bears_unproved(asked: &Asked<'_>) -> bool {
+    asked.assumes || matches!(asked.question, Question::CheckEach)
+}
+
+/// Tells whether a byte `?` stands outside the comments of a text, so that a proof is unfinished.
+/// No answer depends on it: such a text is not judged whole before its proofs are judged one by one.
+///
+/// Cost: the size of the text.
+pub fn may_be_unfinished(text: &[u8]) -> bool {
+    let mut is_in_comment = false;
+    for at in memchr2_iter(b'$', b'?', text) {
+        match (text.get(at), text.get(at.saturating_add(1))) {
+            (Some(b'?'), _) if !is_in_comment => return true,
+            (Some(b'$'), Some(b'(')) => is_in_comment = true,
+            (Some(b'$'), Some(b')')) => is_in_comment = false,
+            _ => {}
+        }
+    }
+    false
+}
+
+/// Answers a question that bears `$p` that are not proved; returns the exit status, or `None` if the
+/// text does not read or breaks a rule.
+pub fn answer_bearing<R: AllocGlobal + Threads + Sync, O: Write, F: Write>(
     rt: &R,
+    asked: &Asked<'_>,
     text: NamedText<'_>,
     output: &mut O,
     faults: &mut F,
+) -> Result<Option<u8>, Fault> {
+    let Some(entered) = enter_text(rt, text)? else {
+        return Ok(None);
+    };
+    let status = match asked.question {
+        Question::CheckEach => print_each(rt, text, entered, output, faults)?,
+        _ => answer_assuming(rt, asked, text, entered, output, faults)?,
+    };
+    Ok(Some(status))
+}
+
+/// Returns the statements of a text with their frames, or `None` if it does not read or breaks a
+/// rule.
+pub fn enter_text<R: AllocGlobal + Threads + Sync>(
+    rt: &R,
+    text: NamedText<'_>,
+) -> Result<Option<Entered>, AllocError> {
+    if text.bytes.len() > MOST_BYTES {
+        return Ok(None);
+    }
+    match read_by(rt, rt.alloc(), text.bytes, Workers::offered(rt).count()) {
+        Ok(statements) => Entered::new(rt.alloc(), statements),
+        Err(ReadFault::Memory) => Err(AllocError),
+        Err(_) => Ok(None),
+    }
+}
+
+/// Prints a line for each `$p` of a text that is not proved, how many are proved, and the reasons of
+/// the first lines on `faults`; returns the exit status.
+///
+/// The statements are left to the end of the process, which frees all of them at once.
+fn print_each<R: AllocGlobal + Threads + Sync, O: Write, F: Write>(
+    rt: &R,
+    text: NamedText<'_>,
+    entered: Entered,
+    output: &mut O,
+    faults: &mut F,
 ) -> Result<u8, Fault> {
-    let entered = enter_text(rt.alloc(), text)?;
-    print_unproved(rt, text, &entered, output, faults)
+    let printed = print_unproved(rt, text, &entered, output, faults);
+    forget(entered);
+    printed
 }
 
 /// Prints these lines and reasons for the statements of a text.
@@ -44,16 +110,11 @@ fn print_unproved<R: AllocGlobal + Threads + Sync, O: Write, F: Write>(
     let unproved = entered.unproved(rt, Workers::offered(rt))?;
     let lines = lines(alloc, entered, unproved.as_slice())?;
     print(output, lines.as_slice())?;
-    explain_each(alloc, text, entered, unproved.as_slice(), faults);
-    Ok(if unproved.is_empty() { 0 } else { 1 })
-}
-
-/// Returns the statements of a text that reads and breaks no rule, with their frames.
-pub fn enter_text(alloc: Global, text: NamedText<'_>) -> Result<Entered, AllocError> {
-    match read(alloc, text.bytes) {
-        Ok(statements) => Entered::new(alloc, statements)?.ok_or(AllocError),
-        Err(_) => Err(AllocError),
+    if unproved.is_empty() {
+        return Ok(0);
     }
+    explain_each(alloc, text, entered, unproved.as_slice(), faults);
+    Ok(1)
 }
 
 /// Returns the line of each `$p` at these positions, and how many of the others are proved.

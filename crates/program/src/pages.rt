@@ -1,9 +1,7 @@
 //! The command `pages`: a site of a database.
-ghost use Rattle.std.specs.Prelude.{◌≡◌};
-ghost use Rattle.library.specs.LibraryOf.{empty};
-
-use crate::assumed::assume_text;
+use crate::assumed::assume_unproved;
 use crate::databases::judge;
+use crate::each_proof::enter_text;
 use crate::fault::Fault;
 use crate::named_text::NamedText;
 use crate::refused_texts::print_refusal;
@@ -17,6 +15,7 @@ use std::alloc::{AllocError, Global};
 use std::io::{Read, Write};
 use std::mem::forget;
 use std::thread::Threads;
+use unproved::Entered;
 
 /// Writes a page of each assertion of a database into the folder that is asked for, a list of them
 /// and a style sheet; returns the exit status. The reason of a refusal goes to `faults`, and so does
@@ -83,43 +82,37 @@ fn print_refused<R: AllocGlobal + Threads + Sync, O: Write, F: Write, S: Folder>
     folder: &mut S,
 ) -> Result<u8, Fault> {
     let is_unproved = matches!(cause, Cause::Proof { .. } | Cause::Unfinished { .. });
-    if !is_unproved || !asked.assumes {
-        let Streams { output, faults } = streams;
-        return print_refusal(rt.alloc(), text, cause, output, faults);
+    if is_unproved && asked.assumes {
+        if let Some(entered) = enter_text(rt, text)? {
+            return assume_and_print(rt, asked, text, entered, streams, folder);
+        }
     }
-    let mut library = Library::new(rt.alloc());
-    let answered = assume_and_print(rt, asked, text, &mut library, streams, folder);
-    forget(library);
-    answered
+    let Streams { output, faults } = streams;
+    print_refusal(rt.alloc(), text, cause, output, faults)
 }
 
-/// Adds a text to an empty library, each `$p` that is not proved taken as a `$a`, and writes the pages of
-/// that.
+/// Writes the pages of the statements of a text, each `$p` that is not proved taken as a `$a`.
 fn assume_and_print<R: AllocGlobal + Threads + Sync, O: Write, F: Write, S: Folder>(
     rt: &R,
     asked: SiteQuestion<'_>,
     text: NamedText<'_>,
-    library: &mut Library,
+    entered: Entered,
     streams: Streams<'_, O, F>,
     folder: &mut S,
-) -> Result<u8, Fault>
-    requires { library.old.replica ≡ empty }
-{
+) -> Result<u8, Fault> {
     let Streams { output, faults } = streams;
-    match assume_text(rt, text, library, faults)? {
-        Verdict::Refused(cause) => print_refusal(rt.alloc(), text, cause, output, faults),
-        _ => {
-            let streams = Streams { output, faults };
-            print_site(
-                rt.alloc(),
-                library,
-                text.bytes,
-                asked.folder,
-                streams,
-                folder,
-            )
-        }
-    }
+    let library = assume_unproved(rt, entered, faults)?;
+    let streams = Streams { output, faults };
+    let answered = print_site(
+        rt.alloc(),
+        &library,
+        text.bytes,
+        asked.folder,
+        streams,
+        folder,
+    );
+    forget(library);
+    answered
 }
 
 /// Writes the files of the site of a library that was read from a text, and returns the exit status. The

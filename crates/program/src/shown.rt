@@ -2,6 +2,7 @@
 use crate::fault::Fault;
 use crate::named_text::NamedText;
 use library::{AskFault, Library};
+use memchr::memchr_iter;
 use mm_lex::{Span, tokens};
 use places::{Position, descriptions, line_and_column};
 use statement_blocks::{Shown, push_block};
@@ -13,10 +14,8 @@ struct Written<'a> {
     /// The name of the file, which stands before each place.
     name: Option<&'a str>,
     text: &'a [u8],
-    /// The places of its tokens.
-    spans: &'a [Span],
-    /// The index of the first token of each statement.
-    firsts: &'a [usize],
+    /// The offset after the last token of each statement, in order.
+    ends: &'a [usize],
 }
 
 /// Returns the block of the statement of each label, with an empty line between two.
@@ -29,15 +28,11 @@ pub fn blocks(
     labels: &[&str],
 ) -> Result<Vec<u8>, Fault> {
     let positions = positions(alloc, library, labels)?;
-    let Ok(spans) = tokens(alloc, text.bytes) else {
-        return Err(Fault::Memory(AllocError));
-    };
-    let firsts = first_tokens(alloc, text.bytes, spans.as_slice())?;
+    let ends = ends(alloc, text.bytes)?;
     let written = Written {
         name: text.name,
         text: text.bytes,
-        spans: spans.as_slice(),
-        firsts: firsts.as_slice(),
+        ends: ends.as_slice(),
     };
     let mut blocks = Vec::new(alloc);
     for at in positions.as_slice() {
@@ -61,17 +56,42 @@ fn positions(alloc: Global, library: &Library, labels: &[&str]) -> Result<Vec<us
     Ok(positions)
 }
 
-/// Returns the index of the first token of each statement, among the tokens of a text.
-fn first_tokens(alloc: Global, text: &[u8], spans: &[Span]) -> Result<Vec<usize>, AllocError> {
-    let mut firsts = Vec::new(alloc);
-    let mut begins = true;
-    for (i, span) in spans.iter().enumerate() {
-        if begins {
-            firsts.push(i)?;
+/// Returns the offset after the last token of each statement of a text that reads.
+///
+/// Cost: the size of the text.
+fn ends(alloc: Global, text: &[u8]) -> Result<Vec<usize>, AllocError> {
+    let mut ends = Vec::new(alloc);
+    let mut is_in_comment = false;
+    for at in memchr_iter(b'$', text) {
+        match keyword(text, at) {
+            Some(b')') => is_in_comment = false,
+            Some(b'(') => is_in_comment = true,
+            Some(b'.' | b'{' | b'}') if !is_in_comment => ends.push(at.saturating_add(2))?,
+            _ => {}
         }
-        begins = is_last(text.get(span.start..span.end));
     }
-    Ok(firsts)
+    Ok(ends)
+}
+
+/// Returns the byte after the `$` at an offset, if the two make a run.
+fn keyword(text: &[u8], at: usize) -> Option<u8> {
+    let begins = match at.checked_sub(1) {
+        Some(before) => is_white(text, before),
+        None => true,
+    };
+    if begins && is_white(text, at.saturating_add(2)) {
+        text.get(at.saturating_add(1)).copied()
+    } else {
+        None
+    }
+}
+
+/// Tells whether no byte of a run stands at an offset.
+fn is_white(text: &[u8], at: usize) -> bool {
+    match text.get(at) {
+        Some(byte) => byte.is_ascii_whitespace(),
+        None => true,
+    }
 }
 
 /// Appends the block of the statement at a position, if one stands there.
@@ -86,17 +106,15 @@ fn push_shown(
     if at == 0 || at > statements.len() {
         return Ok(());
     }
-    let Some(first) = written.firsts.get(at - 1).copied() else {
-        return Ok(());
-    };
-    let part = with_comments(written, first);
+    let begin = begin(written, at);
+    let part = part(written, begin, at);
     let descriptions = descriptions(alloc, part)?;
     let shown = Shown {
         statements,
         frames: library.frames(),
         statement: &statements[at - 1],
         at,
-        place: position(written, first),
+        place: position(alloc, written, begin, part)?,
         description: first_description(part, descriptions.as_slice()),
     };
     if let Some(name) = written.name {
@@ -106,40 +124,38 @@ fn push_shown(
     push_block(alloc, blocks, &shown)
 }
 
-/// Returns where the token of this index stands.
-fn position(written: &Written<'_>, token: usize) -> Position {
-    let offset = match written.spans.get(token) {
-        Some(span) => span.start.min(written.text.len()),
+/// Returns the offset after the statement before the one at a position.
+fn begin(written: &Written<'_>, at: usize) -> usize {
+    match at.checked_sub(2) {
+        Some(before) => written.ends.get(before).copied().unwrap_or(0),
         None => 0,
-    };
-    line_and_column(written.text, offset)
+    }
 }
 
-/// Returns the text of the statement that begins with the token of this index, with all comments
-/// between the statement before and it. Read alone, the part has the same description.
-fn with_comments<'a>(written: &Written<'a>, token: usize) -> &'a [u8] {
-    let begin = match token.checked_sub(1) {
-        Some(before) => written.spans.get(before).map_or(0, |span| span.end),
-        None => 0,
-    };
-    let mut end = begin;
-    for span in written.spans.iter().skip(token) {
-        end = span.end;
-        if is_last(written.text.get(span.start..span.end)) {
-            break;
-        }
+/// Returns the text of the statement at a position, with all comments between the statement before,
+/// which ends at `begin`, and it. Read alone, the part has the same description.
+fn part<'a>(written: &Written<'a>, begin: usize, at: usize) -> &'a [u8] {
+    match written.ends.get(at.saturating_sub(1)) {
+        Some(end) => written.text.get(begin..*end).unwrap_or(b""),
+        None => b"",
     }
-    written.text.get(begin..end).unwrap_or(b"")
 }
 
-/// Tells whether the statement of this word does not go on after it.
-fn is_last(word: Option<&[u8]>) -> bool {
-    match word {
-        Some(word) => word == b"$.".as_slice()
-            || word == b"${".as_slice()
-            || word == b"$}".as_slice(),
-        None => true,
-    }
+/// Returns where the first token of a part of the text stands that begins at `begin`.
+fn position(
+    alloc: Global,
+    written: &Written<'_>,
+    begin: usize,
+    part: &[u8],
+) -> Result<Position, AllocError> {
+    let Ok(spans) = tokens(alloc, part) else {
+        return Err(AllocError);
+    };
+    let offset = match spans.first() {
+        Some(span) => begin.saturating_add(span.start),
+        None => begin,
+    };
+    Ok(line_and_column(written.text, offset.min(written.text.len())))
 }
 
 /// Returns the first of these places in a text, if the first statement has a description.

@@ -135,3 +135,7 @@ module _ (S : Database) (list : List ℕ) (legal : AllLegal S) (are : AreUnprove
         let within = stands-within S at s w.0.stands in
         proved-still at s p w.0 (proved-else S 0 (length S) list at are (omega (arith, within.0)) within.1 w.1 s w.0);
   }
+
+-- for the code: the statements of a database, with exactly its unproved `$p` assumed
+pub good_assumed : (S : Database) (list : List ℕ) → AllLegal S → AreUnproved S 0 (length S) list → Good (assumed S list)
+good_assumed S list legal are = assumed-good S list legal are

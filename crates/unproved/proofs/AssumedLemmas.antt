@@ -1,15 +1,9 @@
--- Statements whose unproved `$p` are taken as `$a`, and the empty library that adds them.
-use Rattle.std.proofs.Common.{◌≡◌, ℕ, zero, suc, ◌+◌, ◌-◌, ◌<◌, List, [], ◌∷◌, ◌∙◌, length, drop, get_or, slice_set, Some, Result, Ok, Err, IfOk, ap, subst, sym, arith, true}
+-- Statements whose unproved `$p` are taken as `$a`.
+use Rattle.std.proofs.Common.{◌≡◌, ℕ, zero, suc, ◌+◌, ◌-◌, ◌<◌, List, [], ◌∷◌, ◌∙◌, length, drop, get_or, slice_set, Some, ap, sym, arith, true}
 use Rattle.std.proofs.lemmas.Bool.{and_parts}
 use Rattle.std.proofs.lemmas.List.{drop_more, get_or_default}
 use Rattle.std.specs.List.{list_all}
-use Rattle.library.specs.Words.{AreShaped, Database, Prove, Reads, Stmt}
-use Rattle.library.specs.LibraryOf.{Applies, Replica, empty}
-use Rattle.library.specs.declared.entry.Entry.TheVariants.{Text}
-use Rattle.library.specs.declared.submission.Submission.{Submission}
-use Rattle.library.specs.declared.verdict.Verdict.{Verdict}
-use Rattle.library.specs.declared.verdict.Verdict.TheVariants.{Added}
-use Rattle.mm_read.proofs.OneReading.{one_reading}
+use Rattle.library.specs.Words.{AreShaped, Database, Prove, Stmt}
 use Rattle.mm_read.specs.Statements.{is_shaped}
 use Rattle.mm_read.specs.declared.stmt.Stmt.TheVariants.{Open}
 use Rattle.unproved.specs.Unproved.{as_axiom, assumed}
@@ -49,14 +43,3 @@ module _ (S : Database) (list : List ℕ) (i : ℕ) (old new : Stmt) (less : i <
   shaped-on h =
       let e : is_shaped old ≡ true = ap is_shaped was ∙ shaped-get S (get_or list i 0 - 1) old within h in
       shaped-set S (get_or list i 0 - 1) new h (ap is_shaped now ∙ shaped-axiom old e)
-
--- what an empty replica adds is what the text of the entry reads as
-added-here : (S : Database) (new : Replica) (submission : Submission) → Reads submission.text S → Applies empty (Some (Text submission)) Added new → new.statements ≡ S
-added-here S new submission reads step =
-    ap (λ r. r.statements) step.3 ∙ one_reading submission.text step.0 step.1.readable.read S reads
-
-pub added_empty : {E : Type 0} (S : Database) (old new : Replica) (submission : Submission) (r : Result Verdict E) → old ≡ empty → Reads submission.text S
-    → IfOk r (λ v. Applies old (Some (Text submission)) v new) → IfOk r (λ v. v ≡ Added → new.statements ≡ S)
-added_empty S old new submission (Ok verdict) e reads step =
-    λ is. added-here S new submission reads (subst (λ v. Applies empty (Some (Text submission)) v new) is (subst (λ o. Applies o (Some (Text submission)) verdict new) e step))
-added_empty S old new submission (Err error) e reads step = step

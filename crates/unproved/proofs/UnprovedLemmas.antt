@@ -58,14 +58,14 @@ module _ (S : Database) where
       least-more list are = one-more 0 front (front + i + 1) list (omega arith) are (omega arith) least.wrong.1 least-between
 
   -- each position of the list is one of so many statements
-  all-within : (front end : ℕ) (list : List ℕ) → AreUnproved S front end list → All (IsWithin end) list
-  all-within front end [] are = All-nil (IsWithin end)
-  all-within front end (at ∷ list) are =
+  pub all_within : (front end : ℕ) (list : List ℕ) → AreUnproved S front end list → All (IsWithin end) list
+  all_within front end [] are = All-nil (IsWithin end)
+  all_within front end (at ∷ list) are =
       let low = are.0 in
-      All-cons (IsWithin end) at list (omega (arith, low), are.1) (all-within at end list are.4)
+      All-cons (IsWithin end) at list (omega (arith, low), are.1) (all_within at end list are.4)
 
   pub found_within : {E : Type 0} (end : ℕ) (r : Result (Vec ℕ Global) E) → IfOk r (λ list. AreUnproved S 0 end list.items) → IfOk r (λ list. All (IsWithin end) list.items)
-  found_within end (Ok list) are = all-within 0 end list.items are
+  found_within end (Ok list) are = all_within 0 end list.items are
   found_within end (Err error) are = are
 
   -- where no `$p` of a stretch is wrong any more, the list is that of the stretch too

@@ -2,7 +2,7 @@
 -- Source: Metamath, 4.2.6 and appendix B; that each is judged by itself is this project's.
 -- The code judges some statements in parallel, and then goes on from each that is not proved.
 use Rattle.std.specs.Prelude.{◌≡◌, ℕ, ◌-◌, ◌<◌, ◌≤◌, List, [], ◌∷◌, get_or, slice_set, IsTrue, IsFalse, Some}
-use Rattle.library.specs.Words.{AreShaped, Stmt, Database, Prove, Axiom, bares, proof_of, stmt_at, is_unfinished}
+use Rattle.library.specs.Words.{AllLegal, AreShaped, Stmt, Database, Prove, Axiom, bares, proof_of, stmt_at, is_unfinished}
 use Rattle.mm_read.specs.declared.stmt.Stmt.TheVariants.{Open}
 use Rattle.library.specs.Judging.{StandsProved}
 use Rattle.library.specs.declared.verdict.Cause.{Cause}
@@ -37,7 +37,9 @@ assumed S (at ∷ list) = assumed (slice_set S (at - 1) (as_axiom (get_or S (at 
 abbrev pub IsWithin : ℕ → ℕ → Type 0
 IsWithin count at = (1 ≤ at) × (at ≤ count)
 
--- well-shaped statements, and their frames
-pub record IsEntered (frames S : Database) : Type 0 where
+-- well-shaped and legal statements, with their rules and frames
+pub record IsEntered (rules frames S : Database) : Type 0 where
+  pub rules_are : rules ≡ bares S
   pub same : frames ≡ bares S
   pub shaped : AreShaped S
+  pub legal : AllLegal S

@@ -1,32 +1,32 @@
-//! The statements of a text, with their frames.
+//! The statements of a text, with their rules and frames.
 ghost use Rattle.std.specs.Prelude.{◌≡◌, ◌≤◌, ℕ, [], length, Ok, Some, None, IfOk, IfSome};
 ghost use Rattle.std.specs.List.{All};
-ghost use Rattle.mm_read.specs.Reads.{Reads};
 ghost use Rattle.mm_read.specs.Statements.{AreShaped};
 ghost use Rattle.scope.specs.Active.{bares};
 ghost use Rattle.scope.specs.Legal.{AllLegal};
-ghost use Rattle.library.specs.LibraryOf.{empty};
-ghost use Rattle.library.specs.declared.verdict.Verdict.TheVariants.{Added};
-ghost use Rattle.unproved.specs.Unproved.{AreUnproved, CauseAt, IsWithin, as_axiom, assumed};
+ghost use Rattle.library.specs.Good.{Good};
+ghost use Rattle.library.specs.LibraryOf.{holding};
+ghost use Rattle.unproved.specs.Unproved.{AreUnproved, CauseAt, IsEntered, IsWithin, as_axiom, assumed};
 
 use crate::search::{Search, find_all};
-use bytes::Bytes;
 use frame::Frames;
-use library::{Cause, Entry, Library, Submission, Verdict};
-use mm_read::{Stmt, spell};
+use library::{Cause, Library};
+use mm_read::Stmt;
 use proof_code::is_unfinished;
 use scope::{Rule, Rules, Steps};
 use std::alloc::{AllocError, Global};
 use std::marker::Model;
 use std::mem::replace;
 use std::thread::Threads;
-use verify_pool::{OpenGate, Workers};
+use verify_pool::Workers;
 
-/// The statements of a text, with their frames. Contracts see the statements.
+/// The statements of a text that break no rule, with their rules and frames. Contracts see the
+/// statements.
 #[derive(Drop)]
 pub struct Entered {
     alloc: Global,
     statements: Vec<Stmt>,
+    rules: Rules,
     frames: Frames,
 }
 
@@ -38,11 +38,12 @@ impl Model for Entered {
 
     ghost view = { λ a. a.statements.items };
 
-    ghost invariant = { λ a. IsEntered a.frames.statements a.statements.items };
+    ghost invariant = { λ a. IsEntered a.rules.statements a.frames.statements a.statements.items };
 }
 
 impl Entered {
-    /// Makes the frames of the statements of a text. Returns `None` if a statement is not legal.
+    /// Makes the frames of the statements of a text. Returns `None` if a statement is not legal or a
+    /// block is open at the end.
     ///
     /// Errors: an allocation fails. Cost: the size of the statements.
     /// Source: Metamath, chapter 4.
@@ -59,6 +60,7 @@ impl Entered {
         Ok(Some(Entered {
             alloc,
             statements,
+            rules,
             frames,
         }))
     }
@@ -81,8 +83,8 @@ impl Entered {
     /// Finds every `$p` that is not proved, each judged against the statements before it. Returns
     /// their positions, in order. No answer depends on the number of workers.
     ///
-    /// Errors: an allocation fails. Cost: that of the proofs over the workers, and for each 4,096
-    /// statements with one that is not proved once more theirs, on the calling thread.
+    /// Errors: an allocation fails. Cost: that of the proofs over the workers; those that follow a
+    /// wrong one among 2,048 statements are judged once more, on the calling thread.
     /// Source: Metamath, 4.2.6 and appendix B.
     pub fn unproved<R: Threads + Sync>(
         &self,
@@ -102,25 +104,32 @@ impl Entered {
         find_all(&search)
     }
 
-    /// Adds the statements to a library without entries, each `$p` at one of these positions taken
-    /// as a `$a` with the same label and expression. Returns the verdict of the library.
+    /// Makes a library of the statements, each unproved `$p` taken as a `$a` with the same label and
+    /// expression. No proof is judged once more.
     ///
-    /// Errors: an allocation fails. Cost: that of the text of these statements, over the workers.
-    pub fn assume_into<R: Threads + Sync>(
-        self,
-        rt: &R,
-        library: &mut Library,
-        unproved: &[usize],
-        workers: Workers,
-    ) -> Result<Verdict, AllocError>
-        requires within { All (IsWithin (length self)) unproved.now }
-        requires empty { library.old.replica ≡ empty }
-        ensures { IfOk result (λ verdict. verdict ≡ Added
-            → library.new.replica.statements ≡ assumed self unproved.now) }
+    /// Errors: an allocation fails. Cost: the size of the statements.
+    #[tactic(auto, using(crate::proofs::AssumedGoodLemmas::good_assumed, crate::proofs::UnprovedLemmas::all_within))]
+    pub fn assume(self, unproved: &[usize]) -> Result<Library, AllocError>
+        requires { AreUnproved self 0 (length self) unproved.now }
+        ensures { IfOk result (λ library. library.replica ≡ holding (assumed self unproved.now)) }
     {
         let alloc = self.alloc;
         let statements = self.assumed(unproved);
-        add_to_empty(rt, alloc, library, statements.as_slice(), workers)
+        enter_good(alloc, statements)
+    }
+
+    /// Makes a library of the statements, which are good.
+    fn into_library(self) -> Library
+        requires { Good self }
+        ensures { result.replica ≡ holding self }
+    {
+        let Entered {
+            alloc,
+            statements,
+            rules,
+            frames,
+        } = self;
+        Library::of_good(alloc, statements, rules, frames)
     }
 
     /// Returns the statements, each `$p` at one of these positions taken as a `$a`.
@@ -151,37 +160,17 @@ impl Entered {
     }
 }
 
-/// Adds statements to a library without entries, as a text in the export form.
-fn add_to_empty<R: Threads + Sync>(
-    rt: &R,
-    alloc: Global,
-    library: &mut Library,
-    statements: &[Stmt],
-    workers: Workers,
-) -> Result<Verdict, AllocError>
-    requires shaped { AreShaped statements.now }
-    requires empty { library.old.replica ≡ empty }
-    ensures { IfOk result (λ verdict. verdict ≡ Added
-        → library.new.replica.statements ≡ statements.now) }
+/// Makes a library of good statements.
+///
+/// Errors: an allocation fails. Cost: the size of the statements.
+fn enter_good(alloc: Global, statements: Vec<Stmt>) -> Result<Library, AllocError>
+    requires shaped { AreShaped statements.items }
+    requires good { Good statements.items }
+    ensures { IfOk result (λ library. library.replica ≡ holding statements.items) }
 {
-    let text = text_of(alloc, statements)?;
-    let entry = Entry::Text(Submission {
-        author: 0,
-        serial: 0,
-        text,
-    });
-    library.apply_with(rt, Some(&entry), workers, &OpenGate)
-}
-
-/// Returns the statements as a text in the export form.
-fn text_of(alloc: Global, statements: &[Stmt]) -> Result<Bytes, AllocError>
-    requires { AreShaped statements.now }
-    ensures { IfOk result (λ text. Reads text statements.now) }
-{
-    let text = spell(alloc, statements)?;
-    match Bytes::from_vec(text) {
-        Ok(text) => Ok(text),
-        Err(_failed) => Err(AllocError),
+    match Entered::new(alloc, statements)? {
+        Some(entered) => Ok(entered.into_library()),
+        None => unreachable!(),
     }
 }
 
@@ -213,7 +202,8 @@ fn assume(statement: &mut Stmt)
 }
 
 /// Adds the statements to rules and frames that have none, up to the first that is not legal.
-/// Returns its number from 1, or `None` if all are legal.
+/// Returns its number from 1, for an open block one more than that of the last; or `None` if all are
+/// legal.
 fn enter(
     rules: &mut Rules,
     frames: &mut Frames,
@@ -222,9 +212,11 @@ fn enter(
     requires shaped { AreShaped statements.now }
     requires no_rules { rules.old.statements ≡ [] }
     requires no_frames { frames.old.statements ≡ [] }
-    ensures entered { result ≡ Ok None → frames.new.statements ≡ bares statements.now }
+    ensures entered { result ≡ Ok None
+        → IsEntered rules.new.statements frames.new.statements statements.now }
     ensures broken { (at : ℕ) → result ≡ Ok (Some at) → ¬ AllLegal statements.now }
 {
+    frames.reserve(statements.len() / 2);
     let mut steps = Steps::new();
     for (index, statement) in statements.iter().enumerate() {
         if let Err(rule) = frames.add(rules, statement, &mut steps) {
@@ -234,5 +226,8 @@ fn enter(
             return Ok(Some(index + 1));
         }
     }
-    Ok(None)
+    match rules.close_at_end() {
+        Ok(()) => Ok(None),
+        Err(_open) => Ok(Some(statements.len() + 1)),
+    }
 }

@@ -1,5 +1,5 @@
 //! All `$p` that are not proved.
-ghost use Rattle.std.specs.Prelude.{◌≡◌, ◌-◌, ◌≤◌, [], length, IfOk, OnOk};
+ghost use Rattle.std.specs.Prelude.{◌≡◌, ◌-◌, ◌<◌, ◌≤◌, [], length, IfOk, OnOk};
 ghost use Rattle.scope.specs.Active.{bares};
 ghost use Rattle.unproved.specs.Stretches.{IsLeastIn};
 ghost use Rattle.unproved.specs.Unproved.{AreUnproved};
@@ -7,12 +7,16 @@ ghost use Rattle.unproved.specs.Unproved.{AreUnproved};
 use crate::stretch::Stretch;
 use frame::Frames;
 use mm_read::Stmt;
+use proof_code::is_unfinished;
 use std::alloc::{AllocError, Global};
 use std::thread::Threads;
 use verify_pool::{Checkers, OpenGate, Workers, judge_all, judge_here};
 
-/// How many statements are judged in parallel before the next.
-const STRETCH: usize = 4_096;
+/// How many statements are judged in parallel before the next, at most.
+const STRETCH: usize = 2_048;
+
+/// How many statements are judged on the calling thread, since threads would cost more.
+const FEW: usize = 32;
 
 /// Statements with their frames, and the workers that judge them.
 #[derive(Drop)]
@@ -26,8 +30,8 @@ pub(crate) struct Search<'a, R: Threads + Sync> {
 
 /// Returns the positions of the `$p` that are not proved, in order.
 ///
-/// Errors: an allocation fails. Cost: that of the proofs over the workers, and once more that of
-/// the stretches in which one is not proved.
+/// Errors: an allocation fails. Cost: that of the proofs over the workers, and once more those that
+/// follow a wrong one in its stretch.
 pub(crate) fn find_all<R: Threads + Sync>(search: &Search<'_, R>) -> Result<Vec<usize>, AllocError>
     requires { search.now.frames.now.statements ≡ bares search.now.statements.now }
     ensures { IfOk result (λ list.
@@ -37,11 +41,35 @@ pub(crate) fn find_all<R: Threads + Sync>(search: &Search<'_, R>) -> Result<Vec<
     let mut list = Vec::new(search.alloc);
     let mut front = 0;
     while front < search.statements.len() {
-        let end = front + (search.statements.len() - front).min(STRETCH);
+        let end = stretch_end(search.statements, front);
         add_found(search, &mut checkers, front, end, &mut list)?;
         front = end;
     }
     Ok(list)
+}
+
+/// Returns the position up to which statements after the first `front` are judged next: that of the
+/// first `$p` with an unfinished proof, which is not proved and so ends a search, or `STRETCH` more.
+fn stretch_end(statements: &[Stmt], front: usize) -> usize
+    requires { front < length statements.now }
+    ensures later { front < result }
+    ensures within { result ≤ length statements.now }
+{
+    let most = (statements.len() - front).min(STRETCH);
+    for (index, statement) in statements[front..front + most].iter().enumerate() {
+        if is_left_open(statement) {
+            return front + index + 1;
+        }
+    }
+    front + most
+}
+
+/// Tells whether a statement is a `$p` with an unfinished proof.
+fn is_left_open(statement: &Stmt) -> bool {
+    match statement {
+        Stmt::Prove { proof, .. } => is_unfinished(proof),
+        _ => false,
+    }
 }
 
 /// Appends the positions of the `$p` after the first `front` statements, up to `end`, that are not
@@ -60,7 +88,7 @@ fn add_found<R: Threads + Sync>(
     ensures { OnOk result (AreUnproved search.now.statements.now 0 end list.new.items) }
 {
     let mut front = front;
-    let mut found = first_by_workers(search, checkers, front, end)?;
+    let mut found = first_in(search, checkers, front, end)?;
     while let Some(index) = found {
         front = front + index + 1;
         list.push(front)?;
@@ -70,7 +98,26 @@ fn add_found<R: Threads + Sync>(
 }
 
 /// Returns how many statements, after the first `front`, stand before the first `$p` up to `end`
-/// that is not proved, judged by the workers; `None` if each is proved.
+/// that is not proved; `None` if each is proved.
+fn first_in<R: Threads + Sync>(
+    search: &Search<'_, R>,
+    checkers: &mut Checkers,
+    front: usize,
+    end: usize,
+) -> Result<Option<usize>, AllocError>
+    requires same { search.now.frames.now.statements ≡ bares search.now.statements.now }
+    requires order { front ≤ end }
+    requires within { end ≤ length search.now.statements.now }
+    ensures { IfOk result (IsLeastIn search.now.statements.now front end) }
+{
+    if end - front < FEW {
+        first_here(search, checkers, front, end)
+    } else {
+        first_by_workers(search, checkers, front, end)
+    }
+}
+
+/// Returns the same, judged by the workers.
 fn first_by_workers<R: Threads + Sync>(
     search: &Search<'_, R>,
     checkers: &mut Checkers,

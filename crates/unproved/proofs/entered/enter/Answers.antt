@@ -1,19 +1,21 @@
-use Rattle.std.specs.Prelude.{◌≡◌, ◌+◌, [], ◌∷◌, ◌++◌, Some, true}
-use Rattle.std.proofs.Common.{◌∙◌, ap, drop, sym}
+use Rattle.std.specs.Prelude.{◌≡◌, ℕ, ◌+◌, [], ◌∷◌, ◌++◌, Some, true, length}
+use Rattle.std.proofs.Common.{◌∙◌, ap, arith, drop, drop_all, sym, take_all}
 use denote.Enum.Bare.{sameb}
-use Rattle.scope.specs.Active.{bare}
-use Rattle.scope.specs.Legal.{broken_rule, first_broken, or_later}
+use Rattle.scope.specs.Active.{bare, bares}
+use Rattle.scope.specs.Legal.{broken_rule, first_broken, numbered, or_later}
 use Rattle.scope.specs.contracts.rule.Rule.{the_type}
 use Rattle.scope.specs.declared.rule.Rule.TheVariants.{Memory}
-use Rattle.library.proofs.AddingLemmas.{left-at, left-more, rule-is, taken-more}
+use Rattle.library.proofs.AddingLemmas.{left-at, left-more, none-at-end, rule-at-end, rule-is, taken-more}
 use Rattle.unproved.proofs.entered.enter.Goals as goal
 
 pub loop-index-init : goal.loop-index-init
-loop-index-init c = record {
-  same = c.requires.no_rules ∙ sym c.requires.no_frames;
-  taken = c.requires.no_frames;
-  left = ap (λ S. first_broken 1 S c.args.statements.now) (sym c.requires.no_frames);
-}
+loop-index-init c =
+    let none = ap (λ k. k.statements) c.reserve.ensures ∙ c.requires.no_frames in
+    record {
+      same = c.requires.no_rules ∙ sym none;
+      taken = none;
+      left = ap (λ S. first_broken 1 S c.args.statements.now) (sym none);
+    }
 
 pub loop-index-preserved : goal.loop-index-preserved
 loop-index-preserved c =
@@ -40,3 +42,28 @@ returns-in-Err-clause-broken c = λ at is all.
     let found : first_broken 1 [] S ≡ Some (index + 1, c.in-Err.rule) = i.left ∙ (left-at now S index s.result c.loop-index-test.true s.is
     ∙ ap (λ r. or_later (index + 1) r (first_broken (index + 1 + 1) (now ++ s.result ∷ []) (drop (index + 1) S))) broken) in
     absurd (let no = sym found ∙ all in cc)
+
+pub returns-in-Ok-clause-entered : goal.returns-in-Ok-clause-entered
+returns-in-Ok-clause-entered c = λ f.
+    let i = c.loop-index.invariant in
+    let S = c.args.statements.now in
+    let index = c.loop-index.index in
+    let over = c.loop-index-test.false in
+    let all = ap bares (take_all index S over) in
+    let end = i.left ∙ (ap (λ U. first_broken (index + 1) U (drop index S)) (sym i.same) ∙ ap (first_broken (index + 1) c.loop-index.rules.statements) (drop_all index S over)) in
+    record {
+      rules_are = i.same ∙ (i.taken ∙ all);
+      same = i.taken ∙ all;
+      shaped = c.requires.shaped;
+      legal = end ∙ ap (numbered (index + 1)) (none-at-end _ _ c.close_at_end.ensures.«open» c.in-Ok.is);
+    }
+
+pub returns-in-Err-close_at_end-clause-broken : goal.returns-in-Err-close_at_end-clause-broken
+returns-in-Err-close_at_end-clause-broken c = λ at is legal.
+    let i = c.loop-index.invariant in
+    let S = c.args.statements.now in
+    let index = c.loop-index.index in
+    let over = c.loop-index-test.false in
+    let end = i.left ∙ (ap (λ U. first_broken (index + 1) U (drop index S)) (sym i.same) ∙ ap (first_broken (index + 1) c.loop-index.rules.statements) (drop_all index S over)) in
+    let found = end ∙ ap (numbered (index + 1)) (rule-at-end _ _ _ c.close_at_end.ensures.«open» c.close_at_end.ensures.closed c.in-Err-close_at_end.is) in
+    absurd (let no = sym found ∙ legal in cc)
