@@ -1,12 +1,10 @@
 -- Hypotheses that require other results.
 use Rattle.std.proofs.Common.{◌≡◌, ℕ, ◌+◌, ◌<◌, List, [], ◌∷◌, ◌++◌, length, take, get_or, map, refl, sym, ◌∙◌, ap, subst, add-one, Some, slice_get}
-use Rattle.std.specs.Prelude.{Bool, true, false, not, bytes_eq}
-use Rattle.std.proofs.lemmas.Slice.Eq.{bytes_eq-Decides}
+use Rattle.std.specs.Borrow.{Bor}
 use Rattle.std.specs.Global.{Vec}
 use Rattle.std.proofs.Math.Seq.{take-suc}
 use Rattle.std.proofs.lemmas.Option.{slice_get-get_or, slice_get_read}
 use Rattle.std.proofs.lemmas.List.{take-map, map_push}
-use Rattle.std.proofs.lemmas.Bool.{not-false, not-true, both_ways}
 use Rattle.mm_lex.specs.Alphabet.{Name}
 use Rattle.mm_read.specs.declared.stmt.Stmt.{Stmt}
 use Rattle.mm_read.specs.declared.stmt.Stmt.TheVariants as stmt
@@ -33,24 +31,24 @@ use Rattle.frame.proofs.FoundByNumber.{map-at, name_at-injective, decode-injecti
 pub expr_is : (S : Database) (p : ℕ) (s : Stmt) → stmt_at S p ≡ Some s → expr_at S p ≡ expr_of s
 expr_is S p s e = ap option_expr e
 
-module _ (S : Database) (names : List Name) (σ : Images) (ps : List ℕ) (results : List (Vec ℕ)) (k : ℕ) (r : Vec ℕ)
+module _ (S : Database) (names : List Name) (σ : Images) (ps : List ℕ) (results : List (Bor (List ℕ))) (k : ℕ) (r : Bor (List ℕ))
     (within : k < length ps) (inside : k < length results) (here : r ≡ get_or results k r)
     (before : AllFit S σ (take k ps) (take k (named names results))) where
   -- this result stands among the results by name
-  result_is : slice_get (named names results) k ≡ Some (decode names r.items)
-  result_is = map-at (λ v. decode names v.items) results k r (slice_get_read results (length results) k r refl inside here)
+  result_is : slice_get (named names results) k ≡ Some (decode names r.now)
+  result_is = map-at (λ v. decode names v.now) results k r (slice_get_read results (length results) k r refl inside here)
 
   -- the results by name up to this one are those before it, and it
-  last_is : take (k + 1) (named names results) ≡ take k (named names results) ++ decode names r.items ∷ []
+  last_is : take (k + 1) (named names results) ≡ take k (named names results) ++ decode names r.now ∷ []
   last_is =
-      take-map (λ v. decode names v.items) (k + 1) results
-      ∙ (ap (λ n. map (λ v. decode names v.items) (take n results)) (add-one k)
-      ∙ (ap (λ l. map (λ v. decode names v.items) l) (take-suc results k r inside ∙ ap (λ v. take k results ++ v ∷ []) (sym here))
-      ∙ (map_push (λ v. decode names v.items) (take k results) r
-      ∙ ap (λ l. l ++ decode names r.items ∷ []) (sym (take-map (λ v. decode names v.items) k results)))))
+      take-map (λ v. decode names v.now) (k + 1) results
+      ∙ (ap (λ n. map (λ v. decode names v.now) (take n results)) (add-one k)
+      ∙ (ap (λ l. map (λ v. decode names v.now) l) (take-suc results k r inside ∙ ap (λ v. take k results ++ v ∷ []) (sym here))
+      ∙ (map_push (λ v. decode names v.now) (take k results) r
+      ∙ ap (λ l. l ++ decode names r.now ∷ []) (sym (take-map (λ v. decode names v.now) k results)))))
 
   -- one hypothesis more has its result
-  pub fit_more : asks S σ (get_or ps k 0) ≡ decode names r.items → AllFit S σ (take (k + 1) ps) (take (k + 1) (named names results))
+  pub fit_more : asks S σ (get_or ps k 0) ≡ decode names r.now → AllFit S σ (take (k + 1) ps) (take (k + 1) (named names results))
   fit_more e =
       ap (λ n. map (asks S σ) (take n ps)) (add-one k)
       ∙ (ap (λ l. map (asks S σ) l) (take-suc ps k 0 within)
@@ -59,13 +57,13 @@ module _ (S : Database) (names : List Name) (σ : Images) (ps : List ℕ) (resul
       ∙ (ap (λ x. take k (named names results) ++ x ∷ []) e ∙ sym last_is))))
 
   -- or it requires another
-  pub other_here : (required : List ℕ) → AreDistinct names → AreBelow (length names) required → AreBelow (length names) r.items → decode names required ≡ asks S σ (get_or ps k 0) → (r.items ≡ required → ⊥)
-      → IsOther S σ ps (named names results) k (get_or ps k 0) (decode names required) (decode names r.items)
+  pub other_here : (required : List ℕ) → AreDistinct names → AreBelow (length names) required → AreBelow (length names) r.now → decode names required ≡ asks S σ (get_or ps k 0) → (r.now ≡ required → ⊥)
+      → IsOther S σ ps (named names results) k (get_or ps k 0) (decode names required) (decode names r.now)
   other_here required distinct low below is differ = record {
     hypothesis = slice_get-get_or ps k 0 within;
     result = result_is;
     required_is = is;
-    differ = λ same. differ (decode-injective names r.items required distinct below low same);
+    differ = λ same. differ (decode-injective names r.now required distinct below low same);
     before = before;
   }
 
@@ -132,11 +130,3 @@ mismatch_is S names a s rs kind typecode p k required there (Expression b q e r)
 mismatch_is S names a s rs kind typecode p k required there (Together b x y u v) said other constant = absurd said
 mismatch_is S names a s rs kind typecode p k required there Heavy said other constant = absurd said
 mismatch_is S names a s rs kind typecode p k required there Unmarked said other constant = absurd said
-
--- the result of a test of two lists
-pub not_ne : (b : Bool) (xs ys : List ℕ) → b ≡ not (bytes_eq xs ys) → b ≡ false → xs ≡ ys
-not_ne b xs ys e f = (bytes_eq-Decides xs ys).0 (not-false (bytes_eq xs ys) (sym e ∙ f))
-
--- lists of which the test says that they differ are not equal
-pub is_ne : (b : Bool) (xs ys : List ℕ) → b ≡ not (bytes_eq xs ys) → b ≡ true → ys ≡ xs → ⊥
-is_ne b xs ys e f same = both_ways (bytes_eq xs ys) (not-true (bytes_eq xs ys) (sym e ∙ f)) ((bytes_eq-Decides xs ys).1 (sym same))

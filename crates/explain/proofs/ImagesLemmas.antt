@@ -1,33 +1,115 @@
 -- The image of a symbol, by the first entry for it, and the symbols of images.
-use Rattle.std.proofs.Common.{◌≡◌, ℕ, suc, ◌+◌, ◌<◌, Bool, true, false, cond, List, [], ◌∷◌, ◌++◌, length, drop, get_or, sym, ◌∙◌, ap, add-one, subst}
-use Rattle.std.specs.Prelude.{nat_eq}
+use Rattle.std.proofs.Common.{◌≡◌, ℕ, suc, ◌+◌, ◌<◌, Bool, true, false, cond, List, [], ◌∷◌, ◌++◌, length, drop, take, get_or, arith, refl, sym, ◌∙◌, ap, subst, Option, None, Some, Ordering, Less, Equal, Greater, slice_get, ⊎_elim, take-append-drop, append-nil, length-append, Bor, IfSome, IfNone, IfOk, Result, Ok, Err}
+use Rattle.std.specs.Prelude.{nat_eq, bytes_eq, MatchOption, ◌==◌, ◌↔◌}
+use Rattle.std.specs.Ordering.{MatchOrdering, nat_cmp, is_eq}
+use Rattle.std.proofs.lemmas.Cmp.{ranked}
+use Rattle.std.proofs.lemmas.Bool.{both_ways, cases_eq, eqb-true, eq-eqb}
+use Rattle.std.proofs.lemmas.Slice.Eq.{bytes_eq-Decides}
+use Rattle.std.proofs.lemmas.Option.{get_or_from_slice_get, slice_get-get_or}
 use Rattle.std.proofs.Math.Seq.{drop-cons}
+use Rattle.std.proofs.Math.Seq.{take-append_seam}
 use Rattle.frame.specs.Below.{AreBelow}
 use Rattle.frame.specs.Substitution.{code_image, code_apply}
 use Rattle.frame.proofs.SymbolNumberLemmas.{below-append}
 use Rattle.explain.specs.declared.named_images.Image.{Image}
+use Rattle.explain.specs.ImagePlaces.{IsPlaced}
 use Rattle.explain.specs.Stored.Vectors.{code_images, AreImages}
 
--- the entry at i decides where it is for the symbol ..
-module _ (images : List Image) (i : ℕ) (x : Image) (symbol : ℕ) (inside : i < length images) (is : x ≡ get_or images i x) where
-  -- the entries left from i on are the one at i and those after it
-  opened : drop i images ≡ x ∷ drop (i + 1) images
-  opened = drop-cons images i x inside ∙ (ap (λ y. y ∷ drop (suc i) images) (sym is) ∙ ap (λ k. x ∷ drop k images) (sym (add-one i)))
+-- ---- the index of the first image for each variable
 
-  -- where it is for the symbol, its symbols are the image
-  pub image_here : nat_eq symbol x.variable ≡ true → code_image (code_images (drop i images)) symbol ≡ x.symbols.items
-  image_here e = ap (λ d. code_image (code_images d) symbol) opened ∙ ap (λ b. cond b x.symbols.items (code_image (code_images (drop (i + 1) images)) symbol)) e
+same_key : (a b : ℕ) → a ≡ b → is_eq (nat_cmp a b) ≡ true
+same_key a b e = by (nat_cmp a b) (ranked a b (nat_cmp a b) refl)
+  where
+    by : (r : Ordering) → MatchOrdering r (a < b) (a ≡ b) (b < a) → is_eq r ≡ true
+    by Less h = absurd (omega (arith, h, e))
+    by Equal h = refl
+    by Greater h = absurd (omega (arith, h, e))
 
-  -- .. and else those after it
-  pub image_behind : nat_eq symbol x.variable ≡ false → code_image (code_images (drop i images)) symbol ≡ code_image (code_images (drop (i + 1) images)) symbol
-  image_behind e = ap (λ d. code_image (code_images d) symbol) opened ∙ ap (λ b. cond b x.symbols.items (code_image (code_images (drop (i + 1) images)) symbol)) e
+pub other_key : (a b : ℕ) → (a ≡ b → ⊥) → is_eq (nat_cmp a b) ≡ false
+other_key a b ne = by (nat_cmp a b) (ranked a b (nat_cmp a b) refl)
+  where
+    by : (r : Ordering) → MatchOrdering r (a < b) (a ≡ b) (b < a) → is_eq r ≡ false
+    by Less h = refl
+    by Equal h = absurd (ne h)
+    by Greater h = refl
 
--- the symbols of images
+same_number : (a b : ℕ) → a ≡ b → nat_eq b a ≡ true
+same_number a b e = grind (arith, e)
+
+other_number : (a b : ℕ) → (a ≡ b → ⊥) → nat_eq b a ≡ false
+other_number a b ne = by (nat_eq b a) refl
+  where
+    by : (t : Bool) → nat_eq b a ≡ t → t ≡ false
+    by true e = absurd (ne (grind (arith, e)))
+    by false e = refl
+
+-- with the image at i before the last ones, its index is that of its variable
+module _ (all : List Image) (i : ℕ) (d : Image) (inside : i < length all) (x : ℕ) where
+  behind : (old : Option ℕ) → nat_eq x (get_or all i d).variable ≡ false → IsPlaced all (drop (suc i) all) x old → IsPlaced all (get_or all i d ∷ drop (suc i) all) x old
+  behind None t h = ap (λ b. cond b (get_or all i d).symbols.now (code_image (code_images (drop (suc i) all)) x)) t ∙ h
+  behind (Some k) t h = (h.0, h.1, ap (λ b. cond b (get_or all i d).symbols.now (code_image (code_images (drop (suc i) all)) x)) t ∙ h.2)
+
+  pub placed_more : (old new : Option ℕ) → IsPlaced all (drop (suc i) all) x old → new ≡ cond (is_eq (nat_cmp (get_or all i d).variable x)) (Some i) old → IsPlaced all (drop i all) x new
+  placed_more old new h e =
+      let image = get_or all i d in
+      subst (λ l. IsPlaced all l x new) (sym (drop-cons all i d inside))
+      (⊎_elim
+      (λ same. subst (IsPlaced all (image ∷ drop (suc i) all) x) (sym (e ∙ ap (λ b. cond b (Some i) old) (same_key image.variable x same)))
+      (image, slice_get-get_or all i d inside, ap (λ b. cond b image.symbols.now (code_image (code_images (drop (suc i) all)) x)) (same_number image.variable x same)))
+      (λ ne. subst (IsPlaced all (image ∷ drop (suc i) all) x) (sym (e ∙ ap (λ b. cond b (Some i) old) (other_key image.variable x ne))) (behind old (other_number image.variable x ne) h))
+      (cases_eq image.variable x))
+
+-- the image at an index
+pub there-is : (all list : List Image) (i : ℕ) (image d : Image) → list ≡ all → slice_get all i ≡ Some image → (get_or list i d).symbols.now ≡ image.symbols.now
+there-is all list i image d same there = ap (λ y. y.symbols.now) (ap (λ l. get_or l i d) same ∙ get_or_from_slice_get all i image d there)
+
+-- what holds of a value holds of a result that is that value
+pub ok_is : {A E : Type 0} (P : A → Type 0) (x : A) (r : Result A E) → IfOk r (λ y. y ≡ x) → P x → IfOk r P
+ok_is P x (Ok y) e h = subst P (sym e) h
+ok_is P x (Err y) e h = tt
+
+-- ---- symbols that begin with an image
+
+pub prefix_some : (symbols image rest : List ℕ) → bytes_eq (take (length image) symbols) image ≡ true → rest ≡ drop (length image) symbols → symbols ≡ image ++ rest
+prefix_some symbols image rest same is =
+    sym (take-append-drop (length image) symbols)
+    ∙ (ap (λ f. f ++ drop (length image) symbols) ((bytes_eq-Decides (take (length image) symbols) image).0 same) ∙ ap (λ r. image ++ r) (sym is))
+
+pub prefix_none : (symbols image rest : List ℕ) → bytes_eq (take (length image) symbols) image ≡ false → symbols ≡ image ++ rest → ⊥
+prefix_none symbols image rest differ e =
+    both_ways (bytes_eq (take (length image) symbols) image) differ
+    ((bytes_eq-Decides (take (length image) symbols) image).1 (ap (take (length image)) e ∙ take-append_seam image rest))
+
+pub behind_some : (symbols image : List ℕ) (r : Option (Bor (List ℕ)))
+    → MatchOption r (bytes_eq (take (length image) symbols) image ≡ false) (λ x. (bytes_eq (take (length image) symbols) image ≡ true) × (x.now ≡ drop (length image) symbols) × (length x.now + length image ≡ length symbols))
+    → IfSome r (λ rest. symbols ≡ image ++ rest.now)
+behind_some symbols image None h = tt
+behind_some symbols image (Some x) h = prefix_some symbols image x.now h.0 h.1
+
+pub behind_none : (symbols image : List ℕ) (r : Option (Bor (List ℕ)))
+    → MatchOption r (bytes_eq (take (length image) symbols) image ≡ false) (λ x. (bytes_eq (take (length image) symbols) image ≡ true) × (x.now ≡ drop (length image) symbols) × (length x.now + length image ≡ length symbols))
+    → IfNone r ((rest : List ℕ) → symbols ≡ image ++ rest → ⊥)
+behind_none symbols image None h = λ rest e. prefix_none symbols image rest h e
+behind_none symbols image (Some x) h = tt
+
+-- where symbols are a list and others, they are the list if no others are there
+pub nothing_left : (applied whole rest : List ℕ) → whole ≡ applied ++ rest → (b : Bool) → b ≡ (length rest == 0) → (b ≡ true) ↔ (whole ≡ applied)
+nothing_left applied whole rest front b is = (
+  λ yes. front ∙ (ap (λ r. applied ++ r) (none rest (eqb-true (length rest) 0 (sym is ∙ yes))) ∙ append-nil applied),
+  λ same. is ∙ eq-eqb (length rest) 0 (omega (arith, ap length (sym front ∙ same), length-append applied rest)),
+)
+  where
+    none : (rest : List ℕ) → length rest ≡ 0 → rest ≡ []
+    none [] h = refl
+    none (x ∷ rest) h = absurd (omega (arith, h))
+
+-- ---- the symbols of images
+
 pub image-below : (n : ℕ) (images : List Image) (symbol : ℕ) → AreImages n images → symbol < n → AreBelow n (code_image (code_images images) symbol)
 image-below n [] symbol h l = (l, tt)
 image-below n (x ∷ images) symbol h l = by (nat_eq symbol x.variable) (image-below n images symbol h.1 l)
   where
-    by : (b : Bool) → AreBelow n (code_image (code_images images) symbol) → AreBelow n (cond b x.symbols.items (code_image (code_images images) symbol))
+    by : (b : Bool) → AreBelow n (code_image (code_images images) symbol) → AreBelow n (cond b x.symbols.now (code_image (code_images images) symbol))
     by true rest = h.0
     by false rest = rest
 
@@ -35,7 +117,7 @@ pub apply-below : (n : ℕ) (images : List Image) (e : List ℕ) → AreImages n
 apply-below n images [] h k = tt
 apply-below n images (x ∷ e) h k = below-append n (code_image (code_images images) x) (code_apply (code_images images) e) (image-below n images x h k.0) (apply-below n images e h k.1)
 
-pub images-push : (n : ℕ) (old new : List Image) (x : Image) → new ≡ old ++ x ∷ [] → AreImages n old → AreBelow n x.symbols.items → AreImages n new
+pub images-push : (n : ℕ) (old new : List Image) (x : Image) → new ≡ old ++ x ∷ [] → AreImages n old → AreBelow n x.symbols.now → AreImages n new
 images-push n old new x e h k = subst (λ l. AreImages n l) (sym e) (go old h)
   where
     go : (old : List Image) → AreImages n old → AreImages n (old ++ x ∷ [])

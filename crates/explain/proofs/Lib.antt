@@ -8,7 +8,7 @@ pub mod ImagesLemmas
 pub mod NamedLemmas
 pub mod CitationFaultLemmas
 pub mod ViolationLemmas
-pub mod BesideLemmas
+pub mod VariableLemmas
 pub mod ConcludedLemmas
 pub mod KeptRunLemmas
 pub mod RunItemLemmas

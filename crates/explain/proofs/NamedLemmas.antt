@@ -1,7 +1,7 @@
 -- Images by number and images of names.
 use Rattle.std.proofs.Common.{◌≡◌, ℕ, zero, suc, ◌+◌, ◌<◌, Bool, true, false, cond, List, [], ◌∷◌, ◌++◌, length, drop, get_or, map, arith, refl, sym, ◌∙◌, ap, add-one, append_assoc, Some}
 use Rattle.std.specs.Prelude.{nat_eq}
-use Rattle.std.specs.Global.{Vec}
+use Rattle.std.specs.Borrow.{Bor}
 use Rattle.mm_lex.specs.Alphabet.{Name, name_eq}
 use Rattle.mm_read.specs.declared.stmt.Stmt.{Stmt}
 use Rattle.mm_read.specs.declared.stmt.Stmt.TheVariants as stmt
@@ -101,37 +101,37 @@ images_are S names (p ∷ ps) (x ∷ typecodes) (h ∷ hs) (e ∷ es) required =
 -- ---- reading one result more
 
 -- the images left to read are those of this result and of those after it
-read_step : (kinds : List Hypothesis) (results : List (Vec ℕ)) (k : ℕ) (h : Hypothesis) → k < length kinds → k < length results
-    → get_or kinds k (Float 0) ≡ h → (r : Vec ℕ) → r ≡ get_or results k r
-    → codes_read (drop k kinds) (codes (drop k results)) ≡ code_at h r.items ++ codes_read (drop (suc k) kinds) (codes (drop (suc k) results))
+read_step : (kinds : List Hypothesis) (results : List (Bor (List ℕ))) (k : ℕ) (h : Hypothesis) → k < length kinds → k < length results
+    → get_or kinds k (Float 0) ≡ h → (r : Bor (List ℕ)) → r ≡ get_or results k r
+    → codes_read (drop k kinds) (codes (drop k results)) ≡ code_at h r.now ++ codes_read (drop (suc k) kinds) (codes (drop (suc k) results))
 read_step [] results k h within inside is r here = absurd (omega (arith, within))
 read_step (x ∷ kinds) [] k h within inside is r here = absurd (omega (arith, inside))
 read_step (x ∷ kinds) (y ∷ results) zero h within inside is r here =
-    ap (λ z. code_at z y.items ++ codes_read kinds (codes results)) is ∙ ap (λ (v : Vec ℕ). code_at h v.items ++ codes_read kinds (codes results)) (sym here)
+    ap (λ z. code_at z y.now ++ codes_read kinds (codes results)) is ∙ ap (λ (v : Bor (List ℕ)). code_at h v.now ++ codes_read kinds (codes results)) (sym here)
 read_step (x ∷ kinds) (y ∷ results) (suc k) h within inside is r here = read_step kinds results k h (omega (arith, within)) (omega (arith, inside)) is r here
 
 -- with the result of a `$f` added, the images read and those left to read are the same whole
-pub read_more : (kinds : List Hypothesis) (results : List (Vec ℕ)) (k x : ℕ) (old new : List Image) (image : Image) (whole : CodeImages) → k < length kinds → k < length results
-    → get_or kinds k (Float 0) ≡ Float x → (r : Vec ℕ) → r ≡ get_or results k r → image.variable ≡ x → image.symbols.items ≡ drop 1 r.items → new ≡ old ++ image ∷ []
+pub read_more : (kinds : List Hypothesis) (results : List (Bor (List ℕ))) (k x : ℕ) (old new : List Image) (image : Image) (whole : CodeImages) → k < length kinds → k < length results
+    → get_or kinds k (Float 0) ≡ Float x → (r : Bor (List ℕ)) → r ≡ get_or results k r → image.variable ≡ x → image.symbols.now ≡ drop 1 r.now → new ≡ old ++ image ∷ []
     → code_images old ++ codes_read (drop k kinds) (codes (drop k results)) ≡ whole
     → code_images new ++ codes_read (drop (k + 1) kinds) (codes (drop (k + 1) results)) ≡ whole
 read_more kinds results k x old new image whole within inside is r here variable symbols added e =
     let rest : CodeImages = codes_read (drop (suc k) kinds) (codes (drop (suc k) results)) in
     let step = read_step kinds results k (Float x) within inside is r here in
-    let pair : ◌≡◌ {A = ℕ × List ℕ} (image.variable, image.symbols.items) (x, drop 1 r.items) = ap (λ v. (v, image.symbols.items)) variable ∙ ap (λ d. (x, d)) symbols in
+    let pair : ◌≡◌ {A = ℕ × List ℕ} (image.variable, image.symbols.now) (x, drop 1 r.now) = ap (λ v. (v, image.symbols.now)) variable ∙ ap (λ d. (x, d)) symbols in
     ap (λ n. code_images new ++ codes_read (drop n kinds) (codes (drop n results))) (add-one k)
     ∙ (ap (λ l. code_images l ++ rest) added
     ∙ (ap (λ l. l ++ rest) (map-append old image)
-    ∙ (append_assoc (code_images old) ((image.variable, image.symbols.items) ∷ []) rest
+    ∙ (append_assoc (code_images old) ((image.variable, image.symbols.now) ∷ []) rest
     ∙ (ap (λ p. code_images old ++ (p ∷ rest)) pair
     ∙ (ap (λ l. code_images old ++ l) (sym step) ∙ e)))))
   where
-    map-append : (old : List Image) (image : Image) → code_images (old ++ image ∷ []) ≡ code_images old ++ (image.variable, image.symbols.items) ∷ []
+    map-append : (old : List Image) (image : Image) → code_images (old ++ image ∷ []) ≡ code_images old ++ (image.variable, image.symbols.now) ∷ []
     map-append [] image = refl
-    map-append (y ∷ old) image = ap (λ l. (y.variable, y.symbols.items) ∷ l) (map-append old image)
+    map-append (y ∷ old) image = ap (λ l. (y.variable, y.symbols.now) ∷ l) (map-append old image)
 
 -- the result of a `$e` gives no image
-pub read_skip : (kinds : List Hypothesis) (results : List (Vec ℕ)) (k : ℕ) (images : List Image) (whole : CodeImages) → k < length kinds → k < length results
+pub read_skip : (kinds : List Hypothesis) (results : List (Bor (List ℕ))) (k : ℕ) (images : List Image) (whole : CodeImages) → k < length kinds → k < length results
     → ((x : ℕ) → get_or kinds k (Float 0) ≡ Float x → ⊥)
     → code_images images ++ codes_read (drop k kinds) (codes (drop k results)) ≡ whole
     → code_images images ++ codes_read (drop (k + 1) kinds) (codes (drop (k + 1) results)) ≡ whole
@@ -143,13 +143,13 @@ read_skip kinds results k images whole within inside not e =
     none (Float x) e not = absurd (not x refl)
     none (Essential q) e not = refl
 
-    go : (kinds : List Hypothesis) (results : List (Vec ℕ)) (k : ℕ) → k < length kinds → k < length results → ((x : ℕ) → get_or kinds k (Float 0) ≡ Float x → ⊥)
+    go : (kinds : List Hypothesis) (results : List (Bor (List ℕ))) (k : ℕ) → k < length kinds → k < length results → ((x : ℕ) → get_or kinds k (Float 0) ≡ Float x → ⊥)
         → codes_read (drop k kinds) (codes (drop k results)) ≡ codes_read (drop (suc k) kinds) (codes (drop (suc k) results))
     go [] results k within inside not = absurd (omega (arith, within))
     go (x ∷ kinds) [] k within inside not = absurd (omega (arith, inside))
-    go (x ∷ kinds) (y ∷ results) zero within inside not = ap (λ l. l ++ codes_read kinds (codes results)) (none x y.items not)
+    go (x ∷ kinds) (y ∷ results) zero within inside not = ap (λ l. l ++ codes_read kinds (codes results)) (none x y.now not)
     go (x ∷ kinds) (y ∷ results) (suc k) within inside not = go kinds results k (omega (arith, within)) (omega (arith, inside)) not
 
-pub named-codes : (names : List Name) (vs : List (Vec ℕ)) → map (decode names) (codes vs) ≡ named names vs
+pub named-codes : (names : List Name) (vs : List (Bor (List ℕ))) → map (decode names) (codes vs) ≡ named names vs
 named-codes names [] = refl
-named-codes names (v ∷ vs) = ap (λ l. decode names v.items ∷ l) (named-codes names vs)
+named-codes names (v ∷ vs) = ap (λ l. decode names v.now ∷ l) (named-codes names vs)

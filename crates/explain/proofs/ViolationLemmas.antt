@@ -1,5 +1,5 @@
 -- Tests of all symbols of a list, one after another.
-use Rattle.std.proofs.Common.{◌≡◌, ℕ, zero, suc, ◌+◌, ◌<◌, ◌≤◌, Bool, true, false, not, ◌&&◌, ◌||◌, List, [], ◌∷◌, length, drop, get_or, map, arith, refl, sym, ◌∙◌, ap, add-one, Some, slice_get}
+use Rattle.std.proofs.Common.{◌≡◌, ℕ, zero, suc, ◌+◌, ◌-◌, ◌<◌, Bool, true, false, not, ◌&&◌, ◌||◌, List, [], ◌∷◌, length, drop, take, get_or, map, arith, refl, sym, ◌∙◌, ap, add-one, Some, slice_get}
 use Rattle.mm_read.specs.Statements.{Database}
 use Rattle.frame.specs.Substitution.{Images}
 use Rattle.explain.specs.declared.violation.DisjointViolation.{DisjointViolation}
@@ -8,9 +8,12 @@ use Rattle.std.specs.Prelude.{nat_eq}
 use Rattle.std.specs.List.{list_all, list_any}
 use Rattle.std.proofs.Math.Seq.{drop-cons}
 use Rattle.std.proofs.Math.Bool.{or-true}
+use Rattle.std.proofs.lemmas.Bool.{and_parts}
+use Rattle.std.proofs.lemmas.Option.{get_or_from_slice_get, slice_get-get_or}
 use Rattle.mm_lex.specs.Alphabet.{Name, name_eq, has_name}
 use Rattle.names.specs.Codes.{name_at, decode}
 use Rattle.names.proofs.CodesLemmas.{name_same}
+use Rattle.frame.proofs.ActiveDisjointLemmas.{goes_on}
 
 module _ (names : List Name) (p : Name → Bool) (xs : List ℕ) (i : ℕ) where
   -- an element that passes leaves the test to those after it
@@ -37,22 +40,25 @@ numbers_differ m n h = by (nat_eq m n) refl
 
 -- ---- the lists
 
-module _ {A : Type 0} (p : List Name → Bool) (f : A → List Name) where
-  -- a list that passes leaves the test to those after it
-  pub groups_step : (xs : List A) (k : ℕ) (x : A) → slice_get xs k ≡ Some x → p (f x) ≡ true → list_all p (map f (drop k xs)) ≡ list_all p (map f (drop (k + 1) xs))
-  groups_step xs k x e h = go xs k e ∙ ap (λ n. list_all p (map f (drop n xs))) (sym (add-one k))
-    where
-      go : (xs : List A) (k : ℕ) → slice_get xs k ≡ Some x → list_all p (map f (drop k xs)) ≡ list_all p (map f (drop (suc k) xs))
-      go [] k e = cc
-      go (y ∷ xs) zero e = let same : y ≡ x = cc in ap (λ b. b && list_all p (map f xs)) (ap (λ z. p (f z)) same ∙ h)
-      go (y ∷ xs) (suc k) e = go xs k e
+module _ (p : List Name → Bool) (f : List ℕ → List Name) (xs : List (List ℕ)) (k : ℕ) (inside : k < length xs) (before : list_all p (map f (take k xs)) ≡ true) where
+  -- one list more passes
+  pub group_passes : (x : List ℕ) → slice_get xs k ≡ Some x → p (f x) ≡ true → list_all p (map f (take (k + 1) xs)) ≡ true
+  group_passes x e h = goes_on p f xs k [] inside before (ap (λ y. p (f y)) (get_or_from_slice_get xs k x [] e) ∙ h)
 
-  -- after the last list nothing is left to test
-  pub groups_end : (xs : List A) (k : ℕ) → length xs ≤ k → list_all p (map f (drop k xs)) ≡ true
-  groups_end [] zero h = refl
-  groups_end [] (suc k) h = refl
-  groups_end (x ∷ xs) zero h = absurd (omega (arith, h))
-  groups_end (x ∷ xs) (suc k) h = groups_end xs k (omega (arith, h))
+  -- .. also one that is equal to the one before it
+  pub repeated_passes : 0 < k → slice_get xs k ≡ slice_get xs (k - 1) → list_all p (map f (take (k + 1) xs)) ≡ true
+  repeated_passes more same =
+      group_passes (get_or xs (k - 1) []) (same ∙ slice_get-get_or xs (k - 1) [] (omega (arith, inside, more))) (passed xs k (k - 1) (omega (arith, more)) (omega (arith, inside, more)) before)
+    where
+      passed : (xs : List (List ℕ)) (k j : ℕ) → j < k → j < length xs → list_all p (map f (take k xs)) ≡ true → p (f (get_or xs j [])) ≡ true
+      passed [] k j h l e = absurd (omega (arith, l))
+      passed (x ∷ xs) zero j h l e = absurd (omega (arith, h))
+      passed (x ∷ xs) (suc k) zero h l e = (and_parts (p (f x)) (list_all p (map f (take k xs))) e).0
+      passed (x ∷ xs) (suc k) (suc j) h l e = passed xs k j (omega (arith, h)) (omega (arith, l)) (and_parts (p (f x)) (list_all p (map f (take k xs))) e).1
+
+pub no_groups : (xs : List (List ℕ)) → length xs ≡ 0 → xs ≡ []
+no_groups [] h = refl
+no_groups (x ∷ xs) h = absurd (omega (arith, h))
 
 -- where one list passes, some list does
 any_group : {A : Type 0} (t : List Name → Bool) (f : A → List Name) (xs : List A) (k : ℕ) (x : A) → slice_get xs k ≡ Some x → t (f x) ≡ true → list_any t (map f xs) ≡ true

@@ -2,6 +2,7 @@
 -- Source: Metamath, 4.2.6.
 -- The code compares numbers; here are expressions, with the images that the results themselves give put in.
 use Rattle.std.specs.Prelude.{◌≡◌, ◌≢◌, ℕ, length, List, [], ◌∷◌, map, take, Option, Some, slice_get}
+use Rattle.std.specs.Borrow.{Bor}
 use Rattle.std.specs.Global.{Vec}
 use Rattle.mm_lex.specs.Alphabet.{Name}
 use Rattle.mm_read.specs.declared.stmt.Stmt.{Stmt}
@@ -71,12 +72,12 @@ IsSaid kind typecode a p required there (Expression b q e r) = (b ≡ a) × (q �
 IsSaid kind typecode a p required there fault = ⊥
 
 -- the results are those that the hypotheses of the assertion s at a require, where the images are those that they give
-abbrev pub FitsAll : Numbered → ℕ → Stmt → List (Vec ℕ) → Type 0
+abbrev pub FitsAll : Numbered → ℕ → Stmt → List (Bor (List ℕ)) → Type 0
 FitsAll f a s results =
     AllFit f.statements (images_read f.statements (hypotheses (before f.statements a) s) (named f.names results)) (hypotheses (before f.statements a) s) (named f.names results)
 
 -- the images by number are those that the results give
-abbrev pub AreReadOff : Numbered → ℕ → List (Vec ℕ) → List Image → Type 0
+abbrev pub AreReadOff : Numbered → ℕ → List (Bor (List ℕ)) → List Image → Type 0
 AreReadOff f a results images =
     (s : Stmt) → stmt_at f.statements a ≡ Some s
     → (named_images f.names (code_images images) ≡ images_read f.statements (hypotheses (before f.statements a) s) (named f.names results))

@@ -1,13 +1,13 @@
 -- Two variables of an assertion whose images are not disjoint.
 -- Source: Metamath, 4.2.6 (the disjoint variable condition).
 -- The code tests images by number; here are names.
-use Rattle.std.specs.Prelude.{◌≡◌, ℕ, suc, ◌<◌, Bool, not, ◌||◌, List, length, take, drop, get_or, IsTrue, IsFalse}
+use Rattle.std.specs.Prelude.{◌≡◌, Bool, not, ◌||◌, List, IsTrue, IsFalse}
 use Rattle.mm_lex.specs.Alphabet.{Name, name_eq, has_name}
 use Rattle.mm_read.specs.Statements.{Expr, Database}
 use Rattle.scope.specs.Active.{is_variable}
 use Rattle.names.specs.Codes.{name_at}
 use Rattle.frame.specs.FrameOf.{is_pair, together}
-use Rattle.frame.specs.Substitution.{Images, CodeImages, image, code_apply}
+use Rattle.frame.specs.Substitution.{Images, image}
 use Rattle.frame.specs.Disjoint.{are_disjoint}
 use Rattle.explain.specs.declared.violation.DisjointViolation.{DisjointViolation}
 
@@ -52,11 +52,3 @@ pub record IsViolationWith (S : Database) (names : List Name) (σ : Images) (x :
 pub record IsViolationIn (S : Database) (names : List Name) (σ : Images) (group : List Name) (c : DisjointViolation) : Type 0 where
   pub first : IsTrue (has_name (name_at names c.first) group)
   pub second : IsViolationWith S names σ (name_at names c.first) group c
-
--- x stands in the list, and these are the images of those before and after it, one after another
-pub record AreBeside (σ : CodeImages) (group : List ℕ) (x : ℕ) (before behind : List ℕ) : Type 0 where
-  pub place : ℕ
-  pub within : place < length group
-  pub here : get_or group place 0 ≡ x
-  pub front : before ≡ code_apply σ (take place group)
-  pub rest : behind ≡ code_apply σ (drop (suc place) group)

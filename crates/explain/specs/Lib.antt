@@ -2,6 +2,8 @@ pub mod Breaks
 pub mod LettersBefore
 pub mod Why
 pub mod ReadImages
+pub mod ImagePlaces
+pub mod VariableLists
 pub mod DisjointViolations
 pub mod CitationFaults
 pub mod Concluded

@@ -13,7 +13,7 @@ ghost use Rattle.explain.specs.FirstFault.{FailsAt};
 ghost use Rattle.explain.specs.Concluded.{IsBelow, IsConcluded};
 ghost use Rattle.subst.specs.declared.buffer.TheConstants.{SYMBOLS_LIMIT};
 
-use crate::named_images::{Image, apply, read_images};
+use crate::named_images::{Images, agrees, apply, read_images};
 use crate::reason::Fault;
 use crate::violation::find_violation;
 use entries::{AssertionView, Hypothesis};
@@ -119,16 +119,20 @@ fn cite_parts(
     }
 }
 
-/// Returns a copy of each result from an index on.
+/// Returns the results from an index on.
 ///
-/// Errors: an allocation fails. Cost: the symbols of these results.
-fn last_results(alloc: Global, results: &Results, base: usize) -> Result<Vec<Vec<u32>>, AllocError>
+/// Errors: an allocation fails. Cost: their count.
+fn last_results<'a>(
+    alloc: Global,
+    results: &'a Results,
+    base: usize,
+) -> Result<Vec<&'a [u32]>, AllocError>
     requires { base ≤ length results.now.results.stack }
     ensures { IfOk result (λ taken. codes taken.items ≡ drop base results.now.results.stack) }
 {
     let mut taken = Vec::new(alloc);
     for k in base..results.len() {
-        taken.push(Vec::from_slice(alloc, results.get(k))?)?;
+        taken.push(results.get(k))?;
     }
     Ok(taken)
 }
@@ -150,7 +154,7 @@ fn conclude(
     a: usize,
     mandatory: &[u32],
     cited: &AssertionView<'_>,
-    results: &[Vec<u32>],
+    results: &[&[u32]],
     room: usize,
 ) -> Result<Concluded, AllocError>
     requires legal { AreLegal frames.now.statements frames.now.names }
@@ -170,7 +174,7 @@ fn conclude(
         return Ok(Concluded::Wrong(fault));
     }
     let pairs = frames.active_pairs(at);
-    let violation = find_violation(alloc, &pairs, images.as_slice(), &cited.groups)?;
+    let violation = find_violation(alloc, &pairs, &images, &cited.groups)?;
     if let Some(violation) = violation {
         return Ok(Concluded::Wrong(Fault::Together {
             assertion: a,
@@ -180,7 +184,7 @@ fn conclude(
             other: violation.other,
         }));
     }
-    match apply(alloc, images.as_slice(), cited.conclusion, room)? {
+    match apply(alloc, &images, cited.conclusion, room)? {
         Some(result) => Ok(Concluded::Right(result)),
         None => Ok(Concluded::Wrong(Fault::Heavy)),
     }
@@ -193,8 +197,8 @@ fn find_other(
     a: usize,
     mandatory: &[u32],
     cited: &AssertionView<'_>,
-    results: &[Vec<u32>],
-    images: &[Image],
+    results: &[&[u32]],
+    images: &Images<'_>,
 ) -> Result<Option<Fault>, AllocError>
     requires legal { AreLegal frames.now.statements frames.now.names }
     requires assertion { (s : Statement) × HasAssertion frames.now.statements a s }
@@ -209,12 +213,13 @@ fn find_other(
 {
     for k in 0..results.len() {
         let hypothesis = mandatory[k] as usize;
-        let result = results[k].as_slice();
-        let Some(required) = apply(alloc, images, frames.expr(hypothesis), SYMBOLS_LIMIT)? else {
-            return Err(AllocError);
-        };
-        if required.as_slice() != result {
-            let result = Vec::from_slice(alloc, result)?;
+        let expr = frames.expr(hypothesis);
+        let there = results[k];
+        if !agrees(images, expr, there) {
+            let Some(required) = apply(alloc, images, expr, SYMBOLS_LIMIT)? else {
+                return Err(AllocError);
+            };
+            let result = Vec::from_slice(alloc, there)?;
             return Ok(Some(other(
                 cited.hypotheses.get(k),
                 cited.typecodes[k],

@@ -1,26 +1,92 @@
 //! The images that the results for `$f` give to variables, substituted in an expression.
-ghost use Rattle.std.specs.Prelude.{◌≡◌, ℕ, ◌<◌, ◌≤◌, ◌+◌, ◌^◌, ◌∷◌, [], length, drop, IfOk, MatchOption};
+ghost use Rattle.std.specs.Prelude.{◌≡◌, ℕ, ◌<◌, ◌≤◌, ◌+◌, ◌^◌, ◌∷◌, ◌++◌, ◌↔◌, [], List, length, drop, IfOk, IfNone, IfSome, IsTrue, MatchOption};
 ghost use Rattle.frame.specs.Below.{AreBelow};
 ghost use Rattle.frame.specs.Substitution.{code_image, code_apply};
+ghost use Rattle.explain.specs.ImagePlaces.{IsPlaced};
 ghost use Rattle.explain.specs.Stored.Vectors.{codes, AreSymbols, AreImages, code_images};
 ghost use Rattle.explain.specs.ReadImages.{codes_read};
 
 use entries::{Hypotheses, Hypothesis};
 use std::alloc::{AllocError, Global};
+use std::collections::BTreeMap;
+use std::marker::Model;
 
-/// The image of a variable.
-#[derive(Drop)]
-pub struct Image {
+/// The image of a variable, which is a part of a result.
+#[derive(Clone, Copy, Drop)]
+pub struct Image<'a> {
     pub variable: u32,
-    pub symbols: Vec<u32>,
+    pub symbols: &'a [u32],
+}
+
+/// Images, with the index of the first one for each variable. Contracts see the list of the images.
+#[derive(Drop)]
+pub struct Images<'a> {
+    list: Vec<Image<'a>>,
+    indexes: BTreeMap<u32, usize>,
+}
+
+impl<'a> Model for Images<'a> {
+    ghost use Rattle.std.specs.Prelude.{ℕ, List};
+    ghost use Rattle.std.specs.BTreeMap.{get};
+    ghost use Rattle.std.specs.Ordering.{nat_cmp};
+    ghost use Rattle.explain.specs.ImagePlaces.{IsPlaced};
+    ghost use Rattle.explain.specs.declared.named_images.Image.{Image};
+
+    ghost Value = { List Image };
+
+    ghost view = { λ a. a.list.items };
+
+    ghost invariant = { λ a. (x : ℕ) → IsPlaced a.list.items a.list.items x (get nat_cmp a.indexes x) };
+}
+
+impl<'a> Images<'a> {
+    /// Makes the index of images. Cost: n log n for n images.
+    pub fn new(alloc: Global, list: Vec<Image<'a>>) -> Result<Images<'a>, AllocError>
+        ensures { IfOk result (λ images. images ≡ list.entry.items) }
+    {
+        let mut indexes = BTreeMap::new(alloc);
+        for i in (0..list.len()).rev() {
+            let images = list.as_slice();
+            indexes.insert(images[i].variable, i)?;
+        }
+        Ok(Images { list, indexes })
+    }
+
+    /// Returns the images.
+    pub fn as_slice(&self) -> &[Image<'a>]
+        ensures { result.now ≡ self.now }
+    {
+        self.list.as_slice()
+    }
+
+    /// Returns the index of the image of a symbol, where it has one. Cost: log n for n images.
+    pub fn place(&self, symbol: u32) -> Option<usize>
+        ensures { IsPlaced self.now self.now symbol result }
+    {
+        self.indexes.get(&symbol).copied()
+    }
 }
 
 /// Returns the images that results give: the result for a `$f`, without its constant, is that of its variable.
-pub fn read_images(
+pub fn read_images<'a>(
     alloc: Global,
     kinds: &Hypotheses<'_>,
-    results: &[Vec<u32>],
-) -> Result<Vec<Image>, AllocError>
+    results: &[&'a [u32]],
+) -> Result<Images<'a>, AllocError>
+    requires { length kinds.now ≡ length results.now }
+    ensures below { (n : ℕ) → AreSymbols n results.now → IfOk result (λ images. AreImages n images) }
+    ensures read { IfOk result (λ images. code_images images ≡ codes_read kinds.now (codes results.now)) }
+{
+    let list = list_images(alloc, kinds, results)?;
+    Images::new(alloc, list)
+}
+
+/// Returns a list of these images.
+fn list_images<'a>(
+    alloc: Global,
+    kinds: &Hypotheses<'_>,
+    results: &[&'a [u32]],
+) -> Result<Vec<Image<'a>>, AllocError>
     requires { length kinds.now ≡ length results.now }
     ensures below { (n : ℕ) → AreSymbols n results.now → IfOk result (λ images. AreImages n images.items) }
     ensures read { IfOk result (λ images. code_images images.items ≡ codes_read kinds.now (codes results.now)) }
@@ -28,7 +94,7 @@ pub fn read_images(
     let mut images = Vec::new(alloc);
     for k in 0..kinds.len() {
         if let Hypothesis::Float(variable) = kinds.get(k) {
-            let symbols = Vec::from_slice(alloc, behind_first(results[k].as_slice()))?;
+            let symbols = behind_first(results[k]);
             images.push(Image { variable, symbols })?;
         }
     }
@@ -45,26 +111,14 @@ fn behind_first(expr: &[u32]) -> &[u32]
     &expr[1..]
 }
 
-/// Returns the image of a symbol, where it has one.
-pub fn image_of<'a>(images: &'a [Image], symbol: u32) -> Option<&'a [u32]>
-    ensures { MatchOption result (code_image (code_images images.entry.now) symbol ≡ symbol ∷ [])
-        (λ r. r.now ≡ code_image (code_images images.entry.now) symbol) }
-{
-    for image in images {
-        if image.variable == symbol {
-            return Some(image.symbols.as_slice());
-        }
-    }
-    None
-}
-
-/// Returns the image of a symbol, or the symbol itself, which is handed in.
-pub fn image_or<'a>(images: &'a [Image], symbol: u32, own: &'a [u32]) -> &'a [u32]
+/// Returns the image of a symbol, or the symbol itself, which is handed in. Cost: log n for n images.
+pub fn image_or<'a>(images: &'a Images<'_>, symbol: u32, own: &'a [u32]) -> &'a [u32]
     requires { own.now ≡ symbol ∷ [] }
     ensures { result.now ≡ code_image (code_images images.entry.now) symbol }
 {
-    match image_of(images, symbol) {
-        Some(symbols) => symbols,
+    let list = images.as_slice();
+    match images.place(symbol) {
+        Some(i) => list[i].symbols,
         None => own,
     }
 }
@@ -72,7 +126,7 @@ pub fn image_or<'a>(images: &'a [Image], symbol: u32, own: &'a [u32]) -> &'a [u3
 /// Returns the expression with the images substituted, if it has no more symbols than there is room for.
 pub fn apply(
     alloc: Global,
-    images: &[Image],
+    images: &Images<'_>,
     expr: &[u32],
     room: usize,
 ) -> Result<Option<Vec<u32>>, AllocError>
@@ -81,21 +135,38 @@ pub fn apply(
 {
     let mut applied = Vec::new(alloc);
     for symbol in expr {
-        let code = *symbol;
-        match image_of(images, code) {
-            Some(symbols) => {
-                if symbols.len() > room - applied.len() {
-                    return Ok(None);
-                }
-                applied.extend_from_slice(symbols)?;
-            }
-            None => {
-                if applied.len() == room {
-                    return Ok(None);
-                }
-                applied.push(code)?;
-            }
+        let own = [*symbol];
+        let image = image_or(&*images, *symbol, &own);
+        if image.len() > room - applied.len() {
+            return Ok(None);
         }
+        applied.extend_from_slice(image)?;
     }
     Ok(Some(applied))
+}
+
+/// Returns whether the symbols are the expression with the images substituted. Nothing is written.
+///
+/// Cost: log n for each symbol of the expression and n images, and the symbols that agree.
+pub fn agrees(images: &Images<'_>, expr: &[u32], symbols: &[u32]) -> bool
+    ensures { IsTrue result ↔ (symbols.now ≡ code_apply (code_images images.now) expr.now) }
+{
+    let mut rest = symbols;
+    for symbol in expr {
+        match behind_image(images, *symbol, rest) {
+            Some(next) => rest = next,
+            None => return false,
+        }
+    }
+    rest.is_empty()
+}
+
+/// Returns the symbols behind the image of a symbol, if they begin with it.
+fn behind_image<'a>(images: &Images<'_>, symbol: u32, symbols: &'a [u32]) -> Option<&'a [u32]>
+    ensures some { IfSome result (λ rest. symbols.entry.now ≡ code_image (code_images images.now) symbol ++ rest.now) }
+    ensures none { IfNone result ((rest : List ℕ) → symbols.entry.now ≡ code_image (code_images images.now) symbol ++ rest → ⊥) }
+{
+    let own = [symbol];
+    let image = image_or(&*images, symbol, &own);
+    symbols.strip_prefix(image)
 }

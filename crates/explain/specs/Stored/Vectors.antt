@@ -1,8 +1,8 @@
--- Expressions kept as vectors of numbers that stand for names, and images of variables.
+-- Expressions kept as slices of numbers that stand for names, and images of variables.
 -- Source: this project's form of keeping names; images are Metamath, 4.2.6.
--- The code keeps a vector for each expression; the definitions of faults speak of names.
+-- The code keeps a slice for each expression; the definitions of faults speak of names.
 use Rattle.std.specs.Prelude.{◌≡◌, ℕ, List, map, length, Some}
-use Rattle.std.specs.Global.{Vec}
+use Rattle.std.specs.Borrow.{Bor}
 use Rattle.mm_lex.specs.Alphabet.{Name}
 use Rattle.mm_read.specs.declared.stmt.Stmt.{Stmt}
 use Rattle.mm_read.specs.Statements.{Expr, Database}
@@ -14,24 +14,24 @@ use Rattle.frame.specs.Substitution.{CodeImages}
 use Rattle.explain.specs.declared.named_images.Image.{Image}
 
 -- the numbers of each of the expressions
-abbrev pub codes : List (Vec ℕ) → List (List ℕ)
-codes vs = map (λ v. v.items) vs
+abbrev pub codes : List (Bor (List ℕ)) → List (List ℕ)
+codes es = map (λ e. e.now) es
 
 -- the expressions
-abbrev pub named : List Name → List (Vec ℕ) → List Expr
-named names vs = map (λ v. decode names v.items) vs
+abbrev pub named : List Name → List (Bor (List ℕ)) → List Expr
+named names es = map (λ e. decode names e.now) es
 
 -- their numbers are those of names
-abbrev pub AreSymbols : ℕ → List (Vec ℕ) → Type 0
-AreSymbols n vs = AllBelow n (codes vs)
+abbrev pub AreSymbols : ℕ → List (Bor (List ℕ)) → Type 0
+AreSymbols n es = AllBelow n (codes es)
 
 -- the images by number
 abbrev pub code_images : List Image → CodeImages
-code_images images = map (λ i. (i.variable, i.symbols.items)) images
+code_images images = map (λ i. (i.variable, i.symbols.now)) images
 
 -- their numbers are those of names
 abbrev pub AreImages : ℕ → List Image → Type 0
-AreImages n images = AllBelow n (map (λ i. i.symbols.items) images)
+AreImages n images = AllBelow n (map (λ i. i.symbols.now) images)
 
 -- the assertion at a has so many mandatory hypotheses
 abbrev pub CountIs : Database → ℕ → ℕ → Type 0

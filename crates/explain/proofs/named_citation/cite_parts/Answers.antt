@@ -23,7 +23,7 @@ conclude-requires-clause-count c s e =
     let base = c.len-there.result - length c.args.mandatory.now in let stack = c.args.results.now.results.stack in
     let all = c.len-there.ensures in let few = c.if-there-takes.false in
     let copied = ap length (ap codes c.as_slice.ensures.value ∙ c.in_ok-taken.ensures) in
-    let same = length-map c.as_slice.result.now (λ v. v.items) in let cut = length-drop base stack in let required = ap length (c.requires.mandatory s e) in
+    let same = length-map c.as_slice.result.now (λ v. v.now) in let cut = length-drop base stack in let required = ap length (c.requires.mandatory s e) in
     omega (arith, all, few, copied, same, cut, required)
 
 pub returns : goal.returns

@@ -20,7 +20,7 @@ read_images-requires c =
 pub find_other-requires-clause-images : goal.find_other-requires-clause-images
 find_other-requires-clause-images c =
     let n = length c.args.frames.now.names in
-    subst (λ l. AreImages n l) (sym c.deref.ensures.value) (c.in_ok-images.ensures.below n c.requires.symbols)
+    c.in_ok-images.ensures.below n c.requires.symbols
 
 pub find_violation-requires-clause-groups : goal.find_violation-requires-clause-groups
 find_violation-requires-clause-groups c =
@@ -30,23 +30,22 @@ find_violation-requires-clause-groups c =
 pub find_violation-requires-clause-images : goal.find_violation-requires-clause-images
 find_violation-requires-clause-images c =
     let n = length c.args.frames.now.names in
-    subst (λ ns. AreImages (length ns) c.as_slice.result.now) (sym c.active_pairs-pairs.ensures.names)
-    (subst (λ l. AreImages n l) (sym c.as_slice.ensures.value) (c.in_ok-images.ensures.below n c.requires.symbols))
+    subst (λ ns. AreImages (length ns) c.in_ok-images.images) (sym c.active_pairs-pairs.ensures.names) (c.in_ok-images.ensures.below n c.requires.symbols)
 
 pub returns-in-Some-2-clause-below : goal.returns-in-Some-2-clause-below
 returns-in-Some-2-clause-below c =
     let s = c.requires.assertion.0 in let e = c.requires.assertion.1.0 in
     let n = length c.args.frames.now.names in
-    let images = subst (λ l. AreImages n l) (sym c.as_slice-2.ensures.value) (c.in_ok-images.ensures.below n c.requires.symbols) in
+    let images = c.in_ok-images.ensures.below n c.requires.symbols in
     let told = rw c.in-Some-2.is at c.in_ok-result.ensures in
-    subst (λ l. AreBelow n l) (sym told.0) (apply-below n c.as_slice-2.result.now c.args.cited.now.conclusion.now images (c.requires.cited s e).conclusion_below)
+    subst (λ l. AreBelow n l) (sym told.0) (apply-below n c.in_ok-images.images c.args.cited.now.conclusion.now images (c.requires.cited s e).conclusion_below)
 
 pub find_other-requires-clause-read : goal.find_other-requires-clause-read
 find_other-requires-clause-read c s e =
     let S = c.args.frames.now.statements in let names = c.args.frames.now.names in let cited = c.requires.cited s e in
     let ps = hypotheses (before S c.args.a) s in
     let told = c.in_ok-images.ensures.read in
-    let is = ap code_images c.deref.ensures.value ∙ told in
+    let is = told in
     let are = images_are S names ps c.args.cited.now.typecodes.now c.args.cited.now.hypotheses (codes c.args.results.now) cited.required in
     (ap (named_images names) is ∙ (are.0 ∙ ap (images_read S ps) (named-codes names c.args.results.now)), subst (λ σ. AreVariables (length names) σ) (sym is) are.1)
 
@@ -55,9 +54,9 @@ find_violation-requires-clause-variables c =
     let s = c.requires.assertion.0 in let e = c.requires.assertion.1.0 in
     let S = c.args.frames.now.statements in let names = c.args.frames.now.names in let cited = c.requires.cited s e in
     let ps = hypotheses (before S c.args.a) s in
-    let is = ap code_images c.as_slice.ensures.value ∙ c.in_ok-images.ensures.read in
+    let is = c.in_ok-images.ensures.read in
     let are = images_are S names ps c.args.cited.now.typecodes.now c.args.cited.now.hypotheses (codes c.args.results.now) cited.required in
-    subst (λ ns. AreVariables (length ns) (code_images c.as_slice.result.now)) (sym c.active_pairs-pairs.ensures.names) (subst (λ σ. AreVariables (length names) σ) (sym is) are.1)
+    subst (λ ns. AreVariables (length ns) (code_images c.in_ok-images.images)) (sym c.active_pairs-pairs.ensures.names) (subst (λ σ. AreVariables (length names) σ) (sym is) are.1)
 
 pub find_violation-requires-clause-distinct : goal.find_violation-requires-clause-distinct
 find_violation-requires-clause-distinct c = subst (λ ns. AreDistinct ns) (sym c.active_pairs-pairs.ensures.names) c.requires.legal.distinct
@@ -72,10 +71,10 @@ returns-in-Some-violation-clause-told c s e =
     let S = c.args.frames.now.statements in let names = c.args.frames.now.names in let cited = c.requires.cited s e in
     let rs = named names c.args.results.now in
     let ps = hypotheses (before S c.args.a) s in
-    let is = ap code_images c.as_slice.ensures.value ∙ c.in_ok-images.ensures.read in
+    let is = c.in_ok-images.ensures.read in
     let are = images_are S names ps c.args.cited.now.typecodes.now c.args.cited.now.hypotheses (codes c.args.results.now) cited.required in
     let pn = c.active_pairs-pairs.ensures.names in
-    let images = ap (λ ns. named_images ns (code_images c.as_slice.result.now)) pn ∙ (ap (named_images names) is ∙ (are.0 ∙ ap (images_read S ps) (named-codes names c.args.results.now))) in
+    let images = ap (λ ns. named_images ns (code_images c.in_ok-images.images)) pn ∙ (ap (named_images names) is ∙ (are.0 ∙ ap (images_read S ps) (named-codes names c.args.results.now))) in
     let groups = ap (λ ns. map (decode ns) c.args.cited.now.groups) pn ∙ cited.groups in
     (refl, rw c.in_default.is at (c.in_ok-fault.ensures s e), violation_moved c.active_pairs-pairs.ensures.statements pn images groups c.in-Some-violation.violation (rw c.in-Some-violation.is at c.in_ok-violation.ensures))
 
@@ -83,12 +82,12 @@ pub returns-in-Some-2-clause-told : goal.returns-in-Some-2-clause-told
 returns-in-Some-2-clause-told c s e =
     let S = c.args.frames.now.statements in let names = c.args.frames.now.names in let cited = c.requires.cited s e in
     let ps = hypotheses (before S c.args.a) s in
-    let is = ap code_images c.as_slice.ensures.value ∙ c.in_ok-images.ensures.read in
-    let is-2 = ap code_images c.as_slice-2.ensures.value ∙ c.in_ok-images.ensures.read in
+    let is = c.in_ok-images.ensures.read in
+    let is-2 = c.in_ok-images.ensures.read in
     let are = images_are S names ps c.args.cited.now.typecodes.now c.args.cited.now.hypotheses (codes c.args.results.now) cited.required in
     let pn = c.active_pairs-pairs.ensures.names in
     let read = are.0 ∙ ap (images_read S ps) (named-codes names c.args.results.now) in
-    let images = ap (λ ns. named_images ns (code_images c.as_slice.result.now)) pn ∙ (ap (named_images names) is ∙ read) in
+    let images = ap (λ ns. named_images ns (code_images c.in_ok-images.images)) pn ∙ (ap (named_images names) is ∙ read) in
     let groups = ap (λ ns. map (decode ns) c.args.cited.now.groups) pn ∙ cited.groups in
     let told = rw c.in-Some-2.is at c.in_ok-result.ensures in
     let variables = subst (λ σ. AreVariables (length names) σ) (sym is-2) are.1 in (
@@ -96,7 +95,7 @@ returns-in-Some-2-clause-told c s e =
         fit = rw c.in_default.is at (c.in_ok-fault.ensures s e);
         disjoint = disjoint_moved c.active_pairs-pairs.ensures.statements pn images groups (rw c.in_default-violation.is at c.in_ok-violation.ensures);
       },
-      ap (decode names) told.0 ∙ conclusion_is names c.requires.legal.distinct (code_images c.as_slice-2.result.now) variables (images_read S ps (named names c.args.results.now)) (ap (named_images names) is-2 ∙ read)
+      ap (decode names) told.0 ∙ conclusion_is names c.requires.legal.distinct (code_images c.in_ok-images.images) variables (images_read S ps (named names c.args.results.now)) (ap (named_images names) is-2 ∙ read)
           c.args.cited.now.conclusion.now cited.conclusion_below (expr_of s) cited.conclusion,
       told.1,
     )
@@ -105,12 +104,12 @@ pub returns-clause-told : goal.returns-clause-told
 returns-clause-told c s e =
     let S = c.args.frames.now.statements in let names = c.args.frames.now.names in let cited = c.requires.cited s e in
     let ps = hypotheses (before S c.args.a) s in
-    let is = ap code_images c.as_slice.ensures.value ∙ c.in_ok-images.ensures.read in
-    let is-2 = ap code_images c.as_slice-2.ensures.value ∙ c.in_ok-images.ensures.read in
+    let is = c.in_ok-images.ensures.read in
+    let is-2 = c.in_ok-images.ensures.read in
     let are = images_are S names ps c.args.cited.now.typecodes.now c.args.cited.now.hypotheses (codes c.args.results.now) cited.required in
     let pn = c.active_pairs-pairs.ensures.names in
     let read = are.0 ∙ ap (images_read S ps) (named-codes names c.args.results.now) in
-    let images = ap (λ ns. named_images ns (code_images c.as_slice.result.now)) pn ∙ (ap (named_images names) is ∙ read) in
+    let images = ap (λ ns. named_images ns (code_images c.in_ok-images.images)) pn ∙ (ap (named_images names) is ∙ read) in
     let groups = ap (λ ns. map (decode ns) c.args.cited.now.groups) pn ∙ cited.groups in
     let told = rw c.in-None.is at c.in_ok-result.ensures in
     let variables = subst (λ σ. AreVariables (length names) σ) (sym is-2) are.1 in (
@@ -118,6 +117,6 @@ returns-clause-told c s e =
         fit = rw c.in_default.is at (c.in_ok-fault.ensures s e);
         disjoint = disjoint_moved c.active_pairs-pairs.ensures.statements pn images groups (rw c.in_default-violation.is at c.in_ok-violation.ensures);
       },
-      subst (λ n. c.args.room < n) (conclusion_length names c.requires.legal.distinct (code_images c.as_slice-2.result.now) variables (images_read S ps (named names c.args.results.now)) (ap (named_images names) is-2 ∙ read)
+      subst (λ n. c.args.room < n) (conclusion_length names c.requires.legal.distinct (code_images c.in_ok-images.images) variables (images_read S ps (named names c.args.results.now)) (ap (named_images names) is-2 ∙ read)
           c.args.cited.now.conclusion.now cited.conclusion_below (expr_of s) cited.conclusion) told,
     )

@@ -1,4 +1,5 @@
-use Rattle.std.proofs.Common.{◌<◌, ◌≤◌, ◌∙◌, ℕ, List, ap, sym, subst, length, get_or, arith}
+use Rattle.std.proofs.Common.{◌<◌, ◌≤◌, ◌∙◌, ℕ, List, ap, sym, refl, subst, length, get_or, arith}
+use Rattle.std.proofs.lemmas.Bool.{both_ways}
 use Rattle.std.proofs.lemmas.Option.{get_or_from_slice_get}
 use Rattle.scope.specs.Active.{before}
 use Rattle.scope.proofs.StatementPlaces.{stands-within}
@@ -9,12 +10,13 @@ use Rattle.explain.proofs.VectorLemmas.{required-at, required-typecodes, require
 use Rattle.names.specs.Codes.{decode}
 use Rattle.frame.specs.Below.{AreBelow}
 use Rattle.frame.specs.AssertionView.{AreRequired, IsRequired}
+use Rattle.frame.specs.Substitution.{code_apply}
 use Rattle.explain.specs.Stored.Vectors.{code_images, named}
 use Rattle.explain.specs.ReadImages.{named_images, images_read}
 use Rattle.explain.specs.CitationFaults.{IsOther}
-use Rattle.explain.proofs.VectorLemmas.{symbols-at}
+use Rattle.explain.proofs.VectorLemmas.{got, nothing, symbols-at}
 use Rattle.explain.proofs.ImagesLemmas.{apply-below}
-use Rattle.explain.proofs.CitationFaultLemmas.{fit_more, other_here, other_constant, mismatch_is, required_is, not_ne, is_ne}
+use Rattle.explain.proofs.CitationFaultLemmas.{fit_more, other_here, other_constant, mismatch_is, required_is}
 use Rattle.explain.proofs.named_citation.find_other.Goals as goal
 
 pub bounds-mandatory-k : goal.bounds-mandatory-k
@@ -23,8 +25,8 @@ bounds-mandatory-k c =
     let same = ap length (c.requires.mandatory s e) in let count = c.requires.count s e in
     omega (arith, same, count, c.loop-k-test.true)
 
-pub expr-requires : goal.expr-requires
-expr-requires c =
+pub expr-expr-requires : goal.expr-expr-requires
+expr-expr-requires c =
     let s = c.requires.assertion.0 in let e = c.requires.assertion.1.0 in
     let S = c.args.frames.now.statements in let cited = c.requires.cited s e in
     let ps : List ℕ = hypotheses (before S c.args.a) s in
@@ -60,14 +62,14 @@ loop-k-preserved c =
     let within : c.loop-k.k < length hyps = let count = c.requires.count s e in let long = ap length same in omega (arith, count, long, c.loop-k-test.true) in
     let all = subst (λ ps. AreRequired S names ps c.args.cited.now.typecodes.now c.args.cited.now.hypotheses) (sym same) cited.required in
     let required = required-at S names hyps c.args.cited.now.typecodes.now c.args.cited.now.hypotheses c.loop-k.k d all within in
-    let told = rw c.in-Some.is at c.in_ok-required.ensures in
-    let is = required_is S names c.requires.legal.distinct (code_images c.args.images.now) (c.requires.read s e).1 (get_or hyps c.loop-k.k 0) required.stmt required.stands
-    c.expr.result.now (c.expr.ensures.same required.stmt required.stands) c.expr.ensures.codes c.in-Some.required.items told.0 in
-    fit_more S names (named_images names (code_images c.args.images.now)) hyps c.args.results.now c.loop-k.k c.index-results-k.result within c.loop-k-test.true c.index-results-k.is
-    c.loop-k.invariant (sym is ∙ ap (decode names) (sym c.as_slice.ensures.value ∙ (not_ne c.ne.result c.as_slice.result.now c.as_slice-result.result.now c.ne.ensures c.if-ne.false ∙ c.as_slice-result.ensures.value)))
+    let σ = code_images c.args.images.now in
+    let is = required_is S names c.requires.legal.distinct σ (c.requires.read s e).1 (get_or hyps c.loop-k.k 0) required.stmt required.stands
+    c.expr-expr.result.now (c.expr-expr.ensures.same required.stmt required.stands) c.expr-expr.ensures.codes (code_apply σ c.expr-expr.result.now) refl in
+    fit_more S names (named_images names (code_images c.args.images.now)) hyps c.args.results.now c.loop-k.k (get_or c.args.results.now c.loop-k.k nothing) within c.loop-k-test.true (got c.args.results.now c.loop-k.k nothing c.loop-k-test.true)
+    c.loop-k.invariant (sym is ∙ ap (decode names) (sym (c.agrees.ensures.0 c.if-not-agrees.false)))
 
-pub returns-then-ne : goal.returns-then-ne
-returns-then-ne c s e =
+pub returns-then-not-agrees : goal.returns-then-not-agrees
+returns-then-not-agrees c s e =
     let S = c.args.frames.now.statements in let names = c.args.frames.now.names in let cited = c.requires.cited s e in
     let n = length names in
     let hyps = c.args.mandatory.now in
@@ -80,19 +82,19 @@ returns-then-ne c s e =
     (required-at S names hyps c.args.cited.now.typecodes.now c.args.cited.now.hypotheses c.loop-k.k d all within) in
     let told = rw c.in-Some.is at c.in_ok-required.ensures in
     let is = required_is S names c.requires.legal.distinct (code_images c.args.images.now) (c.requires.read s e).1 (get_or hyps c.loop-k.k 0) required.stmt required.stands
-    c.expr.result.now (c.expr.ensures.same required.stmt required.stands) c.expr.ensures.codes c.in-Some.required.items told.0 in
-    let low = subst (λ xs. AreBelow n xs) (sym told.0) (apply-below n c.args.images.now c.expr.result.now c.requires.images c.expr.ensures.codes) in
-    let below = symbols-at n c.args.results.now c.loop-k.k c.index-results-k.result c.requires.symbols c.loop-k-test.true c.index-results-k.is in
-    let other = other_here S names (named_images names (code_images c.args.images.now)) hyps c.args.results.now c.loop-k.k c.index-results-k.result within c.loop-k-test.true c.index-results-k.is
+    c.expr-expr.result.now (c.expr-expr.ensures.same required.stmt required.stands) c.expr-expr.ensures.codes c.in-Some.required.items told.0 in
+    let low = subst (λ xs. AreBelow n xs) (sym told.0) (apply-below n c.args.images.now c.expr-expr.result.now c.requires.images c.expr-expr.ensures.codes) in
+    let below = symbols-at n c.args.results.now c.loop-k.k (get_or c.args.results.now c.loop-k.k nothing) c.requires.symbols c.loop-k-test.true (got c.args.results.now c.loop-k.k nothing c.loop-k-test.true) in
+    let other = other_here S names (named_images names (code_images c.args.images.now)) hyps c.args.results.now c.loop-k.k (get_or c.args.results.now c.loop-k.k nothing) within c.loop-k-test.true (got c.args.results.now c.loop-k.k nothing c.loop-k-test.true)
     c.loop-k.invariant c.in-Some.required.items c.requires.legal.distinct low below is
-    (λ same_items. is_ne c.ne.result c.as_slice.result.now c.as_slice-result.result.now c.ne.ensures c.if-ne.true (c.as_slice-result.ensures.value ∙ (same_items ∙ sym c.as_slice.ensures.value))) in
-    let copied = c.in_ok-result.ensures.items ∙ c.as_slice-result.ensures.value in
+    (λ same_items. both_ways c.agrees.result c.if-not-agrees.true (c.agrees.ensures.1 (same_items ∙ told.0))) in
+    let copied = c.in_ok-result.ensures.items in
     let rs = named names c.args.results.now in
     let ps = hypotheses (before S c.args.a) s in
     let p = get_or hyps c.loop-k.k 0 in
     let read = images_read S ps rs in
-    let first = subst (λ σ. IsOther S σ hyps rs c.loop-k.k p (decode names c.in-Some.required.items) (decode names c.index-results-k.result.items)) (c.requires.read s e).0 other in
-    let second = subst (λ qs. IsOther S read qs rs c.loop-k.k p (decode names c.in-Some.required.items) (decode names c.index-results-k.result.items)) same first in
+    let first = subst (λ σ. IsOther S σ hyps rs c.loop-k.k p (decode names c.in-Some.required.items) (decode names (get_or c.args.results.now c.loop-k.k nothing).now)) (c.requires.read s e).0 other in
+    let second = subst (λ qs. IsOther S read qs rs c.loop-k.k p (decode names c.in-Some.required.items) (decode names (get_or c.args.results.now c.loop-k.k nothing).now)) same first in
     let third = subst (λ xs. IsOther S read ps rs c.loop-k.k p (decode names c.in-Some.required.items) (decode names xs)) (sym copied) second in
     mismatch_is S names c.args.a s rs kind (get_or c.args.cited.now.typecodes.now c.loop-k.k 0) p c.loop-k.k c.in-Some.required c.in_ok-result.result c.other.result
     c.other.ensures third

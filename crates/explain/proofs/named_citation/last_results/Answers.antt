@@ -1,11 +1,11 @@
-use Rattle.std.proofs.Common.{◌∙◌, arith, drop, refl, sym}
+use Rattle.std.proofs.Common.{arith, drop, refl}
 use Rattle.explain.proofs.VectorLemmas.{taken-more, taken-all}
 use Rattle.explain.proofs.named_citation.last_results.Goals as goal
 
 pub loop-k-preserved : goal.loop-k-preserved
 loop-k-preserved c =
     let stack = c.args.results.now.results.stack in
-    taken-more c.loop-k.taken.items c.push.new.self.items c.in_ok-from_slice.field-0 stack (drop c.args.base stack) c.loop-k.k c.get.result.now c.get.ensures c.in_ok-from_slice.ensures.items
+    taken-more c.loop-k.taken.items c.push.new.self.items c.get.result stack (drop c.args.base stack) c.loop-k.k c.get.result.now c.get.ensures refl
     c.in_ok-push.ensures.items c.loop-k.invariant
 
 pub returns : goal.returns

@@ -1,37 +1,6 @@
-use Rattle.std.proofs.Common.{◌≡◌, ◌<◌, ◌∙◌, subst, sym, ap, refl, drop, ◌+◌, ◌++◌, length, List, ℕ, arith}
-use Rattle.std.proofs.lemmas.Option.{get_or_from_slice_get, slice_get_within}
-use Rattle.entries.specs.declared.assertion_view.Hypothesis.TheVariants.{Float}
-use Rattle.frame.specs.Below.{AreBelow}
-use Rattle.explain.specs.Stored.Vectors.{codes, code_images, AreImages}
-use Rattle.explain.specs.ReadImages.{codes_read}
-use Rattle.explain.proofs.VectorLemmas.{symbols-at}
-use Rattle.explain.proofs.ImagesLemmas.{images-push}
-use Rattle.explain.proofs.NamedLemmas.{read_more, read_skip}
+use Rattle.explain.specs.Stored.Vectors.{AreImages}
+use Rattle.explain.proofs.ImagesLemmas.{ok_is}
 use Rattle.explain.proofs.named_images.read_images.Goals as goal
-use Rattle.explain.proofs.named_images.read_images.Goals.{in-Float+in_ok-symbols+in_ok-push, in_default}
-use Rattle.subst.proofs.GroupLemmas.{below-drop}
 
-pub loop-k-preserved : goal.loop-k-preserved
-loop-k-preserved c =
-    let within = slice_get_within c.args.kinds.now c.loop-k.k c.get.result c.get.ensures in
-    let inside : c.loop-k.k < length c.args.results.now = omega (arith, within) in
-    let kind = get_or_from_slice_get c.args.kinds.now c.loop-k.k c.get.result (Float 0) c.get.ensures in
-    elim c.match-get.branch [
-      | in-Float+in_ok-symbols+in_ok-push w ↦
-          let e = w.in_ok-symbols.ensures.items ∙ (w.behind_first.ensures ∙ ap (λ (xs : List ℕ). drop 1 xs) w.as_slice.ensures.value) in
-          record {
-            below = λ n symbols. subst (λ v. AreImages n v.items) (sym w.images-is)
-                (images-push n c.loop-k.images.items w.push.new.self.items (record { variable = w.in-Float.variable; symbols = w.in_ok-symbols.symbols }) w.in_ok-push.ensures.items
-                (c.loop-k.invariant.below n symbols)
-                (subst (λ xs. AreBelow n xs) (sym e) (below-drop n 1 w.index-results-k.result.items (symbols-at n c.args.results.now c.loop-k.k w.index-results-k.result symbols inside w.index-results-k.is))));
-            read = read_more c.args.kinds.now c.args.results.now c.loop-k.k w.in-Float.variable c.loop-k.images.items c.match-get.images.items
-                (record { variable = w.in-Float.variable; symbols = w.in_ok-symbols.symbols }) (codes_read c.args.kinds.now (codes c.args.results.now))
-                within inside (kind ∙ w.in-Float.is) w.index-results-k.result w.index-results-k.is refl e
-                (ap (λ v. v.items) w.images-is ∙ w.in_ok-push.ensures.items) c.loop-k.invariant.read;
-          }
-      | in_default w ↦ record {
-        below = λ n symbols. subst (λ v. AreImages n v.items) (sym w.images-is) (c.loop-k.invariant.below n symbols);
-        read = subst (λ v. code_images v.items ++ codes_read (drop (c.loop-k.k + 1) c.args.kinds.now) (codes (drop (c.loop-k.k + 1) c.args.results.now)) ≡ codes_read c.args.kinds.now (codes c.args.results.now)) (sym w.images-is)
-            (read_skip c.args.kinds.now c.args.results.now c.loop-k.k c.loop-k.images.items (codes_read c.args.kinds.now (codes c.args.results.now)) within inside (λ x e. w.in_default.not-Float x (sym kind ∙ e)) c.loop-k.invariant.read);
-      }
-    ]
+pub returns-clause-below : goal.returns-clause-below
+returns-clause-below c n symbols = ok_is (AreImages n) c.in_ok-list.list.items c.new.result c.new.ensures (c.in_ok-list.ensures.below n symbols)

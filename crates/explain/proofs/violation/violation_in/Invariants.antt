@@ -1,17 +1,13 @@
-use Rattle.std.proofs.Common.{◌≡◌, drop, take, length}
+use Rattle.std.proofs.Common.{◌≡◌, drop}
 use Rattle.std.specs.List.{list_all}
 use Rattle.names.specs.Codes.{decode}
 use Rattle.frame.specs.Disjoint.{is_group_disjoint}
-use Rattle.frame.specs.Substitution.{code_apply}
 use Rattle.explain.specs.Stored.Vectors.{code_images}
 use Rattle.explain.specs.ReadImages.{named_images}
 use Rattle.explain.specs.DisjointViolations.{is_other_disjoint}
 use Rattle.explain.proofs.violation.violation_in.Given as goal
 
 abbrev pub invariant-loop-first : goal.invariant-loop-first
-invariant-loop-first l = record {
-  start : l.start ≡ length (code_apply (code_images l.images) (take l.first-index l.group));
-  rest :
-      is_group_disjoint l.pairs.statements (named_images l.pairs.names (code_images l.images)) (decode l.pairs.names l.group)
-      ≡ list_all (λ x. list_all (is_other_disjoint l.pairs.statements (named_images l.pairs.names (code_images l.images)) x) (decode l.pairs.names l.group)) (decode l.pairs.names (drop l.first-index l.group));
-}
+invariant-loop-first l =
+    is_group_disjoint l.pairs.statements (named_images l.pairs.names (code_images l.images)) (decode l.pairs.names l.group)
+    ≡ list_all (λ x. list_all (is_other_disjoint l.pairs.statements (named_images l.pairs.names (code_images l.images)) x) (decode l.pairs.names l.group)) (decode l.pairs.names (drop l.first-index l.group))

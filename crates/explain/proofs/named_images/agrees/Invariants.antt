@@ -1,0 +1,7 @@
+use Rattle.std.proofs.Common.{◌≡◌, ◌++◌, take}
+use Rattle.frame.specs.Substitution.{code_apply}
+use Rattle.explain.specs.Stored.Vectors.{code_images}
+use Rattle.explain.proofs.named_images.agrees.Given as goal
+
+abbrev pub invariant-loop-symbol : goal.invariant-loop-symbol
+invariant-loop-symbol l = l.symbols ≡ code_apply (code_images l.images) (take l.symbol-index l.expr) ++ l.rest

@@ -1,0 +1,39 @@
+-- The variables of expressions, each once.
+-- Source: Metamath, 4.2.6: the disjoint variable condition speaks of the variables of an image.
+-- The code reads each image once; the definitions of faults speak of whole images.
+use Rattle.std.specs.Prelude.{ℕ, ◌<◌, IsTrue, List, [], ◌∷◌, length}
+use Rattle.std.specs.Global.{Vec}
+use Rattle.std.specs.BTreeSet.{contains}
+use Rattle.std.specs.Ordering.{nat_cmp}
+use Rattle.mm_lex.specs.Alphabet.{Name, has_name}
+use Rattle.mm_read.specs.Statements.{Expr, Database}
+use Rattle.scope.specs.Active.{is_variable}
+use Rattle.names.specs.Codes.{name_at, decode}
+use Rattle.frame.specs.Below.{AreBelow}
+use Rattle.explain.specs.declared.named_images.Image.{Image}
+use Rattle.explain.specs.declared.variable_lists.VariableList.{VariableList}
+
+-- the list has the variables of the expression, and no symbol that this has not
+pub record AreVariablesOf (S : Database) (names : List Name) (expr list : List ℕ) : Type 0 where
+  pub below : AreBelow (length names) list
+  pub each : (v : Name) → IsTrue (has_name v (decode names expr)) → IsTrue (is_variable S v) → IsTrue (has_name v (decode names list))
+  pub only : (v : Name) → IsTrue (has_name v (decode names list)) → IsTrue (has_name v (decode names expr))
+
+-- .. one list for each image
+abbrev pub AreListsOf : Database → List Name → List Image → List (Vec ℕ) → Type 0
+AreListsOf S names [] [] = Unit {0}
+AreListsOf S names (image ∷ images) (list ∷ lists) = AreVariablesOf S names image.symbols.now list.items × AreListsOf S names images lists
+AreListsOf S names images lists = ⊥
+
+-- each number that was seen stands in the list
+abbrev pub AreSeen : List Name → VariableList → Type 0
+AreSeen names v = (x : ℕ) → IsTrue (contains nat_cmp v.seen x) → IsTrue (has_name (name_at names x) (decode names v.list.items))
+
+-- the symbol is in the list, if it is a variable, and no other came
+pub record IsNoted (S : Database) (names : List Name) (old new : VariableList) (code : ℕ) : Type 0 where
+  pub seen : AreSeen names new
+  pub below : AreBelow (length names) old.list.items → AreBelow (length names) new.list.items
+  pub kept : (v : Name) → IsTrue (has_name v (decode names old.list.items)) → IsTrue (has_name v (decode names new.list.items))
+  pub noted : IsTrue (is_variable S (name_at names code)) → IsTrue (has_name (name_at names code) (decode names new.list.items))
+  pub only : (e : Expr) → ((v : Name) → IsTrue (has_name v (decode names old.list.items)) → IsTrue (has_name v e)) → IsTrue (has_name (name_at names code) e)
+      → (v : Name) → IsTrue (has_name v (decode names new.list.items)) → IsTrue (has_name v e)

@@ -1,0 +1,111 @@
+//! The variables of images, each image read once.
+ghost use Rattle.std.specs.Prelude.{◌≡◌, ◌<◌, ◌∷◌, [], List, length, slice_get, IfOk, IsTrue, OnOk, Some};
+ghost use Rattle.mm_lex.specs.Alphabet.{Name};
+ghost use Rattle.mm_read.specs.Statements.{Database};
+ghost use Rattle.frame.specs.Below.{AreBelow};
+ghost use Rattle.frame.specs.Substitution.{code_image};
+ghost use Rattle.explain.specs.Stored.Vectors.{AreImages, code_images};
+ghost use Rattle.explain.specs.VariableLists.{AreListsOf, AreSeen, AreVariablesOf, IsNoted};
+
+use crate::named_images::Images;
+use frame::Pairs;
+use std::alloc::{AllocError, Global};
+use std::collections::BTreeSet;
+
+/// A variable is found without a search while it is the last one that was added of those with its number modulo this.
+const RECENT: usize = 256;
+
+/// The variables that were found, each once, in the order in which they came first.
+#[derive(Drop)]
+pub struct VariableList {
+    list: Vec<u32>,
+    seen: BTreeSet<u32>,
+    /// Indexes in the list.
+    recent: [usize; RECENT],
+}
+
+impl VariableList {
+    /// Adds the symbol, if it is a variable and is not in the list.
+    ///
+    /// Errors: an allocation fails. Cost: mostly a constant, else log n for n variables.
+    fn add(&mut self, pairs: &Pairs<'_>, code: u32) -> Result<(), AllocError>
+        requires code { code < length pairs.now.names }
+        requires seen { AreSeen pairs.now.names self.old }
+        ensures { OnOk result (IsNoted pairs.now.statements pairs.now.names self.old self.new code) }
+    {
+        let place = code as usize % RECENT;
+        if is_at(self.list.as_slice(), self.recent[place], code) || !pairs.variable(code) {
+            return Ok(());
+        }
+        if self.seen.insert(code)? {
+            self.recent[place] = self.list.len();
+            self.list.push(code)?;
+        }
+        Ok(())
+    }
+}
+
+/// Returns whether the number stands at that index.
+fn is_at(list: &[u32], index: usize, code: u32) -> bool
+    ensures { IsTrue result → slice_get list.now index ≡ Some code }
+{
+    match list.get(index) {
+        Some(there) => *there == code,
+        None => false,
+    }
+}
+
+/// Returns the variables of an expression, each once, in the order in which they come first.
+///
+/// Errors: an allocation fails. Cost: the symbols, with a logarithm for those of many variables.
+fn variables_of(alloc: Global, pairs: &Pairs<'_>, symbols: &[u32]) -> Result<Vec<u32>, AllocError>
+    requires { AreBelow (length pairs.now.names) symbols.now }
+    ensures { IfOk result (λ list. AreVariablesOf pairs.now.statements pairs.now.names symbols.now list.items) }
+{
+    let mut variables = VariableList {
+        list: Vec::new(alloc),
+        seen: BTreeSet::new(alloc),
+        recent: [0; RECENT],
+    };
+    for symbol in symbols {
+        variables.add(pairs, *symbol)?;
+    }
+    Ok(variables.list)
+}
+
+/// Returns for each image the variables that stand in it.
+///
+/// Errors: an allocation fails. Cost: that of `variables_of` for each image.
+pub fn variable_lists(
+    alloc: Global,
+    pairs: &Pairs<'_>,
+    images: &Images<'_>,
+) -> Result<Vec<Vec<u32>>, AllocError>
+    requires { AreImages (length pairs.now.names) images.now }
+    ensures { IfOk result (λ lists. AreListsOf pairs.now.statements pairs.now.names images.now lists.items) }
+{
+    let mut lists = Vec::new(alloc);
+    let list = images.as_slice();
+    for image in list {
+        lists.push(variables_of(alloc, pairs, image.symbols)?)?;
+    }
+    Ok(lists)
+}
+
+/// Returns the list of the image of a symbol, or the symbol itself, which is handed in.
+pub fn list_or<'a>(
+    images: &Images<'_>,
+    lists: &'a [Vec<u32>],
+    symbol: u32,
+    own: &'a [u32],
+) -> &'a [u32]
+    requires count { length lists.now ≡ length images.now }
+    requires own { own.now ≡ symbol ∷ [] }
+    ensures { (S : Database) (names : List Name) → AreListsOf S names images.now lists.entry.now → symbol < length names
+        → AreVariablesOf S names (code_image (code_images images.now) symbol) result.now }
+{
+    match images.place(symbol) {
+        Some(i) => lists[i].as_slice(),
+        None => own,
+    }
+}
