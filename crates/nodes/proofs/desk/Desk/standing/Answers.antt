@@ -9,7 +9,7 @@ pub returns-in_err-cell-clause-faults : goal.returns-in_err-cell-clause-faults
 returns-in_err-cell-clause-faults g c = handed (λ (f : StepFault). (f ≡ NoNode) ⊎ (f ≡ Apart)) c.from_residual.result c.in_err-cell.field-0.0 c.from_residual.ensures.1 (inl c.in_err-cell.ensures.only_no_node)
 
 pub returns-in_err-state-clause-faults : goal.returns-in_err-state-clause-faults
-returns-in_err-state-clause-faults g c = handed (λ (f : StepFault). (f ≡ NoNode) ⊎ (f ≡ Apart)) c.from_residual.result c.in_err-state.field-0.0 c.from_residual.ensures.1 (inl c.in_err-state.ensures.only_no_node)
+returns-in_err-state-clause-faults g c = handed (λ (f : StepFault). (f ≡ NoNode) ⊎ (f ≡ Apart)) c.from_residual-in_err-state.result c.in_err-state.field-0.0 c.from_residual-in_err-state.ensures.1 (inl c.in_err-state.ensures.only_no_node)
 
 pub returns-clause-standing : goal.returns-clause-standing
 returns-clause-standing g c = record {
