@@ -1,5 +1,6 @@
 use Rattle.std.specs.Prelude.{◌≡◌, ℕ, ◌+◌, [], ◌∷◌, ◌++◌, Some, true, length}
-use Rattle.std.proofs.Common.{◌∙◌, ap, arith, drop, drop_all, sym, take_all}
+use Rattle.std.proofs.Common.{◌∙◌, ap, drop, sym, take_all}
+use Rattle.std.proofs.lemmas.List.{drop_all}
 use denote.Enum.Bare.{sameb}
 use Rattle.scope.specs.Active.{bare, bares}
 use Rattle.scope.specs.Legal.{broken_rule, first_broken, numbered, or_later}
