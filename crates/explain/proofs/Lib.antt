@@ -5,6 +5,7 @@ pub mod LetterLemmas
 pub mod TokenLemmas
 pub mod VectorLemmas
 pub mod ImagesLemmas
+pub mod AgreeLemmas
 pub mod NamedLemmas
 pub mod CitationFaultLemmas
 pub mod ViolationLemmas
