@@ -2,6 +2,8 @@
 ghost use Rattle.std.specs.Prelude.{◌≡◌, ◌≤◌, length};
 ghost use Rattle.places.specs.Lines.{BeginsLine, IsColumn, line_of};
 
+use memchr::memchr_iter;
+
 /// A line and a column, both counted from 1; columns count bytes.
 #[derive(Clone, Copy, Debug, Drop, PartialEq, Eq)]
 pub struct Position {
@@ -27,13 +29,7 @@ fn line_at(text: &[u8], offset: usize) -> usize
     requires { offset ≤ length text.now }
     ensures { result ≡ line_of text.now offset }
 {
-    let mut line = 1;
-    for i in 0..offset {
-        if text[i] == b'\n' {
-            line += 1;
-        }
-    }
-    line
+    memchr_iter(b'\n', &text[..offset]).count() + 1
 }
 
 /// Returns where the line of an offset begins.
