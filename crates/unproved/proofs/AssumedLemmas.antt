@@ -1,5 +1,5 @@
 -- Statements whose unproved `$p` are taken as `$a`.
-use Rattle.std.proofs.Common.{◌≡◌, ℕ, zero, suc, ◌+◌, ◌-◌, ◌<◌, List, [], ◌∷◌, ◌∙◌, length, drop, get_or, slice_set, Some, ap, sym, arith, true}
+use Rattle.std.proofs.Common.{◌≡◌, ℕ, zero, suc, ◌+◌, ◌-◌, ◌<◌, List, [], ◌∷◌, ◌∙◌, length, drop, get_or, slice_set, ap, sym, arith, true}
 use Rattle.std.proofs.lemmas.Bool.{and_parts}
 use Rattle.std.proofs.lemmas.List.{drop_more, get_or_default}
 use Rattle.std.specs.List.{list_all}

@@ -1,7 +1,7 @@
 -- No rule and no frame asks whether an assertion is a `$a` or a `$p`.
-use Rattle.std.specs.Prelude.{◌≡◌, ℕ, zero, suc, ◌+◌, ◌-◌, ◌==◌, Bool, true, false, not, cond, ◌||◌, ◌&&◌, nat_le, nat_lt, List, [], ◌∷◌, map, filter, take, drop, Option, Some, None, option_map, refl}
+use Rattle.std.specs.Prelude.{◌≡◌, ℕ, zero, suc, ◌+◌, ◌-◌, ◌==◌, Bool, true, false, not, cond, ◌||◌, ◌&&◌, nat_le, nat_lt, List, [], ◌∷◌, map, filter, take, drop, Some, None, option_map, refl}
 use Rattle.std.specs.List.{list_any, list_all, drop-map, take-map}
-use Rattle.std.proofs.Common.{◌∙◌, ap, sym}
+use Rattle.std.proofs.Common.{◌∙◌, ap}
 use Rattle.std.proofs.lemmas.Option.{slice_get-map}
 use Rattle.mm_lex.specs.Alphabet.{Name, has_name, name_eq}
 use Rattle.mm_read.specs.declared.stmt.Stmt.{Stmt}

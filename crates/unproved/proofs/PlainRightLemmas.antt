@@ -1,5 +1,5 @@
 -- A derivation among statements is one among those that differ only in which assertions are `$a` and which `$p`.
-use Rattle.std.specs.Prelude.{◌≡◌, ℕ, ◌-◌, IsTrue, List, [], ◌∷◌, map, Option, Some, None, option_map, unwrap_or, refl}
+use Rattle.std.specs.Prelude.{◌≡◌, ℕ, IsTrue, List, [], ◌∷◌, map, Option, Some, None, option_map, unwrap_or, refl}
 use Rattle.std.specs.List.{list_all}
 use Rattle.std.proofs.Common.{◌∙◌, ap, sym, subst}
 use Rattle.mm_lex.specs.Alphabet.{Name}

@@ -1,4 +1,4 @@
-use Rattle.std.specs.Prelude.{◌≡◌, ℕ, ◌+◌, [], ◌∷◌, ◌++◌, Some, true, length}
+use Rattle.std.specs.Prelude.{◌≡◌, ◌+◌, [], ◌∷◌, ◌++◌, Some, true}
 use Rattle.std.proofs.Common.{◌∙◌, ap, drop, sym, take_all}
 use Rattle.std.proofs.lemmas.List.{drop_all}
 use denote.Enum.Bare.{sameb}

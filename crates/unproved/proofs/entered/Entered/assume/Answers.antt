@@ -1,0 +1,10 @@
+use Rattle.std.proofs.Common.{sym, subst}
+use Rattle.library.specs.Good.{Good}
+use Rattle.library.specs.Words.{AllLegal}
+use Rattle.unproved.proofs.AssumedGoodLemmas.{good_assumed}
+use Rattle.unproved.proofs.entered.Entered.assume.Goals as goal
+
+pub enter_good-requires-clause-good : goal.enter_good-requires-clause-good
+enter_good-requires-clause-good c =
+    subst Good (sym c.assumed-statements.ensures.is)
+    (good_assumed c.args.self c.args.unproved.now (subst AllLegal c.self.view_is c.self.invariant.legal) c.requires)
