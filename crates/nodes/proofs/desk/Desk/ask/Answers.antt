@@ -1,5 +1,11 @@
-use Rattle.std.proofs.Common.{refl}
+use Rattle.std.proofs.Common.{Result, Ok, Err, IfOk}
 use Rattle.nodes.proofs.desk.Desk.ask.Goals as goal
 
+-- two facts on what an Ok holds make a third
+joined : {T E : Type 0} {P : Type 0} {Q R : T → Type 0} (r : Result T E) → (P → (answer : T) → Q answer → R answer)
+    → IfOk r (λ answer. P) → IfOk r Q → IfOk r R
+joined (Ok answer) f p q = f p answer q
+joined (Err fault) f p q = tt
+
 pub returns-clause-answered : goal.returns-clause-answered
-returns-clause-answered g c = (c.deref-3.result.now.cell, record { at = cc }, (_, c.question.ensures, refl))
+returns-clause-answered g c = joined c.ask_on.result (λ at answer is. (c.deref-2.result.now.cell, record { at = at }, is)) c.ask_on.ensures.of_node c.ask_on.ensures.answered
