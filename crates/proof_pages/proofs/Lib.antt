@@ -1,3 +1,2 @@
 pub mod AppendLemmas
-pub mod EscapeLemmas
 pub mod WritingLemmas

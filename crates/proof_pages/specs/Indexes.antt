@@ -8,7 +8,7 @@ use Rattle.mm_read.specs.declared.stmt.Stmt.{Stmt}
 use Rattle.mm_read.specs.declared.stmt.Stmt.TheVariants.{Axiom, Prove}
 use Rattle.mm_read.specs.Statements.{Database, Expr}
 use Rattle.proof_pages.specs.declared.index.TheConstants.{INDEX_START}
-use Rattle.proof_pages.specs.Escapes.{html_text}
+use Rattle.markup.specs.Escapes.{html_text}
 use Rattle.proof_pages.specs.Notations.{page_link}
 use Rattle.proof_pages.specs.StepLines.{texts_from}
 

@@ -1,4 +1,3 @@
-pub mod Escapes
 pub mod StepLines
 pub mod Pictures
 pub mod Notations

@@ -8,7 +8,7 @@ use Rattle.mm_read.specs.Statements.{Database}
 use Rattle.scope.specs.Active.{is_assertion, stmt_at}
 use Rattle.names.specs.Codes.{name_at}
 use Rattle.verify.specs.Proves.{label_or_none}
-use Rattle.proof_pages.specs.Escapes.{html_text}
+use Rattle.markup.specs.Escapes.{html_text}
 use Rattle.file_names.specs.FileNames.{file_name}
 
 -- a variable of the first class, and of another

@@ -8,7 +8,7 @@ use Rattle.scope.specs.Active.{stmt_at}
 use Rattle.names.specs.Codes.{name_at}
 use Rattle.verify.specs.Proves.{label_or_none}
 use Rattle.steps.specs.Rows.{Row}
-use Rattle.proof_pages.specs.Escapes.{quoted_text}
+use Rattle.markup.specs.Escapes.{quoted_text}
 use Rattle.proof_pages.specs.StepLines.{number_text, texts_from}
 
 abbrev pub quoted_symbol : List Name → ℕ → List ℕ

@@ -4,9 +4,9 @@ ghost use Rattle.std.specs.Io.KnownBytes.{Appends};
 ghost use Rattle.mm_read.specs.declared.stmt.Stmt.{Stmt as Statement};
 ghost use Rattle.proof_pages.specs.Indexes.{kind_cell, expr_cell, index_cells, index_row, index_text};
 
-use crate::escapes::push_html;
 use crate::notation::push_page_link;
 use crate::writing::{WriteFault, write_part, write_rest};
+use markup::push_html;
 use mm_lex::Words;
 use mm_read::Stmt;
 use std::alloc::{AllocError, Global};

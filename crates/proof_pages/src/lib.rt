@@ -1,16 +1,15 @@
 //! A proof for people: its steps as lines, as a picture for Graphviz, and as a page, alone or among the pages of a site.
 //!
-//! Every byte of a database goes into a page by `push_html`, and into a picture by `push_quoted`; only the name of a file, which
-//! `file_names` makes of a label, stands in a link as it is.
+//! Every byte of a database goes into a page by `push_html` of `markup`, and into a picture by `push_quoted` there; only the
+//! name of a file, which `file_names` makes of a label, stands in a link as it is.
 //!
-//! Reading order: `escapes`, `step_lines`, `picture`, `writing`; `notation`, `rows`; `contents`, `colours`, `draft`,
+//! Reading order: `step_lines`, `picture`, `writing`; `notation`, `rows`; `contents`, `colours`, `draft`,
 //! `parted`, `style`, `opening`, `frame_part`, `proof_part`, `page`, `index`.
 #![tactic(auto)]
 
 mod colours;
 mod contents;
 mod draft;
-mod escapes;
 mod frame_part;
 mod index;
 mod notation;
@@ -26,7 +25,6 @@ mod writing;
 
 pub use colours::Colours;
 pub use contents::{Neighbours, PageContents, ProofSteps};
-pub use escapes::{push_html, push_quoted};
 pub use index::write_index;
 pub use notation::{Notation, push_cited};
 pub use page::{write_page, write_site_page};

@@ -4,9 +4,9 @@ ghost use Rattle.verify.specs.Proves.{label_or_none};
 ghost use Rattle.proof_pages.specs.Notations.{first_html, variable_html, coloured, symbol_html, expr_html, link_start, page_link, label_html, cited_html};
 
 use crate::colours::Colours;
-use crate::escapes::push_html;
 use file_names::push_file_name;
 use frame::{Frames, is_assertion};
+use markup::push_html;
 use mm_read::Stmt;
 use numbers::push_number;
 use std::alloc::AllocError;

@@ -1,9 +1,9 @@
 //! The start of a page.
 use crate::draft::Draft;
-use crate::escapes::push_html;
 use crate::notation::{label_of, push_html_expr};
 use crate::parted::expr_at;
 use crate::style::{HEAD, SHEET};
+use markup::push_html;
 use std::alloc::AllocError;
 
 /// Appends the start of a page: its title and its style.

@@ -3,9 +3,9 @@ ghost use Rattle.std.specs.Prelude.{◌≡◌, ◌<◌, ◌++◌, length, get_or
 ghost use Rattle.steps.specs.Rows.{no_row};
 ghost use Rattle.proof_pages.specs.Pictures.{quoted_symbol, quoted_expr, arrow_line, node_line, node_text, picture_head};
 
-use crate::escapes::push_quoted;
 use crate::step_lines::{label_at, push_place};
 use frame::Frames;
+use markup::push_quoted;
 use std::alloc::AllocError;
 use steps::ProofTable;
 

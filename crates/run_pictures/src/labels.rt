@@ -1,13 +1,13 @@
 //! The labels of a picture, with their markup escaped.
 ghost use Rattle.std.specs.Prelude.{◌≡◌, IfOk};
-ghost use Rattle.proof_pages.specs.Escapes.{html_text};
+ghost use Rattle.markup.specs.Escapes.{html_text};
 
 use crate::step::Act;
 use library::Entry;
+use markup::push_html;
 use net::Event;
 use numbers::push_number;
 use printed::{push_packet, push_verdict};
-use proof_pages::push_html;
 use std::alloc::{AllocError, Global};
 use synod::Packet;
 use world::{Carried, World};

@@ -1,7 +1,7 @@
 -- The escaped form of bytes reads as these bytes.
 use Rattle.std.specs.Prelude.{◌≡◌, ℕ, Bool, true, false, if◌then◌else◌, List, [], ◌∷◌, ◌++◌}
 use Rattle.std.proofs.Common.{sym, subst, refl}
-use Rattle.proof_pages.specs.Escapes.{is_markup, reference, html_byte, html_text, ReadsAs, reads_none, reads_plain, reads_reference}
+use Rattle.markup.specs.Escapes.{is_markup, reference, html_byte, html_text, ReadsAs, reads_none, reads_plain, reads_reference}
 
 one-more : (b : ℕ) (written text : List ℕ) → ReadsAs written text → (t : Bool) → is_markup b ≡ t → ReadsAs (html_byte b ++ written) (b ∷ text)
 one-more b written text r true e =

@@ -1,6 +1,6 @@
 //! Bytes of a database inside a page, and inside quotes of a picture.
 ghost use Rattle.std.specs.Prelude.{◌≡◌, ◌++◌, OnOk};
-ghost use Rattle.proof_pages.specs.Escapes.{html_byte, html_text, ReadsAs, quoted_byte, quoted_text};
+ghost use Rattle.markup.specs.Escapes.{html_byte, html_text, ReadsAs, quoted_byte, quoted_text};
 
 use std::alloc::AllocError;
 

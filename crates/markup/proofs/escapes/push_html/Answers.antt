@@ -1,5 +1,5 @@
-use Rattle.proof_pages.proofs.EscapeLemmas.{reads-back}
-use Rattle.proof_pages.proofs.escapes.push_html.Goals as goal
+use Rattle.markup.proofs.EscapeLemmas.{reads-back}
+use Rattle.markup.proofs.escapes.push_html.Goals as goal
 
 pub returns-in_err-push_html_byte-clause-reads : goal.returns-in_err-push_html_byte-clause-reads
 returns-in_err-push_html_byte-clause-reads c = reads-back c.args.bytes.now
