@@ -111,6 +111,7 @@ fn share<G: Gate + Drop, K: Keep<Carried>>(
         switch: Mutex::new(SharedSwitch::new(switch)),
         cells,
         senders: Mutex::new(senders),
+        heavy: Mutex::new(()),
     };
     match Arc::new(alloc, parts) {
         Ok(shared) => Ok((shared, receivers)),

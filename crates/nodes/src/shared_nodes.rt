@@ -14,11 +14,11 @@ use std::alloc::Global;
 use std::sync::{Arc, Mutex, Wait};
 use std::thread::Threads;
 use synod::Keep;
-use verify_pool::{Gate, Place, Workers};
+use verify_pool::{Gate, LightGate, Place, Workers};
 use world::Carried;
 
 /// The locks of a cluster. A node's lock is taken before the switch's, and of two nodes' locks the lower one first; the senders'
-/// lock is never taken while the switch's is held.
+/// lock is never taken while the switch's is held. The lock of heavy proofs is taken under one node's lock, and none under it.
 #[derive(Drop)]
 pub(crate) struct SharedNodes<G: Gate, K: Keep<Carried>> {
     pub alloc: Global,
@@ -28,6 +28,8 @@ pub(crate) struct SharedNodes<G: Gate, K: Keep<Carried>> {
     pub cells: Vec<Mutex<SharedCell>>,
     /// The sending ends of the nodes' channels; none once the cluster is stopped.
     pub senders: Mutex<Vec<Sender<u64>>>,
+    /// Held by the node that applies an entry with a heavy proof, so that one node at a time has the room that it needs.
+    pub heavy: Mutex<()>,
 }
 
 impl<G: Gate, K: Keep<Carried>> SharedNodes<G, K> {
@@ -81,7 +83,7 @@ impl<G: Gate, K: Keep<Carried>> SharedNodes<G, K> {
     }
 
     /// Applies the entries taken over one by one, and passes the gate before each. Postpones the entry for which an allocation fails.
-    fn apply_all<R: Threads + Sync>(&self, rt: &R, node: &mut SharedCell, k: u8)
+    fn apply_all<R: Threads + Wait + Sync>(&self, rt: &R, node: &mut SharedCell, k: u8)
     where
         G: Sync,
     {
@@ -91,12 +93,26 @@ impl<G: Gate, K: Keep<Carried>> SharedNodes<G, K> {
                 break;
             }
             gate.pass(Place::Apply(k));
-            if apply_on_with(rt, &mut node.cell, self.workers, gate).is_err() {
+            if !self.apply_next(rt, node) {
                 node.postpone();
                 break;
             }
             node.try_at_once();
         }
+    }
+
+    /// Applies the next entry that was taken over; returns whether it is applied. An entry that fails without heavy proofs is
+    /// applied once more, under the lock of heavy proofs.
+    fn apply_next<R: Threads + Wait + Sync>(&self, rt: &R, node: &mut SharedCell) -> bool
+    where
+        G: Sync,
+    {
+        let gate: &G = &self.gate;
+        if apply_on_with(rt, &mut node.cell, self.workers, &LightGate { gate }).is_ok() {
+            return true;
+        }
+        let _heavy = self.heavy.lock(rt);
+        apply_on_with(rt, &mut node.cell, self.workers, gate).is_ok()
     }
 
     /// Tells which of two nodes is ahead, `low` being the lower number.

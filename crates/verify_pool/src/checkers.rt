@@ -43,6 +43,12 @@ impl Checkers {
         self.alloc
     }
 
+    /// Sets whether the checker of the calling thread takes proofs that are too heavy for a worker.
+    pub(crate) fn admit_heavy(&mut self, are_admitted: bool) {
+        self.calling
+            .limit(if are_admitted { usize::MAX } else { SHARE });
+    }
+
     /// Gives back the room that large proofs needed.
     ///
     /// Does not allocate. Cost: a constant for each worker.

@@ -11,10 +11,16 @@ pub enum Place {
 
 /// A gate that a thread passes before each job that it checks, and before each entry that it applies.
 ///
-/// It may watch the threads or hold them back. No answer depends on it.
+/// It may watch the threads or hold them back, and it may keep heavy proofs out. No answer but out of memory depends on it.
 pub trait Gate {
     /// Returns when the thread may go on.
     fn pass(&self, place: Place);
+
+    /// Returns whether the calling thread may judge proofs that are too heavy for a worker. If not, such a proof is answered
+    /// by `AllocError`.
+    fn admits_heavy(&self) -> bool {
+        true
+    }
 }
 
 /// A gate that lets each thread pass at once.
@@ -23,4 +29,20 @@ pub struct OpenGate;
 
 impl Gate for OpenGate {
     fn pass(&self, _place: Place) {}
+}
+
+/// A gate that lets each thread pass as another gate does, and keeps heavy proofs out.
+#[derive(Clone, Copy)]
+pub struct LightGate<'a, G: Gate> {
+    pub gate: &'a G,
+}
+
+impl<'a, G: Gate> Gate for LightGate<'a, G> {
+    fn pass(&self, place: Place) {
+        self.gate.pass(place);
+    }
+
+    fn admits_heavy(&self) -> bool {
+        false
+    }
 }

@@ -17,7 +17,7 @@ mod work;
 mod workers;
 
 pub use checkers::Checkers;
-pub use gate::{Gate, OpenGate, Place};
+pub use gate::{Gate, LightGate, OpenGate, Place};
 pub use job::{Job, check_all};
 pub use pool::{judge_all, judge_here};
 pub use work::Work;

@@ -18,10 +18,10 @@ use verify::{Answer, Checker};
 /// The jobs are dealt out in turn to the workers, of whom no more take part than there are jobs. Each worker has a checker
 /// of its own, runs on a thread of its own where one can be made, and passes `Place::Job(index)` of the gate before the job
 /// of that index. A worker stops at its first job that is not right, and puts off those that need more memory than it has:
-/// the calling thread judges these after all workers ended. Where this runs out of memory, the checkers of the workers
-/// are dropped, and the calling thread judges all jobs again.
+/// the calling thread judges these after all workers ended, if the gate admits heavy proofs. Where this runs out of
+/// memory, the checkers of the workers are dropped, and the calling thread judges all jobs again.
 ///
-/// Errors: an allocation fails for the calling thread too. Cost: that of the jobs, over the workers; where jobs are judged
+/// Errors: an allocation fails for the calling thread too, or a proof is heavy and the gate admits none. Cost: that of the jobs, over the workers; where jobs are judged
 /// again, once more theirs.
 pub fn judge_all<W: Work + Sync, G: Gate + Sync, R: Threads + Sync>(
     rt: &R,
@@ -32,10 +32,13 @@ pub fn judge_all<W: Work + Sync, G: Gate + Sync, R: Threads + Sync>(
 ) -> Result<Option<usize>, AllocError>
     ensures { IfOk result (IsLeast (W.right work.now) (W.count work.now)) }
 {
+    let are_admitted = gate.admits_heavy();
+    checkers.admit_heavy(are_admitted);
     let count = workers.count().min(work.count().max(1));
     if count > 1 {
-        if let Ok(least) = judge_by_workers(rt, checkers, work, count, gate) {
-            return Ok(least);
+        let least = judge_by_workers(rt, checkers, work, count, gate);
+        if least.is_ok() || !are_admitted {
+            return least;
         }
         checkers.drop_workers();
     }
@@ -109,6 +112,7 @@ fn least_of<W: Work>(
 pub fn judge_here<W: Work>(checkers: &mut Checkers, work: &W) -> Result<Option<usize>, AllocError>
     ensures { IfOk result (IsLeast (W.right work.now) (W.count work.now)) }
 {
+    checkers.admit_heavy(true);
     judge_alone(work, &mut checkers.calling, &OpenGate)
 }
 
