@@ -1,16 +1,22 @@
 -- The tables of a cache, as images are listed in them.
 use Rattle.subst.proofs.Words.{◌≡◌, ℕ, zero, suc, ◌+◌, ◌-◌, ◌<◌, ◌≤◌, ◌==◌, false, List, [], ◌∷◌, ◌++◌, length, take, take_all, drop, get_or, sym, ap, subst, arith, Numbered, SymbolRange, seen_at, CodeImages, code_apply, code_image}
-use Rattle.subst.proofs.Words.{Places, ArePlaced, Grows, IsAmong, AreImagesRecorded, RecordedImages, KeepsRest, AddsSymbols, HasPlace, RecordsImage, AreTables}
+use Rattle.subst.proofs.Words.{PlaceWord, Places, ArePlaced, Grows, IsAmong, AreImagesRecorded, RecordedImages, KeepsRest, AddsSymbols, HasPlace, RecordsImage, AreTables}
 use Rattle.subst.specs.declared.disjoint_tables.DisjointTables.{DisjointTables}
 use Rattle.subst.proofs.SymbolRangeLemmas.{length-seen}
 use Rattle.subst.proofs.PlaceSetLemmas.{among-left, among-right, symbols-again}
 use Rattle.subst.proofs.WrittenImages.{apply-take}
 use Rattle.subst.proofs.DisjointRowLemmas.{facts-grown}
+use Rattle.subst.proofs.ImagePairLemmas.{pairs-over}
 use Rattle.subst.proofs.ImageVariableLemmas.{recorded-over, recorded-begin, recorded-most, recorded-long, rest-most, seen-behind}
 
 pub tables-over : (v w : Numbered) (over more symbols : List ℕ) (t : DisjointTables) → v ≡ w → symbols ≡ over ++ more → AreTables v over t → AreTables w symbols t
 tables-over v w over more symbols t same e h =
-    subst (λ u. AreTables u symbols t) same (subst (λ s. AreTables v s t) (sym e) (record { placed = h.placed; recorded = recorded-over v t.variables over more t.images h.recorded; facts = h.facts }))
+    subst (λ u. AreTables u symbols t) same (subst (λ s. AreTables v s t) (sym e) (record { placed = h.placed; recorded = recorded-over v t.variables over more t.images h.recorded; facts = h.facts; found = pairs-over v over more t.found h.found }))
+
+-- an image was read
+pub tables-read : (v : Numbered) (symbols : List ℕ) (t : DisjointTables) (g : Places) (n : RecordedImages) (before : List PlaceWord) → AreTables v symbols t → ArePlaced v g → Grows t.variables g → AreImagesRecorded v g symbols n
+    → AreTables v symbols (record { variables = g; images = n; rows = t.rows; before = before; found = t.found })
+tables-read v symbols t g n before h placed grows recorded = record { placed = placed; recorded = recorded; facts = facts-grown v t.variables g t.rows grows h.facts; found = h.found }
 
 -- an expression without its first symbol
 abbrev pub rest_of : List ℕ → List ℕ
@@ -47,17 +53,18 @@ module _ (v : Numbered) (symbols : List ℕ) (t : DisjointTables) (g : Places) (
   listed-recorded = recorded-most v t.variables g symbols (begun_of t.images) listed grows (rest-most (begun_of t.images) listed keeps) (recorded-begin v t.variables symbols t.images tables.recorded)
 
   -- places were listed
-  pub tables-listed : AreTables v symbols (record { variables = g; images = listed; rows = t.rows; before = t.before })
-  tables-listed = record { placed = placed; recorded = listed-recorded; facts = facts-grown v t.variables g t.rows grows tables.facts }
+  pub tables-listed : AreTables v symbols (record { variables = g; images = listed; rows = t.rows; before = t.before; found = t.found })
+  tables-listed = record { placed = placed; recorded = listed-recorded; facts = facts-grown v t.variables g t.rows grows tables.facts; found = tables.found }
 
 -- the list is recorded as that of what stands behind the first symbol of a range
 pub tables-recorded : (v : Numbered) (symbols : List ℕ) (t : DisjointTables) (new : RecordedImages) (range image : SymbolRange) (x : ℕ) (rest : List ℕ) → AreTables v symbols t
     → AddsSymbols v t.variables (HasPlace []) (HasPlace t.images.list) (length rest) rest → RecordsImage t.images new image → range.start ≤ range.end → range.end ≤ length symbols → image.start ≡ range.start + 1 → image.end ≡ range.end → seen_at symbols range ≡ x ∷ rest
-    → AreTables v symbols (record { variables = t.variables; images = new; rows = t.rows; before = t.before })
+    → AreTables v symbols (record { variables = t.variables; images = new; rows = t.rows; before = t.before; found = t.found })
 tables-recorded v symbols t new range image x rest tables adds records start end low_is high_is seen =
     let some = some-range symbols rest range x start end seen in
     let behind = seen-behind symbols rest range image x some low_is high_is seen in record {
       placed = tables.placed;
       recorded = recorded-long v t.variables symbols t.images new image records (omega (arith, low_is, high_is, some)) (omega (arith, high_is, end)) (rw behind adds) tables.recorded;
       facts = tables.facts;
+      found = tables.found;
     }

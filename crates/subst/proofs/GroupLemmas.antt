@@ -1,5 +1,5 @@
 -- The images of each two numbers of a group, each held against those before it.
-use Rattle.subst.proofs.Words.{◌≡◌, ℕ, zero, suc, ◌+◌, ◌<◌, ◌≤◌, Bool, true, false, not, ◌||◌, ◌&&◌, ◌==◌, List, [], ◌∷◌, length, map, take, drop, get_or, slice_get, slice_range, Some, refl, list_all, list_any, position_or_len, sym, ◌∙◌, ap, subst, arith, inl, inr, true≢false, lt-ltb, and_from, and_parts, or_right, cases_eq, or_cases, or_left, cases_Bool, false_from_ne_true, list_all-map, list_all_at, list_all_more, list_any_at, get_or-take, get_or_default, length-take, eqb-true, last_part}
+use Rattle.subst.proofs.Words.{◌≡◌, ℕ, zero, suc, ◌+◌, ◌<◌, ◌≤◌, Bool, true, false, not, ◌||◌, ◌&&◌, ◌==◌, List, [], ◌∷◌, length, map, take, drop, get_or, slice_get, slice_range, Some, refl, list_all, list_any, position_or_len, sym, ◌∙◌, ap, subst, arith, inl, inr, true≢false, lt-ltb, and_from, and_parts, or_right, cases_eq, or_cases, or_left, cases_Bool, false_from_ne_true, list_all-map, list_all_at, list_all_more, list_any_at, get_or-take, get_or_default, length-take, take_all, eqb-true, last_part}
 use Rattle.subst.proofs.Words.{Name, name_eq, has_name, Expr, Database, name_at, decode, AreDistinct, name_same, same_name, name_eq-comm, is_pair, groups, Numbered, CodeImages, code_image, image, images_of_names, are_disjoint, is_group_disjoint, are_groups_disjoint, AreBelow, AllBelow, image_named, are_two_disjoint, is_number_disjoint, are_numbers_disjoint, pair_at, disjoint-from}
 use Rattle.subst.proofs.Words.{Places, ArePlaced, ArePlacesOf, HasVariable, IsAmong, HasPlace, PlaceWord, WordRange, IsIn, IsRangeOf, AddsWords, TellsEach}
 use Rattle.std.proofs.lemmas.Option.{get_or_from_slice_get, slice_get-get_or, slice_get_within}
@@ -92,6 +92,59 @@ module _ (D : Database) (image_of : ℕ → Expr) (group : List ℕ) where
   pairwise-end n long all =
       all-at (is_number_disjoint D image_of group) group
       (λ a h. all-at (are_two_disjoint D image_of (get_or group a 0)) group (λ b l. all.each a b (omega (arith, h, long)) (omega (arith, l, long))))
+
+  -- the image of the next number is disjoint from those of the numbers before it
+  pub pairwise-next : (n : ℕ) → n < length group → ArePairwise n → is_number_disjoint D image_of (take n group) (get_or group n 0) ≡ true → ArePairwise (n + 1)
+  pairwise-next n there front told =
+      pairwise-more n front
+      (λ a h. two-swap D image_of (get_or group n 0) (get_or group a 0)
+      (ap (are_two_disjoint D image_of (get_or group n 0)) (sym (get_or-take n group a 0 h)) ∙ at-all (are_two_disjoint D image_of (get_or group n 0)) (take n group) a told (omega (arith, length-take n group, h, there))))
+
+  -- or it is not
+  pub number-clash : (n : ℕ) → n < length group → is_number_disjoint D image_of (take n group) (get_or group n 0) ≡ false → are_numbers_disjoint D image_of group ≡ false
+  number-clash n there told = false_from_ne_true (are_numbers_disjoint D image_of group) (λ all. true≢false (sym (front all) ∙ told))
+    where
+      front : are_numbers_disjoint D image_of group ≡ true → is_number_disjoint D image_of (take n group) (get_or group n 0) ≡ true
+      front all =
+          let row = at-all (is_number_disjoint D image_of group) group n all there in
+          all-at (are_two_disjoint D image_of (get_or group n 0)) (take n group)
+          (λ k h. (let low : k < n = omega (arith, length-take n group, h, there) in
+          ap (are_two_disjoint D image_of (get_or group n 0)) (get_or-take n group k 0 low) ∙ at-all (are_two_disjoint D image_of (get_or group n 0)) group k row (omega (arith, low, there))))
+
+-- ---- one image held against those of a list
+
+module _ (D : Database) (image_of : ℕ → Expr) (xs : List ℕ) (k n : ℕ) where
+  pub held-more : n < length xs → is_number_disjoint D image_of (take n xs) k ≡ true → are_disjoint D (image_of k) (image_of (get_or xs n 0)) ≡ true → is_number_disjoint D image_of (take (n + 1) xs) k ≡ true
+  held-more there front told = list_all_more (are_two_disjoint D image_of k) xs n 0 there ∙ and_from _ _ front (or_right (k == get_or xs n 0) _ told)
+
+  pub held-own : n < length xs → is_number_disjoint D image_of (take n xs) k ≡ true → get_or xs n 0 ≡ k → is_number_disjoint D image_of (take (n + 1) xs) k ≡ true
+  held-own there front same = list_all_more (are_two_disjoint D image_of k) xs n 0 there ∙ and_from _ _ front (or_left (k == get_or xs n 0) _ (ap (λ m. k == m) same ∙ eq-own k))
+
+  pub held-stops : n < length xs → (get_or xs n 0 ≡ k → ⊥) → are_disjoint D (image_of k) (image_of (get_or xs n 0)) ≡ false → is_number_disjoint D image_of xs k ≡ false
+  held-stops there other told = list_all_at (are_two_disjoint D image_of k) xs n 0 there (rw (differ k (get_or xs n 0) (λ same. other (sym same)), told) refl)
+
+  pub held-all : length xs ≤ n → is_number_disjoint D image_of (take n xs) k ≡ true → is_number_disjoint D image_of xs k ≡ true
+  held-all long front = ap (λ ys. is_number_disjoint D image_of ys k) (sym (take_all n xs long)) ∙ front
+
+-- two images, by the words of their variables
+module _ (v : Numbered) (f : Places) (placed : ArePlaced v f) (xs ys : List ℕ) (words : List PlaceWord) (r s : WordRange) (own : IsRangeOf v f words r xs) (other : IsRangeOf v f words s ys) where
+  listed-places : (zs : List ℕ) (t : WordRange) → IsRangeOf v f words t zs → ArePlacesOf v f (HasPlace (slice_range words t.start t.end)) (IsAmong (length zs) zs)
+  listed-places zs t is = places-same v f f (IsIn words t) (HasPlace (slice_range words t.start t.end)) _ (grows-own f) (λ j. in-listed words t j is.low is.high) (λ j. listed-in words t j is.low is.high) is.are
+
+  pub two-told : (b : Bool) → TellsEach v f (slice_range words r.start r.end) (slice_range words s.start s.end) b → b ≡ are_disjoint v.statements (decode v.names xs) (decode v.names ys)
+  two-told true told = sym (disjoint-from_good v xs ys (λ x y p q. good x y ((listed-places xs r own).each x p) ((listed-places ys s other).each y q)))
+    where
+      good : (x y : ℕ) → HasVariable v f (HasPlace (slice_range words r.start r.end)) x → HasVariable v f (HasPlace (slice_range words s.start s.end)) y → is_good v x y ≡ true
+      good x y (inl none) second = or_left _ _ (or_left _ _ (ap not none))
+      good x y (inr one) (inl none) = or_left _ _ (or_right _ _ (ap not none))
+      good x y (inr one) (inr two) = or_right _ _ (sym (at-names v f one.0 two.0 x y one.1 two.1) ∙ told one.0 two.0 one.2 two.2)
+  two-told false told =
+      let p = told.0 in
+      let q = told.1 in
+      let one = (listed-places xs r own).only p told.2 in
+      let two = (listed-places ys s other).only q told.3 in
+      sym (false_from_ne_true _
+      (λ all. true≢false (sym (last_part _ _ _ (at-variable v f p one.0 placed one.2).variable (at-variable v f q two.0 placed two.2).variable (good-at v xs ys all one.0 two.0 one.1 two.1)) ∙ (sym (at-names v f p q one.0 two.0 one.2 two.2) ∙ told.4))))
 
 -- x stands in one of the images of the first n numbers
 abbrev pub IsInImages : CodeImages → List ℕ → ℕ → ℕ → Type 0

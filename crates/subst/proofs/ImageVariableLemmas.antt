@@ -1,7 +1,7 @@
 -- The words of the variables of images, and where they lie.
 use Rattle.subst.proofs.Words.{◌≡◌, ℕ, ◌+◌, ◌-◌, ◌<◌, ◌≤◌, List, [], ◌∷◌, ◌++◌, length, take, drop, get_or, slice_range, refl, sym, ◌∙◌, ap, subst, arith, inl, inr, append-nil, get_or_append_left, get_or-append_right, get_or-append-add, get_or-drop, get_or-take, drop-drop, drop-take, length-append, length-take, length-drop, Numbered, code_image, SymbolRange, seen_at, images_at}
-use Rattle.subst.proofs.Words.{Places, Grows, IsAmong, PlaceWord, HasBit, HasPlace, near_word, no_word, AddsSymbols, AddsWords, RecordedImages, WordRange, ReadImage, LongImage, IsIn, IsRangeOf, IsLong, AreImagesRecorded, AreRead, Appends, AppendsWord, KeepsMost, KeepsRest, KeepsImage, RecordsImage}
-use Rattle.subst.proofs.VariablePlaceLemmas.{grows-own, has-more, places-same}
+use Rattle.subst.proofs.Words.{Places, Grows, GrowsWords, IsAmong, PlaceWord, ArePlacesBelow, HasBit, HasPlace, near_word, no_word, AddsSymbols, AddsWords, RecordedImages, WordRange, ReadImage, LongImage, IsIn, IsRangeOf, IsLong, AreImagesRecorded, AreRead, Appends, AppendsWord, KeepsMost, KeepsRest, KeepsImage, RecordsImage}
+use Rattle.subst.proofs.VariablePlaceLemmas.{grows-own, has-more, places-below, places-same}
 use Rattle.subst.proofs.PlaceSetLemmas.{place-none}
 use Rattle.subst.proofs.SymbolRangeLemmas.{seen-more}
 use Rattle.std.proofs.lemmas.List.Elements.{All-nil, All-push, All-weaker, All-contains}
@@ -210,6 +210,24 @@ pub read-image : (v : Numbered) (f : Places) (symbols : List ℕ) (images : List
 read-image v f symbols images old new x r (inl e) own h = rw e h
 read-image v f symbols images old new x r (inr e) own h =
     rw e (record { each = All-push (λ (i : ReadImage). IsRangeOf v f old.words i.words (code_image (images_at symbols images) i.symbol)) old.read (record { symbol = x; words = r }) h.each own })
+
+-- ---- words at the end
+
+pub words-own : (n : RecordedImages) → GrowsWords n n
+words-own n = ([], sym (append-nil n.words))
+
+pub words-most : (old new : RecordedImages) → KeepsMost old new → GrowsWords old new
+words-most old new h = (h.0, ap (λ (n : RecordedImages). n.words) h.2)
+
+pub words-kept : (a b c : RecordedImages) (x : ℕ) (r : WordRange) → KeepsMost a b → KeepsImage b c x r → GrowsWords a c
+words-kept a b c x r h k = (h.0, words-image b c x r k ∙ ap (λ (n : RecordedImages). n.words) h.2)
+
+pub range-words : (v : Numbered) (f g : Places) (old new : RecordedImages) (r : WordRange) (image : List ℕ) → Grows f g → GrowsWords old new → IsRangeOf v f old.words r image → IsRangeOf v g new.words r image
+range-words v f g old new r image grows more h = rw more.1 (range-grown v f g old.words more.0 r image grows h)
+
+-- the places of a range are those of variables
+pub range-below : (v : Numbered) (f : Places) (words : List PlaceWord) (r : WordRange) (image : List ℕ) → IsRangeOf v f words r image → ArePlacesBelow (length f.variables) (slice_range words r.start r.end)
+range-below v f words r image h = λ j p. places-below v f (IsIn words r) (IsAmong (length image) image) h.are j (listed-in words r j h.low h.high p)
 
 -- a long image more
 pub recorded-long : (v : Numbered) (f : Places) (symbols : List ℕ) (old new : RecordedImages) (image : SymbolRange) → RecordsImage old new image → image.start ≤ image.end → image.end ≤ length symbols

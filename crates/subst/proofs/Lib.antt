@@ -4,7 +4,7 @@ pub mod ImageRangesLemmas
 mod SlotLemmas
 mod WrittenImages
 mod AlikeLemmas
-mod MatchLemmas
+pub mod MatchLemmas
 mod CopyLemmas
 mod VanishingLemmas
 pub mod SubstitutionLemmas
@@ -16,6 +16,7 @@ mod PlaceSetLemmas
 pub mod DisjointRowLemmas
 mod ActivePairLemmas
 pub mod ImageVariableLemmas
+pub mod ImagePairLemmas
 mod DisjointTableLemmas
 mod GoodLemmas
 pub mod GroupLemmas

@@ -26,8 +26,9 @@ pub use Rattle.std.specs.Prelude.{Err, IfNone, IfSome, MatchOption, None, Ok, On
 pub use Rattle.subst.specs.DisjointImages.{are_numbers_disjoint, are_two_disjoint, image_named, is_number_disjoint}
 pub use Rattle.subst.specs.SymbolRanges.{AreInside, AreWithin, images_at, seen_at}
 pub use Rattle.subst.specs.Stored.DisjointRows.{AreFacts, ArePairs, HasFact, IsFact, IsRowAt, RecordsWord, TellsAll, TellsBits, TellsEach, TellsWord, no_row}
-pub use Rattle.subst.specs.Stored.DisjointTables.{AreTables}
-pub use Rattle.subst.specs.Stored.ImageVariables.{AddsImage, Appends, AppendsWord, AreImagesRecorded, AreRead, IsIn, IsLong, IsRangeOf, KeepsImage, KeepsMost, KeepsRest, RecordedImages, RecordsImage}
+pub use Rattle.subst.specs.Stored.DisjointTables.{AreTables, are_named_disjoint}
+pub use Rattle.subst.specs.Stored.ImagePairs.{AreDisjointPairs, IsDisjointPair, IsInside, NotesPair}
+pub use Rattle.subst.specs.Stored.ImageVariables.{AddsImage, Appends, AppendsWord, AreImagesRecorded, AreRead, GrowsWords, IsIn, IsLong, IsRangeOf, KeepsImage, KeepsMost, KeepsRest, RecordedImages, RecordsImage}
 pub use Rattle.subst.specs.Stored.PlaceSets.{AddsFirst, AddsSymbols, AddsWord, AddsWords, ArePlacesBelow, HasAmong, HasBit, HasEither, HasPlace, TakesPlace, near_word, no_word}
 pub use Rattle.subst.specs.Stored.VariablePlaces.{AreBitsOf, ArePlaced, ArePlacesOf, Grows, HasVariable, IsAmong, IsAt, IsListed, IsPlace, IsVariable, Places, is_kept, variable_name}
 pub use Rattle.subst.specs.Images.{is_image_disjoint}
@@ -36,6 +37,7 @@ pub use Rattle.subst.specs.Stored.Slots.{AreUpTo, placed}
 pub use Rattle.subst.specs.Stored.Written.{IsWritten, LacksRoom}
 pub use Rattle.subst.specs.declared.symbol_range.SymbolRange.{SymbolRange}
 pub use Rattle.subst.specs.declared.disjoint_rows.RowWord.{RowWord}
+pub use Rattle.subst.specs.declared.image_pairs.ImagePair.{ImagePair}
 pub use Rattle.subst.specs.declared.image_ranges.Slot.{Slot}
 pub use Rattle.subst.specs.declared.image_variables.LongImage.{LongImage}
 pub use Rattle.subst.specs.declared.image_variables.WordRange.{WordRange}

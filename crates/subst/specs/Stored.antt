@@ -5,4 +5,5 @@ pub mod VariablePlaces
 pub mod PlaceSets
 pub mod DisjointRows
 pub mod ImageVariables
+pub mod ImagePairs
 pub mod DisjointTables

@@ -51,7 +51,9 @@ impl DisjointCache {
         }
     }
 
-    /// Begins a proof under the pairs that are active at its statement, in constant time. The memory stays.
+    /// Begins a proof under the pairs that are active at its statement. The memory stays.
+    ///
+    /// Cost: a step for each pair of images that was noted in the proof before.
     pub fn begin(&mut self, pairs: &Pairs<'_>)
         ensures { self.new ≡ record { about = pairs.now; over = [] } }
     {
@@ -59,7 +61,8 @@ impl DisjointCache {
         self.subject = Subject::of(pairs);
     }
 
-    /// Forgets all that is known, and gives back the memory of long results; that by the number of a symbol stays.
+    /// Forgets all that is known, and gives back the memory of long results and of pairs of images; that by the number of a
+    /// symbol stays.
     ///
     /// Does not allocate.
     pub fn release(&mut self, alloc: Global)
@@ -75,7 +78,7 @@ impl DisjointCache {
     /// Errors: an allocation fails.
     /// Cost: the count of the variables in the groups; each image once, or the count of its variables if it is long; for
     /// the variables of two images the product of their counts, over 64 if they were asked for before, else that of
-    /// `Pairs::has`.
+    /// `Pairs::has`. If that is more than 256, it is paid once in a proof, and then a look-up.
     /// Source: Metamath, 4.2.6.
     #[inline(always)]
     pub fn are_groups_disjoint(

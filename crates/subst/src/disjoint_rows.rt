@@ -7,7 +7,6 @@ ghost use Rattle.subst.specs.Stored.PlaceSets.{ArePlacesBelow, HasBit, near_word
 ghost use Rattle.subst.specs.Stored.VariablePlaces.{ArePlaced, Grows};
 
 use crate::hints::Hints;
-use crate::place_set::PlaceSet;
 use crate::place_words::{PlaceWord, lowest, without};
 use crate::variable_places::VariablePlaces;
 use frame::{PairMemo, Pairs};
@@ -243,10 +242,10 @@ impl DisjointRows {
         true
     }
 
-    /// Whether the variable at a place is disjoint from each of those at the places of a set.
+    /// Whether the variable at a place is disjoint from each of those at the places of others.
     ///
     /// Errors: an allocation fails.
-    /// Cost: a step for each word of the set; that of `Pairs::has_by_memo` for each two variables that the proof did not ask
+    /// Cost: a step for each of the other words; that of `Pairs::has_by_memo` for each two variables that the proof did not ask
     /// for before.
     #[inline(always)]
     fn is_disjoint(
@@ -254,7 +253,7 @@ impl DisjointRows {
         pairs: &Pairs<'_>,
         variables: &VariablePlaces,
         place: usize,
-        others: &PlaceSet,
+        others: &[PlaceWord],
     ) -> Result<bool, AllocError>
         requires placed { ArePlaced pairs.now variables.now }
         requires facts { AreFacts pairs.now variables.now self.old }
@@ -263,7 +262,7 @@ impl DisjointRows {
         ensures facts { AreFacts pairs.now variables.now self.new }
         ensures tells { IfOk result (TellsAll pairs.now variables.now place others.now) }
     {
-        for word in others.as_slice() {
+        for word in others {
             let index = word.index;
             let bits = word.bits & !self.bits(place, index);
             if bits != 0 && !self.ask(pairs, variables, place, PlaceWord { index, bits })? {
@@ -273,14 +272,14 @@ impl DisjointRows {
         Ok(true)
     }
 
-    /// Whether each of the variables at the places of a word is disjoint from each of those at the places of a set.
+    /// Whether each of the variables at the places of a word is disjoint from each of those at the places of others.
     #[inline(always)]
     fn is_word_disjoint(
         &mut self,
         pairs: &Pairs<'_>,
         variables: &VariablePlaces,
         word: PlaceWord,
-        others: &PlaceSet,
+        others: &[PlaceWord],
     ) -> Result<bool, AllocError>
         requires placed { ArePlaced pairs.now variables.now }
         requires facts { AreFacts pairs.now variables.now self.old }
@@ -301,15 +300,15 @@ impl DisjointRows {
         Ok(true)
     }
 
-    /// Whether each of the variables at the places of a list of words is disjoint from each of those at the places of a set.
+    /// Whether each of the variables at the places of a list of words is disjoint from each of those at the places of others.
     ///
-    /// Errors: an allocation fails. Cost: a step for each place of the list and each word of the set; see `is_disjoint`.
+    /// Errors: an allocation fails. Cost: a step for each place of the list and each of the other words; see `is_disjoint`.
     pub fn are_disjoint(
         &mut self,
         pairs: &Pairs<'_>,
         variables: &VariablePlaces,
         words: &[PlaceWord],
-        others: &PlaceSet,
+        others: &[PlaceWord],
     ) -> Result<bool, AllocError>
         requires placed { ArePlaced pairs.now variables.now }
         requires facts { AreFacts pairs.now variables.now self.old }

@@ -4,23 +4,29 @@ ghost use Rattle.std.specs.List.{list_all};
 ghost use Rattle.frame.specs.Below.{AllBelow, AreBelow};
 ghost use Rattle.frame.specs.Substitution.{code_apply};
 ghost use Rattle.frame.specs.Parts.{Numbered};
-ghost use Rattle.subst.specs.DisjointImages.{are_numbers_disjoint, image_named};
+ghost use Rattle.subst.specs.DisjointImages.{are_numbers_disjoint, image_named, is_number_disjoint};
 ghost use Rattle.subst.specs.Images.{AreOver};
 ghost use Rattle.subst.specs.SymbolRanges.{AreInside, images_at, seen_at};
-ghost use Rattle.subst.specs.Stored.DisjointTables.{AreTables};
+ghost use Rattle.subst.specs.Stored.DisjointTables.{AreTables, are_named_disjoint};
 ghost use Rattle.subst.specs.Stored.ImageVariables.{AreRead};
+ghost use Rattle.subst.specs.Stored.VariablePlaces.{Grows};
 
 use crate::disjoint_rows::DisjointRows;
+use crate::image_pairs::{ImagePair, ImagePairs};
 use crate::image_ranges::ImageRanges;
 use crate::image_variables::ImageVariables;
 use crate::place_set::PlaceSet;
+use crate::place_words::PlaceWord;
 use crate::symbol_range::{SymbolRange, contains};
 use crate::variable_places::VariablePlaces;
 use entries::Groups;
 use frame::Pairs;
 use std::alloc::{AllocError, Global};
 
-/// The variables of one proof, and those of its images.
+/// To hold an image against others costs much if it takes at least so many steps, and at least 64 for each of them.
+const COSTLY: usize = 256;
+
+/// The variables of one proof, those of its images, and which of its images were found to be disjoint.
 #[derive(Drop)]
 pub struct DisjointTables {
     variables: VariablePlaces,
@@ -28,6 +34,7 @@ pub struct DisjointTables {
     rows: DisjointRows,
     /// The variables of the images before, in a group.
     before: PlaceSet,
+    found: ImagePairs,
 }
 
 impl DisjointTables {
@@ -40,31 +47,144 @@ impl DisjointTables {
             images: ImageVariables::new(alloc),
             rows: DisjointRows::new(alloc),
             before: PlaceSet::new(alloc),
+            found: ImagePairs::new(alloc),
         }
     }
 
-    /// Forgets all, in constant time. The memory stays.
+    /// Forgets all. The memory stays.
+    ///
+    /// Cost: a step for each pair of images that was noted.
     pub fn clear(&mut self)
         ensures { (v : Numbered) → AreTables v [] self.new }
     {
         self.variables.clear();
         self.images.clear();
         self.rows.clear();
+        self.found.clear();
     }
 
-    /// Forgets all, and gives back the memory of long images.
+    /// Forgets all, and gives back the memory of long images and of pairs of images.
     pub fn release(&mut self, alloc: Global)
         ensures { (v : Numbered) → AreTables v [] self.new }
     {
         self.variables.clear();
         self.images.release(alloc);
         self.rows.clear();
+        self.found.release(alloc);
+    }
+
+    /// Whether the images of two variables are disjoint. They are held against each other.
+    ///
+    /// Errors: an allocation fails. Cost: the images if they were not read in this citation, and that of
+    /// `DisjointRows::are_disjoint`.
+    fn are_disjoint(
+        &mut self,
+        pairs: &Pairs<'_>,
+        symbols: &[u32],
+        images: &ImageRanges,
+        first: u32,
+        second: u32,
+    ) -> Result<bool, AllocError>
+        requires tables { AreTables pairs.now symbols.now self.old }
+        requires read { AreRead pairs.now self.old.variables symbols.now images.now self.old.images }
+        requires named { AreOver pairs.now.names (images_at symbols.now images.now) }
+        requires inside { AreInside (length symbols.now) images.now }
+        requires first { first < length pairs.now.names }
+        requires second { second < length pairs.now.names }
+        ensures tables { AreTables pairs.now symbols.now self.new }
+        ensures read { AreRead pairs.now self.new.variables symbols.now images.now self.new.images }
+        ensures grows { Grows self.old.variables self.new.variables }
+        ensures before { self.new.before ≡ self.old.before }
+        ensures disjoint { IfOk result (λ ok. ok ≡ are_named_disjoint pairs.now symbols.now images.now first second) }
+    {
+        let one = self
+            .images
+            .image_of(pairs, &mut self.variables, symbols, images, first)?;
+        let other = self
+            .images
+            .image_of(pairs, &mut self.variables, symbols, images, second)?;
+        let words = self.images.words_in(one);
+        let others = self.images.words_in(other);
+        self.rows
+            .are_disjoint(pairs, &self.variables, words, others)
+    }
+
+    /// Whether the images of two variables are disjoint. If both are ranges, this is noted for the proof.
+    ///
+    /// Errors: an allocation fails. Cost: log n for n pairs that were noted; that of `are_disjoint` if this one was not.
+    fn are_found_disjoint(
+        &mut self,
+        pairs: &Pairs<'_>,
+        symbols: &[u32],
+        images: &ImageRanges,
+        first: u32,
+        second: u32,
+    ) -> Result<bool, AllocError>
+        requires tables { AreTables pairs.now symbols.now self.old }
+        requires read { AreRead pairs.now self.old.variables symbols.now images.now self.old.images }
+        requires named { AreOver pairs.now.names (images_at symbols.now images.now) }
+        requires inside { AreInside (length symbols.now) images.now }
+        requires first { first < length pairs.now.names }
+        requires second { second < length pairs.now.names }
+        ensures tables { AreTables pairs.now symbols.now self.new }
+        ensures read { AreRead pairs.now self.new.variables symbols.now images.now self.new.images }
+        ensures grows { Grows self.old.variables self.new.variables }
+        ensures before { self.new.before ≡ self.old.before }
+        ensures disjoint { IfOk result (λ ok. ok ≡ are_named_disjoint pairs.now symbols.now images.now first second) }
+    {
+        let Some(pair) = ImagePair::of(images, first, second) else {
+            return self.are_disjoint(pairs, symbols, images, first, second);
+        };
+        if self.found.has(pair) {
+            return Ok(true);
+        }
+        if !self.are_disjoint(pairs, symbols, images, first, second)? {
+            return Ok(false);
+        }
+        self.found.note(pair);
+        Ok(true)
+    }
+
+    /// Whether the image of a variable is disjoint from those of the others in a list.
+    ///
+    /// Errors: an allocation fails. Cost: that of `are_found_disjoint` for each of them.
+    #[cold]
+    #[inline(never)]
+    fn is_disjoint(
+        &mut self,
+        pairs: &Pairs<'_>,
+        symbols: &[u32],
+        images: &ImageRanges,
+        list: &[u32],
+        number: u32,
+    ) -> Result<bool, AllocError>
+        requires tables { AreTables pairs.now symbols.now self.old }
+        requires read { AreRead pairs.now self.old.variables symbols.now images.now self.old.images }
+        requires named { AreOver pairs.now.names (images_at symbols.now images.now) }
+        requires inside { AreInside (length symbols.now) images.now }
+        requires below { AreBelow (length pairs.now.names) list.now }
+        requires number { number < length pairs.now.names }
+        ensures tables { AreTables pairs.now symbols.now self.new }
+        ensures read { AreRead pairs.now self.new.variables symbols.now images.now self.new.images }
+        ensures grows { Grows self.old.variables self.new.variables }
+        ensures before { self.new.before ≡ self.old.before }
+        ensures disjoint { IfOk result (λ ok. ok ≡ is_number_disjoint pairs.now.statements (image_named pairs.now.names (images_at symbols.now images.now)) list.now number) }
+    {
+        for other in list {
+            if *other == number {
+                continue;
+            }
+            if !self.are_found_disjoint(pairs, symbols, images, number, *other)? {
+                return Ok(false);
+            }
+        }
+        Ok(true)
     }
 
     /// Whether the images of each two variables of a group are disjoint.
     ///
-    /// Each image is held against the variables of all images before it. That a variable stands in a group twice is looked
-    /// for only if its images are not disjoint.
+    /// Each image is held against the variables of all images before it, or against each of these where that costs much. That
+    /// a variable stands in a group twice is looked for only if its images are not disjoint.
     #[cold]
     #[inline(never)]
     fn is_group_disjoint(
@@ -89,9 +209,14 @@ impl DisjointTables {
                 .images
                 .image_of(pairs, &mut self.variables, symbols, images, *k)?;
             let words = self.images.words_in(range);
-            if self
+            if is_costly(words, self.before.as_slice().len(), index) {
+                self.before.add_words(words)?;
+                if !self.is_disjoint(pairs, symbols, images, &group[..index], *k)? {
+                    return Ok(false);
+                }
+            } else if self
                 .rows
-                .are_disjoint(pairs, &self.variables, words, &self.before)?
+                .are_disjoint(pairs, &self.variables, words, self.before.as_slice())?
             {
                 self.before.add_words(words)?;
             } else if !contains(&group[..index], *k) {
@@ -230,6 +355,22 @@ impl DisjointTables {
             .add_symbols(pairs, &mut self.variables, &expr[1..])?;
         self.images.record_image(behind_first(result_range))
     }
+}
+
+/// Returns whether it costs much to hold the variables at the places of words against those at the places of so many others,
+/// which are those of so many images.
+///
+/// Cost: the words, if there are many of both.
+fn is_costly(words: &[PlaceWord], others: usize, images: usize) -> bool {
+    if words.len().saturating_mul(others) < COSTLY / 64 {
+        return false;
+    }
+    let mut places = 0usize;
+    for word in words {
+        places = places.saturating_add(word.bits.count_ones() as usize);
+    }
+    let steps = places.saturating_mul(others);
+    steps >= COSTLY && steps / 64 >= images
 }
 
 /// Whether the group at an index is equal to the one before it.

@@ -5,7 +5,7 @@ ghost use Rattle.frame.specs.Below.{AreBelow};
 ghost use Rattle.frame.specs.Substitution.{code_image};
 ghost use Rattle.subst.specs.Images.{AreOver};
 ghost use Rattle.subst.specs.SymbolRanges.{AreInside, images_at};
-ghost use Rattle.subst.specs.Stored.ImageVariables.{AddsImage, Appends, AppendsWord, AreImagesRecorded, AreRead, IsRangeOf, KeepsImage, KeepsMost, KeepsRest, RecordsImage};
+ghost use Rattle.subst.specs.Stored.ImageVariables.{AddsImage, Appends, AppendsWord, AreImagesRecorded, AreRead, GrowsWords, IsRangeOf, KeepsImage, KeepsMost, KeepsRest, RecordsImage};
 ghost use Rattle.subst.specs.Stored.PlaceSets.{AddsWords, near_word};
 ghost use Rattle.subst.specs.Stored.VariablePlaces.{ArePlaced, Grows};
 
@@ -399,6 +399,7 @@ impl ImageVariables {
         ensures grows { Grows variables.old variables.new }
         ensures recorded { AreImagesRecorded pairs.now variables.new symbols.now self.new }
         ensures read { AreRead pairs.now variables.new symbols.now images.now self.new }
+        ensures words { GrowsWords self.old self.new }
         ensures range { IfOk result (λ range. IsRangeOf pairs.now variables.new self.new.words range (code_image (images_at symbols.now images.now) symbol)) }
     {
         if let Some(range) = self.find(symbol) {

@@ -6,8 +6,8 @@
 //! the names that they stand for is a law. `DisjointCache` tells whether images meet the disjoint variable condition.
 //!
 //! Reading order: `symbol_range`, `image_ranges`, `copies`, `filling`, `matching`, `buffer`, `vanishing`, `images`, `disjoint_condition`; `hints`,
-//! `variable_places`, `place_words`, `place_set`, `disjoint_rows`, `image_variables`, `disjoint_tables`, `subject`,
-//! `disjoint_cache`; `laws`.
+//! `variable_places`, `place_words`, `place_set`, `disjoint_rows`, `image_variables`, `image_pairs`, `disjoint_tables`,
+//! `subject`, `disjoint_cache`; `laws`.
 #![tactic(auto)]
 
 mod buffer;
@@ -18,6 +18,7 @@ mod disjoint_rows;
 mod disjoint_tables;
 mod filling;
 mod hints;
+mod image_pairs;
 mod image_ranges;
 mod image_variables;
 mod images;

@@ -1,10 +1,15 @@
 -- The tables of the cache of one proof.
 -- Metamath, 4.2.6: the pairs of variables that a proof needs.
 -- The code keeps its tables from proof to proof.
-use Rattle.std.specs.Prelude.{ℕ, List}
+use Rattle.std.specs.Prelude.{ℕ, Bool, List}
 use Rattle.frame.specs.Parts.{Numbered}
+use Rattle.subst.specs.Words.{are_disjoint}
+use Rattle.subst.specs.DisjointImages.{image_named}
+use Rattle.subst.specs.SymbolRanges.{images_at}
+use Rattle.subst.specs.declared.symbol_range.SymbolRange.{SymbolRange}
 use Rattle.subst.specs.declared.disjoint_tables.DisjointTables.{DisjointTables}
 use Rattle.subst.specs.Stored.DisjointRows.{AreFacts}
+use Rattle.subst.specs.Stored.ImagePairs.{AreDisjointPairs}
 use Rattle.subst.specs.Stored.ImageVariables.{AreImagesRecorded}
 use Rattle.subst.specs.Stored.VariablePlaces.{ArePlaced}
 
@@ -13,3 +18,8 @@ pub record AreTables (v : Numbered) (symbols : List ℕ) (t : DisjointTables) : 
   pub placed : ArePlaced v t.variables
   pub recorded : AreImagesRecorded v t.variables symbols t.images
   pub facts : AreFacts v t.variables t.rows
+  pub found : AreDisjointPairs v symbols t.found
+
+-- the images of two numbers are disjoint
+abbrev pub are_named_disjoint : Numbered → List ℕ → List (ℕ × SymbolRange) → ℕ → ℕ → Bool
+are_named_disjoint v symbols images k l = are_disjoint v.statements (image_named v.names (images_at symbols images) k) (image_named v.names (images_at symbols images) l)

@@ -56,6 +56,10 @@ pub record AreRead (v : Numbered) (f : Places) (symbols : List ℕ) (images : Li
 abbrev pub KeepsMost : RecordedImages → RecordedImages → Type 0
 KeepsMost old new = (more : List PlaceWord) × (list : List PlaceWord) × (new ≡ record { words = old.words ++ more; list = list; kept = old.kept; read = old.read; long = old.long })
 
+-- words are added at the end
+abbrev pub GrowsWords : RecordedImages → RecordedImages → Type 0
+GrowsWords old new = (more : List PlaceWord) × (new.words ≡ old.words ++ more)
+
 -- the list may be another
 abbrev pub KeepsRest : RecordedImages → RecordedImages → Type 0
 KeepsRest old new = (list : List PlaceWord) × (new ≡ record { words = old.words; list = list; kept = old.kept; read = old.read; long = old.long })

@@ -7,17 +7,16 @@ use Rattle.subst.proofs.disjoint_rows.DisjointRows.is_disjoint.Goals.{else-bits-
 pub ask-requires-clause-others : goal.ask-requires-clause-others
 ask-requires-clause-others c = λ b h.
     let k = c.loop-word.word-index in
-    let ws = c.as_slice-word-items.result.now in
-    c.requires.others _ (subst (λ us. HasPlace us (64 * (get_or ws k no_word).index + b)) c.as_slice-word-items.ensures
-    (record { word = k; there = c.loop-word-test.true; has = missing-bit (get_or ws k no_word) c.bits.result _ (record { bit = b; place = refl; set = h }) }))
+    let ws = c.args.others.now in
+    c.requires.others _ (record { word = k; there = c.loop-word-test.true; has = missing-bit (get_or ws k no_word) c.bits.result _ (record { bit = b; place = refl; set = h }) })
 
 pub returns-then-not-branch-clause-tells : goal.returns-then-not-branch-clause-tells
 returns-then-not-branch-clause-tells c =
     let k = c.loop-word.word-index in
-    let ws = c.as_slice-word-items.result.now in
+    let ws = c.args.others.now in
     let told = rw c.if-not-branch.true at c.in_ok-ask.ensures.tells in (
       told.0,
-      subst (λ us. HasPlace us told.0) c.as_slice-word-items.ensures (record { word = k; there = c.loop-word-test.true; has = missing-bit (get_or ws k no_word) c.bits.result told.0 told.1 }),
+      record { word = k; there = c.loop-word-test.true; has = missing-bit (get_or ws k no_word) c.bits.result told.0 told.1 },
       told.2,
     )
 
@@ -28,7 +27,7 @@ loop-word-preserved c =
     let l = c.loop-word in
     let k = l.word-index in
     let p = c.args.place in
-    let ws = c.as_slice-word-items.result.now in
+    let ws = c.args.others.now in
     let word = get_or ws k no_word in
     let fits : word.bits < 2 ^ 64 = search rules in
     let other : c.bits.result < 2 ^ 64 = search rules in
@@ -37,17 +36,15 @@ loop-word-preserved c =
           let told = rw w.if-not-branch.false at w.in_ok-ask.ensures.tells in
           rw w.self-is (
             w.ask.ensures.facts,
-            told-more v f p c.args.others.now k l.invariant.1 (subst (λ us. TellsWord v f p (get_or us k no_word) true) c.as_slice-word-items.ensures (told-word v f l.self p word c.bits.result fits other l.invariant.0 c.bits.ensures told)),
+            told-more v f p c.args.others.now k l.invariant.1 (told-word v f l.self p word c.bits.result fits other l.invariant.0 c.bits.ensures told),
           )
       | else-bits-ne0-via-else-bits-ne0 w ↦
           rw w.self-is (
             l.invariant.0,
-            told-more v f p c.args.others.now k l.invariant.1
-                (subst (λ us. TellsWord v f p (get_or us k no_word) true) c.as_slice-word-items.ensures
-                (told-word v f l.self p word c.bits.result fits other l.invariant.0 c.bits.ensures (λ q h. absurd (zero-none h.bit (rw w.if-bits-ne0.false at h.set))))),
+            told-more v f p c.args.others.now k l.invariant.1 (told-word v f l.self p word c.bits.result fits other l.invariant.0 c.bits.ensures (λ q h. absurd (zero-none h.bit (rw w.if-bits-ne0.false at h.set)))),
           )
     ]
 
 pub returns-clause-tells : goal.returns-clause-tells
 returns-clause-tells c =
-    told-all c.args.pairs.now c.args.variables.now c.args.place c.args.others.now c.loop-word.word-index (let same = ap length c.as_slice-word-items.ensures in let long = c.loop-word-test.false in omega (arith, same, long)) c.loop-word.invariant.1
+    told-all c.args.pairs.now c.args.variables.now c.args.place c.args.others.now c.loop-word.word-index c.loop-word-test.false c.loop-word.invariant.1

@@ -1,4 +1,4 @@
-use Rattle.subst.proofs.ImageVariableLemmas.{recorded-most, read-most, recorded-image, read-image}
+use Rattle.subst.proofs.ImageVariableLemmas.{recorded-most, read-most, recorded-image, read-image, words-kept, words-most, words-own}
 use Rattle.subst.proofs.image_variables.ImageVariables.image_of.Goals as goal
 
 pub returns-in_err-range-clause-recorded : goal.returns-in_err-range-clause-recorded
@@ -26,3 +26,12 @@ pub returns-clause-read : goal.returns-clause-read
 returns-clause-read c =
     read-image c.args.pairs.now c.read_image.new.variables c.args.symbols.now c.args.images.now c.read_image.new.self c.keep.new.self c.args.symbol c.in_ok-range.range c.keep.ensures c.in_ok-range.ensures.range
     (read-most c.args.pairs.now c.args.variables.now c.read_image.new.variables c.args.symbols.now c.args.images.now c.args.self.now c.read_image.new.self c.read_image.ensures.grows c.read_image.ensures.rest c.requires.read)
+
+pub returns-in_err-range-clause-words : goal.returns-in_err-range-clause-words
+returns-in_err-range-clause-words c = words-most c.args.self.now c.read_image.new.self c.read_image.ensures.rest
+
+pub returns-in_err-keep-clause-words : goal.returns-in_err-keep-clause-words
+returns-in_err-keep-clause-words c = words-kept c.args.self.now c.read_image.new.self c.keep.new.self c.args.symbol c.in_ok-range.range c.read_image.ensures.rest c.keep.ensures
+
+pub returns-clause-words : goal.returns-clause-words
+returns-clause-words c = words-kept c.args.self.now c.read_image.new.self c.keep.new.self c.args.symbol c.in_ok-range.range c.read_image.ensures.rest c.keep.ensures

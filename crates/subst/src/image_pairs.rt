@@ -1,0 +1,120 @@
+//! Pairs of images that were found to be disjoint.
+ghost use Rattle.std.specs.Prelude.{◌≡◌, [], nat_eq, true, IfSome, Some};
+ghost use Rattle.std.specs.List.{Contains};
+ghost use Rattle.std.specs.Map.{lookup};
+ghost use Rattle.subst.specs.Stored.ImagePairs.{NotesPair};
+
+use crate::image_ranges::ImageRanges;
+use crate::symbol_range::SymbolRange;
+use std::alloc::Global;
+use std::collections::BTreeMap;
+use std::marker::Model;
+
+/// The most pairs that are noted in a proof.
+const MOST_PAIRS: usize = 1_048_576;
+
+/// Where two images lie.
+#[derive(Clone, Copy, Drop)]
+pub struct ImagePair {
+    left: SymbolRange,
+    right: SymbolRange,
+}
+
+impl ImagePair {
+    /// Returns where the images of two symbols lie, or `None` if one of them was given none.
+    pub fn of(images: &ImageRanges, first: u32, second: u32) -> Option<ImagePair>
+        ensures left { IfSome result (λ pair. lookup (nat_eq first) images.now ≡ Some pair.left) }
+        ensures right { IfSome result (λ pair. lookup (nat_eq second) images.now ≡ Some pair.right) }
+    {
+        let left = images.get(first)?;
+        let right = images.get(second)?;
+        Some(ImagePair { left, right })
+    }
+}
+
+/// The pairs of images that were found to be disjoint in a proof.
+///
+/// A place by the starts of two images only says where to look, and the pair that stands there tells.
+#[derive(Drop)]
+pub struct ImagePairs {
+    places: BTreeMap<u64, u32>,
+    pairs: Vec<ImagePair>,
+}
+
+impl Model for ImagePairs {
+    ghost use Rattle.std.specs.Prelude.{List};
+    ghost use Rattle.subst.specs.declared.image_pairs.ImagePair.{ImagePair};
+
+    ghost Value = { List ImagePair };
+
+    ghost view = { λ a. a.pairs.items };
+}
+
+impl ImagePairs {
+    /// Returns a set without pairs. Does not allocate.
+    pub fn new(alloc: Global) -> ImagePairs
+        ensures { result ≡ [] }
+    {
+        ImagePairs {
+            places: BTreeMap::new(alloc),
+            pairs: Vec::new(alloc),
+        }
+    }
+
+    /// Removes all pairs. The memory of the list stays.
+    ///
+    /// Cost: the count of pairs.
+    pub fn clear(&mut self)
+        ensures { self.new ≡ [] }
+    {
+        self.places.clear();
+        self.pairs.clear();
+    }
+
+    /// Removes all pairs, and gives back their memory.
+    pub fn release(&mut self, alloc: Global)
+        ensures { self.new ≡ [] }
+    {
+        self.places.clear();
+        self.pairs = Vec::new(alloc);
+    }
+
+    /// Returns whether two images were found to be disjoint.
+    ///
+    /// Cost: log n for n pairs.
+    pub fn has(&self, pair: ImagePair) -> bool
+        ensures { result ≡ true → Contains self.now pair }
+    {
+        let Some(place) = self.places.get(&key(pair)) else {
+            return false;
+        };
+        match self.pairs.get(*place as usize) {
+            Some(noted) => is_same(noted.left, pair.left) && is_same(noted.right, pair.right),
+            None => false,
+        }
+    }
+
+    /// Notes that two images are disjoint, unless there is no room for more or an allocation fails.
+    pub fn note(&mut self, pair: ImagePair)
+        ensures { NotesPair self.old self.new pair }
+    {
+        let place = self.pairs.len();
+        if place >= MOST_PAIRS || self.pairs.push(pair).is_err() {
+            return;
+        }
+        let _noted = self.places.insert(key(pair), place as u32);
+    }
+}
+
+/// Returns one number for where two images begin.
+fn key(pair: ImagePair) -> u64 {
+    (pair.left.start as u64) << 32 | pair.right.start as u64
+}
+
+/// Returns whether two ranges are equal.
+#[inline(always)]
+fn is_same(one: SymbolRange, other: SymbolRange) -> bool
+    ensures { result ≡ true → one ≡ other }
+{
+    one.start == other.start && one.end == other.end
+}
