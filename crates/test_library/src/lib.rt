@@ -1,5 +1,5 @@
 //! Tests from bytes to a verdict of what no row can say: places of tokens and items of proof tokens, texts that are cut, copies of
-//! a scope, worked frames, images substituted at once, trees and tables of the book's first theorem, answers by several workers in
+//! a scope, worked frames, images substituted at once, trees of the book's first theorem, answers by several workers in
 //! parallel, texts of the greatest length, and answers after a failed allocation.
 #![tactic(auto)]
 
@@ -21,8 +21,6 @@ mod proof_tokens;
 mod scopes;
 #[cfg(test)]
 mod substitution;
-#[cfg(test)]
-mod tables;
 #[cfg(test)]
 mod text_entries;
 #[cfg(test)]

@@ -4,6 +4,7 @@ ghost use Rattle.std.specs.Prelude.{◌≤◌};
 use crate::text_entries::{entry, of_new};
 use bytes::Bytes;
 use library::{Cause, Entry, Library, Verdict};
+use numbers::push_number;
 use std::alloc::{AllocError, Global};
 use std::sync::atomic::{AtomicBool, Ordering};
 use std::test::Fail;
@@ -113,7 +114,7 @@ fn long_text_judged_alike(rt: HostRuntime) -> Result<(), Fail> {
 }
 
 /// Which of the proofs of a long text are wrong, by number from 0, and the verdict: the `$c` and the `$a` come before them.
-const LONG_ROWS: [(&[u32], Verdict); 4] = [
+const LONG_ROWS: [(&[u64], Verdict); 4] = [
     (&[], Verdict::Added),
     (
         &[7, 11_998],
@@ -130,14 +131,21 @@ const LONG_ROWS: [(&[u32], Verdict); 4] = [
 ];
 
 /// Returns a text of 12,000 proofs.
-fn long_text(alloc: Global, wrong: &[u32]) -> Result<Vec<u8>, AllocError> {
+fn long_text(alloc: Global, wrong: &[u64]) -> Result<Vec<u8>, AllocError> {
     let mut text = Vec::from_slice(alloc, b"$c |- o $. a $a |- o $. ".as_slice())?;
-    for number in 0..12_000u32 {
-        let proof = if wrong.contains(&number) { "a a" } else { "a" };
-        let statement = format!(in alloc; "p{number} $p |- o $= {proof} $. ")?;
-        text.extend_from_slice(statement.as_bytes())?;
+    for number in 0..12_000u64 {
+        push_proof(&mut text, number, !wrong.contains(&number))?;
     }
     Ok(text)
+}
+
+/// Appends the theorem of that number, with a right proof or a wrong one.
+fn push_proof(text: &mut Vec<u8>, number: u64, is_right: bool) -> Result<(), AllocError> {
+    let proof: &[u8] = if is_right { b"a $. " } else { b"a a $. " };
+    text.extend_from_slice(b"p")?;
+    push_number(text, number)?;
+    text.extend_from_slice(b" $p |- o $= ")?;
+    text.extend_from_slice(proof)
 }
 
 /// Each of the first two proofs waits at the gate for the other, so two workers run in parallel.

@@ -1,4 +1,4 @@
-//! The least bad job by one, two and sixteen workers, and two workers in parallel.
+//! The jobs of two right proofs by two workers, which run in parallel, also after a failed allocation.
 ghost use Rattle.std.specs.Prelude.{◌≡◌, ◌≤◌, ◌∷◌, ◌++◌, [], IsTrue};
 ghost use Rattle.mm_read.specs.Statements.{Database, AreShaped, IsShaped};
 ghost use Rattle.scope.specs.Active.{bare};
@@ -15,44 +15,8 @@ use std::sync::atomic::{AtomicBool, Ordering};
 use std::thread::Threads;
 use verify_pool::{Gate, Job, OpenGate, Place, Workers, check_all};
 
-/// Texts of normal proofs, and the index of the least that is not right.
-const ROWS: [(&[u8], Option<usize>); 5] = [
-    (TWO, None),
-    (
-        b"$c |- o $. o1 $a |- o $. p $p |- o $= o1 o1 $. q $p |- o $= q $.",
-        Some(0),
-    ),
-    (
-        b"$c |- o $. a $a |- o $. p $p |- o $= a $. q $p |- o $= ? $. r $p |- o $= r $.",
-        Some(1),
-    ),
-    (
-        b"$c |- o $. a $a |- o $. p $p |- o $= a $. q $p |- o $= p $. r $p |- o $= a a $.",
-        Some(2),
-    ),
-    (b"$c |- o $. a $a |- o $.", None),
-];
-
 /// Two right proofs.
 const TWO: &[u8] = b"$c |- o $. a $a |- o $. p $p |- o $= a $. q $p |- o $= p $.";
-
-#[test]
-fn least_bad_job(rt: HostRuntime) {
-    for (text, least) in ROWS {
-        assert!(rt; is_least_by_each(&rt, rt.alloc(), text, least), "{text:?}");
-    }
-}
-
-fn is_least_by_each<R: Threads + Sync>(
-    rt: &R,
-    alloc: Global,
-    text: &[u8],
-    least: Option<usize>,
-) -> bool {
-    answer_of(rt, alloc, text, 1, &OpenGate) == Some(least)
-        && answer_of(rt, alloc, text, 2, &OpenGate) == Some(least)
-        && answer_of(rt, alloc, text, 16, &OpenGate) == Some(least)
-}
 
 /// A second call answers after an allocation failed once.
 #[test]

@@ -1,6 +1,7 @@
 //! The items that proof tokens write, with the numbers of the book, and the tokens that write none.
 use mm_lex::Words;
 use mm_read::{Stmt, read};
+use numbers::push_number;
 use proof_code::{CodeFault, Items, is_compressed, normal, packed};
 use std::alloc::{AllocError, Global};
 
@@ -98,13 +99,23 @@ fn items_behind(alloc: Global, mandatory: &Words, tokens: &Words) -> Result<Item
 
 /// Returns a statement of the labels, and one with the tokens as its proof.
 fn text_of(alloc: Global, tokens: &[u8]) -> Result<Vec<u8>, AllocError> {
-    let mut labels = String::from_str(alloc, "$c ")?;
-    for number in 1..131u8 {
-        write!(labels, "h{number} ")?;
-    }
-    let mut text = Vec::from_slice(alloc, labels.as_bytes())?;
-    text.extend_from_slice(b"$. p $p a $= ")?;
-    text.extend_from_slice(tokens)?;
-    text.extend_from_slice(b" $.")?;
+    let mut text = Vec::new(alloc);
+    push_text(&mut text, tokens)?;
     Ok(text)
+}
+
+fn push_text(text: &mut Vec<u8>, tokens: &[u8]) -> Result<(), AllocError> {
+    text.extend_from_slice(b"$c")?;
+    for number in 1..131u64 {
+        push_label(text, number)?;
+    }
+    text.extend_from_slice(b" $. p $p a $= ")?;
+    text.extend_from_slice(tokens)?;
+    text.extend_from_slice(b" $.")
+}
+
+/// Appends the label of that number.
+fn push_label(text: &mut Vec<u8>, number: u64) -> Result<(), AllocError> {
+    text.extend_from_slice(b" h")?;
+    push_number(text, number)
 }
