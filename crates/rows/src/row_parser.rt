@@ -100,8 +100,10 @@ fn add_command(alloc: Global, row: &mut Row, text: &str) -> Result<(), RowFault>
 
 fn set_status(row: &mut Row, text: &str) -> Result<(), RowFault> {
     let number = parse_number(text.as_bytes()).ok_or(RowFault::Bad)?;
-    let status = u8::try_from(number).map_err(|_error| RowFault::Bad)?;
-    row.status = Some(status);
+    if number > 255 {
+        return Err(RowFault::Bad);
+    }
+    row.status = Some(number as u8);
     Ok(())
 }
 

@@ -1,7 +1,6 @@
 //! Texts of a row: bytes that stand for themselves, and escapes that begin with a backslash.
-use numbers::parse_number;
+use numbers::{parse_number, push_number};
 use std::alloc::{AllocError, Global};
-use std::io::Write;
 
 /// Why a line is not parsed.
 #[derive(Drop)]
@@ -42,7 +41,10 @@ pub fn push_line(bytes: &mut Vec<u8>, text: &str, time: u64) -> Result<(), RowFa
 pub fn word_of(alloc: Global, text: &str) -> Result<String, RowFault> {
     let mut bytes = Vec::new(alloc);
     push_text(&mut bytes, text.strip_suffix("\\").unwrap_or(text), 0)?;
-    String::from_utf8(bytes).map_err(|_error| RowFault::Bad)
+    match String::from_utf8(bytes) {
+        Ok(word) => Ok(word),
+        Err(_) => Err(RowFault::Bad),
+    }
 }
 
 /// Appends the bytes of a text.
@@ -62,14 +64,14 @@ fn push_escaped(bytes: &mut Vec<u8>, piece: &str, time: u64) -> Result<(), RowFa
     if let Some(digits) = piece.strip_prefix("x") {
         return push_byte(bytes, digits);
     }
-    let Some((number, rest)) = piece
-        .strip_prefix("{")
-        .and_then(|rest| rest.split_once('}'))
-    else {
+    let Some(number_and_rest) = piece.strip_prefix("{") else {
+        return Err(RowFault::Bad);
+    };
+    let Some((number, rest)) = number_and_rest.split_once('}') else {
         return Err(RowFault::Bad);
     };
     let number = number_at(number, time).ok_or(RowFault::Bad)?;
-    write!(bytes, "{number}").map_err(|_error| RowFault::Memory)?;
+    push_number(bytes, number)?;
     bytes.extend_from_slice(rest.as_bytes())?;
     Ok(())
 }
