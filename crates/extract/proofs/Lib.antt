@@ -1,4 +1,2 @@
 pub mod WantedLemmas
-pub mod SideBySideLemmas
-pub mod SameLemmas
 pub mod TakenOutLemmas

@@ -13,10 +13,10 @@ use Rattle.scope.specs.Active.{label_of, is_assertion}
 use Rattle.scope.proofs.StatementPlaces.{stands-within}
 use Rattle.library.specs.Good.{Good}
 use Rattle.extract.specs.Wanted.{NamesAssertion, AreRight}
-use Rattle.extract.specs.Selected.{IsPart, IsKept}
-use Rattle.extract.specs.Walk.{wanted, AreKept}
+use Rattle.database_parts.specs.Selected.{IsPart, IsKept}
+use Rattle.database_parts.specs.Walk.{wanted, AreKept}
 use Rattle.extract.specs.Extract.{IsExtract}
-use Rattle.extract.proofs.SideBySideLemmas.{part-whole}
+use Rattle.database_parts.proofs.SideBySideLemmas.{part-whole}
 
 -- ---- each label
 

@@ -7,7 +7,7 @@ use Rattle.mm_lex.specs.Alphabet.{Name}
 use Rattle.mm_read.specs.Statements.{Database}
 use Rattle.mm_read.specs.Reads.{Reads}
 use Rattle.library.specs.Good.{Good}
-use Rattle.extract.specs.Selected.{IsPart, IsKept}
+use Rattle.database_parts.specs.Selected.{IsPart, IsKept}
 
 -- good statements T of S, with each of these assertions as in S
 pub record AreExtract (S : Database) (labels : List Name) (T : Database) : Type 0 where

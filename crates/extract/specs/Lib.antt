@@ -1,4 +1,2 @@
 pub mod Wanted
-pub mod Selected
-pub mod Walk
 pub mod Extract

@@ -5,10 +5,10 @@ ghost use Rattle.extract.specs.Wanted.{AreRight, IsFirstWrong};
 ghost use Rattle.extract.specs.Extract.{AreExtract, IsExtract};
 
 use crate::choice::choose;
-use crate::comparison::is_extract;
 use crate::fault::ExtractFault;
 use crate::wanted::first_wrong;
 use bytes::Bytes;
+use database_parts::is_extract;
 use library::{Entry, Library, Submission};
 use mm_read::push_line;
 use std::alloc::{AllocError, Global};

@@ -2,15 +2,13 @@
 //!
 //! The crate above uses `extract`: the result reads as good statements of the library, in their order, and has each named
 //! assertion with its hypotheses and its mandatory pairs. Which statements are chosen is promised nowhere: the choice is judged by
-//! a library of its own and compared with the whole, and if anything is missing the whole is returned.
+//! a library of its own and compared with the whole (`database_parts`), and if anything is missing the whole is returned.
 //!
-//! Reading order: `fault`, `wanted` (the labels), `cited` and `choice` (the statements), `comparison` (what is kept),
-//! `extraction`.
+//! Reading order: `fault`, `wanted` (the labels), `cited` and `choice` (the statements), `extraction`.
 #![tactic(auto)]
 
 mod choice;
 mod cited;
-mod comparison;
 mod extraction;
 mod fault;
 mod wanted;

@@ -1,6 +1,5 @@
 //! The labels of the assertions that are wanted.
 ghost use Rattle.std.specs.Prelude.{◌≡◌, ◌≤◌, [], map, length, Some, None};
-ghost use Rattle.mm_lex.specs.Alphabet.{name_eq, has_name};
 ghost use Rattle.mm_read.specs.declared.stmt.Stmt.{Stmt as Statement};
 ghost use Rattle.scope.specs.Active.{bares, stmt_at, is_assertion};
 ghost use Rattle.frame.specs.AtPosition.{HasLabelsOnce};
@@ -8,6 +7,7 @@ ghost use Rattle.extract.specs.declared.fault.ExtractFault.{ExtractFault as Faul
 ghost use Rattle.extract.specs.Wanted.{AreRight, IsFirstWrong, IsJudged};
 
 use crate::fault::ExtractFault;
+use database_parts::is_among;
 use frame::{Frames, is_assertion};
 use mm_read::Stmt;
 
@@ -64,23 +64,4 @@ fn is_assertion_at(statements: &[Stmt], at: usize) -> bool
     ensures { (s : Statement) → stmt_at statements.now at ≡ Some s → result ≡ is_assertion s }
 {
     is_assertion(&statements[at - 1])
-}
-
-/// Returns whether the label stands among these.
-pub(crate) fn is_among(label: &[u8], labels: &[&str]) -> bool
-    ensures { result ≡ has_name label.now (map (λ label. label.now) labels.now) }
-{
-    for other in labels {
-        if is_text(other, label) {
-            return true;
-        }
-    }
-    false
-}
-
-/// Returns whether the text has these bytes.
-fn is_text(text: &str, bytes: &[u8]) -> bool
-    ensures { result ≡ name_eq bytes.now text.now }
-{
-    bytes == text.as_bytes()
 }

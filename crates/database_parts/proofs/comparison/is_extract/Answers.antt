@@ -1,6 +1,6 @@
 use Rattle.std.proofs.Common.{map}
-use Rattle.extract.proofs.SideBySideLemmas.{walk-none}
-use Rattle.extract.proofs.comparison.is_extract.Goals as goal
+use Rattle.database_parts.proofs.SideBySideLemmas.{walk-none}
+use Rattle.database_parts.proofs.comparison.is_extract.Goals as goal
 
 pub is_walk-requires-clause-begins : goal.is_walk-requires-clause-begins
 is_walk-requires-clause-begins c = walk-none c.args.whole.now c.args.part.now (map (λ label. label.now) c.args.labels.now) _ _ c.new.ensures.statements c.new-2.ensures.statements

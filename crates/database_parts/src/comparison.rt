@@ -2,10 +2,10 @@
 ghost use Rattle.std.specs.Prelude.{◌≡◌, ℕ, ◌+◌, ◌<◌, ◌∷◌, ◌++◌, [], map, length, true, IsTrue, IfOk, Some, slice_get};
 ghost use Rattle.mm_read.specs.Statements.{IsShaped, AreShaped};
 ghost use Rattle.scope.specs.Active.{bare, is_assertion, stmt_at};
-ghost use Rattle.extract.specs.Selected.{IsPart};
-ghost use Rattle.extract.specs.Walk.{wanted, AreKept, IsSameFrame, IsWalked};
+ghost use Rattle.database_parts.specs.Selected.{IsPart};
+ghost use Rattle.database_parts.specs.Walk.{wanted, AreKept, IsSameFrame, IsWalked};
 
-use crate::wanted::is_among;
+use crate::labels::is_among;
 use frame::{Frame, frame};
 use mm_lex::{Word, Words};
 use mm_read::Stmt;
@@ -27,7 +27,7 @@ struct Walk {
 /// with its hypotheses and pairs.
 ///
 /// Errors: an allocation failed. Cost: a pass over the rules of both, and the frames of these assertions.
-pub(crate) fn is_extract(
+pub fn is_extract(
     alloc: Global,
     whole: &[Stmt],
     part: &[Stmt],

@@ -2,7 +2,7 @@
 use Rattle.std.specs.Prelude.{◌≡◌, ℕ, zero, suc, ◌+◌, ◌-◌, ◌<◌, ◌≤◌, true, false, List, [], ◌∷◌, ◌++◌, length, map, take, get_or, slice_get, Some, Result, Ok, Err, IfOk, refl}
 use Rattle.std.proofs.Common.{sym, ◌∙◌, ap, subst, arith, inl, inr}
 use Rattle.std.proofs.lemmas.Bool.{cases_eq}
-use Rattle.std.proofs.lemmas.List.{take_more, take-map}
+use Rattle.std.proofs.lemmas.List.{map_more, take_more, take-map}
 use Rattle.mm_lex.specs.Alphabet.{Name}
 use Rattle.mm_read.specs.declared.stmt.Stmt.{Stmt}
 use Rattle.mm_read.specs.declared.stmt.Stmt.TheVariants.{Open, Close, Const, Var, Disj, Float, Ess, Axiom, Prove}
@@ -11,9 +11,8 @@ use Rattle.scope.specs.Active.{bare, bares, before, stmt_at, is_assertion}
 use Rattle.frame.specs.Citations.{Carries}
 use Rattle.frame.specs.FrameOf.{hypotheses, mandatory_groups, together}
 use Rattle.frame.proofs.GroupsLemmas.{groups-pairs}
-use Rattle.extract.specs.Selected.{IsPart, nothing, takes, leaves, IsKept}
-use Rattle.extract.specs.Walk.{wanted, AreKept, IsSameFrame, IsWalked}
-use Rattle.library.proofs.AddingLemmas.{taken-more}
+use Rattle.database_parts.specs.Selected.{IsPart, nothing, takes, leaves, IsKept}
+use Rattle.database_parts.specs.Walk.{wanted, AreKept, IsSameFrame, IsWalked}
 
 -- ---- the property of an answer
 
@@ -56,6 +55,9 @@ get-some (t ∷ S) (suc n) s d less e = get-some S n s d (omega (arith, less)) e
 -- the first statements and the next one are one more
 longer : (S : Database) (n : ℕ) (s : Stmt) → n < length S → s ≡ get_or S n s → take (n + 1) S ≡ take n S ++ s ∷ []
 longer S n s less is = take_more S n s less ∙ ap (λ r. take n S ++ r ∷ []) (sym is)
+
+taken-more : (S : Database) (i : ℕ) (s : Stmt) → i < length S → s ≡ get_or S i s → bares (take (i + 1) S) ≡ bares (take i S) ++ bare s ∷ []
+taken-more S i s less is = map_more bare S i s less ∙ ap (λ r. bares (take i S) ++ bare r ∷ []) (sym is)
 
 before-is : (S : Database) (n : ℕ) → before (bares S) (suc n) ≡ bares (take n S)
 before-is S n = ap (λ m. take m (bares S)) (let e : suc n - 1 ≡ n = omega arith in e) ∙ take-map bare n S

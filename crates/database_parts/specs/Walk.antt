@@ -9,7 +9,7 @@ use Rattle.mm_read.specs.Statements.{Database}
 use Rattle.scope.specs.Active.{bares, stmt_at}
 use Rattle.frame.specs.Citations.{Carries}
 use Rattle.frame.specs.FrameOf.{hypotheses, mandatory_groups}
-use Rattle.extract.specs.Selected.{IsPart, IsKept}
+use Rattle.database_parts.specs.Selected.{IsPart, IsKept}
 
 -- an assertion of one of these labels
 abbrev pub wanted : List Name → Stmt → Bool

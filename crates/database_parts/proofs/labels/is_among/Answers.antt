@@ -1,6 +1,6 @@
 use Rattle.std.proofs.Common.{sym, ◌∙◌}
-use Rattle.extract.proofs.SameLemmas.{among-here}
-use Rattle.extract.proofs.wanted.is_among.Goals as goal
+use Rattle.database_parts.proofs.SameLemmas.{among-here}
+use Rattle.database_parts.proofs.labels.is_among.Goals as goal
 
 pub returns-then-is_text : goal.returns-then-is_text
 returns-then-is_text c =

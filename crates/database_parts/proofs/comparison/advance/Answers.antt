@@ -1,6 +1,6 @@
 use Rattle.std.proofs.Common.{◌∙◌, sym, map}
-use Rattle.extract.proofs.SideBySideLemmas.{ok-one, ok-both, walk-past, walk-both}
-use Rattle.extract.proofs.comparison.advance.Goals as goal
+use Rattle.database_parts.proofs.SideBySideLemmas.{ok-one, ok-both, walk-past, walk-both}
+use Rattle.database_parts.proofs.comparison.advance.Goals as goal
 
 pub returns-else-wanted : goal.returns-else-wanted
 returns-else-wanted c =

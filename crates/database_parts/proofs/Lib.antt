@@ -1,0 +1,2 @@
+pub mod SideBySideLemmas
+pub mod SameLemmas
