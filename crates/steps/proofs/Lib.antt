@@ -11,3 +11,4 @@ pub mod PremiseLemmas
 pub mod EssentialMarkLemmas
 pub mod MarkedPlaceLemmas
 pub mod UnfoldLemmas
+pub mod LongListLemmas

@@ -3,12 +3,13 @@ ghost use Rattle.std.specs.Prelude.{◌≡◌, suc, ◌<◌, ◌≤◌, [], IfOk
 ghost use Rattle.frame.specs.Below.{AreBelow};
 ghost use Rattle.steps.specs.Rows.{no_row, steps_of, AreRows};
 ghost use Rattle.steps.specs.Essential.{essential_of, AreEssential};
+ghost use Rattle.steps.specs.Stored.LongLists.{AreKept};
 ghost use Rattle.steps.specs.Stored.Marked.{taken_by, mark_each, mark_last, AreMarkedFrom, AreMarks};
 
-use crate::recording::cited_at;
+use crate::long_lists::LongLists;
 use crate::steps_table::ProofTable;
 use entries::{Hypotheses, Hypothesis};
-use frame::{FrameBuffers, Frames, Meaning};
+use frame::{Frames, Meaning};
 use std::alloc::{AllocError, Global};
 
 /// Returns the places that are taken for a `$e`.
@@ -37,17 +38,21 @@ fn premises_of(
     at: usize,
     table: &ProofTable,
     place: usize,
-    frame_buffers: &mut FrameBuffers,
+    lists: &mut LongLists,
 ) -> Result<Vec<usize>, AllocError>
     requires at { (1 ≤ at) × (at ≤ length frames.now.statements) }
     requires rows { AreRows frames.now.statements at frames.now.names table.now }
     requires place { place < length table.now }
-    ensures { IfOk result (λ list. list.items ≡ essential_of frames.now.statements (get_or table.now place no_row).step) }
+    requires kept { AreKept frames.now.statements frames.now.names lists.old.lists.items }
+    ensures premises { IfOk result (λ list. list.items ≡ essential_of frames.now.statements (get_or table.now place no_row).step) }
+    ensures kept { OnOk result (AreKept frames.now.statements frames.now.names lists.new.lists.items) }
 {
     let position = table.position(place);
     match frames.meaning(at, position) {
         Meaning::Assertion => {
-            let cited = cited_at(frames, position, frame_buffers)?;
+            let few = frames.cited(position);
+            let index = lists.index_of(frames, position, few.is_some())?;
+            let cited = lists.parts(frames, position, few, index);
             premises_among(alloc, &cited.hypotheses, table.taken(place))
         }
         Meaning::Hypothesis(_) => Ok(Vec::new(alloc)),
@@ -72,17 +77,19 @@ fn mark_step(
     at: usize,
     table: &ProofTable,
     place: usize,
-    frame_buffers: &mut FrameBuffers,
+    lists: &mut LongLists,
     marks: &mut [bool],
 ) -> Result<(), AllocError>
     requires at { (1 ≤ at) × (at ≤ length frames.now.statements) }
     requires rows { AreRows frames.now.statements at frames.now.names table.now }
     requires place { place < length table.now }
     requires marks { AreMarkedFrom frames.now.statements (steps_of table.now) (suc place) marks.old }
-    ensures { OnOk result (AreMarkedFrom frames.now.statements (steps_of table.now) place marks.new) }
+    requires kept { AreKept frames.now.statements frames.now.names lists.old.lists.items }
+    ensures marks { OnOk result (AreMarkedFrom frames.now.statements (steps_of table.now) place marks.new) }
+    ensures kept { OnOk result (AreKept frames.now.statements frames.now.names lists.new.lists.items) }
 {
     if marks[place] {
-        let premises = premises_of(alloc, frames, at, table, place, frame_buffers)?;
+        let premises = premises_of(alloc, frames, at, table, place, lists)?;
         mark_all(&premises, marks);
     }
     Ok(())
@@ -112,18 +119,10 @@ fn marks_of(
     ensures { IfOk result (λ marks. AreMarks frames.now.statements (steps_of table.now) marks.items) }
 {
     let count = table.len();
-    let mut frame_buffers = FrameBuffers::new(alloc);
+    let mut lists = LongLists::new(alloc);
     let mut marks = last_marked(alloc, count)?;
     for place in (0..count).rev() {
-        mark_step(
-            alloc,
-            frames,
-            at,
-            table,
-            place,
-            &mut frame_buffers,
-            &mut marks,
-        )?;
+        mark_step(alloc, frames, at, table, place, &mut lists, &mut marks)?;
     }
     Ok(marks)
 }
@@ -151,7 +150,7 @@ fn renumbered(alloc: Global, list: &[usize], numbers: &[usize]) -> Result<Vec<us
 /// Returns the last step of a table of the `$p` at a position, and with each step those that it takes for a `$e`; numbered anew,
 /// and each with only those as the steps that it takes.
 ///
-/// Cost: the table's own size, and the hypotheses of the assertions cited. Source: Metamath, 4.2.6.
+/// Cost: the table's own size; long lists of an assertion that it cites are made twice. Source: Metamath, 4.2.6.
 pub fn essential_table(
     alloc: Global,
     frames: &Frames,
@@ -183,12 +182,12 @@ fn keep_marked(
     requires empty { kept.old ≡ [] }
     ensures { OnOk result (AreEssential frames.now.statements table.now kept.new) }
 {
-    let mut frame_buffers = FrameBuffers::new(alloc);
+    let mut lists = LongLists::new(alloc);
     let mut numbers = Vec::new(alloc);
     for place in 0..table.len() {
         numbers.push(kept.len())?;
         if marks[place] {
-            let premises = premises_of(alloc, frames, at, table, place, &mut frame_buffers)?;
+            let premises = premises_of(alloc, frames, at, table, place, &mut lists)?;
             let taken = renumbered(alloc, &premises, &numbers)?;
             kept.push(table.position(place), taken, table.expr(place))?;
         }

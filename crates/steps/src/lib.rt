@@ -5,13 +5,14 @@
 //! table that a mathematician reads.
 //!
 //! Reading order: `steps_table` (the table, and the call), `recording` (one item), `table_draft` (one citation), `concluding` (one
-//! conclusion), `known` (steps found again), `essential` (the steps that a mathematician reads), `laws`.
+//! conclusion), `long_lists` (hypotheses listed once), `known` (steps found again), `essential` (the steps that a mathematician reads), `laws`.
 #![tactic(auto)]
 
 mod concluding;
 mod essential;
 mod known;
 pub mod laws;
+mod long_lists;
 mod recording;
 mod steps_table;
 mod table_draft;

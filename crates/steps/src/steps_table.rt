@@ -7,9 +7,10 @@ ghost use Rattle.steps.specs.StepTable.{AreSteps};
 ghost use Rattle.steps.specs.Rows.{no_row, row, steps_of, expr_in, AreRows};
 ghost use Rattle.steps.specs.Unfolded.{last_unfolded};
 
+use crate::long_lists::LongLists;
 use crate::recording::record_item;
 use crate::table_draft::{PlacedStep, TableDraft};
-use frame::{FrameBuffers, Frames};
+use frame::Frames;
 use proof_code::Items;
 use std::alloc::{AllocError, Global};
 use std::marker::Model;
@@ -102,7 +103,8 @@ impl ProofTable {
 
 /// Returns the steps of the items of a right proof of the `$p` at that position, with what each concludes.
 ///
-/// Cost: that of the proof, and of looking each citation up among the steps. There is no limit on the steps.
+/// Cost: that of the proof, and of looking each citation up among the steps. There is no limit on the steps. Long lists of an
+/// assertion that it cites are made once.
 /// Source: Metamath, 4.2.6 and appendix B.
 pub fn proof_table(
     alloc: Global,
@@ -119,17 +121,11 @@ pub fn proof_table(
 {
     let parts = items.parts();
     let positions = frames.positions(parts.labels)?;
-    let mut frame_buffers = FrameBuffers::new(alloc);
+    let mut lists = LongLists::new(alloc);
     let mut draft = TableDraft::new(alloc);
     for number in parts.numbers {
         record_item(
-            alloc,
-            frames,
-            at,
-            &positions,
-            *number,
-            &mut frame_buffers,
-            &mut draft,
+            alloc, frames, at, &positions, *number, &mut lists, &mut draft,
         )?;
     }
     Ok(ProofTable {

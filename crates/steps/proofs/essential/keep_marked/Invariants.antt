@@ -1,4 +1,5 @@
 use Rattle.std.proofs.Common.{◌≡◌, map}
+use Rattle.steps.specs.Stored.LongLists.{AreKept}
 use Rattle.steps.specs.Stored.Marked.{marked_before, AreNumbers, kept_row}
 use Rattle.steps.proofs.essential.keep_marked.Given as goal
 
@@ -7,3 +8,4 @@ abbrev pub invariant-loop-place : goal.invariant-loop-place
 invariant-loop-place l =
     AreNumbers l.marks l.place l.numbers.items
     × (l.kept ≡ map (kept_row l.frames.statements l.table l.marks) (marked_before l.marks l.place))
+    × AreKept l.frames.statements l.frames.names l.lists.lists.items

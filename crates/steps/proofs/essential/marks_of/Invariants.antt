@@ -1,7 +1,8 @@
 use Rattle.steps.specs.Rows.{steps_of}
+use Rattle.steps.specs.Stored.LongLists.{AreKept}
 use Rattle.steps.specs.Stored.Marked.{AreMarkedFrom}
 use Rattle.steps.proofs.essential.marks_of.Given as goal
 
 -- the steps from here on were looked at
 abbrev pub invariant-loop-place : goal.invariant-loop-place
-invariant-loop-place l = AreMarkedFrom l.frames.statements (steps_of l.table) l.place l.marks.items
+invariant-loop-place l = AreMarkedFrom l.frames.statements (steps_of l.table) l.place l.marks.items × AreKept l.frames.statements l.frames.names l.lists.lists.items

@@ -3,6 +3,7 @@ use Rattle.std.proofs.lemmas.Result.{on_ok_weaker}
 use Rattle.scope.specs.Active.{expr_of}
 use Rattle.frame.specs.Citations.{IsHypothesis}
 use Rattle.verify.proofs.LabelTableLemmas.{has_with}
+use Rattle.steps.specs.Stored.LongLists.{with_groups}
 use Rattle.steps.proofs.CiteLemmas.{many, typed, typecodes-count, different, assertion-draft, assertion-done, hypothesis-draft, hypothesis-done}
 use Rattle.scope.proofs.StatementPlaces.{stands-within}
 use Rattle.steps.proofs.ConcludingLemmas.{standing-codes}
@@ -15,32 +16,36 @@ cite_parts-requires-clause-many c =
     let p = c.requires.can in
     let q = p.3 in
     let m = c.in-Assertion.ensures in
-    many c.args.frames.now.statements c.args.at c.args.frames.now.names c.requires.legal c.args.draft.now c.requires.draft p.0 q.0 q.2 c.args.position p.1 c.in_ok-cited-in-Assertion.cited p.2
-    (has_with c.args.frames.now.statements c.args.position p.1 m.0 p.0 p.2 m.1) m.2 (c.in_ok-cited-in-Assertion.ensures p.1 p.2.stands) q.1 q.3
+    let v = c.parts-cited.ensures p.1 p.2.stands in
+    many c.args.frames.now.statements c.args.at c.args.frames.now.names c.requires.legal c.args.draft.now c.requires.draft p.0 q.0 q.2 c.args.position p.1 (with_groups c.parts-cited.result v.0) p.2
+    (has_with c.args.frames.now.statements c.args.position p.1 m.0 p.0 p.2 m.1) m.2 v.1 q.1 q.3
 
 pub cite_parts-requires-clause-typecodes : goal.cite_parts-requires-clause-typecodes
 cite_parts-requires-clause-typecodes c =
     let p = c.requires.can in
     let q = p.3 in
     let m = c.in-Assertion.ensures in
-    typecodes-count c.args.frames.now.statements c.args.at c.args.frames.now.names c.requires.legal c.args.draft.now c.requires.draft p.0 q.0 q.2 c.args.position p.1 c.in_ok-cited-in-Assertion.cited p.2
-    (has_with c.args.frames.now.statements c.args.position p.1 m.0 p.0 p.2 m.1) m.2 (c.in_ok-cited-in-Assertion.ensures p.1 p.2.stands) q.1 q.3
+    let v = c.parts-cited.ensures p.1 p.2.stands in
+    typecodes-count c.args.frames.now.statements c.args.at c.args.frames.now.names c.requires.legal c.args.draft.now c.requires.draft p.0 q.0 q.2 c.args.position p.1 (with_groups c.parts-cited.result v.0) p.2
+    (has_with c.args.frames.now.statements c.args.position p.1 m.0 p.0 p.2 m.1) m.2 v.1 q.1 q.3
 
 pub cite_parts-requires-clause-different : goal.cite_parts-requires-clause-different
 cite_parts-requires-clause-different c =
     let p = c.requires.can in
     let q = p.3 in
     let m = c.in-Assertion.ensures in
-    different c.args.frames.now.statements c.args.at c.args.frames.now.names c.requires.legal c.args.draft.now c.requires.draft p.0 q.0 q.2 c.args.position p.1 c.in_ok-cited-in-Assertion.cited p.2
-    (has_with c.args.frames.now.statements c.args.position p.1 m.0 p.0 p.2 m.1) m.2 (c.in_ok-cited-in-Assertion.ensures p.1 p.2.stands) q.1 q.3
+    let v = c.parts-cited.ensures p.1 p.2.stands in
+    different c.args.frames.now.statements c.args.at c.args.frames.now.names c.requires.legal c.args.draft.now c.requires.draft p.0 q.0 q.2 c.args.position p.1 (with_groups c.parts-cited.result v.0) p.2
+    (has_with c.args.frames.now.statements c.args.position p.1 m.0 p.0 p.2 m.1) m.2 v.1 q.1 q.3
 
 pub cite_parts-requires-clause-typed : goal.cite_parts-requires-clause-typed
 cite_parts-requires-clause-typed c =
     let p = c.requires.can in
     let q = p.3 in
     let m = c.in-Assertion.ensures in
-    typed c.args.frames.now.statements c.args.at c.args.frames.now.names c.requires.legal c.args.draft.now c.requires.draft p.0 q.0 q.2 c.args.position p.1 c.in_ok-cited-in-Assertion.cited p.2
-    (has_with c.args.frames.now.statements c.args.position p.1 m.0 p.0 p.2 m.1) m.2 (c.in_ok-cited-in-Assertion.ensures p.1 p.2.stands) q.1 q.3
+    let v = c.parts-cited.ensures p.1 p.2.stands in
+    typed c.args.frames.now.statements c.args.at c.args.frames.now.names c.requires.legal c.args.draft.now c.requires.draft p.0 q.0 q.2 c.args.position p.1 (with_groups c.parts-cited.result v.0) p.2
+    (has_with c.args.frames.now.statements c.args.position p.1 m.0 p.0 p.2 m.1) m.2 v.1 q.1 q.3
 
 pub unreachable-requires : goal.unreachable-requires
 unreachable-requires c =
@@ -69,23 +74,25 @@ returns-in-Hypothesis-clause-done c =
     (subst (IsHypothesis c.args.frames.now.statements c.args.at c.args.position) same h.1) (h.2 ∙ ap expr_of same) h.3 c.cite_hypothesis.new.draft gives next run)
     c.cite_hypothesis.ensures
 
-pub returns-in_ok-cited-in-Assertion-clause-draft : goal.returns-in_ok-cited-in-Assertion-clause-draft
-returns-in_ok-cited-in-Assertion-clause-draft c =
+pub returns-in_ok-index-in-Assertion-clause-draft : goal.returns-in_ok-index-in-Assertion-clause-draft
+returns-in_ok-index-in-Assertion-clause-draft c =
     let p = c.requires.can in
     let q = p.3 in
     let m = c.in-Assertion.ensures in
+    let v = c.parts-cited.ensures p.1 p.2.stands in
     on_ok_weaker c.cite_parts.result
-    (λ gives. assertion-draft c.args.frames.now.statements c.args.at c.args.frames.now.names c.requires.legal c.args.draft.now c.requires.draft p.0 q.0 q.2 c.args.position p.1 c.in_ok-cited-in-Assertion.cited p.2
-    (has_with c.args.frames.now.statements c.args.position p.1 m.0 p.0 p.2 m.1) m.2 (c.in_ok-cited-in-Assertion.ensures p.1 p.2.stands) q.1 q.3 c.cite_parts.new.draft gives)
+    (λ gives. assertion-draft c.args.frames.now.statements c.args.at c.args.frames.now.names c.requires.legal c.args.draft.now c.requires.draft p.0 q.0 q.2 c.args.position p.1 (with_groups c.parts-cited.result v.0) p.2
+    (has_with c.args.frames.now.statements c.args.position p.1 m.0 p.0 p.2 m.1) m.2 v.1 q.1 q.3 c.cite_parts.new.draft gives)
     c.cite_parts.ensures
 
-pub returns-in_ok-cited-in-Assertion-clause-done : goal.returns-in_ok-cited-in-Assertion-clause-done
-returns-in_ok-cited-in-Assertion-clause-done c =
+pub returns-in_ok-index-in-Assertion-clause-done : goal.returns-in_ok-index-in-Assertion-clause-done
+returns-in_ok-index-in-Assertion-clause-done c =
     let m = c.in-Assertion.ensures in
     on_ok_weaker c.cite_parts.result
     (λ gives label s carries st next tied run.
-    assertion-done c.args.frames.now.statements c.args.at c.args.frames.now.names c.requires.legal c.args.draft.now c.requires.draft label st tied c.args.position s c.in_ok-cited-in-Assertion.cited carries
-    (has_with c.args.frames.now.statements c.args.position s m.0 label carries m.1) m.2 (c.in_ok-cited-in-Assertion.ensures s carries.stands) next run c.cite_parts.new.draft gives)
+    let v = c.parts-cited.ensures s carries.stands in
+    assertion-done c.args.frames.now.statements c.args.at c.args.frames.now.names c.requires.legal c.args.draft.now c.requires.draft label st tied c.args.position s (with_groups c.parts-cited.result v.0) carries
+    (has_with c.args.frames.now.statements c.args.position s m.0 label carries m.1) m.2 v.1 next run c.cite_parts.new.draft gives)
     c.cite_parts.ensures
 
 pub places-requires : goal.places-requires
@@ -94,5 +101,5 @@ places-requires c = let p = c.requires.can in stands-within c.args.frames.now.st
 pub cite_parts-requires-clause-standing : goal.cite_parts-requires-clause-standing
 cite_parts-requires-clause-standing c =
     let p = c.requires.can in
-    let is = c.in_ok-cited-in-Assertion.ensures p.1 p.2.stands in
+    let is = (c.parts-cited.ensures p.1 p.2.stands).1 in
     standing-codes c.args.frames.now.names _ (expr_of p.1) _ c.requires.legal.distinct is.conclusion_below is.conclusion (c.places.ensures p.1 p.2.stands)

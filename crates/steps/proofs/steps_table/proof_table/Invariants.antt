@@ -3,6 +3,7 @@ use Rattle.mm_lex.specs.Alphabet.{Name}
 use Rattle.frame.specs.AtPosition.{ArePositions, AreLegal}
 use Rattle.proof_code.specs.ItemNumbers.{items_of}
 use Rattle.steps.specs.Stored.Drafted.{IsDraft}
+use Rattle.steps.specs.Stored.LongLists.{AreKept}
 use Rattle.steps.proofs.ReachedLemmas.{Reached}
 use Rattle.steps.proofs.steps_table.proof_table.Given as goal
 
@@ -15,3 +16,4 @@ invariant-loop-number l =
     × ArePositions l.frames.statements labels l.positions.items
     × (items_of labels l.number-items ≡ l.items)
     × Reached l.frames.statements l.at l.frames.names labels l.number-items l.number-index l.draft)
+    × AreKept l.frames.statements l.frames.names l.lists.lists.items

@@ -1,0 +1,61 @@
+-- The lists that a table keeps are those of their assertions.
+use Rattle.std.specs.Prelude.{◌≡◌, ℕ, zero, suc, ◌<◌, List, [], ◌∷◌, ◌++◌, length, map, slice_get, Some, refl}
+use Rattle.std.proofs.Common.{sym, ◌∙◌, ap, subst, arith, length-append}
+use Rattle.mm_lex.specs.Alphabet.{Name}
+use Rattle.mm_read.specs.declared.stmt.Stmt.{Stmt}
+use Rattle.mm_read.specs.Statements.{Database}
+use Rattle.scope.specs.Active.{stmt_at, before, expr_of}
+use Rattle.names.specs.Codes.{decode}
+use Rattle.entries.specs.declared.assertion_view.AssertionView.{AssertionView}
+use Rattle.frame.specs.AssertionView.{IsViewOf}
+use Rattle.frame.specs.Below.{AreBelow}
+use Rattle.frame.specs.FrameOf.{mandatory_groups}
+use Rattle.verify.proofs.Words.{same_Some}
+use Rattle.steps.specs.Stored.LongLists.{HasPartsOf, Listed, AreMadeOf, AreListsOf, AreKept, IsAt}
+
+pub kept-push : (S : Database) (names : List Name) (ls : List Listed) (l : Listed) → AreKept S names ls → ((s : Stmt) → stmt_at S l.position ≡ Some s → AreListsOf S names l s) → AreKept S names (ls ++ l ∷ [])
+kept-push S names [] l h k = (k, tt)
+kept-push S names (m ∷ ls) l h k = (h.0, kept-push S names ls l h.1 k)
+
+kept-at : (S : Database) (names : List Name) (ls : List Listed) (i : ℕ) (l : Listed) → AreKept S names ls → slice_get ls i ≡ Some l → (s : Stmt) → stmt_at S l.position ≡ Some s → AreListsOf S names l s
+kept-at S names [] i l h e = absurd (cc)
+kept-at S names (m ∷ ls) zero l h e = subst (λ (v : Listed). (s : Stmt) → stmt_at S v.position ≡ Some s → AreListsOf S names v s) (same_Some m l e) h.0
+kept-at S names (m ∷ ls) (suc i) l h e = kept-at S names ls i l h.1 e
+
+pub at-end : (ls : List Listed) (l : Listed) (position : ℕ) → l.position ≡ position → IsAt (ls ++ l ∷ []) (length ls) position
+at-end ls l position same = record {
+  within = let n = length-append ls (l ∷ []) in omega (arith, n);
+  there = λ m here. ap (λ (v : Listed). v.position) (sym (same_Some l m (sym (last ls) ∙ here))) ∙ same;
+}
+  where
+    last : (ks : List Listed) → slice_get (ks ++ l ∷ []) (length ks) ≡ Some l
+    last [] = refl
+    last (k ∷ ks) = last ks
+
+-- what was made of an assertion's parts is of that assertion
+pub made-of : (S : Database) (names : List Name) (a : ℕ) (s : Stmt) (c : AssertionView) (l : Listed) → IsViewOf S names a s c → AreMadeOf a c l → AreListsOf S names l s
+made-of S names a s c l is made = record {
+  asked_of = rw (made.at, made.heads_same, made.asked_same) is.required;
+  groups = c.groups;
+  are_groups = rw made.at is.groups;
+  below_names = is.groups_below;
+}
+
+pub whole-parts : (S : Database) (names : List Name) (a : ℕ) (s : Stmt) (c : AssertionView) → IsViewOf S names a s c → HasPartsOf S names a s c
+whole-parts S names a s c is = (c.groups, record { required = is.required; conclusion = is.conclusion; conclusion_below = is.conclusion_below; groups = is.groups; groups_below = is.groups_below })
+
+-- the parts that are shown of a list that is kept
+pub kept-parts : (S : Database) (names : List Name) (ls : List Listed) (i a : ℕ) (l : Listed) (c : AssertionView) → AreKept S names ls → IsAt ls i a → slice_get ls i ≡ Some l → (s : Stmt) → stmt_at S a ≡ Some s
+    → c.typecodes.now ≡ l.typecodes → c.hypotheses ≡ l.required → decode names c.conclusion.now ≡ expr_of s → AreBelow (length names) c.conclusion.now → HasPartsOf S names a s c
+kept-parts S names ls i a l c kept at here s stands typecodes required same below =
+    let there = at.there l here in
+    let are = kept-at S names ls i l kept here s (ap (stmt_at S) there ∙ stands) in (
+      are.groups,
+      record {
+        required = rw (← there, typecodes, required) are.asked_of;
+        conclusion = same;
+        conclusion_below = below;
+        groups = subst (λ b. map (decode names) are.groups ≡ mandatory_groups (before S b) s) there are.are_groups;
+        groups_below = are.below_names;
+      },
+    )

@@ -1,0 +1,6 @@
+use Rattle.std.proofs.Common.{◌≡◌, map, take}
+use Rattle.entries.specs.Hypotheses.{told}
+use Rattle.steps.proofs.long_lists.copy_hypotheses.Given as goal
+
+abbrev pub invariant-loop-index : goal.invariant-loop-index
+invariant-loop-index l = map told l.required.items ≡ take l.index l.hypotheses

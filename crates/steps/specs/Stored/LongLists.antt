@@ -1,0 +1,53 @@
+-- The mandatory hypotheses of assertions that a table lists once.
+-- Metamath, 4.2.6: a citation of an assertion needs results for its mandatory hypotheses.
+-- The code keeps no groups of variables: a table is made of a right proof, whose images were compared.
+use Rattle.std.specs.Prelude.{◌≡◌, ℕ, ◌<◌, List, [], ◌∷◌, length, map, slice_get, Some}
+use Rattle.mm_lex.specs.Alphabet.{Name}
+use Rattle.mm_read.specs.declared.stmt.Stmt.{Stmt}
+use Rattle.mm_read.specs.Statements.{Database}
+use Rattle.scope.specs.Active.{stmt_at, before}
+use Rattle.names.specs.Codes.{decode}
+use Rattle.entries.specs.declared.assertion_view.Hypothesis.{Hypothesis}
+use Rattle.entries.specs.declared.assertion_view.AssertionView.{AssertionView}
+use Rattle.frame.specs.AssertionView.{AreRequired, IsViewOf}
+use Rattle.frame.specs.Below.{AllBelow}
+use Rattle.frame.specs.FrameOf.{hypotheses, mandatory_groups}
+
+-- ---- parts whose groups may be missing
+
+abbrev pub with_groups : AssertionView → List (List ℕ) → AssertionView
+with_groups c groups = record { typecodes = c.typecodes; hypotheses = c.hypotheses; conclusion = c.conclusion; groups = groups }
+
+-- with its groups, these are the parts of the assertion s at a
+abbrev pub HasPartsOf : Database → List Name → ℕ → Stmt → AssertionView → Type 0
+HasPartsOf S names a s c = (groups : List (List ℕ)) × IsViewOf S names a s (with_groups c groups)
+
+-- ---- what is kept
+
+-- the hypotheses of the assertion at a position
+pub record Listed : Type 0 where
+  pub position : ℕ
+  pub typecodes : List ℕ
+  pub required : List Hypothesis
+
+-- they were made of these parts
+pub record AreMadeOf (position : ℕ) (c : AssertionView) (l : Listed) : Type 0 where
+  pub at : l.position ≡ position
+  pub heads_same : l.typecodes ≡ c.typecodes.now
+  pub asked_same : l.required ≡ c.hypotheses
+
+-- they are those of the assertion s at their position, which has some groups
+pub record AreListsOf (S : Database) (names : List Name) (l : Listed) (s : Stmt) : Type 0 where
+  pub asked_of : AreRequired S names (hypotheses (before S l.position) s) l.typecodes l.required
+  pub groups : List (List ℕ)
+  pub are_groups : map (decode names) groups ≡ mandatory_groups (before S l.position) s
+  pub below_names : AllBelow (length names) groups
+
+abbrev pub AreKept : Database → List Name → List Listed → Type 0
+AreKept S names [] = Unit {0}
+AreKept S names (l ∷ ls) = ((s : Stmt) → stmt_at S l.position ≡ Some s → AreListsOf S names l s) × AreKept S names ls
+
+-- the list of the assertion at a position stands at the index i
+pub record IsAt (ls : List Listed) (i position : ℕ) : Type 0 where
+  pub within : i < length ls
+  pub there : (l : Listed) → slice_get ls i ≡ Some l → l.position ≡ position

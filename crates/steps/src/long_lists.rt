@@ -1,0 +1,188 @@
+//! The mandatory hypotheses of assertions with long lists, each listed once for a table.
+ghost use Rattle.std.specs.Prelude.{◌≡◌, [], false, map, is_some, Some, IfOk, IfSome, OnOk};
+ghost use Rattle.mm_read.specs.declared.stmt.Stmt.{Stmt as Statement};
+ghost use Rattle.scope.specs.Active.{stmt_at};
+ghost use Rattle.entries.specs.Hypotheses.{told};
+ghost use Rattle.frame.specs.AssertionView.{IsViewOf};
+ghost use Rattle.frame.specs.FrameOf.{HasAssertion};
+ghost use Rattle.steps.specs.Stored.LongLists.{AreKept, AreMadeOf, HasPartsOf, IsAt};
+
+use entries::{AssertionView, Groups, Hypotheses, number_of};
+use frame::{FrameBuffers, Frames};
+use std::alloc::{AllocError, Global};
+use std::collections::BTreeMap;
+use std::marker::Model;
+
+/// The mandatory hypotheses of an assertion.
+#[derive(Drop)]
+pub struct HypothesisList {
+    /// The position of the assertion.
+    position: usize,
+    /// The typecode of each hypothesis.
+    typecodes: Vec<u32>,
+    /// Each hypothesis as one number.
+    required: Vec<u32>,
+}
+
+impl Model for HypothesisList {
+    ghost use Rattle.std.specs.Prelude.{map};
+    ghost use Rattle.entries.specs.Hypotheses.{told};
+    ghost use Rattle.steps.specs.Stored.LongLists.{Listed};
+
+    ghost Value = { Listed };
+
+    ghost view = { λ a. record { position = a.position; typecodes = a.typecodes.items; required = map told a.required.items } };
+}
+
+impl HypothesisList {
+    /// Returns the hypotheses of the assertion at a position, by its parts.
+    ///
+    /// Errors: an allocation fails.
+    fn of(
+        alloc: Global,
+        position: usize,
+        cited: &AssertionView<'_>,
+    ) -> Result<HypothesisList, AllocError>
+        ensures { IfOk result (AreMadeOf position cited.now) }
+    {
+        let mut typecodes = Vec::new(alloc);
+        typecodes.extend_from_slice(cited.typecodes)?;
+        let mut required = Vec::new(alloc);
+        copy_hypotheses(&cited.hypotheses, &mut required)?;
+        Ok(HypothesisList {
+            position,
+            typecodes,
+            required,
+        })
+    }
+
+    /// Returns the parts of the assertion, whose expression is given, without its groups.
+    fn view<'a>(&'a self, conclusion: &'a [u32]) -> AssertionView<'a>
+        ensures typecodes { result.typecodes.now ≡ self.now.typecodes }
+        ensures required { result.hypotheses ≡ self.now.required }
+        ensures conclusion { result.conclusion.now ≡ conclusion.now }
+    {
+        AssertionView {
+            typecodes: &self.typecodes,
+            hypotheses: Hypotheses::new(&self.required),
+            conclusion,
+            groups: Groups::new(&[], &[]),
+        }
+    }
+}
+
+/// Appends the hypotheses, each as one number.
+fn copy_hypotheses(hypotheses: &Hypotheses<'_>, required: &mut Vec<u32>) -> Result<(), AllocError>
+    requires { required.old.items ≡ [] }
+    ensures { OnOk result (map told required.new.items ≡ hypotheses.now) }
+{
+    for index in 0..hypotheses.len() {
+        required.push(number_of(hypotheses.get(index))?)?;
+    }
+    Ok(())
+}
+
+/// The lists that a table keeps: those of each assertion with long lists that is cited.
+///
+/// A citation takes a result for each mandatory hypothesis, and each item adds one result at most. So the lists of the assertions
+/// that a right proof cites have at most as many hypotheses as the proof has items.
+#[derive(Drop)]
+pub struct LongLists {
+    alloc: Global,
+    /// The parts of the assertion that is listed now.
+    buffers: FrameBuffers,
+    /// The index of the list of the assertion at a position. An index only says where to look.
+    indexes: BTreeMap<usize, usize>,
+    pub lists: Vec<HypothesisList>,
+}
+
+impl LongLists {
+    /// Returns a table with no lists. Does not allocate.
+    pub fn new(alloc: Global) -> LongLists
+        ensures { result.lists.items ≡ [] }
+    {
+        LongLists {
+            alloc,
+            buffers: FrameBuffers::new(alloc),
+            indexes: BTreeMap::new(alloc),
+            lists: Vec::new(alloc),
+        }
+    }
+
+    /// Returns the index of the list of the assertion at a position, if it is kept.
+    ///
+    /// Cost: log n for n lists.
+    fn find(&self, position: usize) -> Option<usize>
+        ensures { IfSome result (λ i. IsAt self.now.lists.items i position) }
+    {
+        let index = *self.indexes.get(&position)?;
+        if index < self.lists.len() && self.lists[index].position == position {
+            Some(index)
+        } else {
+            None
+        }
+    }
+
+    /// Lists the hypotheses of the assertion at a position, and returns the index of the list.
+    ///
+    /// Errors: an allocation fails. Cost: that of `Frames::fill_buffers`.
+    fn keep(&mut self, frames: &Frames, position: usize) -> Result<usize, AllocError>
+        requires assertion { (s : Statement) × HasAssertion frames.now.statements position s }
+        requires kept { AreKept frames.now.statements frames.now.names self.old.lists.items }
+        ensures kept { OnOk result (AreKept frames.now.statements frames.now.names self.new.lists.items) }
+        ensures index { IfOk result (λ i. IsAt self.new.lists.items i position) }
+    {
+        frames.fill_buffers(position, &mut self.buffers)?;
+        let cited = frames.cited_from(position, &self.buffers);
+        let list = HypothesisList::of(self.alloc, position, &cited)?;
+        let index = self.lists.len();
+        self.lists.push(list)?;
+        self.indexes.insert(position, index)?;
+        Ok(index)
+    }
+
+    /// Returns the index of the list of the assertion at a position, which is made if it is not kept yet; any index if its parts are
+    /// few.
+    ///
+    /// Errors: an allocation fails. Cost: log n for n lists, and once for each assertion that of `Frames::fill_buffers`.
+    pub fn index_of(
+        &mut self,
+        frames: &Frames,
+        position: usize,
+        are_few: bool,
+    ) -> Result<usize, AllocError>
+        requires assertion { (s : Statement) × HasAssertion frames.now.statements position s }
+        requires kept { AreKept frames.now.statements frames.now.names self.old.lists.items }
+        ensures kept { OnOk result (AreKept frames.now.statements frames.now.names self.new.lists.items) }
+        ensures index { IfOk result (λ i. are_few ≡ false → IsAt self.new.lists.items i position) }
+    {
+        if are_few {
+            return Ok(0);
+        }
+        match self.find(position) {
+            Some(index) => Ok(index),
+            None => self.keep(frames, position),
+        }
+    }
+
+    /// Returns the parts of the assertion at a position: those that are handed in if they are few, else the list at an index, without
+    /// groups.
+    pub fn parts<'a>(
+        &'a self,
+        frames: &'a Frames,
+        position: usize,
+        few: Option<AssertionView<'a>>,
+        index: usize,
+    ) -> AssertionView<'a>
+        requires assertion { (s : Statement) × HasAssertion frames.now.statements position s }
+        requires few { (s : Statement) → stmt_at frames.now.statements position ≡ Some s → IfSome few (IsViewOf frames.now.statements frames.now.names position s) }
+        requires index { is_some few ≡ false → IsAt self.now.lists.items index position }
+        requires kept { AreKept frames.now.statements frames.now.names self.now.lists.items }
+        ensures { (s : Statement) → stmt_at frames.now.statements position ≡ Some s → HasPartsOf frames.now.statements frames.now.names position s result }
+    {
+        match few {
+            Some(cited) => cited,
+            None => self.lists[index].view(frames.expr(position)),
+        }
+    }
+}
