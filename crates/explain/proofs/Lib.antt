@@ -10,6 +10,7 @@ pub mod NamedLemmas
 pub mod CitationFaultLemmas
 pub mod ViolationLemmas
 pub mod VariableLemmas
+pub mod DisjointPairLemmas
 pub mod ConcludedLemmas
 pub mod KeptRunLemmas
 pub mod RunItemLemmas

@@ -4,11 +4,13 @@
 //! fault of the run over the items that they write. It runs only after a refusal. `first_fault` has the verifier run over the
 //! items, and explains the one item that cannot be done by the results before it.
 //!
-//! Read `why`, `proof_fault`, `code`, `broken_letters`; then `reason`, `named_images`, `variable_lists`, `violation`, `named_citation`, `run`.
+//! Read `why`, `proof_fault`, `code`, `broken_letters`; then `reason`, `named_images`, `variable_lists`, `disjoint_pairs`,
+//! `violation`, `named_citation`, `run`.
 #![tactic(auto)]
 
 mod broken_letters;
 mod code;
+mod disjoint_pairs;
 mod named_citation;
 mod named_images;
 mod proof_fault;

@@ -3,13 +3,15 @@ ghost use Rattle.std.specs.Prelude.{◌≡◌, ◌<◌, ◌-◌, length, map, sl
 ghost use Rattle.std.specs.List.{list_all};
 ghost use Rattle.names.specs.Codes.{AreDistinct, name_at, decode};
 ghost use Rattle.frame.specs.Below.{AreBelow, AllBelow};
-ghost use Rattle.frame.specs.Substitution.{code_image};
+ghost use Rattle.frame.specs.Substitution.{image};
 ghost use Rattle.frame.specs.Disjoint.{are_disjoint, is_group_disjoint, are_groups_disjoint};
 ghost use Rattle.explain.specs.Stored.Vectors.{AreImages, code_images};
 ghost use Rattle.explain.specs.ReadImages.{named_images, AreVariables};
 ghost use Rattle.explain.specs.DisjointViolations.{IsViolation, IsViolationIn, IsViolationWith, is_kept, is_other_disjoint, IsUnpairedIn, AreShared};
-ghost use Rattle.explain.specs.VariableLists.{AreListsOf, AreVariablesOf};
+ghost use Rattle.explain.specs.VariableLists.{AreListsOf};
+ghost use Rattle.explain.specs.Stored.DisjointPairs.{AreDisjointPairs, IsDisjointPair};
 
+use crate::disjoint_pairs::DisjointPairs;
 use crate::named_images::Images;
 use crate::variable_lists::{list_or, variable_lists};
 use entries::Groups;
@@ -27,7 +29,8 @@ pub struct DisjointViolation {
 
 /// Returns the first violation of the images of variables that stand together in one of the lists.
 ///
-/// Errors: an allocation fails. Cost: the symbols of the images, each once; and for each list that of `violation_in`.
+/// Errors: an allocation fails. Cost: the symbols of the images, each once; for each two variables of a list a look-up; and that of
+/// `shared` once for each pair of variables, of the first 65,536 that are recorded.
 pub fn find_violation(
     alloc: Global,
     pairs: &Pairs<'_>,
@@ -46,7 +49,8 @@ pub fn find_violation(
         return Ok(None);
     }
     let lists = variable_lists(alloc, pairs, images)?;
-    Ok(violation_of(pairs, images, lists.as_slice(), groups))
+    let mut found = DisjointPairs::new(alloc);
+    Ok(violation_of(pairs, images, lists.as_slice(), groups, &mut found))
 }
 
 /// Returns the same, by the lists of the variables of the images.
@@ -55,18 +59,20 @@ fn violation_of(
     images: &Images<'_>,
     lists: &[Vec<u32>],
     groups: &Groups<'_>,
+    found: &mut DisjointPairs,
 ) -> Option<DisjointViolation>
     requires groups { AllBelow (length pairs.now.names) groups.now }
     requires lists { AreListsOf pairs.now.statements pairs.now.names images.now lists.now }
     requires variables { AreVariables (length pairs.now.names) (code_images images.now) }
     requires distinct { AreDistinct pairs.now.names }
+    requires found { AreDisjointPairs pairs.now.statements pairs.now.names (named_images pairs.now.names (code_images images.now)) found.old.pairs.items }
     ensures { MatchOption result
         (are_groups_disjoint pairs.now.statements (named_images pairs.now.names (code_images images.now)) (map (decode pairs.now.names) groups.now) ≡ true)
         (IsViolation pairs.now.statements pairs.now.names (named_images pairs.now.names (code_images images.now)) (map (decode pairs.now.names) groups.now)) }
 {
     for k in 0..groups.len() {
         if !is_repeated(groups, k) {
-            if let Some(violation) = violation_in(pairs, images, lists, groups.get(k)) {
+            if let Some(violation) = violation_in(pairs, images, lists, groups.get(k), found) {
                 return Some(violation);
             }
         }
@@ -84,25 +90,26 @@ fn is_repeated(groups: &Groups<'_>, index: usize) -> bool
 
 /// Returns the first violation of the images of variables of one list.
 ///
-/// Cost: for each two variables of the list that of their images; see `shared`.
+/// Cost: for each two variables of the list that of `shared_by`.
 fn violation_in(
     pairs: &Pairs<'_>,
     images: &Images<'_>,
     lists: &[Vec<u32>],
     group: &[u32],
+    found: &mut DisjointPairs,
 ) -> Option<DisjointViolation>
     requires group { AreBelow (length pairs.now.names) group.now }
     requires lists { AreListsOf pairs.now.statements pairs.now.names images.now lists.now }
     requires variables { AreVariables (length pairs.now.names) (code_images images.now) }
     requires distinct { AreDistinct pairs.now.names }
-    ensures { MatchOption result
+    requires found { AreDisjointPairs pairs.now.statements pairs.now.names (named_images pairs.now.names (code_images images.now)) found.old.pairs.items }
+    ensures violation { MatchOption result
         (is_group_disjoint pairs.now.statements (named_images pairs.now.names (code_images images.now)) (decode pairs.now.names group.now) ≡ true)
         (IsViolationIn pairs.now.statements pairs.now.names (named_images pairs.now.names (code_images images.now)) (decode pairs.now.names group.now)) }
+    ensures found { AreDisjointPairs pairs.now.statements pairs.now.names (named_images pairs.now.names (code_images images.now)) found.new.pairs.items }
 {
     for first in group {
-        let own = [*first];
-        let left = list_or(images, lists, *first, &own);
-        if let Some(violation) = violation_with(pairs, images, lists, *first, left, group) {
+        if let Some(violation) = violation_with(pairs, images, lists, *first, group, found) {
             return Some(violation);
         }
     }
@@ -115,28 +122,29 @@ fn violation_with(
     images: &Images<'_>,
     lists: &[Vec<u32>],
     first: u32,
-    left: &[u32],
     group: &[u32],
+    found: &mut DisjointPairs,
 ) -> Option<DisjointViolation>
     requires first { first < length pairs.now.names }
-    requires left { AreVariablesOf pairs.now.statements pairs.now.names (code_image (code_images images.now) first) left.now }
     requires group { AreBelow (length pairs.now.names) group.now }
     requires lists { AreListsOf pairs.now.statements pairs.now.names images.now lists.now }
     requires variables { AreVariables (length pairs.now.names) (code_images images.now) }
     requires distinct { AreDistinct pairs.now.names }
-    ensures { MatchOption result
+    requires found { AreDisjointPairs pairs.now.statements pairs.now.names (named_images pairs.now.names (code_images images.now)) found.old.pairs.items }
+    ensures violation { MatchOption result
         (list_all (is_other_disjoint pairs.now.statements (named_images pairs.now.names (code_images images.now)) (name_at pairs.now.names first)) (decode pairs.now.names group.now) ≡ true)
         (IsViolationWith pairs.now.statements pairs.now.names (named_images pairs.now.names (code_images images.now)) (name_at pairs.now.names first) (decode pairs.now.names group.now)) }
+    ensures found { AreDisjointPairs pairs.now.statements pairs.now.names (named_images pairs.now.names (code_images images.now)) found.new.pairs.items }
 {
+    let own = [first];
+    let left = list_or(images, lists, first, &own);
     if left.is_empty() {
         return None;
     }
     for second in group {
         let code = *second;
         if code != first {
-            let alone = [code];
-            let right = list_or(images, lists, code, &alone);
-            if let Some((one, other)) = shared(pairs, left, right) {
+            if let Some((one, other)) = shared_by(pairs, images, lists, first, code, found) {
                 return Some(DisjointViolation {
                     first,
                     second: code,
@@ -147,6 +155,46 @@ fn violation_with(
         }
     }
     None
+}
+
+/// Returns a variable of the image of one variable and one of that of another, which are the same or stand together in no active
+/// `$d`, unless the two were found disjoint; records that they are.
+///
+/// Cost: that of looking the pair up; if it is not recorded, also that of `shared`.
+fn shared_by(
+    pairs: &Pairs<'_>,
+    images: &Images<'_>,
+    lists: &[Vec<u32>],
+    first: u32,
+    second: u32,
+    found: &mut DisjointPairs,
+) -> Option<(u32, u32)>
+    requires first { first < length pairs.now.names }
+    requires second { second < length pairs.now.names }
+    requires lists { AreListsOf pairs.now.statements pairs.now.names images.now lists.now }
+    requires variables { AreVariables (length pairs.now.names) (code_images images.now) }
+    requires distinct { AreDistinct pairs.now.names }
+    requires found { AreDisjointPairs pairs.now.statements pairs.now.names (named_images pairs.now.names (code_images images.now)) found.old.pairs.items }
+    ensures shared { MatchOption result
+        (IsDisjointPair pairs.now.statements pairs.now.names (named_images pairs.now.names (code_images images.now)) first second)
+        (λ r. AreShared pairs.now.statements (name_at pairs.now.names r.0) (name_at pairs.now.names r.1)
+        (image (named_images pairs.now.names (code_images images.now)) (name_at pairs.now.names first)) (image (named_images pairs.now.names (code_images images.now)) (name_at pairs.now.names second))) }
+    ensures found { AreDisjointPairs pairs.now.statements pairs.now.names (named_images pairs.now.names (code_images images.now)) found.new.pairs.items }
+{
+    if found.has(first, second) {
+        return None;
+    }
+    let own = [first];
+    let left = list_or(images, lists, first, &own);
+    let alone = [second];
+    let right = list_or(images, lists, second, &alone);
+    match shared(pairs, left, right) {
+        Some(symbols) => Some(symbols),
+        None => {
+            found.add(first, second);
+            None
+        }
+    }
 }
 
 /// Returns a variable of the one expression and one of the other, which are the same or stand together in no active `$d`.

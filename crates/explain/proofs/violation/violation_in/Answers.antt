@@ -7,25 +7,17 @@ use Rattle.explain.specs.Stored.Vectors.{code_images}
 use Rattle.explain.specs.ReadImages.{named_images}
 use Rattle.explain.specs.DisjointViolations.{IsViolationWith, is_other_disjoint}
 use Rattle.explain.proofs.ViolationLemmas.{has_at, all_step}
-use Rattle.explain.proofs.VariableLemmas.{lists-length}
 use Rattle.explain.proofs.violation.violation_in.Goals as goal
-
-pub list_or-left-requires-clause-count : goal.list_or-left-requires-clause-count
-list_or-left-requires-clause-count c = lists-length c.args.pairs.now.statements c.args.pairs.now.names c.args.images.now c.args.lists.now c.requires.lists
 
 pub violation_with-requires-clause-first : goal.violation_with-requires-clause-first
 violation_with-requires-clause-first c = below-at (length c.args.pairs.now.names) c.args.group.now c.loop-first.first-index 0 c.requires.group c.loop-first-test.true
 
-pub violation_with-requires-clause-left : goal.violation_with-requires-clause-left
-violation_with-requires-clause-left c =
-    c.list_or-left.ensures c.args.pairs.now.statements c.args.pairs.now.names c.requires.lists (below-at (length c.args.pairs.now.names) c.args.group.now c.loop-first.first-index 0 c.requires.group c.loop-first-test.true)
-
-pub returns-in-Some : goal.returns-in-Some
-returns-in-Some c =
+pub returns-in-Some-clause-violation : goal.returns-in-Some-clause-violation
+returns-in-Some-clause-violation c =
     let S = c.args.pairs.now.statements in let names = c.args.pairs.now.names in
     let σ = named_images names (code_images c.args.images.now) in
     let group = decode names c.args.group.now in
-    let told = c.in-Some.ensures in
+    let told = c.in-Some.ensures.violation in
     record {
       first = ap (λ x. has_name x group) told.first ∙ has_at names c.args.group.now c.loop-first.first-index c.loop-first-test.true;
       second = subst (λ x. IsViolationWith S names σ x group c.in-Some.violation) (sym told.first) told;
@@ -34,5 +26,7 @@ returns-in-Some c =
 pub loop-first-preserved : goal.loop-first-preserved
 loop-first-preserved c =
     let S = c.args.pairs.now.statements in let names = c.args.pairs.now.names in let group = c.args.group.now in
-    let images = named_images names (code_images c.args.images.now) in
-    c.loop-first.invariant ∙ all_step names (λ x. list_all (is_other_disjoint S images x) (decode names group)) group c.loop-first.first-index c.loop-first-test.true c.in_default.ensures
+    let images = named_images names (code_images c.args.images.now) in (
+      c.loop-first.invariant.0 ∙ all_step names (λ x. list_all (is_other_disjoint S images x) (decode names group)) group c.loop-first.first-index c.loop-first-test.true c.in_default.ensures.violation,
+      c.violation_with.ensures.found,
+    )

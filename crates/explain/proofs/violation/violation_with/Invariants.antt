@@ -4,9 +4,11 @@ use Rattle.names.specs.Codes.{name_at, decode}
 use Rattle.explain.specs.Stored.Vectors.{code_images}
 use Rattle.explain.specs.ReadImages.{named_images}
 use Rattle.explain.specs.DisjointViolations.{is_other_disjoint}
+use Rattle.explain.specs.Stored.DisjointPairs.{AreDisjointPairs}
 use Rattle.explain.proofs.violation.violation_with.Given as goal
 
 abbrev pub invariant-loop-second : goal.invariant-loop-second
 invariant-loop-second l =
-    list_all (is_other_disjoint l.pairs.statements (named_images l.pairs.names (code_images l.images)) (name_at l.pairs.names l.first)) (decode l.pairs.names l.group)
-    ≡ list_all (is_other_disjoint l.pairs.statements (named_images l.pairs.names (code_images l.images)) (name_at l.pairs.names l.first)) (decode l.pairs.names (drop l.second-index l.group))
+    (list_all (is_other_disjoint l.pairs.statements (named_images l.pairs.names (code_images l.images)) (name_at l.pairs.names l.first)) (decode l.pairs.names l.group)
+    ≡ list_all (is_other_disjoint l.pairs.statements (named_images l.pairs.names (code_images l.images)) (name_at l.pairs.names l.first)) (decode l.pairs.names (drop l.second-index l.group)))
+    × AreDisjointPairs l.pairs.statements l.pairs.names (named_images l.pairs.names (code_images l.images)) l.found.pairs.items

@@ -1,0 +1,89 @@
+//! The pairs of variables of an assertion whose images were found disjoint.
+ghost use Rattle.std.specs.Prelude.{◌≡◌, List, [], IsTrue};
+ghost use Rattle.mm_lex.specs.Alphabet.{Name};
+ghost use Rattle.mm_read.specs.Statements.{Database};
+ghost use Rattle.frame.specs.Substitution.{Images as NamedImages};
+ghost use Rattle.explain.specs.Stored.DisjointPairs.{AreDisjointPairs, IsDisjointPair, IsPairAt};
+
+use std::alloc::Global;
+use std::collections::BTreeMap;
+
+/// The most pairs that are recorded. After them it begins anew.
+const MOST_PAIRS: usize = 65_536;
+
+/// Two variables of an assertion.
+#[derive(Clone, Copy, Drop)]
+pub struct VariablePair {
+    pub first: u32,
+    pub second: u32,
+}
+
+/// Pairs of variables whose images are disjoint, so that a pair that stands in many lists is asked for once.
+#[derive(Drop)]
+pub struct DisjointPairs {
+    /// The index of a pair. An index only says where to look.
+    indexes: BTreeMap<u64, usize>,
+    pub pairs: Vec<VariablePair>,
+}
+
+impl DisjointPairs {
+    /// Returns an empty table. Does not allocate.
+    pub fn new(alloc: Global) -> DisjointPairs
+        ensures { result.pairs.items ≡ [] }
+    {
+        DisjointPairs {
+            indexes: BTreeMap::new(alloc),
+            pairs: Vec::new(alloc),
+        }
+    }
+
+    /// Returns whether two variables are a recorded pair, whatever their order.
+    ///
+    /// Cost: log n for n pairs.
+    pub fn has(&self, first: u32, second: u32) -> bool
+        ensures { (S : Database) (names : List Name) (σ : NamedImages) → AreDisjointPairs S names σ self.now.pairs.items → IsTrue result → IsDisjointPair S names σ first second }
+    {
+        match self.indexes.get(&key(first, second)) {
+            Some(index) => is_pair_at(self.pairs.as_slice(), *index, first, second),
+            None => false,
+        }
+    }
+
+    /// Records a pair, unless an allocation fails.
+    ///
+    /// Cost: log n for n pairs.
+    pub fn add(&mut self, first: u32, second: u32)
+        ensures { (S : Database) (names : List Name) (σ : NamedImages) → AreDisjointPairs S names σ self.old.pairs.items → IsDisjointPair S names σ first second
+            → AreDisjointPairs S names σ self.new.pairs.items }
+    {
+        if self.pairs.len() >= MOST_PAIRS {
+            self.pairs.clear();
+            self.indexes.clear();
+        }
+        let index = self.pairs.len();
+        let _pushed = self.pairs.push(VariablePair { first, second });
+        let _recorded = self.indexes.insert(key(first, second), index);
+    }
+}
+
+/// Returns one number for two variables, whatever their order.
+fn key(first: u32, second: u32) -> u64 {
+    (first.min(second) as u64) << 32 | first.max(second) as u64
+}
+
+/// Returns whether the pair at an index is of these two variables, whatever their order.
+fn is_pair_at(pairs: &[VariablePair], index: usize, first: u32, second: u32) -> bool
+    ensures { IsTrue result → IsPairAt pairs.now index first second }
+{
+    match pairs.get(index) {
+        Some(pair) => is_of(*pair, first, second) || is_of(*pair, second, first),
+        None => false,
+    }
+}
+
+/// Returns whether a pair is of these two variables, in this order.
+fn is_of(pair: VariablePair, first: u32, second: u32) -> bool
+    ensures { IsTrue result → (pair.first ≡ first) × (pair.second ≡ second) }
+{
+    pair.first == first && pair.second == second
+}
