@@ -1,5 +1,6 @@
 //! Chooses the statements of an extract.
 use crate::cited::{is_marked, mark, named};
+use crate::disjoint_lists::DisjointLists;
 use library::Library;
 use mm_lex::Words;
 use mm_read::Stmt;
@@ -28,8 +29,6 @@ struct SymbolRecord {
     given_by: usize,
     /// The last assertion that is taken and has it as a variable, or whose proof has.
     variable_of: usize,
-    /// The active `$d` that have it.
-    disjoint: Vec<usize>,
 }
 
 /// The records of a walk up the statements, which are taken where they are marked.
@@ -46,8 +45,12 @@ struct Choice<'a> {
     active: Vec<usize>,
     /// How many of these were passed by an assertion that is taken.
     passed: usize,
-    /// The variables that an assertion adds to those of the `$e` that were taken before it.
+    /// The variables of an assertion that no `$e` had that was taken before it.
     own: Vec<usize>,
+    /// The active `$d`.
+    disjoint: DisjointLists,
+    /// The positions of `$d` that are to be taken.
+    due: Vec<usize>,
     blocks: Vec<Block>,
 }
 
@@ -55,8 +58,8 @@ struct Choice<'a> {
 /// these, the `$d` that have two of their variables, the declarations of the symbols of all these, and the blocks that are not
 /// empty then.
 ///
-/// Cost: the statements, each `$e` and `$d` once; for each assertion that is taken its own expression and proof, and the active
-/// `$d` that have one of its own variables: all but those of the `$e` that it shares with an assertion taken before it.
+/// Cost: the statements, each `$e` and `$d` once; for each assertion that is taken its own expression and proof, and of the active
+/// `$d` those that `DisjointLists::find` goes over; for each variable of a `$e` that is taken the active `$d` that have it.
 pub(crate) fn choose(
     alloc: Global,
     library: &Library,
@@ -71,6 +74,8 @@ pub(crate) fn choose(
         active: Vec::new(alloc),
         passed: 0,
         own: Vec::new(alloc),
+        disjoint: DisjointLists::new(alloc),
+        due: Vec::new(alloc),
         blocks: Vec::new(alloc),
     };
     for (index, statement) in library.statements().iter().enumerate() {
@@ -130,10 +135,11 @@ impl<'a> Choice<'a> {
         match statement_at(self.library.statements(), position) {
             Some(Stmt::Disj(names)) => {
                 for name in names.iter() {
-                    if let Some(record) = self.record(name) {
-                        let _position = record.disjoint.pop();
+                    if let Some(code) = self.symbols.find(name) {
+                        self.disjoint.remove(code);
                     }
                 }
+                self.disjoint.pop();
             }
             Some(Stmt::Float { variable, .. }) => {
                 if let Some(record) = self.record(variable.as_bytes()) {
@@ -142,14 +148,24 @@ impl<'a> Choice<'a> {
             }
             Some(Stmt::Ess { expr, .. }) => {
                 for name in expr.iter() {
-                    if let Some(record) = self.record(name) {
-                        if record.given_by == position {
-                            record.given_by = 0;
-                        }
-                    }
+                    self.take_back(position, name);
                 }
             }
             _ => {}
+        }
+    }
+
+    /// Takes back that the `$e` at a position has a symbol.
+    fn take_back(&mut self, position: usize, name: &[u8]) {
+        let Some(code) = self.symbols.find(name) else {
+            return;
+        };
+        let Some(record) = self.records.get_mut(code) else {
+            return;
+        };
+        if record.given_by == position {
+            record.given_by = 0;
+            self.disjoint.take_back(code);
         }
     }
 
@@ -172,13 +188,15 @@ impl<'a> Choice<'a> {
             let code = self.symbols.code(self.alloc, name)?;
             match self.records.get_mut(code) {
                 Some(record) => record.declared = at,
-                None => self.records.push(SymbolRecord {
-                    declared: at,
-                    float: 0,
-                    given_by: 0,
-                    variable_of: 0,
-                    disjoint: Vec::new(self.alloc),
-                })?,
+                None => {
+                    self.records.push(SymbolRecord {
+                        declared: at,
+                        float: 0,
+                        given_by: 0,
+                        variable_of: 0,
+                    })?;
+                    self.disjoint.add_symbol(self.alloc)?;
+                }
             }
         }
         Ok(())
@@ -187,9 +205,10 @@ impl<'a> Choice<'a> {
     /// Records a `$d`.
     fn separate(&mut self, at: usize, names: &Words) -> Result<(), AllocError> {
         self.active.push(at)?;
+        self.disjoint.push(at)?;
         for name in names.iter() {
-            if let Some(record) = self.record(name) {
-                record.disjoint.push(at)?;
+            if let Some(code) = self.symbols.find(name) {
+                self.disjoint.add(code)?;
             }
         }
         Ok(())
@@ -220,7 +239,9 @@ impl<'a> Choice<'a> {
         if let Some(proof) = proof {
             self.hypotheses_of_proof(at, proof)?;
         }
-        self.disjoint_variables(at);
+        self.disjoint
+            .find(at, &self.own, &self.marks, &mut self.due)?;
+        self.take_due();
         self.passed = self.active.len();
         self.use_block();
         Ok(())
@@ -275,7 +296,7 @@ impl<'a> Choice<'a> {
         }
         record.given_by = position;
         let float = record.float;
-        self.own.push(code)?;
+        self.disjoint.give(code, &mut self.due)?;
         self.float(float);
         Ok(())
     }
@@ -339,79 +360,24 @@ impl<'a> Choice<'a> {
         Ok(())
     }
 
-    /// Takes the active `$d` that have two variables of the assertion at a position: those that have one of its own, and those
-    /// that were not passed yet.
-    fn disjoint_variables(&mut self, at: usize) {
-        for index in 0..self.own.len() {
-            let Some(code) = self.own.get(index).copied() else {
-                return;
-            };
-            self.disjoint_of(at, code);
-        }
-        for index in self.passed..self.active.len() {
-            let Some(position) = self.active.get(index).copied() else {
-                return;
-            };
-            self.disjoint(at, position);
-        }
-    }
-
-    /// Takes those of the active `$d` of a symbol that have two variables of the assertion at a position.
-    fn disjoint_of(&mut self, at: usize, code: usize) {
-        for index in 0..self.disjoint_count(code) {
-            if let Some(position) = self.disjoint_at(code, index) {
-                self.disjoint(at, position);
+    /// Takes the `$d` that are to be taken.
+    fn take_due(&mut self) {
+        for index in 0..self.due.len() {
+            if let Some(position) = self.due.get(index).copied() {
+                self.take_disjoint(position);
             }
         }
+        self.due.clear();
     }
 
-    /// Returns how many active `$d` have a symbol.
-    fn disjoint_count(&self, code: usize) -> usize {
-        match self.records.get(code) {
-            Some(record) => record.disjoint.len(),
-            None => 0,
-        }
-    }
-
-    /// Returns the position of the active `$d` at an index of those of a symbol.
-    fn disjoint_at(&self, code: usize, index: usize) -> Option<usize> {
-        self.records.get(code)?.disjoint.get(index).copied()
-    }
-
-    /// Takes the `$d` at a position if it has two variables of the assertion at a position.
-    fn disjoint(&mut self, at: usize, position: usize) {
+    /// Takes the `$d` at a position, if it is not taken yet.
+    fn take_disjoint(&mut self, position: usize) {
         if is_marked(&self.marks, position) {
             return;
         }
         if let Some(Stmt::Disj(names)) = statement_at(self.library.statements(), position) {
-            if self.has_two(at, names) {
-                mark(&mut self.marks, Some(position));
-                self.declarations(names);
-            }
-        }
-    }
-
-    /// Returns whether two of the names are variables of the assertion at a position.
-    fn has_two(&self, at: usize, names: &Words) -> bool {
-        let mut one = false;
-        for name in names.iter() {
-            if self.is_variable(at, name) {
-                if one {
-                    return true;
-                }
-                one = true;
-            }
-        }
-        false
-    }
-
-    fn is_variable(&self, at: usize, name: &[u8]) -> bool {
-        let Some(code) = self.symbols.find(name) else {
-            return false;
-        };
-        match self.records.get(code) {
-            Some(record) => record.variable_of == at || record.given_by != 0,
-            None => false,
+            mark(&mut self.marks, Some(position));
+            self.declarations(names);
         }
     }
 
