@@ -45,3 +45,7 @@ returns-in-None-clause-shared c =
     let first = image_same names c.requires.distinct σ c.args.first c.requires.variables c.requires.first in
     let second = image_same names c.requires.distinct σ c.args.second c.requires.variables c.requires.second in
     ap (λ e. are_disjoint S e (image images (name_at names c.args.second))) (sym first) ∙ (ap (are_disjoint S (decode names (code_image σ c.args.first))) (sym second) ∙ told)
+
+pub returns-in-None-clause-found : goal.returns-in-None-clause-found
+returns-in-None-clause-found c =
+    c.add.ensures c.args.pairs.now.statements c.args.pairs.now.names (named_images c.args.pairs.now.names (code_images c.args.images.now)) c.requires.found (returns-in-None-clause-shared c)
