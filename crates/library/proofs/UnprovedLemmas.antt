@@ -1,5 +1,5 @@
 -- The positions of the `$p` after the first statements, and the consequences of their least that is not right for all statements.
-use Rattle.library.proofs.Words.{◌≡◌, ℕ, zero, suc, ◌+◌, ◌-◌, ◌<◌, ◌≤◌, List, [], ◌∷◌, ◌++◌, length, get_or, Option, Some, None, slice_get, slice_get-get_or, get_or_default, ◌∙◌, ap, sym, subst, arith, inl, inr, cases_eq, cases_order, Stmt, Database, stmt_at, IsProvable, IsRightProof, AreProofs, AreBehind, StandsProved, IsKnown, IsLeastUnproved}
+use Rattle.library.proofs.Words.{◌≡◌, ℕ, zero, suc, ◌+◌, ◌-◌, ◌<◌, ◌≤◌, List, [], ◌∷◌, ◌++◌, length, get_or, Option, Some, None, slice_get, slice_get-get_or, get_or_default, ◌∙◌, ap, sym, subst, arith, inl, inr, cases_eq, cases_order, Stmt, Database, stmt_at, IsProvable, AreProofs, AreBehind, StandsProved, IsKnown, IsLeastUnproved}
 use Rattle.library.proofs.Words.{true, AreShaped, is_shaped, and_parts, list_all, take, drop, cases_lt, take-append-drop, IsProved}
 use Rattle.library.specs.Added.{AreProvedTo}
 use Rattle.library.proofs.FrontLemmas.{stands_index}
@@ -95,19 +95,19 @@ module _ (S : Database) where
         ]),
       )
 
-  module _ (front : ℕ) (ps : List ℕ) (are : AreBehind S front (length S) ps) (answer : Option ℕ) (least : IsLeast (IsRightProof (record { statements = S; positions = ps })) (length ps) answer) where
+  module _ (front : ℕ) (ps : List ℕ) (are : AreBehind S front (length S) ps) (answer : Option ℕ) (least : IsLeast (λ k. StandsProved S (get_or ps k 0)) (length ps) answer) where
     pub none-unproved : answer ≡ None → IsLeastUnproved S front None
     none-unproved e =
-        let l = subst (IsLeast (IsRightProof (record { statements = S; positions = ps })) (length ps)) e least in
+        let l = subst (IsLeast (λ k. StandsProved S (get_or ps k 0)) (length ps)) e least in
         all-proved front (length S) ps are (λ k less. l.before k less tt)
 
     pub some-unproved : (i : ℕ) → answer ≡ Some i → IsLeastUnproved S front (Some (get_or ps i 0))
     some-unproved i e =
-        let l = subst (IsLeast (IsRightProof (record { statements = S; positions = ps })) (length ps)) e least in
+        let l = subst (IsLeast (λ k. StandsProved S (get_or ps k 0)) (length ps)) e least in
         first-bad front (length S) ps i are (λ k below. let w = l.wrong.0 in l.before k (omega (arith, below, w)) below) l.wrong.0 l.wrong.1
 
     pub some-within : (i : ℕ) → answer ≡ Some i → i < length ps
-    some-within i e = let l = subst (IsLeast (IsRightProof (record { statements = S; positions = ps })) (length ps)) e least in l.wrong.0
+    some-within i e = let l = subst (IsLeast (λ k. StandsProved S (get_or ps k 0)) (length ps)) e least in l.wrong.0
 
 -- ---- first statements that were judged before
 

@@ -3,14 +3,16 @@
 -- The code keeps their positions, in order.
 use Rattle.std.specs.Prelude.{◌≡◌, ℕ, ◌<◌, ◌≤◌, List, [], ◌∷◌, length, slice_get, get_or, Option, Some, Result, IfOk}
 use Rattle.library.specs.Words.{Stmt, Database, bares, IsProvable}
+use Rattle.mm_lex.specs.Alphabet.{Name}
 use Rattle.std.specs.Borrow.{Bor, MutBor}
 use Rattle.verify_pool.specs.Least.{IsLeast}
 use Rattle.verify_pool.specs.declared.checkers.Checkers.{Checkers}
 use Rattle.library.specs.Judging.{StandsProved}
 
--- statements, and positions of `$p` among them
+-- statements, the names that their frames number, and positions of `$p` among them
 pub record ProofsAt : Type 0 where
   pub statements : Database
+  pub names : List Name
   pub positions : List ℕ
 
 -- the `$p` of that index is proved

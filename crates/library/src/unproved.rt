@@ -12,7 +12,8 @@ use std::marker::Model;
 use verify::{Answer, Checker};
 use verify_pool::{Checkers, Work};
 
-/// The `$p` after some first statements, as work for a pool. Contracts see the statements, and the positions of these `$p`.
+/// The `$p` after some first statements, as work for a pool. Contracts see the statements, the names that their frames number,
+/// and the positions of these `$p`.
 #[derive(Drop)]
 pub(crate) struct Proofs<'a> {
     frames: &'a Frames,
@@ -25,7 +26,7 @@ impl<'a> Model for Proofs<'a> {
 
     ghost Value = { ProofsAt };
 
-    ghost view = { λ a. record { statements = a.statements.now; positions = a.positions.items } };
+    ghost view = { λ a. record { statements = a.statements.now; names = a.frames.now.names; positions = a.positions.items } };
 
     ghost invariant = { λ a. AreProofs a.statements.now a.frames.now.statements a.positions.items };
 }
@@ -33,13 +34,21 @@ impl<'a> Model for Proofs<'a> {
 impl<'a> Work for Proofs<'a> {
     ghost use Rattle.std.specs.Prelude.{length};
     ghost use Rattle.library.specs.Unproved.{IsRightProof};
+    ghost use Rattle.scope.specs.Active.{bares};
+    ghost use Rattle.verify.specs.KeptLists.{AreKeptLists};
 
     ghost count = { λ proofs. length proofs.positions };
 
     ghost right = { IsRightProof };
 
+    ghost fits = { λ proofs. AreKeptLists (bares proofs.statements) proofs.names };
+
     fn count(&self) -> usize {
         self.positions.len()
+    }
+
+    fn begin(&self, checker: &mut Checker) {
+        checker.begin();
     }
 
     fn judge(&self, index: usize, checker: &mut Checker) -> Result<Answer, AllocError> {

@@ -1,14 +1,16 @@
 -- Statements that follow one another, as jobs of a pool.
 -- Source: none; for the private functions of `stretch` and `search`.
 -- The code keeps a reference to all statements.
-use Rattle.std.specs.Prelude.{◌≡◌, ℕ, ◌+◌, ◌-◌, ◌≤◌, length, Option}
+use Rattle.std.specs.Prelude.{◌≡◌, ℕ, ◌+◌, ◌-◌, ◌≤◌, List, length, Option}
+use Rattle.mm_lex.specs.Alphabet.{Name}
 use Rattle.library.specs.Words.{Database, bares}
 use Rattle.library.specs.Judging.{StandsProved}
 use Rattle.verify_pool.specs.Least.{IsLeast}
 
--- statements, and the positions after which and up to which some of them stand
+-- statements, the names that their frames number, and the positions after which and up to which some of them stand
 pub record Within : Type 0 where
   pub statements : Database
+  pub names : List Name
   pub front : ℕ
   pub end : ℕ
 
@@ -25,4 +27,4 @@ IsRightIn stretch k = StandsProved stretch.statements (stretch.front + k + 1)
 -- the answer is the index of the first `$p` of these that is not proved
 abbrev pub IsLeastIn : Database → ℕ → ℕ → Option ℕ → Type 0
 IsLeastIn S front end answer =
-    IsLeast (IsRightIn (record { statements = S; front = front; end = end })) (end - front) answer
+    IsLeast (λ k. StandsProved S (front + k + 1)) (end - front) answer

@@ -7,7 +7,7 @@ use verify::{Answer, Checker};
 use verify_pool::Work;
 
 /// The statements after the first `front`, up to `end`, as jobs in order. Contracts see all
-/// statements and where these stand.
+/// statements, the names that their frames number, and where these stand.
 #[derive(Drop)]
 pub(crate) struct Stretch<'a> {
     pub(crate) frames: &'a Frames,
@@ -21,21 +21,29 @@ impl<'a> Model for Stretch<'a> {
 
     ghost Value = { Within };
 
-    ghost view = { λ a. record { statements = a.statements.now; front = a.front; end = a.end } };
+    ghost view = { λ a. record { statements = a.statements.now; names = a.frames.now.names; front = a.front; end = a.end } };
 
     ghost invariant = { λ a. IsStretch a.frames.now.statements a.statements.now a.front a.end };
 }
 
 impl<'a> Work for Stretch<'a> {
     ghost use Rattle.std.specs.Prelude.{◌-◌};
+    ghost use Rattle.scope.specs.Active.{bares};
     ghost use Rattle.unproved.specs.Stretches.{IsRightIn};
+    ghost use Rattle.verify.specs.KeptLists.{AreKeptLists};
 
     ghost count = { λ stretch. stretch.end - stretch.front };
 
     ghost right = { IsRightIn };
 
+    ghost fits = { λ stretch. AreKeptLists (bares stretch.statements) stretch.names };
+
     fn count(&self) -> usize {
         self.end - self.front
+    }
+
+    fn begin(&self, checker: &mut Checker) {
+        checker.begin();
     }
 
     fn judge(&self, index: usize, checker: &mut Checker) -> Result<Answer, AllocError> {

@@ -1,6 +1,6 @@
 -- The lists that a proof keeps say what the assertions' own do.
 use Rattle.verify.proofs.Words.{◌≡◌, ℕ, zero, suc, ◌+◌, ◌<◌, ◌≤◌, Bool, true, false, ◌&&◌, ◌||◌, ◌==◌, List, [], ◌∷◌, ◌++◌, length, length-append, map, take, take_all, take_more, map-append, Hypothesis, get_or, slice_get, Some, refl, sym, ap, subst, ◌∙◌, arith, and_from, list_all, list_any, same_Some, get_or_from_slice_get, slice_get_within, inl, inr}
-use Rattle.verify.proofs.Words.{Name, Stmt, Expr, Database, stmt_at, before, expr_of, name_at, decode, name_eq, name_same, mandatory_groups, hypotheses, Images, image, AllBelow, AreBelow, AreRequired, IsViewOf, are_disjoint, is_group_disjoint, are_groups_disjoint}
+use Rattle.verify.proofs.Words.{Name, Stmt, Database, stmt_at, before, expr_of, name_at, decode, name_eq, name_same, mandatory_groups, Images, image, AllBelow, AreBelow, IsViewOf, are_disjoint, is_group_disjoint, are_groups_disjoint}
 use Rattle.std.proofs.lemmas.List.Folds.{list_all-append, list_all-map, list_all_more, list_any_at}
 use Rattle.std.proofs.lemmas.Bool.{and_parts, eqb-true, or_cases}
 use Rattle.std.specs.Prelude.{slice_range}
@@ -144,6 +144,9 @@ both-at gs i x y g here a b =
     list_any_at (has_both x y) gs i [] (slice_get_within gs i g here) (ap (has_both x y) (get_or_from_slice_get gs i g [] here) ∙ and_from _ _ a b)
 
 -- ---- what is kept
+
+pub kept_none : (S : Database) (names : List Name) (ls : List Lists) → ls ≡ [] → AreKeptLists S names ls
+kept_none S names ls none = subst (AreKeptLists S names) (sym none) tt
 
 pub kept-push : (S : Database) (names : List Name) (ls : List Lists) (l : Lists) → AreKeptLists S names ls → ((s : Stmt) → stmt_at S l.position ≡ Some s → AreListsOf S names l s) → AreKeptLists S names (ls ++ l ∷ [])
 kept-push S names [] l h k = (k, tt)

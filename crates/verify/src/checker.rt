@@ -1,12 +1,13 @@
 //! The check of a whole proof.
 
-ghost use Rattle.std.specs.Prelude.{◌≡◌, ◌++◌, List, IfOk, IsTrue, option_map};
+ghost use Rattle.std.specs.Prelude.{◌≡◌, ◌++◌, false, [], List, IfOk, IsTrue, option_map};
 ghost use Rattle.frame.specs.FrameOf.{hypotheses};
 ghost use Rattle.mm_lex.specs.Alphabet.{Name};
 ghost use Rattle.mm_read.specs.declared.stmt.Stmt.{Stmt as Statement};
 ghost use Rattle.proof_code.specs.ItemNumbers.{items_of};
 ghost use Rattle.proof_code.specs.Writes.{is_compressed};
 ghost use Rattle.scope.specs.Active.{before};
+ghost use Rattle.verify.specs.KeptLists.{AreKeptLists};
 ghost use Rattle.verify.specs.LabelTable.{AreEntries, viewed};
 ghost use Rattle.verify.specs.Proves.{Proves};
 ghost use Rattle.verify.specs.Right.{IsProvable, IsRight, Says};
@@ -21,12 +22,13 @@ use frame::{FrameBuffers, Frames, MandatoryView};
 use mm_lex::Words;
 use proof_code::{CodeFault, Items, Reader, is_compressed, normal};
 use std::alloc::{AllocError, Global};
+use std::marker::Model;
 use subst::Remaining;
 
 /// A checker keeps the memory that proofs up to this size needed: 1 MB for as many symbols.
 const KEPT_SIZE: usize = 262_144;
 
-/// A verifier that keeps its buffers from proof to proof.
+/// A verifier that keeps its buffers from proof to proof. Contracts see the lists of assertions that it keeps.
 #[derive(Drop)]
 pub struct Checker {
     alloc: Global,
@@ -39,9 +41,20 @@ pub struct Checker {
     buffers: Buffers,
 }
 
+impl Model for Checker {
+    ghost use Rattle.std.specs.Prelude.{List};
+    ghost use Rattle.verify.specs.KeptLists.{Lists};
+
+    ghost Value = { List Lists };
+
+    ghost view = { λ a. a.buffers.kept.lists.items };
+}
+
 impl Checker {
     /// Returns a verifier with empty buffers. Does not allocate.
-    pub fn new(alloc: Global) -> Checker {
+    pub fn new(alloc: Global) -> Checker
+        ensures { result ≡ [] }
+    {
         Checker {
             alloc,
             largest: 0,
@@ -55,6 +68,16 @@ impl Checker {
                 results: Results::new(alloc),
             },
         }
+    }
+
+    /// Removes the lists that are kept, which are those of assertions under the frames of earlier proofs. So proofs under
+    /// any frames may follow.
+    ///
+    /// Does not allocate. Cost: the lists.
+    pub fn begin(&mut self)
+        ensures { self.new ≡ [] }
+    {
+        self.buffers.kept.begin();
     }
 
     /// Limits the buffer of results to so many symbols, at first `SYMBOLS_LIMIT`. A proof that would pass them gets
@@ -79,7 +102,9 @@ impl Checker {
     }
 
     /// Notes the weight of the last proof, and the size of the next one.
-    fn record_size(&mut self, next: usize) {
+    fn record_size(&mut self, next: usize)
+        ensures { self.new ≡ self.old }
+    {
         let weight = self.buffers.results.weight();
         self.largest = self.largest.max(weight).max(next);
     }
@@ -91,8 +116,10 @@ impl Checker {
     /// that it leaves and of those that it compares with a `$e`, that of the disjoint variable condition, and if its
     /// lists are long that of `Frames::fill_buffers`. Source: Metamath, 4.2.6 and appendix B.
     pub fn check(&mut self, frames: &Frames, at: usize, items: &Items) -> Result<Answer, AllocError>
-        requires { (s : Statement) × IsProvable frames.now.statements at s }
-        ensures { IfOk result (λ answer. Says answer (IsRight frames.now.statements at items.now)) }
+        requires provable { (s : Statement) × IsProvable frames.now.statements at s }
+        requires kept { AreKeptLists frames.now.statements frames.now.names self.old }
+        ensures kept { AreKeptLists frames.now.statements frames.now.names self.new }
+        ensures answer { IfOk result (λ answer. Says answer (IsRight frames.now.statements at items.now)) }
     {
         let parts = items.parts();
         self.record_size(parts.numbers.len());
@@ -111,16 +138,14 @@ impl Checker {
         at: usize,
         tokens: &Words,
     ) -> Result<Answer, AllocError>
-        requires { (s : Statement) × IsProvable frames.now.statements at s }
-        ensures { IfOk result (λ answer. Says answer (Proves frames.now.statements at tokens.now)) }
+        requires provable { (s : Statement) × IsProvable frames.now.statements at s }
+        requires kept { AreKeptLists frames.now.statements frames.now.names self.old }
+        ensures kept { AreKeptLists frames.now.statements frames.now.names self.new }
+        ensures answer { IfOk result (λ answer. Says answer (Proves frames.now.statements at tokens.now)) }
     {
         self.record_size(tokens.as_text().len());
         if !is_compressed(tokens) {
-            return match normal(self.alloc, tokens) {
-                Ok(items) => self.check(frames, at, &items),
-                Err(CodeFault::Memory) => Err(AllocError),
-                Err(_) => Ok(Answer::Wrong),
-            };
+            return self.prove_normal(frames, at, tokens);
         }
         if let Some(view) = frames.mandatory_view(at)? {
             return self.prove_many(frames, at, tokens, &view);
@@ -143,6 +168,28 @@ impl Checker {
         run_listed(frames, at, &self.table, numbers, &mut self.buffers)
     }
 
+    /// Returns whether the tokens write a right proof, in normal form, of the `$p` at that position.
+    ///
+    /// Errors: an allocation fails, or the results would pass the limit of `limit`.
+    fn prove_normal(
+        &mut self,
+        frames: &Frames,
+        at: usize,
+        tokens: &Words,
+    ) -> Result<Answer, AllocError>
+        requires provable { (s : Statement) × IsProvable frames.now.statements at s }
+        requires normal { is_compressed tokens.now ≡ false }
+        requires kept { AreKeptLists frames.now.statements frames.now.names self.old }
+        ensures kept { AreKeptLists frames.now.statements frames.now.names self.new }
+        ensures answer { IfOk result (λ answer. Says answer (Proves frames.now.statements at tokens.now)) }
+    {
+        match normal(self.alloc, tokens) {
+            Ok(items) => self.check(frames, at, &items),
+            Err(CodeFault::Memory) => Err(AllocError),
+            Err(_) => Ok(Answer::Wrong),
+        }
+    }
+
     /// Returns whether the tokens write a right proof, in compressed form, of the `$p` at that position, whose mandatory
     /// hypotheses are many.
     ///
@@ -159,7 +206,9 @@ impl Checker {
         requires provable { (s : Statement) × IsProvable frames.now.statements at s }
         requires compressed { IsTrue (is_compressed tokens.now) }
         requires view { (s : Statement) → IsProvable frames.now.statements at s → view.now ≡ hypotheses (before frames.now.statements at) s }
-        ensures { IfOk result (λ answer. Says answer (Proves frames.now.statements at tokens.now)) }
+        requires kept { AreKeptLists frames.now.statements frames.now.names self.old }
+        ensures kept { AreKeptLists frames.now.statements frames.now.names self.new }
+        ensures answer { IfOk result (λ answer. Says answer (Proves frames.now.statements at tokens.now)) }
     {
         let Some(heading) = self.reader.read(tokens, view.len())? else {
             return Ok(Answer::Wrong);
@@ -206,7 +255,9 @@ fn run_listed(
 ) -> Result<Answer, AllocError>
     requires provable { (s : Statement) × IsProvable frames.now.statements at s }
     requires entries { (labels : List Name) × AreEntries frames.now.statements at labels table.now }
-    ensures { (labels : List Name) → AreEntries frames.now.statements at labels table.now
+    requires kept { AreKeptLists frames.now.statements frames.now.names buffers.old.kept.lists.items }
+    ensures kept { AreKeptLists frames.now.statements frames.now.names buffers.new.kept.lists.items }
+    ensures answer { (labels : List Name) → AreEntries frames.now.statements at labels table.now
         → IfOk result (λ answer. Says answer (IsRight frames.now.statements at (items_of labels numbers.now))) }
 {
     run(frames, at, None, table, numbers, buffers)
@@ -227,7 +278,9 @@ fn run(
 ) -> Result<Answer, AllocError>
     requires provable { (s : Statement) × IsProvable frames.now.statements at s }
     requires entries { (labels : List Name) × AreEntries frames.now.statements at labels (viewed (option_map (λ v. v.now) view) ++ table.now) }
-    ensures { (labels : List Name) → AreEntries frames.now.statements at labels (viewed (option_map (λ v. v.now) view.entry) ++ table.now)
+    requires kept { AreKeptLists frames.now.statements frames.now.names buffers.old.kept.lists.items }
+    ensures kept { AreKeptLists frames.now.statements frames.now.names buffers.new.kept.lists.items }
+    ensures answer { (labels : List Name) → AreEntries frames.now.statements at labels (viewed (option_map (λ v. v.now) view.entry) ++ table.now)
         → IfOk result (λ answer. Says answer (IsRight frames.now.statements at (items_of labels numbers.now))) }
 {
     let pairs = frames.active_pairs(at);

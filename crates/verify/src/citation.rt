@@ -1,6 +1,6 @@
 //! One item of a proof.
 
-ghost use Rattle.std.specs.Prelude.{◌≡◌, ◌++◌, List, Some, IfOk, map, option_map, OnOk};
+ghost use Rattle.std.specs.Prelude.{◌≡◌, ◌++◌, List, Some, IfOk, map, option_map};
 ghost use Rattle.frame.specs.FrameOf.{HasAssertion};
 ghost use Rattle.mm_lex.specs.Alphabet.{Name};
 ghost use Rattle.mm_read.specs.declared.stmt.Stmt.{Stmt as Statement};
@@ -72,10 +72,10 @@ fn cite_parts(
     results.apply(&claim.pairs, count, conclusion)
 }
 
-/// Cites an assertion whose lists are long, and so are written out first.
+/// Cites an assertion whose lists are long, and are written out for this citation.
 #[cold]
 #[inline(never)]
-fn cite_long(claim: &Claim<'_>, position: usize, buffers: &mut Buffers) -> Result<bool, AllocError>
+fn cite_anew(claim: &Claim<'_>, position: usize, buffers: &mut Buffers) -> Result<bool, AllocError>
     requires { MayCite claim.now position buffers.old.results.about buffers.old.results.results }
     ensures goes { IfOk result (HasCited claim.now.frames.now.statements claim.now.at claim.now.frames.now.names (LabelEntry.Assertion position) buffers.old.results.results buffers.new.results.results) }
     ensures stays { IfOk result (λ ok. Stays ok buffers.old.results.results buffers.new.results.results) }
@@ -93,8 +93,8 @@ fn cite_long(claim: &Claim<'_>, position: usize, buffers: &mut Buffers) -> Resul
 
 /// Cites an assertion whose lists are long and are to be kept.
 ///
-/// Errors: an allocation fails. Cost: that of the citation; in the first one of a proof, also that of `Frames::fill_buffers` and
-/// `KeptLists::keep`.
+/// Errors: an allocation fails. Cost: that of the citation; if the lists are not kept yet, also that of `Frames::fill_buffers`
+/// and `KeptLists::keep`.
 #[cold]
 #[inline(never)]
 fn cite_kept(claim: &Claim<'_>, position: usize, buffers: &mut Buffers) -> Result<bool, AllocError>
@@ -103,7 +103,7 @@ fn cite_kept(claim: &Claim<'_>, position: usize, buffers: &mut Buffers) -> Resul
     ensures goes { IfOk result (HasCited claim.now.frames.now.statements claim.now.at claim.now.frames.now.names (LabelEntry.Assertion position) buffers.old.results.results buffers.new.results.results) }
     ensures stays { IfOk result (λ ok. Stays ok buffers.old.results.results buffers.new.results.results) }
     ensures about { buffers.new.results.about ≡ claim.now.pairs }
-    ensures kept { OnOk result (AreKeptLists claim.now.frames.now.statements claim.now.frames.now.names buffers.new.kept.lists.items) }
+    ensures kept { AreKeptLists claim.now.frames.now.statements claim.now.frames.now.names buffers.new.kept.lists.items }
 {
     let index = kept_index(
         claim,
@@ -118,9 +118,10 @@ fn cite_kept(claim: &Claim<'_>, position: usize, buffers: &mut Buffers) -> Resul
     cite_parts(claim, position, &cited, remaining, results)
 }
 
-/// Returns the index of the lists of an assertion, which are kept at its first citation here.
+/// Returns the index of the lists of an assertion, which are kept from its first citation here on.
 ///
-/// Errors: an allocation fails. Cost: that of `Frames::fill_buffers` and `KeptLists::keep`.
+/// Errors: an allocation fails. Cost: that of `KeptLists::find`; if the lists are not kept yet, of `Frames::fill_buffers` and
+/// `KeptLists::keep`.
 fn kept_index(
     claim: &Claim<'_>,
     position: usize,
@@ -129,7 +130,7 @@ fn kept_index(
 ) -> Result<usize, AllocError>
     requires assertion { (s : Statement) × HasAssertion claim.now.frames.now.statements position s }
     requires kept { AreKeptLists claim.now.frames.now.statements claim.now.frames.now.names kept.old.lists.items }
-    ensures kept { OnOk result (AreKeptLists claim.now.frames.now.statements claim.now.frames.now.names kept.new.lists.items) }
+    ensures kept { AreKeptLists claim.now.frames.now.statements claim.now.frames.now.names kept.new.lists.items }
     ensures index { IfOk result (λ i. IsAt kept.new.lists.items i position) }
 {
     if let Some(index) = kept.find(position) {
@@ -140,6 +141,26 @@ fn kept_index(
     kept.keep(position, &cited)
 }
 
+/// Cites an assertion whose lists are long. They are kept once it was cited a few times.
+///
+/// Errors: an allocation fails. Cost: that of `cite_anew`, or of `cite_kept`.
+#[cold]
+#[inline(never)]
+fn cite_long(claim: &Claim<'_>, position: usize, buffers: &mut Buffers) -> Result<bool, AllocError>
+    requires may { MayCite claim.now position buffers.old.results.about buffers.old.results.results }
+    requires kept { AreKeptLists claim.now.frames.now.statements claim.now.frames.now.names buffers.old.kept.lists.items }
+    ensures goes { IfOk result (HasCited claim.now.frames.now.statements claim.now.at claim.now.frames.now.names (LabelEntry.Assertion position) buffers.old.results.results buffers.new.results.results) }
+    ensures stays { IfOk result (λ ok. Stays ok buffers.old.results.results buffers.new.results.results) }
+    ensures about { buffers.new.results.about ≡ claim.now.pairs }
+    ensures kept { AreKeptLists claim.now.frames.now.statements claim.now.frames.now.names buffers.new.kept.lists.items }
+{
+    if buffers.kept.is_due(position) {
+        cite_kept(claim, position, buffers)
+    } else {
+        cite_anew(claim, position, buffers)
+    }
+}
+
 /// Takes the results for the hypotheses of an assertion, and adds the result that it gives.
 #[inline(never)]
 fn cite(claim: &Claim<'_>, position: usize, buffers: &mut Buffers) -> Result<bool, AllocError>
@@ -148,14 +169,10 @@ fn cite(claim: &Claim<'_>, position: usize, buffers: &mut Buffers) -> Result<boo
     ensures goes { IfOk result (HasCited claim.now.frames.now.statements claim.now.at claim.now.frames.now.names (LabelEntry.Assertion position) buffers.old.results.results buffers.new.results.results) }
     ensures stays { IfOk result (λ ok. Stays ok buffers.old.results.results buffers.new.results.results) }
     ensures about { buffers.new.results.about ≡ claim.now.pairs }
-    ensures kept { OnOk result (AreKeptLists claim.now.frames.now.statements claim.now.frames.now.names buffers.new.kept.lists.items) }
+    ensures kept { AreKeptLists claim.now.frames.now.statements claim.now.frames.now.names buffers.new.kept.lists.items }
 {
     let Some(cited) = claim.frames.cited(position) else {
-        return if buffers.kept.is_due() {
-            cite_kept(claim, position, buffers)
-        } else {
-            cite_long(claim, position, buffers)
-        };
+        return cite_long(claim, position, buffers);
     };
     let remaining = &mut buffers.remaining;
     let results = &mut buffers.results;
@@ -176,7 +193,7 @@ fn cite_entry(
     ensures about { buffers.new.results.about ≡ claim.now.pairs }
     ensures goes { IfOk result (HasCited claim.now.frames.now.statements claim.now.at claim.now.frames.now.names entry buffers.old.results.results buffers.new.results.results) }
     ensures stays { IfOk result (λ ok. Stays ok buffers.old.results.results buffers.new.results.results) }
-    ensures kept { OnOk result (AreKeptLists claim.now.frames.now.statements claim.now.frames.now.names buffers.new.kept.lists.items) }
+    ensures kept { AreKeptLists claim.now.frames.now.statements claim.now.frames.now.names buffers.new.kept.lists.items }
 {
     match entry {
         LabelEntry::Hypothesis(i) => buffers.results.add(&claim.pairs, claim.frames.expr(i)),
@@ -203,7 +220,7 @@ pub fn step(
     ensures goes { (labels : List Name) → AreEntries claim.now.frames.now.statements claim.now.at labels table.now
         → IfOk result (λ ok. StepsWithTable ok claim.now.frames.now.statements claim.now.at claim.now.frames.now.names table.now (item_of labels number) buffers.old.results.results buffers.new.results.results) }
     ensures stays { IfOk result (λ ok. Stays ok buffers.old.results.results buffers.new.results.results) }
-    ensures kept { OnOk result (AreKeptLists claim.now.frames.now.statements claim.now.frames.now.names buffers.new.kept.lists.items) }
+    ensures kept { AreKeptLists claim.now.frames.now.statements claim.now.frames.now.names buffers.new.kept.lists.items }
 {
     if number == 0 {
         return buffers.results.mark();
@@ -239,7 +256,7 @@ pub fn step_at(
     ensures goes { (labels : List Name) → AreEntries claim.now.frames.now.statements claim.now.at labels (viewed (option_map (λ v. v.now) view.entry) ++ table.now)
         → IfOk result (λ ok. StepsWithTable ok claim.now.frames.now.statements claim.now.at claim.now.frames.now.names table.now (item_of labels number) buffers.old.results.results buffers.new.results.results) }
     ensures stays { IfOk result (λ ok. Stays ok buffers.old.results.results buffers.new.results.results) }
-    ensures kept { OnOk result (AreKeptLists claim.now.frames.now.statements claim.now.frames.now.names buffers.new.kept.lists.items) }
+    ensures kept { AreKeptLists claim.now.frames.now.statements claim.now.frames.now.names buffers.new.kept.lists.items }
 {
     match view {
         Some(view) => step_many(claim, view, table, number, buffers),
@@ -267,7 +284,7 @@ fn step_many(
     ensures goes { (labels : List Name) → AreEntries claim.now.frames.now.statements claim.now.at labels (map Hypothesis view.now ++ table.now)
         → IfOk result (λ ok. StepsWithTable ok claim.now.frames.now.statements claim.now.at claim.now.frames.now.names table.now (item_of labels number) buffers.old.results.results buffers.new.results.results) }
     ensures stays { IfOk result (λ ok. Stays ok buffers.old.results.results buffers.new.results.results) }
-    ensures kept { OnOk result (AreKeptLists claim.now.frames.now.statements claim.now.frames.now.names buffers.new.kept.lists.items) }
+    ensures kept { AreKeptLists claim.now.frames.now.statements claim.now.frames.now.names buffers.new.kept.lists.items }
 {
     let many = view.len();
     let number = number as usize;

@@ -1,4 +1,4 @@
-//! The lists of assertions that a proof cites again and again, if these are long.
+//! The lists of assertions that the proofs of a text cite again and again, if these are long.
 
 ghost use Rattle.std.specs.Prelude.{◌≡◌, ◌<◌, ◌==◌, ◌++◌, ◌∷◌, [], ℕ, List, length, map, true, get_or, slice_get, Some, IfOk, IfSome, OnOk};
 ghost use Rattle.std.specs.List.{list_all, list_any};
@@ -18,11 +18,14 @@ use std::alloc::{AllocError, Global};
 use std::collections::BTreeMap;
 use std::marker::Model;
 
-/// In so many citations of a proof long lists are made anew. After them they are kept.
-const FEW: usize = 16;
+/// In so many citations of an assertion its long lists are made anew. After them they are kept.
+const FEW: usize = 4;
 
 /// The most numbers that are kept.
 const MOST_NUMBERS: usize = 1_048_576;
+
+/// The numbers that an assertion whose citations are counted takes.
+const COUNT_SIZE: usize = 8;
 
 /// The lists by which an assertion is cited: its mandatory hypotheses, and lists of variables whose images must be disjoint.
 /// These have each mandatory pair, and no list that has only pairs of the others, where pairs are noted (`PairPlaces`).
@@ -209,12 +212,12 @@ fn stands_at(group: &[u32], index: u32, x: u32) -> bool
     }
 }
 
-/// The lists that one proof keeps.
+/// The lists that are kept while proofs under the same frames are judged.
 #[derive(Drop)]
 pub struct KeptLists {
     alloc: Global,
-    /// How many assertions with long lists were cited.
-    cited: usize,
+    /// How often the assertion at a position was cited before its lists are kept.
+    counts: BTreeMap<usize, usize>,
     /// How many numbers are kept.
     size: usize,
     /// The index of the lists of the assertion at a position. An index only says where to look.
@@ -230,7 +233,7 @@ impl KeptLists {
     {
         KeptLists {
             alloc,
-            cited: 0,
+            counts: BTreeMap::new(alloc),
             size: 0,
             indexes: BTreeMap::new(alloc),
             pairs: PairPlaces::new(alloc),
@@ -238,34 +241,40 @@ impl KeptLists {
         }
     }
 
-    /// Begins a proof, with no lists.
+    /// Removes all lists, and counts citations anew.
     ///
-    /// Cost: the lists that the last one kept.
+    /// Cost: the lists that were kept, and the assertions whose citations were counted.
     pub fn begin(&mut self)
         ensures { self.new.lists.items ≡ [] }
     {
-        self.cited = 0;
-        self.empty();
-    }
-
-    /// Removes all lists.
-    fn empty(&mut self)
-        ensures { self.new.lists.items ≡ [] }
-    {
         self.size = 0;
+        self.counts.clear();
         self.indexes.clear();
         self.lists.clear();
     }
 
-    /// Counts one more citation of an assertion with long lists, and returns whether these are to be kept.
-    pub fn is_due(&mut self) -> bool
-        ensures { self.new.lists ≡ self.old.lists }
-    {
-        if self.cited < FEW {
-            self.cited += 1;
-            return false;
+    /// Returns how often the assertion at a position was cited before its lists are kept.
+    fn count(&self, position: usize) -> usize {
+        match self.counts.get(&position) {
+            Some(count) => *count,
+            None => 0,
         }
-        true
+    }
+
+    /// Counts one more citation of the assertion at a position, whose lists are long, and returns whether these are to be kept.
+    ///
+    /// Cost: log n for n assertions whose citations are counted.
+    pub fn is_due(&mut self, position: usize) -> bool
+        ensures { (S : Database) (names : List Name) → AreKeptLists S names self.old.lists.items → AreKeptLists S names self.new.lists.items }
+    {
+        let count = self.count(position);
+        if count >= FEW {
+            return true;
+        }
+        let size = if count == 0 { COUNT_SIZE } else { 0 };
+        self.make_room(size);
+        let _recorded = self.counts.insert(position, count + 1);
+        false
     }
 
     /// Returns the index of the lists of the assertion at a position, if they are kept.
@@ -294,8 +303,8 @@ impl KeptLists {
     ///
     /// Errors: an allocation fails. Cost: that of `AssertionLists::of`.
     pub fn keep(&mut self, position: usize, cited: &AssertionView<'_>) -> Result<usize, AllocError>
-        ensures kept { OnOk result ((S : Database) (names : List Name) → AreKeptLists S names self.old.lists.items
-            → ((lists : Lists) → AreMadeOf position cited.now lists → (s : Statement) → stmt_at S position ≡ Some s → AreListsOf S names lists s) → AreKeptLists S names self.new.lists.items) }
+        ensures kept { (S : Database) (names : List Name) → AreKeptLists S names self.old.lists.items
+            → ((lists : Lists) → AreMadeOf position cited.now lists → (s : Statement) → stmt_at S position ≡ Some s → AreListsOf S names lists s) → AreKeptLists S names self.new.lists.items }
         ensures index { IfOk result (λ i. IsAt self.new.lists.items i position) }
     {
         let lists = AssertionLists::of(self.alloc, position, cited, &mut self.pairs)?;
@@ -311,7 +320,7 @@ impl KeptLists {
         ensures { (S : Database) (names : List Name) → AreKeptLists S names self.old.lists.items → AreKeptLists S names self.new.lists.items }
     {
         if self.size.saturating_add(size) > MOST_NUMBERS {
-            self.empty();
+            self.begin();
         }
         self.size = self.size.saturating_add(size);
     }

@@ -3,6 +3,7 @@
 -- project's.
 -- The code deals the jobs out to workers; here they are one list, judged in order.
 use Rattle.std.specs.Prelude.{◌≡◌, ℕ, List, slice_get, Option, Some, IfSome, MatchOption}
+use Rattle.mm_lex.specs.Alphabet.{Name}
 use Rattle.mm_read.specs.declared.stmt.Stmt.{Stmt}
 use Rattle.mm_read.specs.Statements.{Database}
 use Rattle.verify.specs.Right.{IsProvable, IsRight}
@@ -13,9 +14,10 @@ use Rattle.verify_pool.specs.Least.{IsBefore}
 abbrev pub IsJob : Database → Job → Type 0
 IsJob S job = (s : Stmt) × IsProvable S job.at s
 
--- jobs, with the statements that they are checked against
+-- jobs, with the statements that they are checked against, and the names that these number
 pub record Checked : Type 0 where
   pub statements : Database
+  pub names : List Name
   pub jobs : List Job
 
 abbrev pub AreJobs : Database → List Job → Type 0

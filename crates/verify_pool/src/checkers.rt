@@ -20,7 +20,7 @@ pub struct Worker {
 /// The checker of the calling thread, and one for each worker: made when it is first needed, and kept from then on with its
 /// buffers. The one of the calling thread alone takes the heaviest proofs, so their room is needed once.
 ///
-/// A checker judges rightly whatever it judged before, so contracts see nothing of it.
+/// `Work::begin` prepares each of them whatever it judged before, so contracts say nothing of them.
 #[derive(Drop)]
 pub struct Checkers {
     alloc: Global,

@@ -1,6 +1,7 @@
 //! Proofs whose items were made before.
 
 ghost use Rattle.std.specs.Prelude.{◌≡◌, IfOk};
+ghost use Rattle.verify.specs.KeptLists.{AreKeptLists};
 ghost use Rattle.verify.specs.Right.{Says};
 ghost use Rattle.verify_pool.specs.Jobs.{AreJobs, IsJob, IsRightAt, IsRightJob, LeastBad};
 
@@ -59,21 +60,28 @@ impl<'a> Model for Jobs<'a> {
 
     ghost Value = { Checked };
 
-    ghost view = { λ a. record { statements = a.frames.now.statements; jobs = a.jobs.now } };
+    ghost view = { λ a. record { statements = a.frames.now.statements; names = a.frames.now.names; jobs = a.jobs.now } };
 
     ghost invariant = { λ a. AreJobs a.frames.now.statements a.jobs.now };
 }
 
 impl<'a> Work for Jobs<'a> {
     ghost use Rattle.std.specs.Prelude.{length};
+    ghost use Rattle.verify.specs.KeptLists.{AreKeptLists};
     ghost use Rattle.verify_pool.specs.Jobs.{IsRightAt};
 
     ghost count = { λ work. length work.jobs };
 
     ghost right = { λ work. IsRightAt work.statements work.jobs };
 
+    ghost fits = { λ work. AreKeptLists work.statements work.names };
+
     fn count(&self) -> usize {
         self.jobs.len()
+    }
+
+    fn begin(&self, checker: &mut Checker) {
+        checker.begin();
     }
 
     fn judge(&self, index: usize, checker: &mut Checker) -> Result<Answer, AllocError> {
@@ -83,8 +91,10 @@ impl<'a> Work for Jobs<'a> {
 
 /// Tells whether the job is right.
 fn check_job(frames: &Frames, job: &Job, checker: &mut Checker) -> Result<Answer, AllocError>
-    requires { IsJob frames.now.statements job.now }
-    ensures { IfOk result (λ answer. Says answer (IsRightJob frames.now.statements job.now)) }
+    requires job { IsJob frames.now.statements job.now }
+    requires kept { AreKeptLists frames.now.statements frames.now.names checker.old }
+    ensures kept { AreKeptLists frames.now.statements frames.now.names checker.new }
+    ensures answer { IfOk result (λ answer. Says answer (IsRightJob frames.now.statements job.now)) }
 {
     match &job.code {
         Some(items) => checker.check(frames, job.at, items),

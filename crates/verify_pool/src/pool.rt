@@ -126,6 +126,7 @@ fn judge_alone<W: Work, G: Gate>(
 ) -> Result<Option<usize>, AllocError>
     ensures { IfOk result (IsLeast (W.right work.now) (W.count work.now)) }
 {
+    work.begin(checker);
     for index in 0..work.count() {
         gate.pass(Place::Job(index));
         if work.judge(index, checker)? == Answer::Wrong {
@@ -160,6 +161,7 @@ fn judge_stripe<W: Work, G: Gate>(
     ensures { IfOk worker.new.least (λ least. IsFoundInStripe (W.right work.now) (W.count work.now) first step least worker.new.deferred.items) }
 {
     worker.deferred.clear();
+    work.begin(&mut worker.checker);
     worker.least = least_in_stripe(work, first, step, worker, gate);
 }
 
@@ -176,6 +178,7 @@ fn least_in_stripe<W: Work, G: Gate>(
     requires step { (1 ≤ step) × (step ≤ 16) }
     requires first { first < step }
     requires none { worker.old.deferred.items ≡ [] }
+    requires kept { W.fits work.now worker.old.checker }
     ensures { IfOk result (λ least. IsFoundInStripe (W.right work.now) (W.count work.now) first step least worker.new.deferred.items) }
 {
     let count = work.count();
@@ -199,7 +202,9 @@ fn is_wrong<W: Work>(
     checker: &mut Checker,
     deferred: &mut Vec<usize>,
 ) -> Result<bool, AllocError>
-    requires { index < W.count work.now }
+    requires index { index < W.count work.now }
+    requires checker { W.fits work.now checker.old }
+    ensures checker { W.fits work.now checker.new }
     ensures wrong { IfOk result (λ wrong. wrong ≡ true → ¬ W.right work.now index) }
     ensures right { IfOk result (λ wrong. wrong ≡ false → W.right work.now index ⊎ IsIn index deferred.new.items) }
     ensures kept { (k : ℕ) → IsIn k deferred.old.items → IsIn k deferred.new.items }
@@ -228,6 +233,7 @@ fn settle<W: Work>(
         → IfOk result (λ least. IsLeastInStripe (W.right work.now) (W.count work.now) first step least) }
 {
     let mut least = least;
+    work.begin(checker);
     for index in deferred {
         least = settle_one(work, *index, least, checker)?;
     }
@@ -243,8 +249,10 @@ fn settle_one<W: Work>(
     least: Option<usize>,
     checker: &mut Checker,
 ) -> Result<Option<usize>, AllocError>
-    requires { index < W.count work.now }
-    ensures { IfOk result (IsSettled (W.right work.now) index least) }
+    requires index { index < W.count work.now }
+    requires kept { W.fits work.now checker.old }
+    ensures kept { W.fits work.now checker.new }
+    ensures settled { IfOk result (IsSettled (W.right work.now) index least) }
 {
     if is_before(index, least) && work.judge(index, checker)? == Answer::Wrong {
         return Ok(Some(index));

@@ -1,6 +1,7 @@
 //! Jobs that workers share.
 
-ghost use Rattle.std.specs.Prelude.{◌≡◌, ◌<◌, ◌^◌, ℕ, IfOk};
+ghost use Rattle.std.specs.Prelude.{◌≡◌, ◌<◌, ◌^◌, ℕ, List, IfOk};
+ghost use Rattle.verify.specs.KeptLists.{Lists};
 ghost use Rattle.verify.specs.Right.{Says};
 
 use std::alloc::AllocError;
@@ -14,15 +15,24 @@ pub trait Work {
     /// The job of this index is right.
     ghost right: { Self → ℕ → Type 0 };
 
+    /// The lists that a checker keeps are right for these jobs.
+    ghost fits: { Self → List Lists → Type 0 };
+
     /// Returns the number of jobs.
     fn count(&self) -> usize
         ensures count { result ≡ count self.now }
         ensures few { result < 2 ^ 63 };
 
+    /// Prepares a checker that may have judged other jobs for these.
+    fn begin(&self, checker: &mut Checker)
+        ensures { fits self.now checker.new };
+
     /// Tells whether the job of that index, from 0, is right.
     ///
     /// Errors: an allocation fails.
     fn judge(&self, index: usize, checker: &mut Checker) -> Result<Answer, AllocError>
-        requires { index < count self.now }
-        ensures { IfOk result (λ answer. Says answer (right self.now index)) };
+        requires index { index < count self.now }
+        requires kept { fits self.now checker.old }
+        ensures kept { fits self.now checker.new }
+        ensures answer { IfOk result (λ answer. Says answer (right self.now index)) };
 }

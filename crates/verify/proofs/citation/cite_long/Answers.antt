@@ -1,5 +1,4 @@
-use Rattle.verify.proofs.KeptListsLemmas.{cited-plain}
 use Rattle.verify.proofs.citation.cite_long.Goals as goal
 
-pub cite_parts-requires-clause-cited : goal.cite_parts-requires-clause-cited
-cite_parts-requires-clause-cited c = λ s is. cited-plain _ _ _ s _ (c.cited_from-cited.ensures s is)
+pub returns-else-is_due-clause-kept : goal.returns-else-is_due-clause-kept
+returns-else-is_due-clause-kept c = rw c.cite_anew.ensures.kept (c.is_due.ensures _ _ c.requires.kept)

@@ -13,7 +13,7 @@ returns-then-done-parts-clause-right c =
     let S = c.args.frames.now.statements in let names = c.args.frames.now.names in let at = c.args.at in let items = c.args.items.now in
     let labels = c.parts-parts.result.labels.now in let numbers = c.parts-parts.result.numbers.now in let st = c.run_items.new.buffers.results.results in
     let n = length c.fill_table.new.table.items in let done = c.in_ok-done.done in let count = count-items labels numbers items c.parts-parts.ensures in
-    let stops : StopsAt S at names items done (behind n st) = stopped S names at labels numbers items c.fill_table.new.table.items c.deref.result.now n done st c.parts-parts.ensures c.deref.ensures.value refl c.in_ok-fill_table.ensures.entries c.in_ok-done.ensures in
+    let stops : StopsAt S at names items done (behind n st) = stopped S names at labels numbers items c.fill_table.new.table.items c.deref.result.now n done st c.parts-parts.ensures c.deref.ensures.value refl c.in_ok-fill_table.ensures.entries c.in_ok-done.ensures.stops in
     stops-wrong S names at c.active_pairs-pairs.ensures.legal items done (behind n st) c.requires.0 c.requires.1.stands stops (let less = c.if-done-parts.true in omega (arith, less, count))
 
 pub returns-then-done-parts-clause-first : goal.returns-then-done-parts-clause-first
@@ -21,7 +21,7 @@ returns-then-done-parts-clause-first c =
     let S = c.args.frames.now.statements in let names = c.args.frames.now.names in let at = c.args.at in let items = c.args.items.now in
     let labels = c.parts-parts.result.labels.now in let numbers = c.parts-parts.result.numbers.now in let st = c.run_items.new.buffers.results.results in
     let n = c.len.result in let done = c.in_ok-done.done in let count = count-items labels numbers items c.parts-parts.ensures in
-    let stops : StopsAt S at names items done (behind n st) = stopped S names at labels numbers items c.fill_table.new.table.items c.deref.result.now n done st c.parts-parts.ensures c.deref.ensures.value (let a = c.len.ensures in let b = c.deref.ensures.len in let d = ap length c.deref.ensures.value in omega (arith, a, b, d)) c.in_ok-fill_table.ensures.entries c.in_ok-done.ensures in
+    let stops : StopsAt S at names items done (behind n st) = stopped S names at labels numbers items c.fill_table.new.table.items c.deref.result.now n done st c.parts-parts.ensures c.deref.ensures.value (let a = c.len.ensures in let b = c.deref.ensures.len in let d = ap length c.deref.ensures.value in omega (arith, a, b, d)) c.in_ok-fill_table.ensures.entries c.in_ok-done.ensures.stops in
     (let less = c.if-done-parts.true in omega (arith, less, count), record { stops = stops; light = c.is_only-is_only.ensures.light })
 
 pub returns-then-is_only-clause-right : goal.returns-then-is_only-clause-right
@@ -29,7 +29,7 @@ returns-then-is_only-clause-right c =
     let S = c.args.frames.now.statements in let names = c.args.frames.now.names in let at = c.args.at in let items = c.args.items.now in
     let labels = c.parts-parts.result.labels.now in let numbers = c.parts-parts.result.numbers.now in let st = c.run_items.new.buffers.results.results in
     let n = length c.fill_table.new.table.items in let done = c.in_ok-done.done in let count = count-items labels numbers items c.parts-parts.ensures in
-    let stops : StopsAt S at names items done (behind n st) = stopped S names at labels numbers items c.fill_table.new.table.items c.deref.result.now n done st c.parts-parts.ensures c.deref.ensures.value refl c.in_ok-fill_table.ensures.entries c.in_ok-done.ensures in
+    let stops : StopsAt S at names items done (behind n st) = stopped S names at labels numbers items c.fill_table.new.table.items c.deref.result.now n done st c.parts-parts.ensures c.deref.ensures.value refl c.in_ok-fill_table.ensures.entries c.in_ok-done.ensures.stops in
     stops-right S names at c.active_pairs-pairs.ensures.legal items done (behind n st) c.requires.0 c.requires.1.stands stops c.expr.result.now (let all = c.if-done-parts.false in omega (arith, all, count))
     (c.expr.ensures.same c.requires.0 c.requires.1.stands) (c.is_only-is_only.ensures.only.0 c.if-is_only.true) c.is_only-is_only.ensures.light
 
@@ -38,7 +38,7 @@ returns-clause-right c =
     let S = c.args.frames.now.statements in let names = c.args.frames.now.names in let at = c.args.at in let items = c.args.items.now in
     let labels = c.parts-parts.result.labels.now in let numbers = c.parts-parts.result.numbers.now in let st = c.run_items.new.buffers.results.results in
     let n = length c.fill_table.new.table.items in let done = c.in_ok-done.done in let count = count-items labels numbers items c.parts-parts.ensures in
-    let stops : StopsAt S at names items done (behind n st) = stopped S names at labels numbers items c.fill_table.new.table.items c.deref.result.now n done st c.parts-parts.ensures c.deref.ensures.value refl c.in_ok-fill_table.ensures.entries c.in_ok-done.ensures in
+    let stops : StopsAt S at names items done (behind n st) = stopped S names at labels numbers items c.fill_table.new.table.items c.deref.result.now n done st c.parts-parts.ensures c.deref.ensures.value refl c.in_ok-fill_table.ensures.entries c.in_ok-done.ensures.stops in
     stops-other S names at c.active_pairs-pairs.ensures.legal items done (behind n st) c.requires.0 c.requires.1.stands stops c.expr.result.now (let all = c.if-done-parts.false in omega (arith, all, count))
     (c.expr.ensures.same c.requires.0 c.requires.1.stands) c.expr.ensures.codes (λ one. let e = c.is_only-is_only.ensures.only.1 one in let f = c.if-is_only.false in cc)
 
@@ -47,7 +47,7 @@ returns-clause-first c =
     let S = c.args.frames.now.statements in let names = c.args.frames.now.names in let at = c.args.at in let items = c.args.items.now in
     let labels = c.parts-parts.result.labels.now in let numbers = c.parts-parts.result.numbers.now in let st = c.run_items.new.buffers.results.results in
     let n = length c.fill_table.new.table.items in let done = c.in_ok-done.done in let count = count-items labels numbers items c.parts-parts.ensures in
-    let stops : StopsAt S at names items done (behind n st) = stopped S names at labels numbers items c.fill_table.new.table.items c.deref.result.now n done st c.parts-parts.ensures c.deref.ensures.value refl c.in_ok-fill_table.ensures.entries c.in_ok-done.ensures in
+    let stops : StopsAt S at names items done (behind n st) = stopped S names at labels numbers items c.fill_table.new.table.items c.deref.result.now n done st c.parts-parts.ensures c.deref.ensures.value refl c.in_ok-fill_table.ensures.entries c.in_ok-done.ensures.stops in
     let whole : done ≡ length items = (let all = c.if-done-parts.false in let within = stops.within in omega (arith, all, within, count)) in (
       n,
       record { stops = subst (λ k. StopsAt S at names items k (behind n st)) whole stops; light = c.is_only-is_only.ensures.light },

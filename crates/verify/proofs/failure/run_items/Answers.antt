@@ -1,7 +1,6 @@
 use Rattle.verify.proofs.Words.{◌≡◌, Bool, true, false, Result, Ok, IfOk, get_or, length, map, take, arith, sym, subst, refl, IfOk-at_ok, item_of, behind, StepsWithTable, Stays, ap}
 use Rattle.verify.proofs.StepLemmas.{start-known, start-behind, Reached, reached-start, reached-step, items-more}
 use Rattle.verify.proofs.StopLemmas.{stops-at, stops-end}
-use Rattle.verify.specs.KeptLists.{AreKeptLists}
 use Rattle.verify.proofs.failure.run_items.Goals as goal
 
 pub loop-done-init : goal.loop-done-init
@@ -10,7 +9,7 @@ loop-done-init c = (
   start-known c.args.claim.now.frames.now.statements c.args.claim.now.frames.now.names c.args.claim.now.at c.args.table.now c.start.new.self.results c.in_ok-start.ensures.results,
   λ labels are. reached-start c.args.claim.now.frames.now.statements c.args.claim.now.frames.now.names c.args.claim.now.at c.requires.ready.legal (behind (length c.args.table.now) c.start.new.self.results) (start-behind (length c.args.table.now) c.start.new.self.results c.in_ok-start.ensures.results),
   c.start.ensures.about,
-  subst (AreKeptLists c.args.claim.now.frames.now.statements c.args.claim.now.frames.now.names) (sym c.begin.ensures) tt,
+  c.requires.kept,
 )
 
 -- what the step did
@@ -32,11 +31,11 @@ loop-done-preserved c = (
       (λ v. StepsWithTable v c.args.claim.now.frames.now.statements c.args.claim.now.at c.args.claim.now.frames.now.names c.args.table.now (item_of labels (get_or c.args.numbers.now c.loop-done.done 0)) c.loop-done.buffers.results.results c.step_at.new.buffers.results.results)
       (c.step_at.ensures.goes labels are) c.in_ok-step_at.was c.if-not-branch.false).0),
   c.step_at.ensures.about,
-  c.in_ok-step_at.ensures.kept,
+  c.step_at.ensures.kept,
 )
 
-pub returns-then-not-branch : goal.returns-then-not-branch
-returns-then-not-branch c = λ labels are.
+pub returns-then-not-branch-clause-stops : goal.returns-then-not-branch-clause-stops
+returns-then-not-branch-clause-stops c = λ labels are.
     let S = c.args.claim.now.frames.now.statements in let names = c.args.claim.now.frames.now.names in let at = c.args.claim.now.at in let table = c.args.table.now in
     stops-at S names at c.loop-done.invariant.0 labels c.args.numbers.now c.loop-done.done
     (behind (length table) c.loop-done.buffers.results.results) (behind (length table) c.step_at.new.buffers.results.results) (behind (length table) c.step_at.new.buffers.results.results)
@@ -45,7 +44,7 @@ returns-then-not-branch c = λ labels are.
     (c.step_at.ensures.goes labels are) c.in_ok-step_at.was c.if-not-branch.true).0
     (ap (behind (length table)) (went c.step_at.result c.in_ok-step_at.field-0 false (λ v. Stays v c.loop-done.buffers.results.results c.step_at.new.buffers.results.results) c.step_at.ensures.stays c.in_ok-step_at.was c.if-not-branch.true))
 
-pub returns : goal.returns
-returns c = λ labels are.
+pub returns-clause-stops : goal.returns-clause-stops
+returns-clause-stops c = λ labels are.
     stops-end c.args.claim.now.frames.now.statements c.args.claim.now.frames.now.names c.args.claim.now.at c.loop-done.invariant.0 labels c.args.numbers.now c.loop-done.done _
     (behind (length c.args.table.now) c.loop-done.buffers.results.results) (omega (arith, c.loop-done-test.false)) (omega arith) (c.loop-done.invariant.2 labels are)

@@ -1,5 +1,4 @@
 use Rattle.verify.proofs.Words.{arith}
-use Rattle.verify.specs.KeptLists.{is_paired}
 use Rattle.verify.proofs.KeptListsLemmas.{all-more, all-done}
 use Rattle.verify.proofs.kept_lists.is_covered.Goals as goal
 

@@ -5,8 +5,8 @@ use Rattle.verify.proofs.MandatoryEntries.{mandatory-entries}
 use Rattle.verify.proofs.RightLemmas.{unwritten, one-listed, many, read-proves}
 use Rattle.verify.proofs.checker.Checker.prove_many.Goals as goal
 
-pub returns-in_default : goal.returns-in_default
-returns-in_default c =
+pub returns-in_default-clause-answer : goal.returns-in_default-clause-answer
+returns-in_default-clause-answer c =
     let s = c.requires.provable.0 in
     unwritten c.args.frames.now.statements c.args.at s c.args.tokens.now c.requires.provable.1 c.requires.compressed c.args.view.now
     (c.requires.view s c.requires.provable.1) (rw (← c.len.ensures) (rw c.in_default.is at c.in_ok-heading.ensures.read))
@@ -14,8 +14,8 @@ returns-in_default c =
 pub active_pairs-pairs-requires : goal.active_pairs-pairs-requires
 active_pairs-pairs-requires c = stands-within c.args.frames.now.statements c.args.at c.requires.provable.0 c.requires.provable.1.stands
 
-pub returns-then-not-branch : goal.returns-then-not-branch
-returns-then-not-branch c =
+pub returns-then-not-branch-clause-answer : goal.returns-then-not-branch-clause-answer
+returns-then-not-branch-clause-answer c =
     let s = c.requires.provable.0 in
     one-listed c.args.frames.now.statements c.args.at s c.args.tokens.now c.requires.provable.1 c.requires.compressed _ _ _ _ (rw c.in-Some.is at c.in_ok-heading.ensures.read)
     c.in_ok-add_listed.field-0 c.if-not-branch.true (c.in_ok-add_listed.ensures.apart s c.requires.provable.1)
@@ -37,8 +37,8 @@ run-requires-clause-entries c =
           (c.in_ok-add_listed.ensures.entries c.if-not-branch.false),
     )
 
-pub returns : goal.returns
-returns c =
+pub returns-clause-answer : goal.returns-clause-answer
+returns-clause-answer c =
     let S = c.args.frames.now.statements in let s = c.requires.provable.0 in
     let listed = take c.in-Some.heading.count c.in-Some.heading.words in
     let labels = mandatory_labels S c.args.at s ++ listed in
@@ -47,5 +47,5 @@ returns c =
     (many S c.args.at s c.args.tokens.now c.requires.provable.1 c.requires.compressed c.args.view.now (c.requires.view s c.requires.provable.1) ∙ sym c.len.ensures)
     c.run.result
     (subst (λ ns. IfOk c.run.result (λ answer. Says answer (IsRight S c.args.at (items_of labels ns)))) c.numbers-numbers.ensures
-    (c.run.ensures labels (entries S c.args.at s c.args.view.now listed c.clear.new.self.items c.add_listed.new.table.items c.deref.result.now c.requires.provable.1 (c.requires.view s c.requires.provable.1) c.clear.ensures.items c.deref.ensures.value
+    (c.run.ensures.answer labels (entries S c.args.at s c.args.view.now listed c.clear.new.self.items c.add_listed.new.table.items c.deref.result.now c.requires.provable.1 (c.requires.view s c.requires.provable.1) c.clear.ensures.items c.deref.ensures.value
     (c.in_ok-add_listed.ensures.entries c.if-not-branch.false))))

@@ -16,3 +16,6 @@ returns-clause-index c =
     let last : c.len-index.result ≡ length old = omega (arith, c.len-index.ensures) in
     subst (λ ls. IsAt ls c.len-index.result c.args.position) (sym c.in_ok-push.ensures.items)
     (subst (λ n. IsAt (old ++ c.in_ok-lists.lists ∷ []) n c.args.position) (sym last) (at-end old c.in_ok-lists.lists c.args.position is.at))
+
+pub returns-in_err-push-clause-kept : goal.returns-in_err-push-clause-kept
+returns-in_err-push-clause-kept c = λ S names old made. subst (AreKeptLists S names) (sym c.in_err-push.ensures.items) (c.make_room.ensures S names old)
