@@ -1,6 +1,5 @@
 -- The tie between cells and switch: what it gives, and how a call keeps it.
-use Rattle.cluster.proofs.Words.{◌≡◌, ℕ, suc, ◌<◌, ◌≤◌, nat_lt, Bool, true, false, List, [], ◌∷◌, ◌++◌, length, slice_get, Option, Some, None, Result, Ok, Err, refl, ap, sym, ◌∙◌, subst, arith, append_assoc, IsOk, MatchOption, is_err, option_map, Bor}
-use Rattle.cluster.proofs.Words.{nat_tests, StepFault, NoNode, log_after, IsBeginningOf, SwitchView, world_of, BeginsLog, Carried, carried_size, NodeLibrary, Cell, new_cell, AddsEntry, TakesOver, Belongs}
+use Rattle.cluster.proofs.Words.{◌≡◌, ℕ, suc, ◌<◌, ◌≤◌, nat_lt, Bool, true, false, List, [], ◌∷◌, ◌++◌, length, slice_get, Option, Some, None, Result, Ok, Err, refl, ap, sym, ◌∙◌, subst, arith, append_assoc, IsOk, MatchOption, is_err, option_map, Bor, nat_tests, StepFault, NoNode, log_after, IsBeginningOf, SwitchView, world_of, BeginsLog, Carried, carried_size, NodeLibrary, Cell, new_cell, AddsEntry, TakesOver, Belongs}
 
 -- What a switch shows of a log.
 

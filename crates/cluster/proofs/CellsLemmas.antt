@@ -1,6 +1,5 @@
 -- New cells, one after another.
-use Rattle.cluster.proofs.Words.{◌≡◌, ℕ, zero, suc, ◌+◌, ◌<◌, List, [], ◌∷◌, ◌++◌, length, take, slice_get, Some, refl, ap, sym, ◌∙◌, subst, arith, add-one, le_of_suc-le-suc}
-use Rattle.cluster.proofs.Words.{log_after, SwitchView, new_views, world_of, Carried, carried_size, Cell, new_cell, Belongs, EachBelongs, new_cells}
+use Rattle.cluster.proofs.Words.{◌≡◌, ℕ, zero, suc, ◌+◌, ◌<◌, List, [], ◌∷◌, ◌++◌, length, take, slice_get, Some, refl, ap, sym, ◌∙◌, subst, arith, add-one, le_of_suc-le-suc, log_after, SwitchView, new_views, world_of, Carried, carried_size, Cell, new_cell, Belongs, EachBelongs, new_cells}
 
 new_cells-take : (k i : ℕ) (ws : List ℕ) → i < length ws → new_cells k (take (suc i) ws) ≡ new_cells k (take i ws) ++ new_cell (k + i) ∷ []
 new_cells-take k i [] h = absurd (omega arith)

@@ -1,6 +1,5 @@
 -- Of the libraries of two cells of one switch one is a prefix of the other.
-use Rattle.cluster.proofs.Words.{◌≡◌, ◌+◌, ◌<◌, ◌≤◌, true, false, List, [], ◌∷◌, ◌++◌, length, inl, inr, Option, Result, Ok, Err, refl, ap, sym, ◌∙◌, subst, arith, append-nil, length-append, IsOk}
-use Rattle.cluster.proofs.Words.{Database, Carried, StepFault, World, log, log_after, IsBeginningOf, Agree, Taken, IsMoment, carried_size, entries_of, IsOfLog, Headline, entries_begin, headline_holds, of_longer, SwitchView, world_of, Cell, IsCell, Belongs}
+use Rattle.cluster.proofs.Words.{◌≡◌, ◌+◌, ◌<◌, ◌≤◌, true, false, List, [], ◌∷◌, ◌++◌, length, inl, inr, Option, Result, Ok, Err, refl, ap, sym, ◌∙◌, subst, arith, append-nil, length-append, IsOk, Database, Carried, StepFault, World, log, log_after, IsBeginningOf, Agree, Taken, IsMoment, carried_size, entries_of, IsOfLog, Headline, entries_begin, headline_holds, of_longer, SwitchView, world_of, Cell, IsCell, Belongs}
 
 module _ (s : SwitchView Carried) (w : World Carried) (is : world_of carried_size s ≡ Ok w) where
   abbrev taken : Taken Carried

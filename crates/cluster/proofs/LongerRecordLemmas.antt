@@ -1,6 +1,5 @@
 -- A map that ends in an entry stays one with an entry more, and is copied slot by slot.
-use Rattle.cluster.proofs.Words.{◌≡◌, ℕ, zero, suc, ◌+◌, ◌<◌, List, [], ◌∷◌, Option, Some, None, length, take, refl, ap, sym, ◌∙◌, subst, arith, add-one, le_of_suc-le-suc}
-use Rattle.cluster.proofs.Words.{entry_at, put_at, trim_head, trimmed, Held, Change, Round, Promise, Kept, changed_by, with_entry}
+use Rattle.cluster.proofs.Words.{◌≡◌, ℕ, zero, suc, ◌+◌, ◌<◌, List, [], ◌∷◌, Option, Some, None, length, take, refl, ap, sym, ◌∙◌, subst, arith, add-one, le_of_suc-le-suc, entry_at, put_at, trim_head, trimmed, Held, Change, Round, Promise, Kept, changed_by, with_entry}
 use Rattle.synod.specs.declared.change.Change.TheVariants.{Entry}
 
 -- a gap in front of entries, one of which was put, is not trimmed away

@@ -3,7 +3,9 @@ pub use Rattle.cluster.specs.Belongs.{Belongs, EachBelongs, IsAhead}
 pub use Rattle.cluster.specs.Cell.{AddsEntry, Cell, IsCell, TakesOver, new_cell, next_entry}
 pub use Rattle.cluster.specs.Cells.{new_cells}
 pub use Rattle.cluster.specs.LongerRecord.{with_entry}
+pub use Rattle.cluster.specs.Outcome.{first_under}
 pub use Rattle.library.specs.LibraryOf.{Replica}
+pub use Rattle.library.specs.declared.entry.Entry.{Entry}
 pub use Rattle.library.specs.declared.verdict.Verdict.{Verdict}
 pub use Rattle.mm_read.specs.Statements.{Database}
 pub use Rattle.net.specs.Agree.{Agree, IsBeginningOf}
@@ -14,8 +16,8 @@ pub use Rattle.net.specs.declared.fault.StepFault.{StepFault}
 pub use Rattle.net.specs.declared.fault.StepFault.TheVariants.{NoNode}
 pub use Rattle.slots.specs.FiniteMap.{entry_at, put_at, trim_head, trimmed}
 pub use Rattle.slots.specs.declared.slots.TheConstants.{SLOTS}
+pub use Rattle.std.proofs.Common.{Bool, Err, List, None, Ok, Option, Result, Some, [], add-one, ap, append-nil, append_assoc, arith, drop, false, inl, inr, le_of_suc-le-suc, length, length-append, nat_lt, refl, slice_get, subst, suc, sym, take, true, zero, ℕ, ◌++◌, ◌+◌, ◌<◌, ◌∙◌, ◌∷◌, ◌≡◌, ◌≤◌}
 pub use Rattle.std.proofs.lemmas.Bool.Decides.{nat_tests}
-pub use Rattle.std.proofs.Common.{Bool, Err, List, None, Ok, Option, Result, Some, [], add-one, ap, append-nil, append_assoc, arith, false, inl, inr, le_of_suc-le-suc, length, length-append, nat_lt, refl, slice_get, subst, suc, sym, take, true, zero, ℕ, ◌++◌, ◌+◌, ◌<◌, ◌∙◌, ◌∷◌, ◌≡◌, ◌≤◌}
 pub use Rattle.std.specs.Borrow.{Bor}
 pub use Rattle.std.specs.Prelude.{IsOk, IsSome, MatchOption, is_err, option_map}
 pub use Rattle.switch.specs.Belonging.{BeginsLog}

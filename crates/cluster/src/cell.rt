@@ -166,7 +166,8 @@ pub fn apply_on(cell: &mut NodeCell) -> Result<Option<Verdict>, StepFault>
 /// Applies the next of the entries taken over as `apply_on` does, with its proofs checked by workers in parallel. Each worker
 /// passes the gate before each proof. No answer depends on the number of workers.
 ///
-/// Errors: those of `apply_on`. Cost: that of `Library::apply_with` on the entry.
+/// Errors: those of `apply_on`, and `Memory` if a proof is heavy and the gate keeps these out. Cost: that of
+/// `Library::apply_with` on the entry.
 pub fn apply_on_with<G: Gate + Sync, R: Threads + Sync>(
     rt: &R,
     cell: &mut NodeCell,

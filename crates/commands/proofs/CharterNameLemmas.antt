@@ -1,9 +1,5 @@
 -- The names of a charter, a number at a time.
-use Rattle.std.specs.Prelude.{ℕ, ◌+◌, Bool, false, ◌&&◌, nat_lt, List, ◌∷◌, length, Option, Some, None}
-use Rattle.library.specs.declared.charter.TheConstants.{MOST_NAMES}
-use Rattle.library.specs.Charters.{is_rising}
-use Rattle.commands.specs.LineWords.{Words}
-use Rattle.commands.specs.Offered.{numbers_of}
+use Rattle.commands.proofs.Words.{ℕ, ◌+◌, Bool, false, ◌&&◌, nat_lt, List, ◌∷◌, length, Option, Some, None, MOST_NAMES, is_rising, Words, numbers_of}
 
 -- the numbers rise after the last one
 abbrev pub rising_after : Option ℕ → List ℕ → Bool

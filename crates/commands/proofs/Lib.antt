@@ -1,3 +1,4 @@
+pub mod Words
 pub mod PiecesLemmas
 pub mod TextsLemmas
 mod LineLemmas

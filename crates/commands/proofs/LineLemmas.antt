@@ -1,25 +1,6 @@
 -- A line that alone says something, and one that offers a text.
-use Rattle.std.specs.Prelude.{◌≡◌, ℕ, ◌+◌, Bool, true, false, List, drop, Option, Some, None, option_map, option_and_then, Result, Ok, Err, IsSome, IsErrAnd, ◌∷◌, refl}
-use Rattle.std.proofs.Common.{◌∙◌, ap, sym, subst, arith}
-use Rattle.std.proofs.lemmas.Bool.{false≢true}
-use Rattle.library.specs.declared.entry.Entry.TheVariants.{Text}
-use Rattle.commands.specs.declared.line_words.EntryAt.{EntryAt}
-use Rattle.commands.specs.declared.offered.Offered.{Offered}
-use Rattle.commands.specs.declared.script.LineFault.{LineFault}
+use Rattle.commands.proofs.Words.{◌≡◌, ℕ, ◌+◌, Bool, true, false, List, drop, Option, Some, None, option_map, option_and_then, Result, Ok, Err, IsSome, IsErrAnd, ◌∷◌, refl, ◌∙◌, ap, sym, subst, arith, false≢true, Text, EntryAt, Offered, LineFault, ServeLine, SessionLine, Serve, Help, TextForm, split_at, SPACE, Words, by_first, line_by, entry_at, text_at, text_offered, Remaining, IsPast, Parses, ParsesLine, stands_alone, text_or, help_or}
 use Rattle.commands.specs.declared.script.LineFault.TheVariants.{Bad, Memory as NoMemory}
-use Rattle.commands.specs.declared.serve_line.ServeLine.{ServeLine}
-use Rattle.commands.specs.declared.session_line.SessionLine.{SessionLine}
-use Rattle.commands.specs.declared.session_line.SessionLine.TheVariants.{Serve, Help}
-use Rattle.commands.specs.declared.text_form.TextForm.{TextForm}
-use Rattle.commands.specs.Pieces.{split_at}
-use Rattle.commands.specs.declared.line_words.TheConstants.{SPACE}
-use Rattle.commands.specs.LineWords.{Words, by_first, line_by, entry_at}
-use Rattle.commands.specs.Texts.{text_at}
-use Rattle.commands.specs.Offered.{text_offered}
-use Rattle.commands.specs.Remaining.{Remaining, IsPast}
-use Rattle.commands.specs.Scripts.{Parses, ParsesLine}
-use Rattle.commands.specs.NodeLines.{stands_alone, text_or}
-use Rattle.commands.specs.SessionLines.{help_or}
 
 -- no line is taken
 pub past_none : (lines : Remaining) → IsPast 0 lines lines

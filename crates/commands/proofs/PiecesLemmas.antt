@@ -1,11 +1,5 @@
 -- The first piece, and those after it.
-use Rattle.std.specs.Prelude.{◌≡◌, ℕ, ◌+◌, ◌-◌, ◌==◌, ◌≤◌, Bool, true, false, not, List, [], ◌∷◌, Some, None, cond, nat_lt, position, refl}
-use Rattle.std.specs.List.{slice_split, position_or_len, onto_first}
-use Rattle.std.proofs.Common.{sym, ◌∙◌, ap, arith, length, take, drop, length-drop}
-use Rattle.std.proofs.lemmas.List.{take_all}
-use Rattle.std.proofs.lemmas.List.Splits.{slice_split_first, slice_split-cons_no}
-use Rattle.std.proofs.lemmas.Bool.{ltb-true, ltb-false}
-use Rattle.commands.specs.Pieces.{split_at}
+use Rattle.commands.proofs.Words.{◌≡◌, ℕ, ◌+◌, ◌-◌, ◌==◌, ◌≤◌, Bool, true, false, not, List, [], ◌∷◌, Some, None, cond, nat_lt, position, refl, slice_split, position_or_len, onto_first, sym, ◌∙◌, ap, arith, length, take, drop, length-drop, take_all, slice_split_first, slice_split-cons_no, ltb-true, ltb-false, split_at}
 
 module _ (p : ℕ → Bool) (x : ℕ) (xs : List ℕ) where
   -- one more byte, which does not pass either

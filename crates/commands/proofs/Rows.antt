@@ -1,13 +1,6 @@
 -- Scripts with texts of several lines.
-use Rattle.std.specs.Prelude.{◌≡◌, ℕ, List, [], ◌∷◌, codes, Ok, Err, refl}
-use Rattle.library.specs.declared.entry.Entry.TheVariants.{Text}
-use Rattle.commands.specs.declared.node_line.NodeLine.{NodeLine}
-use Rattle.commands.specs.declared.node_line.NodeLine.TheVariants.{Offer, Begin}
-use Rattle.commands.specs.declared.play_line.PlayLine.TheVariants.{Node}
+use Rattle.commands.proofs.Words.{◌≡◌, ℕ, List, [], ◌∷◌, codes, Ok, Err, refl, Text, NodeLine, Offer, Begin, Node, script_of, play_line_of, serve_line_of}
 use Rattle.commands.specs.declared.serve_line.ServeLine.TheVariants.{Node as ServeNode}
-use Rattle.commands.specs.Scripts.{script_of}
-use Rattle.commands.specs.PlayLines.{play_line_of}
-use Rattle.commands.specs.ServeLines.{serve_line_of}
 
 -- the offer of a text at node 1, by author 7 as number 3
 abbrev offers : List ℕ → NodeLine

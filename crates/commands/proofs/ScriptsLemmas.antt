@@ -1,12 +1,6 @@
 -- A script, a line at a time.
-use Rattle.std.specs.Prelude.{◌≡◌, ℕ, zero, suc, ◌+◌, ◌<◌, Bool, false, List, [], ◌∷◌, ◌++◌, drop, Option, Some, None, Result, Ok, Err, IsTrue, ◌||◌, not, true, refl}
-use Rattle.std.proofs.Common.{sym, ◌∙◌, ap, subst, arith, length, append_assoc, append-nil, length-drop, ◌-◌}
-use Rattle.commands.specs.declared.script.LineFault.{LineFault}
+use Rattle.commands.proofs.Words.{◌≡◌, ℕ, zero, suc, ◌+◌, ◌<◌, Bool, false, List, [], ◌∷◌, ◌++◌, drop, Option, Some, None, Result, Ok, Err, IsTrue, ◌||◌, not, true, refl, sym, ◌∙◌, ap, subst, arith, length, append_assoc, append-nil, length-drop, ◌-◌, LineFault, LINE_FEED, split_at, Remaining, IsPast, ParsesLine, script_of, script_from, with_line, followed}
 use Rattle.commands.specs.declared.script.LineFault.TheVariants.{Memory as NoMemory}
-use Rattle.commands.specs.declared.script.TheConstants.{LINE_FEED}
-use Rattle.commands.specs.Pieces.{split_at}
-use Rattle.commands.specs.Remaining.{Remaining, IsPast}
-use Rattle.commands.specs.Scripts.{ParsesLine, script_of, script_from, with_line, followed}
 
 -- what lines say that follow these
 abbrev pub preceded_by : {L : Type 0} → List L → Result (List L) ℕ → Result (List L) ℕ

@@ -1,16 +1,5 @@
 -- Texts of several lines: the lines before a word, and so many bytes.
-use Rattle.std.specs.Prelude.{◌≡◌, ℕ, ◌+◌, ◌-◌, ◌<◌, ◌≤◌, ◌==◌, Bool, true, false, cond, List, [], ◌∷◌, ◌++◌, Option, Some, None, option_map, slice_index, count_by, if◌then◌else◌, refl}
-use Rattle.std.specs.List.{slice_split, onto_first, join_with_byte}
-use Rattle.std.specs.Str.{bytes_eq}
-use Rattle.std.proofs.Common.{sym, ◌∙◌, ap, arith, length, take, drop, get_or, append_assoc, append-nil, length-append, length-drop, suc}
-use Rattle.std.proofs.lemmas.List.{take_at, drop_at, take-append-drop, drop_more, take_all, length-take-le}
-use Rattle.std.proofs.lemmas.List.Sums.{count_by-le-length}
-use Rattle.std.proofs.lemmas.List.Splits.{join_with_byte-slice_split, slice_split-cons_yes, slice_split-cons_no, length-slice_split}
-use Rattle.std.proofs.lemmas.Bool.{eqb-true}
-use Rattle.commands.specs.declared.script.TheConstants.{LINE_FEED}
-use Rattle.commands.specs.Pieces.{split_at}
-use Rattle.commands.specs.Remaining.{Remaining, IsPast}
-use Rattle.commands.specs.Texts.{lines_before, first_bytes, bytes_before}
+use Rattle.commands.proofs.Words.{◌≡◌, ℕ, ◌+◌, ◌-◌, ◌<◌, ◌≤◌, ◌==◌, Bool, true, false, cond, List, [], ◌∷◌, ◌++◌, Option, Some, None, option_map, slice_index, count_by, if◌then◌else◌, refl, slice_split, onto_first, join_with_byte, bytes_eq, sym, ◌∙◌, ap, arith, length, take, drop, get_or, append_assoc, append-nil, length-append, length-drop, suc, take_at, drop_at, take-append-drop, drop_more, take_all, length-take-le, count_by-le-length, join_with_byte-slice_split, slice_split-cons_yes, slice_split-cons_no, length-slice_split, eqb-true, LINE_FEED, split_at, Remaining, IsPast, lines_before, first_bytes, bytes_before}
 
 -- lines, each with its line feed
 abbrev pub with_feeds : List (List ℕ) → List ℕ

@@ -1,35 +1,5 @@
 -- The statements that items cite, as a list of positions.
-use Rattle.std.specs.Prelude.{◌≡◌, ◌⊎◌, ℕ, zero, suc, ◌+◌, ◌-◌, ◌<◌, ◌≤◌, true, List, [], ◌∷◌, ◌++◌, length, take, get_or, filter_map, Option, Some, None, option_map, slice_get}
-use Rattle.std.specs.List.{cons_option}
-use Rattle.std.proofs.Common.{sym, ◌∙◌, ap, subst, refl, arith, inl, inr, append_assoc}
-use Rattle.std.proofs.lemmas.Bool.{cases_lt}
-use Rattle.std.proofs.lemmas.List.{get_or_past, take_more}
-use Rattle.std.proofs.lemmas.List.Elements.{filter_map-append}
-use Rattle.std.proofs.lemmas.Option.{slice_get-map}
-use Rattle.frame.specs.AtPosition.{ArePositions, HasLabelsOnce, IsPosition}
-use Rattle.frame.specs.Citations.{Carries}
-use Rattle.frame.specs.Stored.Hypotheses.{In, AreThose}
-use Rattle.frame.proofs.CollectLemmas.{those-by}
-use Rattle.frame.proofs.FoundByNumber.{map-back}
-use Rattle.frame.proofs.LegalLabels.{legal-labels}
-use Rattle.library.specs.Good.{Good}
-use Rattle.library.specs.Queries.{IsProofOf}
-use Rattle.library.specs.UseMarks.{place_of}
-use Rattle.library.specs.Uses.{HasItems, ItemsCite, Cites}
-use Rattle.library.proofs.UseMarkLemmas.{position-is}
-use Rattle.library.proofs.JoinedRulesLemmas.{legal-each}
-use Rattle.library.proofs.ProvingLemmas.{not-there}
-use Rattle.library.proofs.CitationWalkLemmas.{cites-of, cited-of}
-use Rattle.mm_lex.specs.Alphabet.{Name}
-use Rattle.mm_read.specs.Statements.{Database}
-use Rattle.mm_read.specs.declared.stmt.Stmt.{Stmt}
-use Rattle.mm_read.specs.declared.stmt.Stmt.TheVariants.{Prove}
-use Rattle.proof_code.specs.ItemNumbers.{item_of, items_of}
-use Rattle.proof_code.specs.declared.item.Item.{Item}
-use Rattle.proof_code.specs.declared.item.Item.TheVariants.{Cite, Recall}
-use Rattle.proof_code.proofs.RowOfNumbers.{item-cite, item-recall}
-use Rattle.cross_references.specs.Passes.{listed_place}
-use Rattle.scope.specs.Active.{bares, is_provable, label_of, stmt_at}
+use Rattle.cross_references.proofs.Words.{◌≡◌, ◌⊎◌, ℕ, zero, suc, ◌+◌, ◌-◌, ◌<◌, ◌≤◌, true, List, [], ◌∷◌, ◌++◌, length, take, get_or, filter_map, Option, Some, None, option_map, slice_get, cons_option, sym, ◌∙◌, ap, subst, refl, arith, inl, inr, append_assoc, cases_lt, get_or_past, take_more, filter_map-append, slice_get-map, ArePositions, HasLabelsOnce, IsPosition, Carries, In, AreThose, those-by, map-back, legal-labels, Good, IsProofOf, place_of, HasItems, ItemsCite, Cites, position-is, legal-each, not-there, cites-of, cited-of, Name, Database, Stmt, Prove, item_of, items_of, Item, Cite, Recall, item-cite, item-recall, listed_place, bares, is_provable, label_of, stmt_at}
 
 -- ---- the positions that numbers stand for
 

@@ -1,16 +1,5 @@
 -- Lists that positions are added to.
-use Rattle.std.specs.Prelude.{◌≡◌, ◌≢◌, ◌⊎◌, ◌↔◌, ℕ, zero, suc, ◌+◌, ◌-◌, ◌<◌, ◌≤◌, List, [], ◌∷◌, ◌++◌, length, take, get_or, slice_set, Some, slice_get, Result, Ok, Err, OnOk}
-use Rattle.std.proofs.Common.{sym, ◌∙◌, ap, subst, refl, arith, inl, inr, take_all}
-use Rattle.std.proofs.lemmas.Bool.{cases_eq, cases_lt}
-use Rattle.std.proofs.lemmas.List.{take_more, get_or_past, get_or-set_other, get_or-set_same, length-set}
-use Rattle.std.proofs.lemmas.Option.{slice_get-get_or}
-use Rattle.entries.specs.PositionSets.{Ascends, AreAbove}
-use Rattle.frame.specs.Stored.Hypotheses.{In, AreThose, HasMore, OfSome}
-use Rattle.frame.proofs.AscendingLists.{in-place, place-in}
-use Rattle.frame.proofs.CollectLemmas.{last-in, last-out, those-by}
-use Rattle.library.specs.Uses.{Rises, IsIn}
-use Rattle.cross_references.specs.References.{AreThosePassing}
-use Rattle.cross_references.specs.Passes.{AreRounds}
+use Rattle.cross_references.proofs.Words.{◌≡◌, ◌≢◌, ◌⊎◌, ◌↔◌, ℕ, zero, suc, ◌+◌, ◌-◌, ◌<◌, ◌≤◌, List, [], ◌∷◌, ◌++◌, length, take, get_or, slice_set, Some, slice_get, Result, Ok, Err, OnOk, sym, ◌∙◌, ap, subst, refl, arith, inl, inr, take_all, cases_eq, cases_lt, take_more, get_or_past, get_or-set_other, get_or-set_same, length-set, slice_get-get_or, Ascends, AreAbove, In, AreThose, HasMore, OfSome, in-place, place-in, last-in, last-out, those-by, Rises, IsIn, AreThosePassing, AreRounds}
 
 pub has-nothing : (P : ℕ → Type 0) (list : List ℕ) → ((p : ℕ) → P p → ⊥) → HasMore P list list
 has-nothing P list none = record { stays = λ p i. i; all = λ p q. absurd (none p q); only = λ p i. inl i }

@@ -1,22 +1,5 @@
 -- The steps of the pass over the statements.
-use Rattle.std.specs.Prelude.{◌≡◌, ◌⊎◌, ◌↔◌, ℕ, zero, suc, ◌+◌, ◌-◌, ◌<◌, ◌≤◌, Bool, true, false, IsTrue, List, [], ◌∷◌, ◌++◌, length, map, take, drop, get_or, replicate, slice_set, Some}
-use Rattle.std.proofs.Common.{sym, ◌∙◌, ap, subst, refl, arith, inl, inr, take_all, length-append, append-nil}
-use Rattle.std.proofs.lemmas.Bool.{cases_eq, cases_lt}
-use Rattle.std.specs.Global.{Vec}
-use Rattle.std.proofs.lemmas.List.{drop_all, get_or-map, map-append, map-set, get_or-set_other, get_or-set_same, get_or_append_left, get_or_past, length-map, length-set, length-replicate}
-use Rattle.entries.specs.PositionSets.{Ascends, has_position}
-use Rattle.frame.specs.Stored.Hypotheses.{In, AreThose, HasMore, OfSome}
-use Rattle.frame.proofs.CollectLemmas.{last-in, last-out, those-by}
-use Rattle.frame.proofs.MergedLemmas.{in-has, has-in}
-use Rattle.library.specs.Good.{Good}
-use Rattle.library.specs.Uses.{Cites, RestsOn, directly, through, Uses, IsAxiomAt, IsUser, is_axiom}
-use Rattle.library.proofs.CitationWalkLemmas.{cites-below}
-use Rattle.mm_read.specs.Statements.{Database}
-use Rattle.mm_read.specs.declared.stmt.Stmt.{Stmt}
-use Rattle.scope.specs.Active.{stmt_at}
-use Rattle.scope.proofs.StatementPlaces.{stands-within}
-use Rattle.cross_references.specs.References.{AreThosePassing, AreListsOf, AreReferences}
-use Rattle.cross_references.specs.Passes.{lists_of, Gives, AreWithin, HaveUser, AreDone}
+use Rattle.cross_references.proofs.Words.{◌≡◌, ◌⊎◌, ◌↔◌, ℕ, zero, suc, ◌+◌, ◌-◌, ◌<◌, ◌≤◌, Bool, true, false, IsTrue, List, [], ◌∷◌, ◌++◌, length, map, take, drop, get_or, replicate, slice_set, Some, sym, ◌∙◌, ap, subst, refl, arith, inl, inr, take_all, length-append, append-nil, cases_eq, cases_lt, Vec, drop_all, get_or-map, map-append, map-set, get_or-set_other, get_or-set_same, get_or_append_left, get_or_past, length-map, length-set, length-replicate, Ascends, has_position, In, AreThose, HasMore, OfSome, last-in, last-out, those-by, in-has, has-in, Good, Cites, RestsOn, directly, through, Uses, IsAxiomAt, IsUser, is_axiom, cites-below, Database, Stmt, stmt_at, stands-within, AreThosePassing, AreListsOf, AreReferences, lists_of, Gives, AreWithin, HaveUser, AreDone}
 use Rattle.cross_references.proofs.ListLemmas.{has-as, has-both, in-more, more-in, next-apart, those-passing, ascends-last}
 
 -- what is cited stands before

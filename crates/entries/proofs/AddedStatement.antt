@@ -1,9 +1,5 @@
 -- A statement appended or removed: its numbers and groups stand after those of the others.
-use Rattle.entries.proofs.Words.{◌≡◌, ℕ, ◌+◌, ◌-◌, ◌<◌, ◌^◌, true, false, Bool, List, [], ◌∷◌, ◌++◌, length, slice_get, slice_range, take, drop, Some, None, refl, Result, Ok, Err, OnOk, OnErr, is_err, ◌∙◌, ap, sym, subst, arith, length-append, length-take-le, take-append-drop, drop_more, nil_from_length, slice_get_within, get_or_from_slice_get, take-append_seam, take-length}
-use Rattle.entries.proofs.Words.{BufferPart, StatementRecord, Layout, AreShapedParts, assertion_of, AreSpansIn, Extends, counts_of, has_parts, run_of, record_by, layout_in, run_by, spans_by, body_of, bodies_of, IsKept, AreKept, ArePacked}
-use Rattle.std.proofs.lemmas.Bool.{ltb-false}
-use Rattle.entries.specs.declared.kind.Kind.{Kind}
-use Rattle.entries.specs.declared.parts.AssertionParts.{AssertionParts}
+use Rattle.entries.proofs.Words.{◌≡◌, ℕ, ◌+◌, ◌-◌, ◌<◌, ◌^◌, true, false, Bool, List, [], ◌∷◌, ◌++◌, length, slice_get, slice_range, take, drop, Some, None, refl, Result, Ok, Err, OnOk, OnErr, is_err, ◌∙◌, ap, sym, subst, arith, length-append, length-take-le, take-append-drop, drop_more, nil_from_length, slice_get_within, get_or_from_slice_get, take-append_seam, take-length, BufferPart, StatementRecord, Layout, AreShapedParts, assertion_of, AreSpansIn, Extends, counts_of, has_parts, run_of, record_by, layout_in, run_by, spans_by, body_of, bodies_of, IsKept, AreKept, ArePacked, ltb-false, Kind, AssertionParts}
 use Rattle.entries.proofs.SpanLemmas.{range-behind, extends-refl, extends-take, extends-trans}
 use Rattle.entries.proofs.StatementRecordLemmas.{bodies-length, kept-at}
 use Rattle.entries.proofs.BufferPlaceLemmas.{bodies-before, kept-before, kept-cut}

@@ -1,7 +1,6 @@
 -- The stack at a position, where the versions are more or fewer.
-use Rattle.std.proofs.Common.{◌≡◌, ℕ, ◌+◌, ◌<◌, ◌≤◌, Bool, true, false, nat_lt, nat_le, cond, List, [], ◌∷◌, ◌++◌, refl, ◌∙◌, ap, sym, arith, lt-ltb}
-use Rattle.std.proofs.lemmas.Bool.{le-ltb, leb-false}
-use Rattle.entries.specs.Histories.{StackVersion, stack_from, stack_at, is_changed, changed, kept_until, IsUntil}
+use Rattle.entries.proofs.Words.{◌≡◌, ℕ, ◌+◌, ◌<◌, ◌≤◌, Bool, true, false, nat_lt, nat_le, cond, List, [], ◌∷◌, ◌++◌, refl, ◌∙◌, ap, sym, arith, le-ltb, leb-false, StackVersion, stack_from, stack_at, is_changed, changed, kept_until, IsUntil}
+use Rattle.std.proofs.Common.{lt-ltb}
 use Rattle.entries.proofs.LogLemmas.{kept-front}
 
 stack-from-append : (found : List ℕ) (xs ys : List StackVersion) (at : ℕ) → stack_from found (xs ++ ys) at ≡ stack_from (stack_from found xs at) ys at

@@ -1,11 +1,6 @@
 -- Sets of positions made from parts of others: where their parts change places, and where a position goes into one of them.
-use Rattle.std.proofs.Common.{◌≡◌, ℕ, ◌+◌, ◌-◌, ◌<◌, ◌≤◌, List, [], ◌∷◌, ◌++◌, length, true, inl, inr, take, drop, get_or, ap, subst, sym, refl, ◌∙◌, arith, append_assoc, length-append}
-use Rattle.std.proofs.lemmas.Bool.{cases_lt}
-use Rattle.std.proofs.lemmas.List.{get_or_past, take-append-drop, take_rest, drop_more}
-use Rattle.entries.specs.declared.position_sets.Node.{Node}
-use Rattle.entries.specs.PositionSets.{set_at, Ascends, IsSet, count_below, has_position, with_position}
-use Rattle.entries.specs.Stored.PositionSets.{joined, set_of, IsTop}
-use Rattle.entries.specs.Stored.Spans.{Extends}
+use Rattle.entries.proofs.Words.{◌≡◌, ℕ, ◌+◌, ◌-◌, ◌<◌, ◌≤◌, List, [], ◌∷◌, ◌++◌, length, true, inl, inr, take, drop, get_or, ap, subst, sym, refl, ◌∙◌, arith, append_assoc, cases_lt, get_or_past, take-append-drop, take_rest, drop_more, Node, set_at, Ascends, IsSet, count_below, has_position, with_position, joined, set_of, IsTop, Extends}
+use Rattle.std.proofs.Common.{length-append}
 use Rattle.entries.proofs.SetNodeLemmas.{set_at-extends}
 use Rattle.entries.proofs.PositionSetLemmas.{count-left, count-right, with-below, with-here, with-above, with-known}
 

@@ -1,15 +1,6 @@
 -- The log of the versions of all numbers: one more, and the last one taken away.
-use Rattle.std.proofs.Common.{◌≡◌, ℕ, zero, suc, ◌+◌, ◌-◌, ◌<◌, ◌≤◌, Bool, true, false, nat_eq, nat_lt, nat_le, cond, List, [], ◌∷◌, ◌++◌, length, map, filter, take, get_or, slice_get, slice_set, Some, refl, ◌∙◌, ap, sym, subst, arith, append-nil, le-leb}
-use Rattle.std.proofs.lemmas.Bool.{lt-leb, ltb-true, ltb-false}
-use Rattle.std.proofs.lemmas.Option.{get_or_from_slice_get, slice_get_within}
-use Rattle.std.proofs.lemmas.Grind.{get_or-set_at}
-use Rattle.std.proofs.lemmas.List.{length-append, map-append, get_or-set_other, get_or_read, take_more}
-use Rattle.std.proofs.lemmas.List.Elements.{filter-append}
-use Rattle.std.proofs.lemmas.List.Sorted.{IsNonDecreasingBy-take, IsNonDecreasingBy-push}
-use Rattle.std.specs.List.Sorted.{IsNonDecreasingBy}
-use Rattle.std.proofs.Math.Seq.{take-append_seam, get_or-append_seam, take_all}
-use Rattle.entries.specs.Histories.{StackVersion, IsUntil, AreUntil, AreWith, AreSame, changed, history, is_changed, kept_until}
-use Rattle.entries.specs.Stored.Versions.{Change, sinces_of, AreLogged}
+use Rattle.entries.proofs.Words.{◌≡◌, ℕ, zero, suc, ◌+◌, ◌-◌, ◌<◌, ◌≤◌, Bool, true, false, nat_eq, nat_lt, nat_le, cond, List, [], ◌∷◌, ◌++◌, length, map, take, get_or, slice_get, slice_set, Some, refl, ◌∙◌, ap, sym, subst, arith, append-nil, le-leb, lt-leb, ltb-true, ltb-false, get_or_from_slice_get, slice_get_within, get_or-set_at, length-append, map-append, get_or-set_other, get_or_read, take_more, filter-append, IsNonDecreasingBy-take, IsNonDecreasingBy-push, IsNonDecreasingBy, take-append_seam, get_or-append_seam, take_all, StackVersion, IsUntil, AreUntil, AreWith, AreSame, changed, history, is_changed, kept_until, Change, sinces_of, AreLogged}
+use Rattle.std.proofs.Common.{filter}
 
 -- ---- since when
 

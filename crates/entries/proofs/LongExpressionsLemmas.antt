@@ -1,16 +1,5 @@
 -- Ascending indexes, each with what is kept by it.
-use Rattle.entries.proofs.Words.{◌≡◌, ℕ, zero, suc, ◌+◌, ◌<◌, ◌≤◌, List, [], ◌∷◌, ◌++◌, length, take, Some, None, Ok, Err, Result, refl, ◌∙◌, ap, sym, subst, arith, length-append, length-take-le, take_all}
-use Rattle.std.proofs.Common.{cond, get_or, nat_eq, nat_lt, nat_cmp, ⊎_elim}
-use Rattle.std.specs.List.{All, filter, zip}
-use Rattle.std.specs.Map.{lookup}
-use Rattle.std.specs.List.Sorted.{IsStrictlyIncreasing, IsBinarySearchResult}
-use Rattle.std.proofs.lemmas.Bool.{cases_lt, eq-eqb, ne_eqb, lt-ltb, le-ltb}
-use Rattle.std.proofs.Math.ListN.{get_or-append}
-use Rattle.std.proofs.Math.Seq.{get_or-append_seam}
-use Rattle.std.proofs.lemmas.List.{get_or-take}
-use Rattle.std.proofs.lemmas.List.Elements.{All-tail}
-use Rattle.std.proofs.lemmas.List.Kept.{AllPairs-from_increasing}
-use Rattle.std.proofs.lemmas.List.Sorted.{searched}
+use Rattle.entries.proofs.Words.{◌≡◌, ℕ, zero, suc, ◌+◌, ◌<◌, ◌≤◌, List, [], ◌∷◌, ◌++◌, length, take, Some, None, Ok, Err, Result, refl, ◌∙◌, ap, sym, subst, arith, length-append, length-take-le, take_all, cond, get_or, nat_eq, nat_lt, nat_cmp, ⊎_elim, All, filter, zip, lookup, IsStrictlyIncreasing, IsBinarySearchResult, cases_lt, eq-eqb, ne_eqb, lt-ltb, le-ltb, get_or-append, get_or-append_seam, get_or-take, All-tail, AllPairs-from_increasing, searched}
 
 pub zip-push : {A : Type 0} (is : List ℕ) (ps : List A) (i : ℕ) (p : A) → length ps ≡ length is → zip (is ++ i ∷ []) (ps ++ p ∷ []) ≡ zip is ps ++ (i, p) ∷ []
 zip-push [] [] i p e = refl

@@ -1,11 +1,6 @@
 -- Sets of positions as lists in ascending order: a position between two lists that it parts.
 -- In a set l ++ x ∷ r the positions of l are below x, and those of r above it.
-use Rattle.std.proofs.Common.{◌≡◌, ℕ, ◌+◌, ◌<◌, ◌≤◌, ◌==◌, ◌||◌, nat_lt, true, false, List, [], ◌∷◌, ◌++◌, length, slice_get, Some, ap, sym, ◌∙◌, refl, inl, inr, suc, zero, arith}
-use Rattle.std.proofs.lemmas.Bool.Decides.{nat_tests}
-use Rattle.std.proofs.lemmas.Bool.{cases_eq, cases_lt, cond_both, lt-ltb, ltb-true}
-use Rattle.std.proofs.Math.Nat.{eq-or-lt_of_le}
-use Rattle.std.proofs.lemmas.Option.{same_Some}
-use Rattle.entries.specs.PositionSets.{AreAbove, Ascends, with_position, has_position, count_below}
+use Rattle.entries.proofs.Words.{◌≡◌, ℕ, ◌+◌, ◌<◌, ◌≤◌, ◌==◌, ◌||◌, nat_lt, true, false, List, [], ◌∷◌, ◌++◌, length, slice_get, Some, ap, sym, ◌∙◌, refl, inl, inr, suc, zero, arith, nat_tests, cases_eq, cases_lt, cond_both, lt-ltb, ltb-true, eq-or-lt_of_le, same_Some, AreAbove, Ascends, with_position, has_position, count_below}
 
 -- ---- parts of a set
 

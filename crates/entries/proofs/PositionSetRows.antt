@@ -1,8 +1,5 @@
 -- Worked rows of sets of positions.
-use Rattle.std.proofs.Common.{◌≡◌, ℕ, true, false, List, [], ◌∷◌, refl}
-use Rattle.entries.specs.declared.position_sets.Node.{Node}
-use Rattle.entries.specs.PositionSets.{with_position, has_position, count_below, set_at}
-use Rattle.entries.specs.Stored.PositionSets.{sets_of}
+use Rattle.entries.proofs.Words.{◌≡◌, ℕ, true, false, List, [], ◌∷◌, refl, Node, with_position, has_position, count_below, set_at, sets_of}
 
 -- ---- the order in which positions are put in does not matter
 

@@ -1,11 +1,7 @@
 -- The nodes of sets of positions: what each says of its set, and what one node more or a cut does.
-use Rattle.std.proofs.Common.{◌≡◌, ℕ, ◌+◌, ◌-◌, ◌<◌, ◌≤◌, ◌^◌, List, [], ◌∷◌, ◌++◌, length, take, max, slice_get, Some, ap, subst, sym, refl, ◌∙◌, arith, suc, zero, inl, inr, append-nil, length-append, length-take, append_assoc}
-use Rattle.std.proofs.lemmas.List.{get_or_append_left, get_or_past, get_or_at, take_all, take_at}
-use Rattle.std.proofs.lemmas.Option.{same_Some, slice_get_cases}
-use Rattle.entries.specs.declared.position_sets.Node.{Node}
-use Rattle.entries.specs.PositionSets.{set_at, Ascends, IsSet}
-use Rattle.entries.specs.Stored.PositionSets.{set_of, sets_from, sets_of, IsNode, AreNodes, AreSets, IsTop}
-use Rattle.entries.specs.Stored.Spans.{Extends}
+use Rattle.entries.proofs.Words.{◌≡◌, ℕ, ◌+◌, ◌-◌, ◌<◌, ◌≤◌, ◌^◌, List, [], ◌∷◌, ◌++◌, length, take, max, slice_get, Some, ap, subst, sym, refl, ◌∙◌, arith, suc, zero, inl, inr, append-nil, append_assoc, get_or_append_left, get_or_past, get_or_at, take_at, same_Some, slice_get_cases, Node, set_at, Ascends, IsSet, set_of, sets_from, sets_of, IsNode, AreNodes, AreSets, IsTop, Extends}
+use Rattle.std.proofs.Common.{length-append, length-take}
+use Rattle.std.proofs.lemmas.List.{take_all}
 
 -- ---- the sets of nodes
 

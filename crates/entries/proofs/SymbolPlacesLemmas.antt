@@ -1,18 +1,5 @@
 -- The symbols of an expression by their keys in order: each run of keys of one symbol is a group of indexes.
-use Rattle.entries.proofs.Words.{◌≡◌, ℕ, suc, ◌+◌, ◌-◌, ◌<◌, ◌≤◌, List, [], ◌∷◌, ◌++◌, length, drop, slice_get, slice_range, Some, refl, ◌∙◌, ap, sym, subst, arith, inl, inr, length-map, length-drop, length-take-le, get_or_from_slice_get, slice_get_within, BufferPart, cut, AreSpansIn}
-use Rattle.std.proofs.Common.{⊎_elim, Contains, IsPermutation, IsSorted, eqb, get_or, map, nat_cmp}
-use Rattle.std.specs.List.{dedup}
-use Rattle.std.proofs.lemmas.Bool.{cases_lt}
-use Rattle.std.proofs.lemmas.List.{get_or-drop, get_or-map, get_or-take, get_or_default}
-use Rattle.std.proofs.lemmas.List.Elements.{Contains-get_or}
-use Rattle.std.proofs.lemmas.List.Kept.{AllPairs-from_increasing, Contains-dedup_nat, Contains-from_dedup}
-use Rattle.std.proofs.lemmas.List.Sorted.{Contains-permutation, IsPermutation-sym}
-use Rattle.std.proofs.lemmas.Map.Keys.{IsStrictlyIncreasing-dedup}
-use Rattle.std.proofs.lemmas.Nat.{div-mul-add, mod-mul-add}
-use Rattle.std.proofs.lemmas.Option.{slice_get-get_or}
-use Rattle.entries.specs.declared.symbol_places.TheConstants.{INDEXES}
-use Rattle.entries.specs.Stored.Keys.{key_of, symbol_of, index_of, AreKeys, AreKeysOf, IsRun, AreRuns}
-use Rattle.entries.specs.SymbolPlaces.{IsGroupOf, AreGroupsFrom, IsGrouped, ArePlacesOf}
+use Rattle.entries.proofs.Words.{◌≡◌, ℕ, suc, ◌+◌, ◌-◌, ◌<◌, ◌≤◌, List, [], ◌∷◌, ◌++◌, length, drop, slice_get, slice_range, Some, refl, ◌∙◌, ap, sym, subst, arith, inl, inr, length-map, length-drop, length-take-le, get_or_from_slice_get, slice_get_within, BufferPart, cut, AreSpansIn, ⊎_elim, Contains, IsPermutation, IsSorted, eqb, get_or, map, nat_cmp, dedup, cases_lt, get_or-drop, get_or-map, get_or-take, get_or_default, Contains-get_or, AllPairs-from_increasing, Contains-dedup_nat, Contains-from_dedup, Contains-permutation, IsPermutation-sym, IsStrictlyIncreasing-dedup, div-mul-add, mod-mul-add, slice_get-get_or, INDEXES, key_of, symbol_of, index_of, AreKeys, AreKeysOf, IsRun, AreRuns, IsGroupOf, AreGroupsFrom, IsGrouped, ArePlacesOf}
 
 -- ---- one key and another
 

@@ -1,14 +1,6 @@
 -- Versions of a stack: one more, the first ones alone, and the one that was valid at a position.
-use Rattle.std.proofs.Common.{◌≡◌, ℕ, zero, suc, ◌+◌, ◌-◌, ◌<◌, ◌≤◌, true, false, nat_eq, nat_lt, cond, List, [], ◌∷◌, ◌++◌, length, map, take, get_or, slice_get, Option, Some, None, SomeIff, refl, ◌∙◌, ap, sym, arith, subst, add-one, append-nil, append_assoc, ⊎_elim, lt-ltb}
-use Rattle.std.proofs.Math.Seq.{take_all}
-use Rattle.std.proofs.lemmas.Bool.{cases_lt}
-use Rattle.std.proofs.lemmas.List.{length-append, length-take, get_or-take, map-append, take-map, get_or_past, take_more}
-use Rattle.std.proofs.lemmas.List.Sorted.{IsNonDecreasingBy-take, IsNonDecreasingBy-push}
-use Rattle.std.proofs.lemmas.Option.{get_or_from_slice_get, slice_get-get_or, slice_get_within}
-use Rattle.std.specs.List.Sorted.{IsPartitionPoint}
-use Rattle.entries.specs.declared.history.Version.{Version}
-use Rattle.entries.specs.Histories.{StackVersion, changed, stack_from, stack_at, is_changed, IsUntil}
-use Rattle.entries.specs.Stored.Versions.{no_version, stacked, stack_of, version_of, versions_behind, versions_of, AreVersions, IsReadable, IsFound}
+use Rattle.entries.proofs.Words.{◌≡◌, ℕ, zero, suc, ◌+◌, ◌-◌, ◌<◌, ◌≤◌, true, false, nat_eq, nat_lt, cond, List, [], ◌∷◌, ◌++◌, length, map, take, get_or, slice_get, Option, Some, None, SomeIff, refl, ◌∙◌, ap, sym, arith, subst, add-one, append-nil, append_assoc, ⊎_elim, take_all, cases_lt, length-append, length-take, get_or-take, map-append, take-map, get_or_past, take_more, IsNonDecreasingBy-take, IsNonDecreasingBy-push, get_or_from_slice_get, slice_get-get_or, slice_get_within, IsPartitionPoint, Version, StackVersion, changed, stack_from, stack_at, is_changed, IsUntil, no_version, stacked, stack_of, version_of, versions_behind, versions_of, AreVersions, IsReadable, IsFound}
+use Rattle.std.proofs.Common.{lt-ltb}
 
 -- ---- as they are decoded
 

@@ -1,12 +1,5 @@
 -- The digits of a number: their value, and the bytes that they are not.
-use Rattle.std.specs.Prelude.{◌≡◌, ℕ, ◌+◌, ◌*◌, ◌/◌, ◌%◌, ◌^◌, ◌<◌, ◌≤◌, ◌==◌, ◌-◌, ◌||◌, Bool, true, false, List, [], ◌∷◌, ◌++◌, decimal, Option, Some, None, if◌then◌else◌, refl}
-use Rattle.std.specs.Char.{is_ascii_digit}
-use Rattle.std.specs.List.{list_any}
-use Rattle.std.proofs.Common.{sym, ◌∙◌, ap, arith, leb, length, append_assoc, append-nil, div-add-mod'}
-use Rattle.std.proofs.lemmas.Bool.{le-leb, lt-ltb, ne_eqb}
-use Rattle.std.proofs.lemmas.Fmt.{decimal_by_steps, decimal_nonempty}
-use Rattle.std.proofs.lemmas.List.Folds.{list_any-append}
-use Rattle.numbers.specs.Numbers.{number_from, number_of}
+use Rattle.event_lines.proofs.Words.{◌≡◌, ℕ, ◌+◌, ◌*◌, ◌/◌, ◌%◌, ◌^◌, ◌<◌, ◌≤◌, ◌==◌, ◌-◌, ◌||◌, Bool, true, false, List, [], ◌∷◌, ◌++◌, decimal, Option, Some, None, if◌then◌else◌, refl, is_ascii_digit, list_any, sym, ◌∙◌, ap, arith, leb, length, append_assoc, append-nil, div-add-mod', le-leb, lt-ltb, ne_eqb, decimal_by_steps, decimal_nonempty, list_any-append, number_from, number_of}
 
 -- a digit
 digit_is : (d : ℕ) → d < 10 → is_ascii_digit (48 + d) ≡ true

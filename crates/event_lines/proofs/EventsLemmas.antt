@@ -1,25 +1,6 @@
 -- A script of the lines of events.
-use Rattle.std.specs.Prelude.{◌≡◌, ℕ, ◌+◌, ◌^◌, ◌<◌, ◌==◌, Bool, true, false, List, [], ◌∷◌, ◌++◌, codes, count_by, decimal, map, flat_map, Some, Result, Ok, refl}
-use Rattle.std.specs.List.{AllByRecursion, list_any}
-use Rattle.std.proofs.Common.{sym, ◌∙◌, ap, arith, length, take, drop, get_or, append_assoc, append-nil, length-append, subst}
-use Rattle.std.proofs.lemmas.List.{take_at, drop_at, get_or_at}
-use Rattle.library.specs.declared.entry.Entry.{Entry}
-use Rattle.library.specs.declared.entry.Entry.TheVariants.{Text, Charter}
-use Rattle.library.specs.Charters.{AreNames}
-use Rattle.library.specs.declared.submission.Submission.{Submission}
-use Rattle.net.specs.declared.event.Event.{Event}
-use Rattle.net.specs.declared.event.Event.TheVariants.{Offer, Begin, Deliver, Restart}
-use Rattle.world.specs.declared.carried.Carried.{Carried}
+use Rattle.event_lines.proofs.Words.{◌≡◌, ℕ, ◌+◌, ◌^◌, ◌<◌, ◌==◌, Bool, true, false, List, [], ◌∷◌, ◌++◌, codes, count_by, decimal, map, flat_map, Some, Result, Ok, refl, AllByRecursion, list_any, sym, ◌∙◌, ap, arith, length, take, drop, get_or, append_assoc, append-nil, length-append, subst, take_at, drop_at, get_or_at, Entry, Text, Charter, AreNames, Submission, Event, Offer, Begin, Deliver, Restart, Carried, PlayLine, Node, split_at, followed, script_from, script_of, with_line, play_line_of, bytes_before, text_passed, bytes_found, bytes_rest, Fits, FitsEntry, FitsText, event_text, events_text, entry_text, offer_text, line_of, led, place_words}
 use Rattle.commands.specs.declared.node_line.NodeLine.TheVariants.{Offer as OfferLine}
-use Rattle.commands.specs.declared.play_line.PlayLine.{PlayLine}
-use Rattle.commands.specs.declared.play_line.PlayLine.TheVariants.{Node}
-use Rattle.commands.specs.Pieces.{split_at}
-use Rattle.commands.specs.Scripts.{followed, script_from, script_of, with_line}
-use Rattle.commands.specs.PlayLines.{play_line_of}
-use Rattle.commands.specs.Texts.{bytes_before}
-use Rattle.commands.proofs.ScriptsLemmas.{text_passed}
-use Rattle.commands.proofs.TextsLemmas.{bytes_found, bytes_rest}
-use Rattle.event_lines.specs.EventLines.{Fits, FitsEntry, FitsText, event_text, events_text, entry_text, offer_text, line_of, led, place_words}
 use Rattle.event_lines.proofs.DecimalLemmas.{without-decimal}
 use Rattle.event_lines.proofs.WordsLemmas.{Without, without-append, without-led, split_before}
 use Rattle.event_lines.proofs.LinesLemmas.{begin_says, restart_says, deliver_says, offer_says, bytes_say, charter_says}

@@ -1,3 +1,4 @@
+pub mod Words
 mod DecimalLemmas
 mod WordsLemmas
 mod LinesLemmas

@@ -1,26 +1,7 @@
 -- What the line of an event says to `play`.
-use Rattle.std.specs.Prelude.{◌≡◌, ℕ, ◌+◌, ◌^◌, ◌<◌, ◌≤◌, ◌==◌, nat_lt, Bool, true, false, ◌&&◌, List, [], ◌∷◌, ◌++◌, codes, decimal, map, Option, Some, None, option_map, option_and_then, if◌then◌else◌, refl}
-use Rattle.std.specs.List.{AllByRecursion, join_with_byte}
-use Rattle.std.proofs.Common.{◌∙◌, ap, arith, length}
-use Rattle.std.proofs.lemmas.Bool.{lt-ltb}
-use Rattle.std.proofs.lemmas.List.Splits.{join_with_byte-slice_split}
-use Rattle.library.specs.declared.charter.TheConstants.{MOST_NAMES}
-use Rattle.library.specs.declared.entry.Entry.TheVariants.{Text, Charter}
-use Rattle.library.specs.Charters.{AreNames, is_rising}
-use Rattle.commands.specs.declared.line_words.EntryAt.{EntryAt}
-use Rattle.commands.specs.declared.offered.Offered.{Offered}
+use Rattle.event_lines.proofs.Words.{◌≡◌, ℕ, ◌+◌, ◌^◌, ◌<◌, ◌≤◌, ◌==◌, nat_lt, Bool, true, false, ◌&&◌, List, [], ◌∷◌, ◌++◌, codes, decimal, map, Option, Some, None, option_map, option_and_then, if◌then◌else◌, refl, AllByRecursion, join_with_byte, ◌∙◌, ap, arith, length, lt-ltb, join_with_byte-slice_split, MOST_NAMES, Text, Charter, AreNames, is_rising, EntryAt, Offered, TextForm, Rest, Bytes, PlayLine, Node, split_at, Words, alone, by_first, node_of, number_at, one_node, one_number, entry_at, stands_alone, are_names, names_of, numbers_of, or_node_line, play_line_by, play_line_of, bytes_before, text_at, led, place_words}
 use Rattle.commands.specs.declared.node_line.NodeLine.TheVariants.{Offer, Begin, Restart}
-use Rattle.commands.specs.declared.text_form.TextForm.{TextForm}
-use Rattle.commands.specs.declared.text_form.TextForm.TheVariants.{Rest, Bytes}
-use Rattle.commands.specs.declared.play_line.PlayLine.{PlayLine}
-use Rattle.commands.specs.declared.play_line.PlayLine.TheVariants.{Node, Deliver}
-use Rattle.commands.specs.Pieces.{split_at}
-use Rattle.commands.specs.LineWords.{Words, alone, by_first, node_of, number_at, one_node, one_number, entry_at}
-use Rattle.commands.specs.NodeLines.{stands_alone}
-use Rattle.commands.specs.Offered.{are_names, names_of, numbers_of}
-use Rattle.commands.specs.PlayLines.{or_node_line, play_line_by, play_line_of}
-use Rattle.commands.specs.Texts.{bytes_before, text_at}
-use Rattle.event_lines.specs.EventLines.{led, place_words}
+use Rattle.commands.specs.declared.play_line.PlayLine.TheVariants.{Deliver}
 use Rattle.event_lines.proofs.DecimalLemmas.{number_of-decimal}
 use Rattle.event_lines.proofs.WordsLemmas.{Without, split_words, split_text}
 

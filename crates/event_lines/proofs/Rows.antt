@@ -1,10 +1,5 @@
 -- The lines of small events.
-use Rattle.std.specs.Prelude.{◌≡◌, [], ◌∷◌, codes, decimal, refl}
-use Rattle.std.proofs.Common.{arith}
-use Rattle.std.proofs.lemmas.Fmt.{decimal_digit}
-use Rattle.library.specs.declared.entry.Entry.TheVariants.{Text, Charter}
-use Rattle.net.specs.declared.event.Event.TheVariants.{Offer, Begin, Deliver, Restart}
-use Rattle.event_lines.specs.EventLines.{event_text}
+use Rattle.event_lines.proofs.Words.{◌≡◌, [], ◌∷◌, codes, decimal, refl, arith, decimal_digit, Text, Charter, Offer, Begin, Deliver, Restart, event_text}
 
 one : decimal 1 ≡ codes "1"
 one = decimal_digit 1 (omega arith)

@@ -1,12 +1,5 @@
 -- Lines made of words, and the words that they are read as.
-use Rattle.std.specs.Prelude.{◌≡◌, ℕ, ◌==◌, Bool, true, false, ◌||◌, List, [], ◌∷◌, ◌++◌, codes, flat_map, refl}
-use Rattle.std.specs.List.{AllByRecursion, list_any, onto_first, slice_split}
-use Rattle.std.proofs.Common.{sym, ◌∙◌, ap, append_assoc, append-nil}
-use Rattle.std.proofs.lemmas.Bool.{eq-eqb}
-use Rattle.std.proofs.lemmas.List.Folds.{list_any-append}
-use Rattle.std.proofs.lemmas.List.Splits.{slice_split-cons_yes, slice_split-cons_no}
-use Rattle.commands.specs.Pieces.{split_at}
-use Rattle.event_lines.specs.EventLines.{led, led_word}
+use Rattle.event_lines.proofs.Words.{◌≡◌, ℕ, ◌==◌, Bool, true, false, ◌||◌, List, [], ◌∷◌, ◌++◌, codes, flat_map, refl, AllByRecursion, list_any, onto_first, slice_split, sym, ◌∙◌, ap, append_assoc, append-nil, eq-eqb, list_any-append, slice_split-cons_yes, slice_split-cons_no, split_at, led, led_word}
 
 -- the byte is not in the text
 abbrev pub Without : ℕ → List ℕ → Type 0

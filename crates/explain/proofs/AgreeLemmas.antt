@@ -1,8 +1,5 @@
 -- An expression with the images put in, against symbols that stand.
-use Rattle.std.proofs.Common.{◌≡◌, ℕ, zero, suc, ◌+◌, ◌<◌, List, [], ◌∷◌, ◌++◌, length, take, drop, get_or, refl, sym, ◌∙◌, ap, arith, append_assoc, append-nil, add-one}
-use Rattle.std.proofs.Math.Seq.{drop-cons}
-use Rattle.std.proofs.lemmas.List.{append_cancel_left}
-use Rattle.frame.specs.Substitution.{CodeImages, code_image, code_apply}
+use Rattle.explain.proofs.Words.{◌≡◌, ℕ, zero, suc, ◌+◌, ◌<◌, List, [], ◌∷◌, ◌++◌, length, take, drop, get_or, refl, sym, ◌∙◌, ap, arith, append_assoc, append-nil, add-one, drop-cons, append_cancel_left, CodeImages, code_image, code_apply}
 
 apply-front : (σ : CodeImages) (e : List ℕ) (i : ℕ) → code_apply σ e ≡ code_apply σ (take i e) ++ code_apply σ (drop i e)
 apply-front σ e zero = refl

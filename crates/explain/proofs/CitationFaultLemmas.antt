@@ -1,31 +1,9 @@
 -- Hypotheses that require other results.
-use Rattle.std.proofs.Common.{◌≡◌, ℕ, ◌+◌, ◌<◌, List, [], ◌∷◌, ◌++◌, length, take, get_or, map, refl, sym, ◌∙◌, ap, subst, add-one, Some, slice_get}
-use Rattle.std.specs.Borrow.{Bor}
-use Rattle.std.specs.Global.{Vec}
-use Rattle.std.proofs.Math.Seq.{take-suc}
-use Rattle.std.proofs.lemmas.Option.{slice_get-get_or, slice_get_read}
-use Rattle.std.proofs.lemmas.List.{take-map, map_push}
-use Rattle.mm_lex.specs.Alphabet.{Name}
-use Rattle.mm_read.specs.declared.stmt.Stmt.{Stmt}
+use Rattle.explain.proofs.Words.{◌≡◌, ℕ, ◌+◌, ◌<◌, List, [], ◌∷◌, ◌++◌, length, take, get_or, map, refl, sym, ◌∙◌, ap, subst, add-one, Some, slice_get, Bor, Vec, take-suc, slice_get-get_or, slice_get_read, take-map, map_push, Name, Stmt, Database, Expr, stmt_at, expr_of, name_at, decode, AreDistinct, Hypothesis, AreBelow, IsRequired, IsOf, IsTypecode, expr_at, option_expr, Fault, Unknown, Inactive, Later, Few, Constant, Expression, Together, Heavy, Unmarked, named, before, hypotheses, images_read, named_images, AreVariables, asks, AllFit, IsOther, BeginsOther, IsOtherConstant, StartsOther, IsFloat, IsSaid, IsMismatch, map-at, name_at-injective, decode-injective}
 use Rattle.mm_read.specs.declared.stmt.Stmt.TheVariants as stmt
-use Rattle.mm_read.specs.Statements.{Database, Expr}
-use Rattle.scope.specs.Active.{stmt_at, expr_of}
-use Rattle.names.specs.Codes.{name_at, decode, AreDistinct}
-use Rattle.entries.specs.declared.assertion_view.Hypothesis.{Hypothesis}
 use Rattle.entries.specs.declared.assertion_view.Hypothesis.TheVariants as hypothesis
-use Rattle.frame.specs.Below.{AreBelow}
-use Rattle.frame.specs.AssertionView.{IsRequired, IsOf, IsTypecode}
 use Rattle.frame.specs.Substitution.{Images, CodeImages, code_apply, apply as applied}
-use Rattle.frame.specs.Citations.{expr_at, option_expr}
-use Rattle.explain.specs.declared.reason.Fault.{Fault}
-use Rattle.explain.specs.declared.reason.Fault.TheVariants.{Unknown, Inactive, Later, Few, Constant, Expression, Together, Heavy, Unmarked}
-use Rattle.explain.specs.Stored.Vectors.{named}
-use Rattle.scope.specs.Active.{before}
-use Rattle.frame.specs.FrameOf.{hypotheses}
-use Rattle.explain.specs.ReadImages.{images_read, named_images, AreVariables}
-use Rattle.explain.specs.CitationFaults.{asks, AllFit, IsOther, BeginsOther, IsOtherConstant, StartsOther, IsFloat, IsSaid, IsMismatch}
 use Rattle.explain.proofs.NamedLemmas.{apply_same}
-use Rattle.frame.proofs.FoundByNumber.{map-at, name_at-injective, decode-injective}
 
 -- the expression of the statement that stands there
 pub expr_is : (S : Database) (p : ℕ) (s : Stmt) → stmt_at S p ≡ Some s → expr_at S p ≡ expr_of s

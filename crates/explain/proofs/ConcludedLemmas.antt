@@ -1,20 +1,6 @@
 -- The outcome of a citation, from its parts.
-use Rattle.std.proofs.Common.{◌≡◌, ℕ, List, length, sym, ◌∙◌, ap, subst, true}
-use Rattle.std.proofs.lemmas.List.{length-map}
-use Rattle.mm_lex.specs.Alphabet.{Name}
-use Rattle.mm_read.specs.declared.stmt.Stmt.{Stmt}
-use Rattle.mm_read.specs.Statements.{Database, Expr}
-use Rattle.names.specs.Codes.{name_at, decode, AreDistinct}
-use Rattle.frame.specs.Below.{AreBelow}
+use Rattle.explain.proofs.Words.{◌≡◌, ℕ, List, length, sym, ◌∙◌, ap, subst, true, length-map, Name, Stmt, Database, Expr, name_at, decode, AreDistinct, AreBelow, are_groups_disjoint, DisjointViolation, Fault, Unknown, Inactive, Later, Few, Constant, Expression, Together, Heavy, Unmarked, named_images, AreVariables, IsViolation, IsMismatch, IsWrong}
 use Rattle.frame.specs.Substitution.{Images, CodeImages, code_apply, apply as applied}
-use Rattle.frame.specs.Disjoint.{are_groups_disjoint}
-use Rattle.explain.specs.declared.violation.DisjointViolation.{DisjointViolation}
-use Rattle.explain.specs.declared.reason.Fault.{Fault}
-use Rattle.explain.specs.declared.reason.Fault.TheVariants.{Unknown, Inactive, Later, Few, Constant, Expression, Together, Heavy, Unmarked}
-use Rattle.explain.specs.ReadImages.{named_images, AreVariables}
-use Rattle.explain.specs.DisjointViolations.{IsViolation}
-use Rattle.explain.specs.CitationFaults.{IsMismatch}
-use Rattle.explain.specs.Concluded.{IsWrong}
 use Rattle.explain.proofs.NamedLemmas.{apply_same}
 
 -- a mismatch is wrong

@@ -1,17 +1,5 @@
 -- Pairs of variables whose images are disjoint.
-use Rattle.std.proofs.Common.{◌≡◌, ℕ, zero, suc, Bool, true, false, not, ◌&&◌, ◌||◌, if◌then◌else◌, List, [], ◌∷◌, ◌++◌, sym, ◌∙◌, ap, subst, Some, slice_get, ◌⊎◌, inl, inr, refl}
-use Rattle.std.specs.List.{list_any}
-use Rattle.std.proofs.Math.Bool.{and_comm}
-use Rattle.mm_lex.specs.Alphabet.{Name, name_eq, has_name}
-use Rattle.mm_read.specs.Statements.{Expr, Database}
-use Rattle.names.specs.Codes.{name_at}
-use Rattle.names.proofs.CodesLemmas.{name_eq-comm}
-use Rattle.frame.specs.Substitution.{Images, image}
-use Rattle.frame.specs.Disjoint.{are_disjoint}
-use Rattle.frame.specs.FrameOf.{is_pair, groups}
-use Rattle.frame.proofs.ActiveDisjointLemmas.{disjoint-from, pair_at}
-use Rattle.explain.specs.declared.disjoint_pairs.VariablePair.{VariablePair}
-use Rattle.explain.specs.Stored.DisjointPairs.{IsDisjointPair, AreDisjointPairs, IsPairOf, IsPairAt}
+use Rattle.explain.proofs.Words.{◌≡◌, ℕ, zero, suc, Bool, true, false, not, ◌&&◌, ◌||◌, if◌then◌else◌, List, [], ◌∷◌, ◌++◌, sym, ◌∙◌, ap, subst, Some, slice_get, ◌⊎◌, inl, inr, refl, list_any, and_comm, Name, name_eq, has_name, Expr, Database, name_at, name_eq-comm, Images, image, are_disjoint, is_pair, groups, disjoint-from, pair_at, VariablePair, IsDisjointPair, AreDisjointPairs, IsPairOf, IsPairAt}
 
 any-same : {A : Type 0} (p q : A → Bool) (xs : List A) → ((x : A) → p x ≡ q x) → list_any p xs ≡ list_any q xs
 any-same p q [] h = refl

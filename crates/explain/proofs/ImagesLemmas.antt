@@ -1,19 +1,6 @@
 -- The image of a symbol, by the first entry for it, and the symbols of images.
-use Rattle.std.proofs.Common.{◌≡◌, ℕ, suc, ◌+◌, ◌<◌, Bool, true, false, cond, List, [], ◌∷◌, ◌++◌, length, drop, take, get_or, arith, refl, sym, ◌∙◌, ap, subst, Option, None, Some, Ordering, Less, Equal, Greater, slice_get, ⊎_elim, take-append-drop, append-nil, length-append, Bor, IfSome, IfNone, IfOk, Result, Ok, Err}
-use Rattle.std.specs.Prelude.{nat_eq, bytes_eq, MatchOption, ◌==◌, ◌↔◌}
-use Rattle.std.specs.Ordering.{MatchOrdering, nat_cmp, is_eq}
-use Rattle.std.proofs.lemmas.Cmp.{ranked}
-use Rattle.std.proofs.lemmas.Bool.{both_ways, cases_eq, eqb-true, eq-eqb}
-use Rattle.std.proofs.lemmas.Slice.Eq.{bytes_eq-Decides}
-use Rattle.std.proofs.lemmas.Option.{get_or_from_slice_get, slice_get-get_or}
-use Rattle.std.proofs.Math.Seq.{drop-cons}
-use Rattle.std.proofs.Math.Seq.{take-append_seam}
-use Rattle.frame.specs.Below.{AreBelow}
-use Rattle.frame.specs.Substitution.{code_image, code_apply}
-use Rattle.frame.proofs.SymbolNumberLemmas.{below-append}
-use Rattle.explain.specs.declared.named_images.Image.{Image}
-use Rattle.explain.specs.ImagePlaces.{IsPlaced}
-use Rattle.explain.specs.Stored.Vectors.{code_images, AreImages}
+use Rattle.explain.proofs.Words.{◌≡◌, ℕ, suc, ◌+◌, ◌<◌, Bool, true, false, cond, List, [], ◌∷◌, ◌++◌, length, drop, take, get_or, arith, refl, sym, ◌∙◌, ap, subst, Option, None, Some, Ordering, Less, Equal, Greater, slice_get, ⊎_elim, take-append-drop, append-nil, length-append, IfSome, IfNone, IfOk, Result, Ok, Err, nat_eq, bytes_eq, MatchOption, ◌==◌, ◌↔◌, MatchOrdering, nat_cmp, is_eq, ranked, both_ways, cases_eq, eqb-true, eq-eqb, bytes_eq-Decides, get_or_from_slice_get, slice_get-get_or, drop-cons, take-append_seam, AreBelow, code_image, code_apply, below-append, Image, IsPlaced, code_images, AreImages}
+use Rattle.std.proofs.Common.{Bor}
 
 -- ---- the index of the first image for each variable
 

@@ -1,29 +1,7 @@
 -- What a citation gives, and what wrong results are.
-use Rattle.std.proofs.Common.{◌≡◌, ℕ, zero, suc, ◌+◌, ◌-◌, ◌<◌, ◌≤◌, Bool, true, List, [], ◌∷◌, ◌++◌, length, take, drop, arith, refl, sym, ◌∙◌, ap, subst, Some, None, Option, slice_get, IfOk, MatchOption, Result, Ok, Err, length-take, length-drop, take_all, ◌&&◌}
-use Rattle.std.specs.declared.alloc.AllocError.{AllocError}
-use Rattle.std.specs.Prelude.{IsTrue}
-use Rattle.std.specs.Global.{Vec}
-use Rattle.std.specs.List.{list_all}
-use Rattle.std.proofs.lemmas.List.{length-map}
-use Rattle.std.proofs.lemmas.Option.{same_Some}
-use Rattle.mm_lex.specs.Alphabet.{Name}
-use Rattle.mm_read.specs.declared.stmt.Stmt.{Stmt}
+use Rattle.explain.proofs.Words.{◌≡◌, ℕ, zero, suc, ◌+◌, ◌-◌, ◌<◌, ◌≤◌, Bool, true, List, [], ◌∷◌, ◌++◌, length, take, drop, arith, refl, sym, ◌∙◌, ap, subst, Some, None, Option, slice_get, IfOk, MatchOption, Result, Ok, Err, length-take, length-drop, take_all, ◌&&◌, AllocError, IsTrue, Vec, list_all, length-map, same_Some, Name, Stmt, Database, Expr, stmt_at, before, expr_of, is_variable, is_assertion, name_at, decode, hypotheses, HasAssertion, IsHypothesis, Fault, Unknown, Inactive, Later, Few, Constant, Expression, Together, Heavy, Unmarked, named, image_at, images_read, AreTaken, images_of, IsWrong, Gives, of_assertion, State, FailsAt, SYMBOLS_LIMIT}
 use Rattle.mm_read.specs.declared.stmt.Stmt.TheVariants as stmt
-use Rattle.mm_read.specs.Statements.{Database, Expr}
-use Rattle.scope.specs.Active.{stmt_at, before, expr_of, is_variable, is_assertion}
-use Rattle.names.specs.Codes.{name_at, decode}
-use Rattle.frame.specs.FrameOf.{hypotheses, HasAssertion}
 use Rattle.frame.specs.Substitution.{apply as applied}
-use Rattle.frame.specs.Citations.{IsHypothesis}
-use Rattle.explain.specs.declared.reason.Fault.{Fault}
-use Rattle.explain.specs.declared.reason.Fault.TheVariants.{Unknown, Inactive, Later, Few, Constant, Expression, Together, Heavy, Unmarked}
-use Rattle.explain.specs.Stored.Vectors.{named}
-use Rattle.explain.specs.ReadImages.{image_at, images_read}
-use Rattle.explain.specs.Concluded.{AreTaken, images_of, IsWrong}
-use Rattle.explain.specs.Explained.{Gives, of_assertion}
-use Rattle.verify.specs.Machine.{State}
-use Rattle.explain.specs.FirstFault.{FailsAt}
-use Rattle.subst.specs.declared.buffer.TheConstants.{SYMBOLS_LIMIT}
 
 -- the images are images of variables
 variables_are : (S : Database) (V : Name → Bool) (ps : List ℕ) (rs : List Expr)

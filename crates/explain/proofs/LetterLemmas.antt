@@ -1,23 +1,6 @@
 -- Letters read up to one of them, and what the next one does.
-use Rattle.std.specs.Prelude.{◌≡◌, ◌≢◌, ℕ, ◌+◌, ◌-◌, ◌*◌, ◌<◌, ◌≤◌, Bool, true, false, ◌&&◌, nat_le, List, [], ◌∷◌, ◌++◌, length, Some, slice_get, refl}
-use Rattle.std.specs.Option.{option_map}
-use Rattle.std.proofs.Common.{sym, ◌∙◌, ap, subst, arith, append_assoc, append-nil, length-append, inl, inr}
-use Rattle.std.proofs.lemmas.List.Folds.{list_all-append}
-use Rattle.std.proofs.lemmas.Bool.{or_left, or_right, le-leb}
-use Rattle.mm_lex.specs.Alphabet.{Name}
-use Rattle.proof_code.specs.declared.item.Item.{Item}
-use Rattle.proof_code.specs.Letters.{IsNumber, is_first, is_last, number_from}
-use Rattle.proof_code.specs.ItemNumbers.{items_of}
-use Rattle.proof_code.specs.Reading.{before_rest}
-use Rattle.proof_code.specs.Text.{numbers_from, starts_with_mark}
-use Rattle.proof_code.specs.Writes.{WritesRow}
-use Rattle.proof_code.proofs.LettersLemmas.{is_first-true, number_of-placed, placed-number_of, first_bounds, last_bounds, is_first-false, is_last-true}
-use Rattle.proof_code.proofs.LetterItemLemmas.{WritesRow-read}
-use Rattle.explain.specs.declared.why.LetterBreak.{LetterBreak}
-use Rattle.explain.specs.declared.why.LetterFault.{LetterFault}
-use Rattle.explain.specs.Breaks.{marks_in, IsEnd, place_in, IsAllowed, IsOther, IsOver, BeginsWith, Breaks, IsLetterBreak}
-use Rattle.explain.specs.LettersBefore.{zeros, IsReadTo}
-use Rattle.proof_code.proofs.ReadProofLemmas.{before-none}
+use Rattle.explain.proofs.Words.{◌≡◌, ◌≢◌, ℕ, ◌+◌, ◌-◌, ◌*◌, ◌<◌, ◌≤◌, Bool, true, false, ◌&&◌, nat_le, List, [], ◌∷◌, ◌++◌, length, Some, slice_get, refl, option_map, sym, ◌∙◌, ap, subst, arith, append_assoc, append-nil, length-append, inl, inr, list_all-append, or_left, or_right, le-leb, Name, Item, IsNumber, is_first, is_last, number_from, items_of, before_rest, numbers_from, starts_with_mark, WritesRow, is_first-true, number_of-placed, placed-number_of, first_bounds, last_bounds, is_first-false, is_last-true, WritesRow-read, LetterBreak, LetterFault, marks_in, IsEnd, place_in, IsAllowed, IsOver, BeginsWith, Breaks, IsLetterBreak, zeros, IsReadTo, before-none}
+use Rattle.explain.specs.Breaks.{IsOther}
 use Rattle.explain.proofs.LetterNumberLemmas.{at-append, not-empty, marks-zeros, zeros-number, zeros-mark, before-push, over, last-over, zero-or}
 
 -- ---- nothing read yet

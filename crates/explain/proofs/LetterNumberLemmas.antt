@@ -1,16 +1,5 @@
 -- Numbers of letters, marks among numbers, and letters by their bounds.
-use Rattle.std.specs.Prelude.{◌≡◌, ◌≢◌, ◌⊎◌, ℕ, zero, suc, ◌+◌, ◌-◌, ◌*◌, ◌<◌, ◌≤◌, Bool, true, false, cond, ◌&&◌, nat_lt, List, [], ◌∷◌, ◌++◌, length, Option, Some, None, slice_get, slice_index_or, refl}
-use Rattle.std.specs.Option.{option_map}
-use Rattle.std.proofs.Common.{sym, ◌∙◌, ap, arith, append_assoc, inl, inr}
-use Rattle.std.proofs.lemmas.Option.{none-some, same_Some}
-use Rattle.mm_lex.specs.Alphabet.{Name, is_empty}
-use Rattle.proof_code.specs.declared.item.Item.TheVariants.{Cite, Recall}
-use Rattle.proof_code.specs.Letters.{is_first, is_last, number_from}
-use Rattle.proof_code.specs.ItemNumbers.{items_of}
-use Rattle.proof_code.specs.Reading.{before_rest}
-use Rattle.proof_code.proofs.LettersLemmas.{last_bounds}
-use Rattle.explain.specs.Breaks.{marks_in}
-use Rattle.explain.specs.LettersBefore.{zeros}
+use Rattle.explain.proofs.Words.{◌≡◌, ◌≢◌, ◌⊎◌, ℕ, zero, suc, ◌+◌, ◌-◌, ◌*◌, ◌<◌, ◌≤◌, Bool, true, false, cond, ◌&&◌, nat_lt, List, [], ◌∷◌, ◌++◌, length, Option, Some, None, slice_get, slice_index_or, refl, option_map, sym, ◌∙◌, ap, arith, append_assoc, inl, inr, none-some, same_Some, Name, is_empty, Cite, Recall, is_first, is_last, number_from, items_of, before_rest, last_bounds, marks_in, zeros}
 
 -- ---- lists
 

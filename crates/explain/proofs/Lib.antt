@@ -1,3 +1,4 @@
+pub mod Words
 pub mod MandatoryLabelLemmas
 pub mod ReadItemsLemmas
 pub mod LetterNumberLemmas

@@ -1,18 +1,6 @@
 -- The labels of the mandatory hypotheses.
-use Rattle.std.specs.Prelude.{◌≡◌, ℕ, zero, suc, ◌+◌, ◌<◌, ◌≤◌, List, [], ◌∷◌, ◌++◌, length, map, take, get_or, Some, unwrap_or, refl}
-use Rattle.std.proofs.Common.{sym, ◌∙◌, ap, subst, arith}
-use Rattle.std.proofs.lemmas.List.{map_more, length-map}
-use Rattle.mm_lex.specs.Alphabet.{Name}
-use Rattle.mm_read.specs.declared.stmt.Stmt.{Stmt}
-use Rattle.mm_read.specs.Statements.{Database}
-use Rattle.scope.specs.Active.{before, stmt_at, label_of}
-use Rattle.scope.proofs.StatementPlaces.{stands-within}
-use Rattle.frame.specs.FrameOf.{hypotheses}
-use Rattle.verify.specs.Proves.{mandatory_labels, label_or_none}
-use Rattle.verify.specs.Right.{IsProvable}
-use Rattle.verify.specs.declared.label_table.LabelEntry.TheVariants.{Hypothesis, Nothing}
-use Rattle.verify.specs.LabelTable.{IsEntry}
-use Rattle.verify.proofs.MandatoryEntries.{mandatory-entries}
+use Rattle.explain.proofs.Words.{◌≡◌, ℕ, zero, suc, ◌+◌, ◌<◌, ◌≤◌, List, [], ◌∷◌, ◌++◌, length, map, take, get_or, Some, unwrap_or, refl, sym, ◌∙◌, ap, subst, arith, map_more, length-map, Name, Stmt, Database, before, stmt_at, label_of, stands-within, hypotheses, mandatory_labels, label_or_none, IsProvable, Nothing, IsEntry, mandatory-entries}
+use Rattle.verify.specs.declared.label_table.LabelEntry.TheVariants.{Hypothesis}
 
 get-map : (ps : List ℕ) (k d : ℕ) → k < length ps → get_or (map Hypothesis ps) k Nothing ≡ Hypothesis (get_or ps k d)
 get-map [] k d h = absurd (omega (arith, h))

@@ -1,23 +1,6 @@
 -- Images by number and images of names.
-use Rattle.std.proofs.Common.{◌≡◌, ℕ, zero, suc, ◌+◌, ◌<◌, Bool, true, false, cond, List, [], ◌∷◌, ◌++◌, length, drop, get_or, map, arith, refl, sym, ◌∙◌, ap, add-one, append_assoc, Some}
-use Rattle.std.specs.Prelude.{nat_eq}
-use Rattle.std.specs.Borrow.{Bor}
-use Rattle.mm_lex.specs.Alphabet.{Name, name_eq}
-use Rattle.mm_read.specs.declared.stmt.Stmt.{Stmt}
+use Rattle.explain.proofs.Words.{◌≡◌, ℕ, zero, suc, ◌+◌, ◌<◌, Bool, true, false, cond, List, [], ◌∷◌, ◌++◌, length, drop, get_or, map, arith, refl, sym, ◌∙◌, ap, add-one, append_assoc, Some, nat_eq, Bor, Name, name_eq, Stmt, Database, stmt_at, name_at, decode, AreDistinct, Hypothesis, Float, Essential, AreBelow, AreRequired, IsOf, CodeImages, code_image, code_apply, image, apply, same-number, Image, codes, code_images, named, image_at, images_read, code_at, codes_read, named_images, AreVariables, decode-append}
 use Rattle.mm_read.specs.declared.stmt.Stmt.TheVariants as stmt
-use Rattle.mm_read.specs.Statements.{Database}
-use Rattle.scope.specs.Active.{stmt_at}
-use Rattle.names.specs.Codes.{name_at, decode, AreDistinct}
-use Rattle.entries.specs.declared.assertion_view.Hypothesis.{Hypothesis}
-use Rattle.entries.specs.declared.assertion_view.Hypothesis.TheVariants.{Float, Essential}
-use Rattle.frame.specs.Below.{AreBelow}
-use Rattle.frame.specs.AssertionView.{AreRequired, IsOf}
-use Rattle.frame.specs.Substitution.{CodeImages, code_image, code_apply, image, apply}
-use Rattle.frame.proofs.KindWalk.{same-number}
-use Rattle.explain.specs.declared.named_images.Image.{Image}
-use Rattle.explain.specs.Stored.Vectors.{codes, code_images, named}
-use Rattle.explain.specs.ReadImages.{image_at, images_read, code_at, codes_read, named_images, AreVariables}
-use Rattle.subst.proofs.SubstitutionLemmas.{decode-append}
 
 decode-drop : (names : List Name) (e : List ℕ) → decode names (drop 1 e) ≡ drop 1 (decode names e)
 decode-drop names [] = refl

@@ -1,12 +1,5 @@
 -- From the result of a reader of proof code to the items that the tokens write.
-use Rattle.std.specs.Prelude.{◌≡◌, ◌⊎◌, ◌↔◌, true, IsTrue, List, Option, Some, None, Result, Ok, Err, IfOk, MatchOption}
-use Rattle.std.proofs.Common.{subst, inl, inr}
-use Rattle.mm_lex.specs.Alphabet.{Name}
-use Rattle.proof_code.specs.declared.item.Item.{Item}
-use Rattle.proof_code.specs.declared.fault.CodeFault.{CodeFault}
-use Rattle.proof_code.specs.declared.fault.CodeFault.TheVariants.{Unfinished, Malformed}
-use Rattle.proof_code.specs.Writes.{Writes, WritesPacked, IsMalformed, is_compressed, is_unfinished}
-use Rattle.proof_code.proofs.OneList.{one_answer, malformed-none}
+use Rattle.explain.proofs.Words.{◌≡◌, ◌⊎◌, ◌↔◌, true, IsTrue, List, Option, Some, None, Result, Ok, Err, IfOk, MatchOption, subst, inl, inr, Name, Item, CodeFault, Unfinished, Malformed, Writes, WritesPacked, IsMalformed, is_compressed, is_unfinished, one_answer, malformed-none}
 
 abbrev Found : List Name → List Name → Option (List Item) → Type 0
 Found tokens mandatory found = MatchOption found ((other : List Item) → ¬ Writes tokens mandatory other) (λ items. Writes tokens mandatory items)

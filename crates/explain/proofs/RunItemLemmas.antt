@@ -1,25 +1,7 @@
 -- One item that cannot be done.
-use Rattle.std.proofs.Common.{◌≡◌, ℕ, zero, suc, ◌+◌, ◌-◌, ◌<◌, ◌≤◌, cond, List, [], ◌∷◌, ◌++◌, length, take, get_or, arith, refl, sym, ◌∙◌, ap, subst, Some, None, Option, slice_get, IfOk, MatchOption, Result, Ok, Err, add-one}
-use Rattle.std.specs.Global.{Vec}
-use Rattle.mm_lex.specs.Alphabet.{Name}
-use Rattle.mm_read.specs.declared.stmt.Stmt.{Stmt}
-use Rattle.mm_read.specs.Statements.{Database, Expr}
-use Rattle.names.specs.Codes.{decode, AreDistinct}
-use Rattle.frame.specs.Citations.{Carries}
-use Rattle.frame.specs.AtPosition.{IsPosition, ArePositions}
-use Rattle.proof_code.specs.declared.item.Item.{Item}
-use Rattle.proof_code.specs.declared.item.Item.TheVariants.{Cite, Recall, Mark}
-use Rattle.proof_code.specs.ItemNumbers.{item_of, items_of}
-use Rattle.explain.specs.declared.reason.Fault.{Fault}
-use Rattle.explain.specs.declared.reason.Fault.TheVariants.{Unknown, Inactive, Later, Few, Constant, Expression, Together, Heavy, Unmarked}
-use Rattle.explain.specs.FirstFault.{FailsAt, FailsCited, Fails}
-use Rattle.explain.specs.Explained.{Gives, of_hypothesis, of_assertion}
+use Rattle.explain.proofs.Words.{◌≡◌, ℕ, zero, suc, ◌+◌, ◌-◌, ◌<◌, ◌≤◌, cond, List, [], ◌∷◌, ◌++◌, length, take, get_or, arith, refl, sym, ◌∙◌, ap, subst, Some, None, Option, slice_get, IfOk, MatchOption, Result, Ok, Err, add-one, Vec, Name, Stmt, Database, Expr, decode, AreDistinct, Carries, IsPosition, ArePositions, Item, Cite, Recall, Mark, item_of, items_of, Fault, Unknown, Inactive, Later, Few, Constant, Expression, Together, Heavy, Unmarked, FailsAt, FailsCited, Fails, Gives, of_hypothesis, of_assertion, take_more, slice_get-map, SYMBOLS_LIMIT, lt-ltb, le-ltb, stmt_at, same_Some}
 use Rattle.verify.specs.Machine.{State, Cites, of_hypothesis as cites_hypothesis, of_assertion as cites_assertion, Steps, with_result, with_mark}
-use Rattle.verify.proofs.Words.{take_more, take_all, length-append, length-map, option_map, slice_get-get_or, slice_get-map, slice_get_within}
-use Rattle.subst.specs.declared.buffer.TheConstants.{SYMBOLS_LIMIT}
-use Rattle.std.proofs.lemmas.Bool.{lt-ltb, le-ltb}
-use Rattle.scope.specs.Active.{stmt_at}
-use Rattle.std.proofs.lemmas.Option.{same_Some}
+use Rattle.verify.proofs.Words.{take_all, length-append, length-map, option_map, slice_get-get_or, slice_get_within}
 
 -- ---- positions of labels
 

@@ -1,31 +1,11 @@
 -- Where the run over the items stops, as the first fault.
-use Rattle.std.specs.Prelude.{nat_lt}
-use Rattle.std.proofs.lemmas.Bool.Decides.{nat_tests}
-use Rattle.std.proofs.Common.{◌≡◌, ◌≢◌, Bool, true, false, ℕ, zero, suc, ◌+◌, ◌-◌, ◌<◌, ◌≤◌, List, [], ◌∷◌, ◌++◌, length, map, take, drop, get_or, arith, refl, sym, ◌∙◌, ap, subst, Option, Some, None, slice_get, length-drop}
-use Rattle.std.specs.Global.{Vec}
-use Rattle.mm_lex.specs.Alphabet.{Name}
-use Rattle.mm_read.specs.declared.stmt.Stmt.{Stmt}
-use Rattle.mm_read.specs.Statements.{Database, Expr}
-use Rattle.names.specs.Codes.{decode}
-use Rattle.scope.specs.Active.{stmt_at, expr_of}
-use Rattle.frame.specs.Citations.{Carries}
-use Rattle.proof_code.specs.declared.item.Item.{Item}
-use Rattle.proof_code.specs.declared.item.Item.TheVariants.{Cite, Recall, Mark}
-use Rattle.proof_code.specs.ItemNumbers.{item_of, items_of}
-use Rattle.explain.specs.declared.reason.Fault.{Fault}
-use Rattle.explain.specs.declared.reason.Fault.TheVariants.{Heavy, Unmarked, Unknown}
-use Rattle.explain.specs.declared.reason.Reason.{Reason}
+use Rattle.explain.proofs.Words.{nat_lt, nat_tests, ◌≡◌, ◌≢◌, Bool, true, false, ℕ, zero, suc, ◌+◌, ◌-◌, ◌<◌, ◌≤◌, List, [], ◌∷◌, ◌++◌, length, map, take, drop, get_or, arith, refl, sym, ◌∙◌, ap, subst, Option, Some, None, slice_get, length-drop, Vec, Name, Stmt, Database, Expr, decode, stmt_at, expr_of, Carries, Item, Cite, Recall, Mark, item_of, items_of, Fault, Heavy, Unmarked, Unknown, Reason, Gives, Fails, RunsWell, IsFirstFault, IsPosition, ArePositions, behind, Results, State, start, IsSaved, Runs, IsStopped, item-cite, get_or_default, same_Some, SYMBOLS_LIMIT}
 use Rattle.explain.specs.declared.reason.Reason.TheVariants as reason
-use Rattle.explain.specs.Explained.{Gives}
-use Rattle.explain.specs.FirstFault.{Fails, RunsWell, IsFirstFault, IsEnd}
+use Rattle.explain.specs.FirstFault.{IsEnd}
 use Rattle.explain.proofs.RunItemLemmas.{mark_fails, recall_heavy, cite_stuck, recall_item, what_is, found-at}
-use Rattle.frame.specs.AtPosition.{IsPosition, ArePositions}
-use Rattle.verify.specs.StepsByNumber.{behind, named}
-use Rattle.verify.specs.Machine.{Results, State, start, IsSaved, Runs}
-use Rattle.verify.specs.Stops.{IsOther, IsStopped}
-use Rattle.verify.proofs.Words.{take_all, length-map, slice_get-get_or, slice_get_within, item-cite, get_or_default}
-use Rattle.std.proofs.lemmas.Option.{same_Some}
-use Rattle.subst.specs.declared.buffer.TheConstants.{SYMBOLS_LIMIT}
+use Rattle.verify.specs.StepsByNumber.{named}
+use Rattle.verify.specs.Stops.{IsOther}
+use Rattle.verify.proofs.Words.{take_all, length-map, slice_get-get_or, slice_get_within}
 
 module _ (S : Database) (names : List Name) (at : ℕ) (items : List Item) (k labels : ℕ) (st : Results ℕ) (stopped : IsStopped S at names items k labels st) where
   -- the results before it, by name

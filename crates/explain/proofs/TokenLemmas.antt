@@ -1,17 +1,6 @@
 -- Tokens that write no items.
-use Rattle.std.specs.Prelude.{◌≡◌, ℕ, ◌+◌, Bool, true, false, not, bytes_eq, ◌||◌, List, [], ◌∷◌, ◌++◌, length, map, refl}
-use Rattle.std.specs.List.{list_all, list_any}
-use Rattle.std.proofs.Common.{sym, ◌∙◌, ap, subst, arith, append_assoc, append-nil, length-append, inl, inr, true≢false}
-use Rattle.std.proofs.lemmas.List.Folds.{list_any-append}
-use Rattle.std.proofs.lemmas.Slice.Eq.{bytes_eq-Decides}
-use Rattle.std.proofs.lemmas.Bool.{or_parts, not-false, and_from, or_from, not-true}
-use Rattle.mm_lex.specs.Alphabet.{Name, has_name, is_label}
-use Rattle.proof_code.specs.declared.item.Item.{Item}
-use Rattle.proof_code.specs.declared.item.Item.TheVariants.{Cite}
-use Rattle.proof_code.specs.Writes.{is_unfinished, is_compressed, begin, finish, Writes, WritesRow}
+use Rattle.explain.proofs.Words.{◌≡◌, ℕ, ◌+◌, Bool, true, false, not, bytes_eq, ◌||◌, List, [], ◌∷◌, ◌++◌, length, map, refl, list_all, list_any, sym, ◌∙◌, ap, subst, arith, append_assoc, append-nil, length-append, inl, inr, true≢false, list_any-append, bytes_eq-Decides, or_parts, not-false, and_from, or_from, not-true, Name, has_name, is_label, Item, Cite, is_unfinished, is_compressed, begin, finish, Writes, WritesRow, LetterBreak, fails, joined, IsFirst, IsLetterBreak, IsListing, IsNotLabel, AreBroken}
 use Rattle.explain.specs.declared.code.Test.TheVariants as test
-use Rattle.explain.specs.declared.why.LetterBreak.{LetterBreak}
-use Rattle.explain.specs.Breaks.{fails, joined, IsFirst, IsLetterBreak, IsListing, IsNotLabel, AreBroken}
 
 -- ---- the first word that fails a test
 

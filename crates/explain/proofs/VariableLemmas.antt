@@ -1,26 +1,5 @@
 -- The variables of expressions, each once.
-use Rattle.std.proofs.Common.{◌≡◌, ℕ, zero, suc, ◌+◌, ◌<◌, Bool, true, false, not, ◌||◌, true≢false, List, [], ◌∷◌, ◌++◌, length, take, get_or, arith, refl, sym, ◌∙◌, ap, subst, add-one, Some, slice_get, ◌⊎◌, inl, inr, ⊎_elim, cond}
-use Rattle.std.specs.Global.{Vec}
-use Rattle.std.specs.List.{list_all}
-use Rattle.std.specs.BTreeSet.{BTreeSet, contains}
-use Rattle.std.specs.Ordering.{nat_cmp, is_eq}
-use Rattle.std.proofs.lemmas.Bool.{cases_Bool, cases_eq, or_cases}
-use Rattle.std.proofs.lemmas.List.Folds.{list_any-append}
-use Rattle.std.proofs.lemmas.Option.{slice_get_within, get_or_from_slice_get}
-use Rattle.mm_lex.specs.Alphabet.{Name, name_eq, has_name}
-use Rattle.mm_read.specs.Statements.{Expr, Database}
-use Rattle.scope.specs.Active.{is_variable}
-use Rattle.scope.proofs.GoingBackLemmas.{all-has}
-use Rattle.names.specs.Codes.{name_at, decode}
-use Rattle.names.proofs.CodesLemmas.{name_same, same_name}
-use Rattle.frame.specs.Below.{AreBelow}
-use Rattle.frame.specs.Disjoint.{are_disjoint}
-use Rattle.frame.specs.FrameOf.{is_pair}
-use Rattle.frame.proofs.ActiveDisjointLemmas.{all-from, kept_by}
-use Rattle.explain.specs.declared.named_images.Image.{Image}
-use Rattle.explain.specs.DisjointViolations.{AreShared, is_kept}
-use Rattle.explain.specs.Stored.Vectors.{AreImages}
-use Rattle.explain.specs.VariableLists.{AreListsOf, AreVariablesOf}
+use Rattle.explain.proofs.Words.{◌≡◌, ℕ, zero, suc, ◌+◌, ◌<◌, Bool, true, false, not, ◌||◌, true≢false, List, [], ◌∷◌, ◌++◌, length, take, get_or, arith, refl, sym, ◌∙◌, ap, subst, add-one, Some, slice_get, ◌⊎◌, inl, inr, ⊎_elim, cond, Vec, list_all, BTreeSet, contains, nat_cmp, is_eq, cases_Bool, cases_eq, or_cases, list_any-append, slice_get_within, get_or_from_slice_get, Name, name_eq, has_name, Expr, Database, is_variable, all-has, name_at, decode, name_same, same_name, AreBelow, are_disjoint, is_pair, all-from, kept_by, Image, AreShared, is_kept, AreImages, AreListsOf, AreVariablesOf}
 use Rattle.explain.proofs.ImagesLemmas.{other_key}
 use Rattle.explain.proofs.ViolationLemmas.{has_at}
 

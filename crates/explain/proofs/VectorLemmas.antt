@@ -1,15 +1,5 @@
 -- Numbers below a bound, in lists and in lists of lists.
-use Rattle.std.proofs.Common.{◌≡◌, ℕ, zero, suc, ◌+◌, ◌<◌, ◌≤◌, List, Some, slice_get, append_assoc, append-nil, [], ◌∷◌, ◌++◌, length, drop, get_or, arith, refl, sym, ◌∙◌, ap, subst}
-use Rattle.std.specs.Borrow.{Bor}
-use Rattle.frame.specs.Below.{AreBelow}
-use Rattle.mm_lex.specs.Alphabet.{Name}
-use Rattle.mm_read.specs.Statements.{Database}
-use Rattle.entries.specs.declared.assertion_view.Hypothesis.{Hypothesis}
-use Rattle.explain.specs.declared.named_images.Image.{Image}
-use Rattle.frame.specs.AssertionView.{AreRequired, IsRequired}
-use Rattle.explain.specs.Stored.Vectors.{AreSymbols, codes}
-use Rattle.std.proofs.lemmas.List.{drop_all, drop_more, map_push}
-use Rattle.std.proofs.lemmas.Option.{get_or_from_slice_get, slice_get_within}
+use Rattle.explain.proofs.Words.{◌≡◌, ℕ, zero, suc, ◌+◌, ◌<◌, ◌≤◌, List, Some, slice_get, append_assoc, append-nil, [], ◌∷◌, ◌++◌, length, drop, get_or, arith, refl, sym, ◌∙◌, ap, subst, Bor, AreBelow, Name, Database, Hypothesis, Image, AreRequired, IsRequired, AreSymbols, codes, drop_all, drop_more, map_push, get_or_from_slice_get, slice_get_within}
 
 -- an expression that stands nowhere, and no image
 abbrev pub nothing : Bor (List ℕ)

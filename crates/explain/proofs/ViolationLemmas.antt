@@ -1,19 +1,5 @@
 -- Tests of all symbols of a list, one after another.
-use Rattle.std.proofs.Common.{◌≡◌, ℕ, zero, suc, ◌+◌, ◌-◌, ◌<◌, Bool, true, false, not, ◌&&◌, ◌||◌, List, [], ◌∷◌, length, drop, take, get_or, map, arith, refl, sym, ◌∙◌, ap, add-one, Some, slice_get}
-use Rattle.mm_read.specs.Statements.{Database}
-use Rattle.frame.specs.Substitution.{Images}
-use Rattle.explain.specs.declared.violation.DisjointViolation.{DisjointViolation}
-use Rattle.explain.specs.DisjointViolations.{IsViolation, IsViolationIn}
-use Rattle.std.specs.Prelude.{nat_eq}
-use Rattle.std.specs.List.{list_all, list_any}
-use Rattle.std.proofs.Math.Seq.{drop-cons}
-use Rattle.std.proofs.Math.Bool.{or-true}
-use Rattle.std.proofs.lemmas.Bool.{and_parts}
-use Rattle.std.proofs.lemmas.Option.{get_or_from_slice_get, slice_get-get_or}
-use Rattle.mm_lex.specs.Alphabet.{Name, name_eq, has_name}
-use Rattle.names.specs.Codes.{name_at, decode}
-use Rattle.names.proofs.CodesLemmas.{name_same}
-use Rattle.frame.proofs.ActiveDisjointLemmas.{goes_on}
+use Rattle.explain.proofs.Words.{◌≡◌, ℕ, zero, suc, ◌+◌, ◌-◌, ◌<◌, Bool, true, false, not, ◌&&◌, ◌||◌, List, [], ◌∷◌, length, drop, take, get_or, map, arith, refl, sym, ◌∙◌, ap, add-one, Some, slice_get, Database, Images, DisjointViolation, IsViolation, IsViolationIn, nat_eq, list_all, list_any, drop-cons, or-true, and_parts, get_or_from_slice_get, slice_get-get_or, Name, name_eq, has_name, name_at, decode, name_same, goes_on}
 
 module _ (names : List Name) (p : Name → Bool) (xs : List ℕ) (i : ℕ) where
   -- an element that passes leaves the test to those after it

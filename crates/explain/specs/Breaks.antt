@@ -2,12 +2,7 @@
 -- Source: Metamath, 4.3 (normal proofs) and appendix B (compressed proofs).
 -- The code reads tokens and letters from left to right.
 use Rattle.std.specs.Prelude.{◌≡◌, ◌≢◌, ℕ, suc, ◌+◌, ◌<◌, ◌≤◌, ◌⊎◌, Bool, not, ◌||◌, IsTrue, IsFalse, List, [], ◌∷◌, ◌++◌, length, flat_map}
-use Rattle.std.specs.List.{list_all, list_any}
-use Rattle.mm_lex.specs.Alphabet.{Name, has_byte, has_name, is_label}
-use Rattle.proof_code.specs.declared.item.Item.{Item}
-use Rattle.proof_code.specs.declared.item.Item.TheVariants.{Cite, Recall, Mark}
-use Rattle.proof_code.specs.Letters.{IsNumber, is_first, is_last}
-use Rattle.proof_code.specs.Writes.{question_mark, is_unfinished, is_compressed, begin, finish, WritesRow}
+use Rattle.explain.specs.Words.{list_all, list_any, Name, has_byte, has_name, is_label, Item, Cite, Recall, Mark, IsNumber, is_first, is_last, question_mark, is_unfinished, is_compressed, begin, finish, WritesRow}
 use Rattle.explain.specs.declared.code.Test.{Test}
 use Rattle.explain.specs.declared.code.Test.TheVariants as test
 use Rattle.explain.specs.declared.why.CodeBreak.{CodeBreak}

@@ -2,22 +2,12 @@
 -- Source: Metamath, 4.2.6.
 -- The code compares numbers; here are expressions, with the images that the results themselves give put in.
 use Rattle.std.specs.Prelude.{◌≡◌, ◌≢◌, ℕ, length, List, [], ◌∷◌, map, take, Option, Some, slice_get}
-use Rattle.std.specs.Borrow.{Bor}
-use Rattle.std.specs.Global.{Vec}
-use Rattle.mm_lex.specs.Alphabet.{Name}
-use Rattle.mm_read.specs.declared.stmt.Stmt.{Stmt}
+use Rattle.explain.specs.Words.{Bor, Vec, Name, Stmt, Expr, Database, stmt_at, before, decode, Hypothesis, hypotheses, expr_at, Numbered}
 use Rattle.mm_read.specs.declared.stmt.Stmt.TheVariants as stmt
-use Rattle.mm_read.specs.Statements.{Expr, Database}
-use Rattle.scope.specs.Active.{stmt_at, before}
-use Rattle.names.specs.Codes.{decode}
-use Rattle.entries.specs.declared.assertion_view.Hypothesis.{Hypothesis}
 use Rattle.entries.specs.declared.assertion_view.Hypothesis.TheVariants as hypothesis
-use Rattle.frame.specs.FrameOf.{hypotheses}
 use Rattle.frame.specs.Substitution.{Images, apply as applied}
-use Rattle.frame.specs.Citations.{expr_at}
 use Rattle.explain.specs.declared.reason.Fault.{Fault}
 use Rattle.explain.specs.declared.reason.Fault.TheVariants.{Constant, Expression}
-use Rattle.frame.specs.Parts.{Numbered}
 use Rattle.explain.specs.declared.named_images.Image.{Image}
 use Rattle.explain.specs.Stored.Vectors.{named, code_images}
 use Rattle.explain.specs.ReadImages.{images_read, named_images, AreVariables}

@@ -2,15 +2,8 @@
 -- Source: Metamath, 4.2.6.
 -- The code reads the images off the results, tests them, and puts them into the assertion's expression.
 use Rattle.std.specs.Prelude.{◌≡◌, ℕ, ◌<◌, ◌≤◌, IsTrue, List, length}
-use Rattle.mm_lex.specs.Alphabet.{Name}
-use Rattle.mm_read.specs.declared.stmt.Stmt.{Stmt}
-use Rattle.mm_read.specs.Statements.{Expr, Database}
-use Rattle.scope.specs.Active.{before, expr_of}
-use Rattle.names.specs.Codes.{decode}
-use Rattle.frame.specs.Below.{AreBelow}
-use Rattle.frame.specs.FrameOf.{hypotheses, mandatory_groups}
+use Rattle.explain.specs.Words.{Name, Stmt, Expr, Database, before, expr_of, decode, AreBelow, hypotheses, mandatory_groups, are_groups_disjoint}
 use Rattle.frame.specs.Substitution.{Images, apply as applied}
-use Rattle.frame.specs.Disjoint.{are_groups_disjoint}
 use Rattle.explain.specs.declared.reason.Fault.{Fault}
 use Rattle.explain.specs.declared.reason.Fault.TheVariants.{Together, Heavy, Constant, Expression}
 use Rattle.explain.specs.declared.named_citation.Concluded.{Concluded}

@@ -2,13 +2,7 @@
 -- Source: Metamath, 4.2.6 (the disjoint variable condition).
 -- The code tests images by number; here are names.
 use Rattle.std.specs.Prelude.{◌≡◌, Bool, not, ◌||◌, List, IsTrue, IsFalse}
-use Rattle.mm_lex.specs.Alphabet.{Name, name_eq, has_name}
-use Rattle.mm_read.specs.Statements.{Expr, Database}
-use Rattle.scope.specs.Active.{is_variable}
-use Rattle.names.specs.Codes.{name_at}
-use Rattle.frame.specs.FrameOf.{is_pair, together}
-use Rattle.frame.specs.Substitution.{Images, image}
-use Rattle.frame.specs.Disjoint.{are_disjoint}
+use Rattle.explain.specs.Words.{Name, name_eq, has_name, Expr, Database, is_variable, name_at, is_pair, together, Images, image, are_disjoint}
 use Rattle.explain.specs.declared.violation.DisjointViolation.{DisjointViolation}
 
 -- u and v need no `$d`, or have one

@@ -2,18 +2,8 @@
 -- Source: Metamath, 4.2.6; the limit is this project's.
 -- The code has the verifier's results, by numbers; here are expressions.
 use Rattle.std.specs.Prelude.{◌≡◌, ℕ, ◌+◌, ◌<◌, ◌≤◌, List, ◌++◌, length, map, Some}
-use Rattle.mm_read.specs.declared.stmt.Stmt.{Stmt}
-use Rattle.mm_read.specs.Statements.{Expr, Database}
-use Rattle.scope.specs.Active.{expr_of, stmt_at}
-use Rattle.names.specs.Codes.{decode}
-use Rattle.frame.specs.Below.{AllBelow}
-use Rattle.frame.specs.Parts.{Numbered}
+use Rattle.explain.specs.Words.{Stmt, Expr, Database, expr_of, stmt_at, decode, AllBelow, Numbered, IsHypothesis, IsInstance, premises, behind, named, State, HeldResults, SYMBOLS_LIMIT}
 use Rattle.frame.specs.Substitution.{Images, apply as applied}
-use Rattle.frame.specs.Citations.{IsHypothesis, IsInstance, premises}
-use Rattle.verify.specs.StepsByNumber.{behind, named}
-use Rattle.verify.specs.Machine.{State}
-use Rattle.verify.specs.ResultPlaces.{HeldResults}
-use Rattle.subst.specs.declared.buffer.TheConstants.{SYMBOLS_LIMIT}
 
 -- the statement s at i gives e in place of the results above `below`
 pub data Gives (S : Database) (at i : ℕ) (s : Stmt) (stack below : List Expr) (e : Expr) : Type 0 where

@@ -2,24 +2,13 @@
 -- Source: Metamath, 4.2.6 and appendix B; the limit is this project's.
 -- The code stops at it.
 use Rattle.std.specs.Prelude.{◌≡◌, ◌≢◌, ℕ, ◌+◌, ◌-◌, ◌<◌, ◌≤◌, true, IsTrue, List, [], ◌∷◌, ◌++◌, length, take, Some, slice_get}
-use Rattle.std.specs.Global.{Vec}
-use Rattle.mm_lex.specs.Alphabet.{Name}
-use Rattle.mm_read.specs.declared.stmt.Stmt.{Stmt}
-use Rattle.mm_read.specs.Statements.{Expr, Database}
-use Rattle.scope.specs.Active.{before, expr_of, is_assertion}
-use Rattle.names.specs.Codes.{decode}
-use Rattle.frame.specs.FrameOf.{hypotheses}
-use Rattle.frame.specs.Citations.{Carries, IsHypothesis}
-use Rattle.proof_code.specs.declared.item.Item.{Item}
-use Rattle.proof_code.specs.declared.item.Item.TheVariants.{Cite, Recall, Mark}
+use Rattle.explain.specs.Words.{Vec, Name, Stmt, Expr, Database, before, expr_of, is_assertion, decode, hypotheses, Carries, IsHypothesis, Item, Cite, Recall, Mark, SYMBOLS_LIMIT, State, start, IsSaved, Runs}
 use Rattle.explain.specs.declared.reason.Fault.{Fault}
 use Rattle.explain.specs.declared.reason.Fault.TheVariants.{Unknown, Inactive, Later, Few, Constant, Expression, Together, Heavy, Unmarked}
 use Rattle.explain.specs.declared.reason.Reason.{Reason}
 use Rattle.explain.specs.declared.reason.Reason.TheVariants as reason
-use Rattle.subst.specs.declared.buffer.TheConstants.{SYMBOLS_LIMIT}
 use Rattle.explain.specs.Concluded.{IsWrong}
 use Rattle.explain.specs.Explained.{Gives}
-use Rattle.verify.specs.Machine.{State, start, IsSaved, Runs}
 
 -- the last results on the stack, one for each mandatory hypothesis of the earlier assertion s at a, are wrong
 pub record AreWrong (S : Database) (names : List Name) (at : ℕ) (h : State) (a : ℕ) (s : Stmt) (fault : Fault) : Type 0 where

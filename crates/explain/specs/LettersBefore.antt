@@ -2,11 +2,7 @@
 -- Source: Metamath, appendix B.
 -- This is the code's way to read; what it finds is told by `Breaks`.
 use Rattle.std.specs.Prelude.{◌≡◌, ◌≢◌, ℕ, zero, suc, ◌+◌, ◌*◌, ◌<◌, ◌≤◌, IsTrue, IsFalse, List, [], ◌∷◌, ◌++◌, length}
-use Rattle.std.specs.List.{list_all}
-use Rattle.mm_lex.specs.Alphabet.{Name}
-use Rattle.proof_code.specs.Letters.{is_first, number_from}
-use Rattle.proof_code.specs.Reading.{before_rest}
-use Rattle.proof_code.specs.Text.{numbers_from, starts_with_mark}
+use Rattle.explain.specs.Words.{list_all, Name, is_first, number_from, before_rest, numbers_from, starts_with_mark}
 
 -- how many marks
 abbrev pub zeros : List ℕ → ℕ

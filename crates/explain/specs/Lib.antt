@@ -1,3 +1,4 @@
+pub mod Words
 pub mod Breaks
 pub mod LettersBefore
 pub mod Why

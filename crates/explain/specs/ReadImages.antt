@@ -2,15 +2,8 @@
 -- Source: Metamath, 4.2.6.
 -- The code reads them by numbers; here they are read off the statements.
 use Rattle.std.specs.Prelude.{ℕ, ◌<◌, List, [], ◌∷◌, ◌++◌, drop, map, Option, Some}
-use Rattle.mm_lex.specs.Alphabet.{Name}
-use Rattle.mm_read.specs.declared.stmt.Stmt.{Stmt}
+use Rattle.explain.specs.Words.{Name, Stmt, Expr, Database, stmt_at, name_at, decode, Hypothesis, Float, Essential, Images, CodeImages}
 use Rattle.mm_read.specs.declared.stmt.Stmt.TheVariants as stmt
-use Rattle.mm_read.specs.Statements.{Expr, Database}
-use Rattle.scope.specs.Active.{stmt_at}
-use Rattle.names.specs.Codes.{name_at, decode}
-use Rattle.entries.specs.declared.assertion_view.Hypothesis.{Hypothesis}
-use Rattle.entries.specs.declared.assertion_view.Hypothesis.TheVariants.{Float, Essential}
-use Rattle.frame.specs.Substitution.{Images, CodeImages}
 
 -- the result for a `$f`, without its constant, is the image of its variable; for another statement it is none
 abbrev pub image_at : Option Stmt → Expr → Images

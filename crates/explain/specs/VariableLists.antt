@@ -2,14 +2,7 @@
 -- Source: Metamath, 4.2.6: the disjoint variable condition speaks of the variables of an image.
 -- The code reads each image once; the definitions of faults speak of whole images.
 use Rattle.std.specs.Prelude.{ℕ, ◌<◌, IsTrue, List, [], ◌∷◌, length}
-use Rattle.std.specs.Global.{Vec}
-use Rattle.std.specs.BTreeSet.{contains}
-use Rattle.std.specs.Ordering.{nat_cmp}
-use Rattle.mm_lex.specs.Alphabet.{Name, has_name}
-use Rattle.mm_read.specs.Statements.{Expr, Database}
-use Rattle.scope.specs.Active.{is_variable}
-use Rattle.names.specs.Codes.{name_at, decode}
-use Rattle.frame.specs.Below.{AreBelow}
+use Rattle.explain.specs.Words.{Vec, contains, nat_cmp, Name, has_name, Expr, Database, is_variable, name_at, decode, AreBelow}
 use Rattle.explain.specs.declared.named_images.Image.{Image}
 use Rattle.explain.specs.declared.variable_lists.VariableList.{VariableList}
 

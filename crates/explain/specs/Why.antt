@@ -2,12 +2,7 @@
 -- Source: Metamath, 4.2.6 and appendix B.
 -- The code calls the verifier first.
 use Rattle.std.specs.Prelude.{ℕ, List}
-use Rattle.mm_lex.specs.Alphabet.{Name}
-use Rattle.mm_read.specs.declared.stmt.Stmt.{Stmt}
-use Rattle.mm_read.specs.Statements.{Database}
-use Rattle.proof_code.specs.Writes.{Writes}
-use Rattle.verify.specs.Proves.{mandatory_labels}
-use Rattle.verify.specs.Right.{IsProvable}
+use Rattle.explain.specs.Words.{Name, Stmt, Database, Writes, mandatory_labels, IsProvable}
 use Rattle.explain.specs.FirstFault.{IsFirstFault}
 use Rattle.explain.specs.declared.why.WhyUnproved.{WhyUnproved}
 use Rattle.explain.specs.declared.why.WhyUnproved.TheVariants.{Code, Run}

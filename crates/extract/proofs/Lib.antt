@@ -1,2 +1,3 @@
+pub mod Words
 pub mod WantedLemmas
 pub mod TakenOutLemmas

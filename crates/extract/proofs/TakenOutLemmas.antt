@@ -1,22 +1,5 @@
 -- The result of an extraction is an extract: the part if it was found to be one, and else the whole.
-use Rattle.std.specs.Prelude.{◌≡◌, ◌||◌, ℕ, true, List, [], ◌∷◌, ◌++◌, length, Some, Result, Ok, Err, IfOk, refl}
-use Rattle.std.specs.List.{list_any, AllByRecursion}
-use Rattle.std.proofs.Common.{◌∙◌, ap, subst}
-use Rattle.std.proofs.lemmas.Bool.{or_right}
-use Rattle.mm_lex.specs.Alphabet.{Name, name_eq, has_name}
-use Rattle.mm_read.specs.declared.stmt.Stmt.{Stmt}
-use Rattle.mm_read.specs.declared.stmt.Stmt.TheVariants.{Open, Close, Const, Var, Disj, Float, Ess, Axiom, Prove}
-use Rattle.mm_read.specs.Statements.{Database}
-use Rattle.mm_read.specs.Reads.{Reads}
-use Rattle.mm_lex.proofs.NameLemmas.{name_same}
-use Rattle.scope.specs.Active.{label_of, is_assertion}
-use Rattle.scope.proofs.StatementPlaces.{stands-within}
-use Rattle.library.specs.Good.{Good}
-use Rattle.extract.specs.Wanted.{NamesAssertion, AreRight}
-use Rattle.database_parts.specs.Selected.{IsPart, IsKept}
-use Rattle.database_parts.specs.Walk.{wanted, AreKept}
-use Rattle.extract.specs.Extract.{IsExtract}
-use Rattle.database_parts.proofs.SideBySideLemmas.{part-whole}
+use Rattle.extract.proofs.Words.{◌≡◌, ◌||◌, ℕ, true, List, [], ◌∷◌, ◌++◌, length, Some, Result, Ok, Err, IfOk, refl, list_any, AllByRecursion, ◌∙◌, ap, subst, or_right, Name, name_eq, has_name, Stmt, Open, Close, Const, Var, Disj, Float, Ess, Axiom, Prove, Database, Reads, name_same, label_of, is_assertion, stands-within, Good, NamesAssertion, AreRight, IsPart, IsKept, wanted, AreKept, IsExtract, part-whole}
 
 -- ---- each label
 

@@ -1,19 +1,5 @@
 -- Labels of which nothing is wrong, and the first of which something is.
-use Rattle.std.specs.Prelude.{◌≡◌, ℕ, ◌+◌, ◌<◌, ◌≤◌, true, false, List, [], ◌∷◌, ◌++◌, length, map, take, drop, get_or, option_map, Some, refl}
-use Rattle.std.proofs.Common.{sym, ◌∙◌, ap, subst, inl, inr, append_assoc, append-nil, take_all}
-use Rattle.std.proofs.lemmas.List.{length-map, get_or-map, take_more, drop_more, drop_all, take-map, take-append-drop}
-use Rattle.mm_lex.specs.Alphabet.{Name}
-use Rattle.mm_read.specs.declared.stmt.Stmt.{Stmt}
-use Rattle.mm_read.specs.declared.stmt.Stmt.TheVariants.{Open, Close, Const, Var, Disj, Float, Ess, Axiom, Prove}
-use Rattle.mm_read.specs.Statements.{Database}
-use Rattle.scope.specs.Active.{bare, bares, stmt_at, is_assertion}
-use Rattle.scope.proofs.StatementPlaces.{stmt_at-bares}
-use Rattle.frame.specs.FrameOf.{HasAssertion}
-use Rattle.frame.specs.AtPosition.{HasLabelsOnce}
-use Rattle.library.proofs.QueriesLemmas.{one-place}
-use Rattle.extract.specs.declared.fault.ExtractFault.{ExtractFault}
-use Rattle.extract.specs.declared.fault.ExtractFault.TheVariants.{NoLabel, NotAssertion, SameLabel, Memory}
-use Rattle.extract.specs.Wanted.{NamesAssertion, NamesHypothesis, IsWrong, IsRight, AreRight, IsFirstWrong}
+use Rattle.extract.proofs.Words.{◌≡◌, ℕ, ◌+◌, ◌<◌, ◌≤◌, true, false, List, [], ◌∷◌, ◌++◌, length, map, take, drop, get_or, option_map, Some, refl, sym, ◌∙◌, ap, subst, inl, inr, append_assoc, append-nil, take_all, length-map, get_or-map, take_more, drop_more, drop_all, take-map, take-append-drop, Name, Stmt, Open, Close, Const, Var, Disj, Float, Ess, Axiom, Prove, Database, bare, bares, stmt_at, is_assertion, stmt_at-bares, HasAssertion, HasLabelsOnce, one-place, ExtractFault, NoLabel, NotAssertion, SameLabel, Memory, NamesAssertion, NamesHypothesis, IsWrong, IsRight, AreRight, IsFirstWrong}
 
 -- ---- a label of the list
 

@@ -1,14 +1,5 @@
 -- The lines of what is found, a statement at a time.
-use Rattle.std.proofs.Common.{◌≡◌, ℕ, zero, suc, ◌+◌, ◌<◌, ◌≤◌, Bool, true, false, List, [], ◌∷◌, ◌++◌, length, take, Option, Some, None, slice_get, get_or, refl, ap, sym, ◌∙◌, subst, arith, append_assoc, inl, inr}
-use Rattle.std.specs.Prelude.{◌↔◌, ◌⊎◌, IsTrue, IfOk, Result}
-use Rattle.std.proofs.lemmas.Bool.{both_ways}
-use Rattle.std.proofs.lemmas.Option.{slice_get-get_or}
-use Rattle.std.proofs.lemmas.Result.{IfOk-weaker}
-use Rattle.std.proofs.lemmas.List.{append-nil, take_all}
-use Rattle.mm_read.specs.declared.stmt.Stmt.{Stmt}
-use Rattle.mm_read.specs.Statements.{Database}
-use Rattle.scope.specs.Active.{stmt_at}
-use Rattle.finding.specs.Lines.{line_if, IsLineIf, AreFoundLines}
+use Rattle.finding.proofs.Words.{◌≡◌, ℕ, zero, suc, ◌+◌, ◌<◌, ◌≤◌, Bool, true, false, List, [], ◌∷◌, ◌++◌, length, take, Option, Some, None, slice_get, get_or, refl, ap, sym, ◌∙◌, subst, arith, append_assoc, inl, inr, ◌↔◌, ◌⊎◌, IsTrue, IfOk, Result, both_ways, slice_get-get_or, IfOk-weaker, append-nil, take_all, Stmt, Database, stmt_at, line_if, IsLineIf, AreFoundLines}
 
 -- the line of a statement that was judged
 judged : (counts : Type 0) (is : Bool) (s : Stmt) → IsTrue is ↔ counts → IsLineIf counts s (line_if is s)

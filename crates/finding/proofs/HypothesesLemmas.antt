@@ -1,27 +1,5 @@
 -- The `$e` with a pattern that are kept, and the hypotheses of an assertion.
-use Rattle.std.proofs.Common.{◌≡◌, ℕ, zero, suc, ◌+◌, ◌-◌, ◌<◌, ◌≤◌, Bool, true, false, ◌&&◌, nat_le, nat_lt, List, [], ◌∷◌, ◌++◌, length, take, drop, map, filter, Option, Some, None, slice_get, get_or, refl, ap, sym, ◌∙◌, subst, arith, inl, inr, length-append, lt-ltb, take-take, take-append-drop}
-use Rattle.std.specs.Prelude.{◌↔◌, ◌⊎◌, IsFalse, IsTrue, OnOk, Result, option_map, option_and_then}
-use Rattle.std.proofs.lemmas.Bool.{and_from, and_parts, both_ways, cases_lt, ltb-true}
-use Rattle.std.proofs.lemmas.List.{get_or-take, get_or_append_left, get_or_at}
-use Rattle.std.proofs.lemmas.Option.{same_Some, slice_get-get_or}
-use Rattle.std.proofs.lemmas.Result.{on_ok_weaker}
-use Rattle.mm_read.specs.declared.stmt.Stmt.{Stmt}
-use Rattle.mm_read.specs.declared.stmt.Stmt.TheVariants.{Ess}
-use Rattle.mm_read.specs.Statements.{Database}
-use Rattle.scope.specs.Active.{active_from, bare, bares, before, is_active, is_essential, stays_open, stmt_at}
-use Rattle.scope.proofs.StatementPlaces.{stmt_at-bares}
-use Rattle.frame.specs.Citations.{is_hypothesis_kind}
-use Rattle.frame.specs.FrameOf.{hypotheses, is_hypothesis}
-use Rattle.frame.specs.Stored.Hypotheses.{In}
-use Rattle.frame.proofs.ActivePositions.{IsActiveAt, active-members, members-active}
-use Rattle.frame.proofs.BlockWalkLemmas.{active-stays, get-take}
-use Rattle.frame.proofs.LastActiveLemmas.{cut-here, drop-front, length-cut}
-use Rattle.frame.proofs.OpenLemmas.{stays_open-front}
-use Rattle.patterns.specs.Matches.{Part}
-use Rattle.finding.specs.Essentials.{AreKept, AreNoted, IsLeft, IsSomeHypothesis}
-use Rattle.finding.specs.declared.sought.Sought.{Sought}
-use Rattle.finding.specs.declared.sought.Sought.TheVariants.{WithHypotheses}
-use Rattle.finding.specs.Found.{HasIn, essential_expr, essential_at, SomeEssentialHas}
+use Rattle.finding.proofs.Words.{◌≡◌, ℕ, zero, suc, ◌+◌, ◌-◌, ◌<◌, ◌≤◌, Bool, true, false, ◌&&◌, nat_le, nat_lt, List, [], ◌∷◌, ◌++◌, length, take, drop, map, filter, Option, Some, None, slice_get, get_or, refl, ap, sym, ◌∙◌, subst, arith, inl, inr, length-append, lt-ltb, take-take, take-append-drop, ◌↔◌, ◌⊎◌, IsFalse, IsTrue, OnOk, Result, option_map, option_and_then, and_from, and_parts, both_ways, cases_lt, ltb-true, get_or-take, get_or_append_left, get_or_at, same_Some, slice_get-get_or, on_ok_weaker, Stmt, Ess, Database, active_from, bare, bares, before, is_active, is_essential, stays_open, stmt_at, stmt_at-bares, is_hypothesis_kind, hypotheses, is_hypothesis, In, IsActiveAt, active-members, members-active, active-stays, get-take, cut-here, drop-front, length-cut, stays_open-front, Part, AreKept, AreNoted, IsLeft, IsSomeHypothesis, Sought, WithHypotheses, HasIn, essential_expr, essential_at, SomeEssentialHas}
 
 -- ---- one statement
 

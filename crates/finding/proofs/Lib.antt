@@ -1,3 +1,4 @@
+pub mod Words
 pub mod FoundLemmas
 pub mod HypothesesLemmas
 mod Rows

@@ -1,7 +1,5 @@
 -- Lines of what is found in a small database.
-use Rattle.std.proofs.Common.{◌≡◌, [], ◌∷◌, codes, refl}
-use Rattle.mm_read.specs.declared.stmt.Stmt.TheVariants.{Axiom, Prove, Open}
-use Rattle.finding.specs.Lines.{found_line}
+use Rattle.finding.proofs.Words.{◌≡◌, [], ◌∷◌, codes, refl, Axiom, Prove, Open, found_line}
 
 -- an axiom and a theorem by their expressions, and no other statement
 axiom_line : found_line (Axiom (codes "tze") (codes "term" ∷ codes "0" ∷ [])) ≡ codes "tze term 0\n"

@@ -1,6 +1,5 @@
 -- Disjoint images: each two variables, one from each.
-use Rattle.frame.proofs.Words.{list_all, list_any, sym, ◌∙◌, ap, arith, true≢false, ◌≡◌, ℕ, ◌+◌, ◌<◌, Bool, true, false, not, ◌||◌, ◌&&◌, ◌==◌, take, List, [], ◌∷◌, zero, suc, length, map, get_or, refl, and_from, or_left, or_right, true_from_ne_false, list_all-map, list_all_more, list_all_at, Any-from_list_any}
-use Rattle.frame.proofs.Words.{Name, name_eq, has_name, Expr, Database, is_variable, name_same, all-has, is_pair, are_disjoint, AreBelow, is_variable_disjoint, is_symbol_disjoint}
+use Rattle.frame.proofs.Words.{list_all, list_any, sym, ◌∙◌, ap, arith, true≢false, ◌≡◌, ℕ, ◌+◌, ◌<◌, Bool, true, false, not, ◌||◌, ◌&&◌, ◌==◌, take, List, [], ◌∷◌, zero, suc, length, map, get_or, refl, and_from, or_left, or_right, true_from_ne_false, list_all-map, list_all_more, list_all_at, Any-from_list_any, Name, name_eq, has_name, Expr, Database, is_variable, name_same, all-has, is_pair, are_disjoint, AreBelow, is_variable_disjoint, is_symbol_disjoint}
 
 -- ---- a list that a loop goes through
 

@@ -1,14 +1,7 @@
 -- Going back over the active statements of a kind that stand in the last block.
-use Rattle.frame.proofs.Words.{◌≡◌, ◌∙◌, ap, sym, subst, arith, refl, inl, inr, ℕ, suc, ◌+◌, ◌-◌, ◌<◌, ◌≤◌, ◌⊎◌, Bool, true, false, cond, nat_eq, List, [], ◌∷◌, ◌++◌, length, length-take, take, take_all, take-append_seam, length-append, append_assoc, append-nil, slice_get, Some, list_any}
-use Rattle.frame.proofs.Words.{Stmt, Database, Entry, Kind, LastActive, is_open, is_close, actives, actives_from, last_active_of_kind, last_active_of, Storage, statements_of, names_in, labels_in, stmt_of, AreStored}
+use Rattle.frame.proofs.Words.{◌≡◌, ◌∙◌, ap, sym, subst, arith, refl, inl, inr, ℕ, suc, ◌+◌, ◌-◌, ◌<◌, ◌≤◌, ◌⊎◌, Bool, true, false, cond, nat_eq, List, [], ◌∷◌, ◌++◌, length, length-take, take, take_all, take-append_seam, length-append, append_assoc, append-nil, slice_get, Some, list_any, Stmt, Database, Entry, Kind, LastActive, is_open, is_close, actives, actives_from, last_active_of_kind, last_active_of, Storage, statements_of, names_in, labels_in, stmt_of, AreStored, Disj, Var, StackVersion, IsUntil, AreUntil, history, kept_until, gone_back, stack_at, stack-later, stack-changed, option_symbols, has_code, having, AreStacks, kind_test, latest_of, last_by_kind, opening, KeepsUntil, AreChangedBy, IsNext, NextStatement, IsWalked}
 use Rattle.mm_read.specs.declared.stmt.Stmt.TheVariants as stmt
-use Rattle.entries.specs.declared.kind.Kind.TheVariants.{Close, Disj, Var}
-use Rattle.entries.specs.Histories.{StackVersion, IsUntil, AreUntil, history, kept_until, gone_back, stack_at}
-use Rattle.entries.proofs.HistoryLemmas.{stack-later, stack-changed}
-use Rattle.frame.specs.Stored.AssertionParts.{option_symbols}
-use Rattle.frame.specs.Stored.Stacks.{has_code, having, AreStacks, kind_test, latest_of, last_by_kind, opening, KeepsUntil, AreChangedBy, IsNext}
-use Rattle.frame.specs.declared.stacks.NextStatement.{NextStatement}
-use Rattle.frame.specs.Stored.Whole.{IsWalked}
+use Rattle.entries.specs.declared.kind.Kind.TheVariants.{Close}
 use Rattle.frame.proofs.OpenLemmas.{HasLast, split_last, last-position, actives-append, stays-from, is-open}
 use Rattle.frame.proofs.KindWalk.{IsChain, IsAt, disjoint_chain, variable_chain, walked, as-many, walk-from, walk-step}
 use Rattle.frame.proofs.StackLemmas.{AreIn, actives-in, having-push, all-later, next-same, back-twice, back-until, back-kept, opening-back, opening-some, opening-low}

@@ -1,10 +1,5 @@
 -- Collecting positions: the loops' steps.
-use Rattle.frame.proofs.Words.{◌||◌, ◌==◌, list_any, list_any-append, or_cases, sym, ◌∙◌, ap, subst, arith, inl, inr, ⊎_elim, true≢false, cond, false, nat_cmp, ◌≡◌, ℕ, suc, ◌+◌, ◌-◌, ◌<◌, ◌≤◌, Bool, true, ◌⊎◌, List, [], ◌∷◌, ◌++◌, length, map, get_or, slice_get, eqb, Some, refl, ⊎_map, and_parts, or_left, length-map, Contains, dedup, slice_get_within, slice_get_read, get_or_from_slice_get}
-use Rattle.frame.proofs.Words.{is_active, Storage, Database, Name, Kind, Float, Var, Entry, In, Ascends, AreThose, HasMore, OfSome, IsFloatOf, AreLooked, AreFloats, AreWith, AreCollected, floats, last_where, stmt_by, stmt_of, is_float_kind, is_var_kind, names_in, labels_in, statements_of, IsPlain}
-use Rattle.std.proofs.lemmas.List.Kept.{Contains-dedup_nat, Contains-from_dedup}
-use Rattle.std.proofs.lemmas.List.Sorted.{Contains-permutation, IsPermutation-sym}
-use Rattle.std.proofs.lemmas.Map.Keys.{IsStrictlyIncreasing-dedup}
-use Rattle.std.specs.List.Sorted.{IsPermutation, IsSorted, IsStrictlyIncreasing}
+use Rattle.frame.proofs.Words.{◌||◌, ◌==◌, list_any, list_any-append, or_cases, sym, ◌∙◌, ap, subst, arith, inl, inr, ⊎_elim, true≢false, cond, false, nat_cmp, ◌≡◌, ℕ, suc, ◌+◌, ◌-◌, ◌<◌, ◌≤◌, Bool, true, ◌⊎◌, List, [], ◌∷◌, ◌++◌, length, map, get_or, slice_get, eqb, Some, refl, ⊎_map, and_parts, or_left, length-map, Contains, dedup, slice_get_within, slice_get_read, get_or_from_slice_get, is_active, Storage, Database, Name, Kind, Float, Var, Entry, In, Ascends, AreThose, HasMore, OfSome, IsFloatOf, AreLooked, AreFloats, AreWith, AreCollected, floats, last_where, stmt_by, stmt_of, is_float_kind, is_var_kind, names_in, labels_in, statements_of, IsPlain, Contains-dedup_nat, Contains-from_dedup, Contains-permutation, IsPermutation-sym, IsStrictlyIncreasing-dedup, IsPermutation, IsSorted, IsStrictlyIncreasing}
 use Rattle.frame.proofs.AscendingLists.{in-place, place-in, above-less}
 use Rattle.frame.proofs.StoredReading.{get-stmt}
 use Rattle.frame.proofs.ActivePositions.{last-some}

@@ -1,6 +1,5 @@
 -- The positions that are collected are those of the mandatory hypotheses, in order.
-use Rattle.frame.proofs.Words.{take_all, take-take, sym, ◌∙◌, ap, subst, arith, inl, inr, ⊎_elim, append_assoc, ◌≡◌, ℕ, suc, ◌+◌, ◌-◌, ◌<◌, true, ◌&&◌, ◌⊎◌, List, [], ◌∷◌, ◌++◌, length, map, take, drop, slice_get, Some, refl, take-append_seam, or_left, and_parts, and_from, both_ways, slice_get_within, ⊎_map, length-map}
-use Rattle.frame.proofs.Words.{Name, has_name, Stmt, Database, stays_open, is_active, expr_of, is_essential, is_variable, is_float_of, name_at, decode, AreDistinct, is_used, is_hypothesis, hypotheses, AreBelow, Entry, stmt_of, floats, last_from, last_where, AreNumbered, In, IsFloatOf, SomeFloat, IsGiven, AreFloats, AreWith, AreCollected, kept_at, option_kept, is_float_in, floats_in, take-get}
+use Rattle.frame.proofs.Words.{take_all, take-take, sym, ◌∙◌, ap, subst, arith, inl, inr, ⊎_elim, append_assoc, ◌≡◌, ℕ, suc, ◌+◌, ◌-◌, ◌<◌, true, ◌&&◌, ◌⊎◌, List, [], ◌∷◌, ◌++◌, length, map, take, drop, slice_get, Some, refl, take-append_seam, or_left, and_parts, and_from, both_ways, slice_get_within, ⊎_map, length-map, Name, has_name, Stmt, Database, stays_open, is_active, expr_of, is_essential, is_variable, is_float_of, name_at, decode, AreDistinct, is_used, is_hypothesis, hypotheses, AreBelow, Entry, stmt_of, floats, last_from, last_where, AreNumbered, In, IsFloatOf, SomeFloat, IsGiven, AreFloats, AreWith, AreCollected, kept_at, option_kept, is_float_in, floats_in, take-get}
 use Rattle.frame.proofs.LastActiveLemmas.{cut-here, length-cut}
 use Rattle.mm_read.specs.declared.stmt.Stmt.TheVariants as stmt
 use Rattle.frame.proofs.LegalLabels.{AllKept}

@@ -1,7 +1,5 @@
 -- The storage with its first statements alone, and as before when all that was added is taken back.
-use Rattle.frame.proofs.Words.{sym, ◌∙◌, ap, subst, arith, take-take, ◌≡◌, ℕ, ◌+◌, ◌<◌, ◌≤◌, true, List, length, map, take, drop, slice_get, Some, refl, suc, [], ◌∷◌, Option, None, length-take-le, take-map, take-append-drop, take_at, length-map}
-use Rattle.frame.proofs.Words.{Name, Database, IsNumberingOf, Declared, declared_symbols, declared_labels, stays_open, label_of, symbols_of, labels_of, option_list, LastActive, Entry, Symbol, is_disj, is_var, last_active_of, stmt_of, statements_of, positions_from, AreAllLegal, ReadsAs, replaced_of, symbol_of, names_in, labels_in, option_position, AreNumbered, KeepsCounts, IsBehind, Storage, naming_of, AreKept, AreStored, Extends, has_parts, IsKeptAs, extends-length, extends-take, take-get, labels_of-append}
-use Rattle.entries.specs.Histories.{AreKeptUntil}
+use Rattle.frame.proofs.Words.{sym, ◌∙◌, ap, subst, arith, take-take, ◌≡◌, ℕ, ◌+◌, ◌<◌, ◌≤◌, true, List, length, map, take, drop, slice_get, Some, refl, suc, [], ◌∷◌, Option, None, length-take-le, take-map, take-append-drop, take_at, length-map, Name, Database, IsNumberingOf, Declared, declared_symbols, declared_labels, stays_open, label_of, symbols_of, labels_of, option_list, LastActive, Entry, Symbol, is_disj, is_var, last_active_of, stmt_of, statements_of, positions_from, AreAllLegal, ReadsAs, replaced_of, symbol_of, names_in, labels_in, option_position, AreNumbered, KeepsCounts, IsBehind, Storage, naming_of, AreKept, AreStored, Extends, has_parts, IsKeptAs, extends-length, extends-take, take-get, labels_of-append, AreKeptUntil}
 use Rattle.frame.proofs.StackLemmas.{stacks-back}
 use Rattle.frame.proofs.BlockWalkLemmas.{get-take}
 use Rattle.frame.proofs.DeclaredSymbolLemmas.{symbols_of-front}

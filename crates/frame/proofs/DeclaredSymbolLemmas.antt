@@ -1,6 +1,5 @@
 -- The declared symbols, and that a name of another kind is none of them.
-use Rattle.frame.proofs.Words.{list_all, sym, ◌∙◌, ap, subst, arith, take-append-drop, ◌≡◌, ℕ, Bool, true, false, cond, ◌||◌, nat_lt, List, [], ◌∷◌, ◌++◌, length, take, drop, refl, take-append_seam, and_parts, or_parts, or-false}
-use Rattle.frame.proofs.Words.{Name, name_eq, has_name, Stmt, Const, Database, constants, variables, was_symbol, was_variable, with_name, with_names, AreCodes, AreDistinct, Declared, declared_symbols, kind_in, is_constant_kind, MatchesKinds, symbols_by, symbols_from, symbols_of, has_name-append, symbols_of-later, symbols-distinct, was_symbol-either, AreBelow, Storage, is_declared, AreStored, names_in, statements_of}
+use Rattle.frame.proofs.Words.{list_all, sym, ◌∙◌, ap, subst, arith, take-append-drop, ◌≡◌, ℕ, Bool, true, false, cond, ◌||◌, nat_lt, List, [], ◌∷◌, ◌++◌, length, take, drop, refl, take-append_seam, and_parts, or_parts, or-false, Name, name_eq, has_name, Stmt, Const, Database, constants, variables, was_symbol, was_variable, with_name, with_names, AreCodes, AreDistinct, Declared, declared_symbols, kind_in, is_constant_kind, MatchesKinds, symbols_by, symbols_from, symbols_of, has_name-append, symbols_of-later, symbols-distinct, was_symbol-either, AreBelow, Storage, is_declared, AreStored, names_in, statements_of}
 use Rattle.mm_read.specs.declared.stmt.Stmt.TheVariants.{Var}
 
 -- the names of a storage are distinct

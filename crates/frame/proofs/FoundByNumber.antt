@@ -1,6 +1,5 @@
 -- Distinct names, and statements by their kinds.
-use Rattle.frame.proofs.Words.{◌&&◌, is_float_kind, second_is, sym, ◌∙◌, ap, subst, arith, take-take, ◌≡◌, ℕ, zero, suc, ◌-◌, ◌<◌, true, List, [], ◌∷◌, length, map, take, slice_get, Option, Some, option_map, refl, same_Some, slice_get-map}
-use Rattle.frame.proofs.Words.{Name, Stmt, Database, expr_of, is_assertion, IsLegal, name_at, decode, AreDistinct, is_hypothesis, AreBelow, typecode_of, IsTypecode, IsOf, Kind, Float, Ess, Axiom, Prove, Entry, stmt_by, AreNumbered, HasTwo, is_typed_by, required_by, take-get, code-at}
+use Rattle.frame.proofs.Words.{◌&&◌, is_float_kind, second_is, sym, ◌∙◌, ap, subst, arith, take-take, ◌≡◌, ℕ, zero, suc, ◌-◌, ◌<◌, true, List, [], ◌∷◌, length, map, take, slice_get, Option, Some, option_map, refl, same_Some, slice_get-map, Name, Stmt, Database, expr_of, is_assertion, IsLegal, name_at, decode, AreDistinct, is_hypothesis, AreBelow, typecode_of, IsTypecode, IsOf, Kind, Float, Ess, Axiom, Prove, Entry, stmt_by, AreNumbered, HasTwo, is_typed_by, required_by, take-get, code-at}
 use Rattle.frame.proofs.LegalLabels.{AllKept}
 
 -- ---- lists

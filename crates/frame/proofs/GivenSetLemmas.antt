@@ -1,14 +1,5 @@
 -- The sets of the hypotheses that the active `$e` bring along: read at a position, with one statement more, and cut.
-use Rattle.frame.proofs.Words.{◌≡◌, ◌∙◌, ap, sym, subst, arith, refl, inl, inr, ⊎_elim, ⊎_map, ℕ, zero, suc, ◌+◌, ◌-◌, ◌<◌, ◌≤◌, ◌⊎◌, true, false, cond, List, [], ◌∷◌, ◌++◌, length, length-append, length-take, length-take-le, map, map-append, take, take-take, take_all, take-append-le, nat_lt, slice_get, Option, Some, None, take-get, get-push, slice_get_within}
-use Rattle.frame.proofs.Words.{Database, Entry, Stmt, LastActive, Ess, actives, last_active_of, is_essential, is_close, stmt_of, names_in, labels_in, statements_of, AreStored, Storage, Extends, extends-length, extends-take, In, Ascends, AreThose, HasMore, OfSome, IsGiven, IsWith, kept_at, option_kept, set_at, with_position}
-use Rattle.std.proofs.lemmas.Bool.{cond_both}
-use Rattle.std.specs.Prelude.{max}
-use Rattle.std.proofs.lemmas.Bool.Decides.{nat_tests}
-use Rattle.entries.proofs.PositionSetLemmas.{ascends-with}
-use Rattle.entries.proofs.SetNodeLemmas.{set_at-extends}
-use Rattle.frame.specs.declared.given_sets.KeptSet.{KeptSet}
-use Rattle.frame.specs.declared.given_sets.GivenSets.{GivenSets}
-use Rattle.frame.specs.Stored.GivenSets.{option_set, kept_set, IsGivenBy, IsKeptSet, AreGivenSets}
+use Rattle.frame.proofs.Words.{◌≡◌, ◌∙◌, ap, sym, subst, arith, refl, inl, inr, ⊎_elim, ⊎_map, ℕ, zero, suc, ◌+◌, ◌-◌, ◌<◌, ◌≤◌, ◌⊎◌, true, false, cond, List, [], ◌∷◌, ◌++◌, length, length-append, length-take, length-take-le, map, map-append, take, take-take, take_all, take-append-le, nat_lt, slice_get, Option, Some, None, take-get, get-push, slice_get_within, Database, Entry, Stmt, LastActive, Ess, actives, last_active_of, is_essential, is_close, stmt_of, names_in, labels_in, statements_of, AreStored, Storage, Extends, extends-length, extends-take, In, Ascends, AreThose, HasMore, OfSome, IsGiven, IsWith, kept_at, option_kept, set_at, with_position, cond_both, max, nat_tests, ascends-with, set_at-extends, KeptSet, GivenSets, option_set, kept_set, IsGivenBy, IsKeptSet, AreGivenSets}
 use Rattle.frame.proofs.BlockWalkLemmas.{get-take, take-one}
 use Rattle.frame.proofs.CollectLemmas.{last-in, last-out, those-by}
 use Rattle.frame.proofs.KindWalk.{walk-from, essential_chain, as-many}

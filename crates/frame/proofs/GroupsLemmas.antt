@@ -1,7 +1,5 @@
 -- The lists of a frame are its mandatory pairs.
-use Rattle.frame.proofs.Words.{list_any, sym, ◌∙◌, ap, arith, ◌≡◌, Bool, true, false, not, ◌&&◌, ◌||◌, List, [], ◌∷◌, map, filter, refl, and_comm, or-false, and_parts, both_ways, Name, name_eq, has_name, name_same, same_name, groups, separates, is_mandatory}
-use Rattle.std.proofs.lemmas.Map.Views.{any-filter_same}
-use Rattle.frame.specs.Laws.{GroupsArePairs}
+use Rattle.frame.proofs.Words.{list_any, sym, ◌∙◌, ap, arith, ◌≡◌, Bool, true, false, not, ◌&&◌, ◌||◌, List, [], ◌∷◌, map, filter, refl, and_comm, or-false, and_parts, both_ways, Name, name_eq, has_name, name_same, same_name, groups, separates, is_mandatory, any-filter_same, GroupsArePairs}
 
 -- a name is in the filtered list where it is in the list and passes
 pub has-filter : (m : Name → Bool) (x : Name) (l : List Name) → has_name x (filter m l) ≡ (has_name x l && m x)

@@ -1,15 +1,7 @@
 -- The places of the symbols of long expressions, while statements come and go.
-use Rattle.frame.proofs.Words.{◌≡◌, ℕ, ◌<◌, List, [], ◌∷◌, ◌++◌, length, take, slice_get, Some, sym, ◌∙◌, ap, subst, Entry}
-use Rattle.std.proofs.Common.{inl, inr, nat_eq, nat_lt, cond, refl}
-use Rattle.std.specs.List.{All, filter}
-use Rattle.std.specs.Map.{lookup}
-use Rattle.std.proofs.lemmas.Bool.{cases_Bool, eqb-true, ltb-true}
-use Rattle.std.proofs.lemmas.List.Elements.{All-cons, All-head, All-nil, All-push, All-tail, All-weaker}
-use Rattle.std.proofs.lemmas.Option.{slice_get_within}
-use Rattle.entries.specs.SymbolPlaces.{ArePlacesOf}
-use Rattle.entries.proofs.StatementRecordLemmas.{get-more, get-last}
+use Rattle.frame.proofs.Words.{◌≡◌, ℕ, ◌<◌, List, [], ◌∷◌, ◌++◌, length, take, slice_get, Some, sym, ◌∙◌, ap, subst, Entry, inl, inr, nat_eq, nat_lt, cond, refl, All, lookup, cases_Bool, eqb-true, ltb-true, All-cons, All-head, All-nil, All-push, All-tail, All-weaker, slice_get_within, ArePlacesOf, get-more, get-last, IsLongIn, AreLongIn}
+use Rattle.std.specs.List.{filter}
 use Rattle.frame.proofs.BlockWalkLemmas.{get-take}
-use Rattle.frame.specs.Stored.LongExpressions.{IsLongIn, AreLongIn}
 
 pub long-none : (es : List Entry) → AreLongIn es []
 long-none es = record { each = All-nil (IsLongIn es) }

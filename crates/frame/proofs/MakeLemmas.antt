@@ -1,8 +1,5 @@
 -- Making the parts of an assertion: the loops' steps.
-use Rattle.frame.proofs.Words.{sym, ◌∙◌, ap, subst, arith, append_assoc, append-nil, ◌≡◌, ℕ, zero, suc, ◌+◌, ◌-◌, ◌<◌, ◌≤◌, Bool, true, false, cond, List, [], ◌∷◌, ◌++◌, length, map, filter, reverse, get_or, slice_range, refl, is_typed, recorded_in, list_any, ◌==◌, filter-append, length-append, map-append, reverse-append, slice_get_within, Stmt, cut, AreSpansIn, range-behind, extends-refl, cut-more, cut-push, spans-push, Entry, typed, symbols_at, has_two, groups_by, AreHypotheses}
-use Rattle.std.proofs.lemmas.List.{map_push}
-use Rattle.entries.specs.declared.buffer_part.BufferPart.{BufferPart}
-use Rattle.entries.specs.declared.assertion_view.Hypothesis.{Hypothesis}
+use Rattle.frame.proofs.Words.{sym, ◌∙◌, ap, subst, arith, append_assoc, append-nil, ◌≡◌, ℕ, zero, suc, ◌+◌, ◌-◌, ◌<◌, ◌≤◌, Bool, true, false, cond, List, [], ◌∷◌, ◌++◌, length, map, filter, reverse, get_or, slice_range, refl, is_typed, recorded_in, list_any, ◌==◌, filter-append, length-append, map-append, reverse-append, slice_get_within, Stmt, cut, AreSpansIn, range-behind, extends-refl, cut-more, cut-push, spans-push, Entry, typed, symbols_at, has_two, groups_by, AreHypotheses, map_push, BufferPart, Hypothesis}
 
 -- ---- the hypotheses, one by one
 

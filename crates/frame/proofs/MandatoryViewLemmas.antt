@@ -1,10 +1,5 @@
 -- The mandatory hypotheses of an assertion, of which the active `$e` bring along a set: this, with its own `$f` that the set has not.
-use Rattle.frame.proofs.Words.{◌≡◌, ◌∙◌, ap, sym, subst, arith, refl, ⊎_map, ℕ, ◌-◌, ◌<◌, ◌≤◌, true, false, not, List, [], ◌∷◌, length, length-append, length-take, filter, take, Stmt, Entry, LastActive, Storage, hypotheses, is_hypothesis, is_assertion, is_float_in, expr_of, last_active_of, statements_of, Ascends, AreThose, IsGiven, In, set_at}
-use Rattle.std.specs.Prelude.{◌^◌}
-use Rattle.entries.specs.PositionSets.{has_position}
-use Rattle.frame.specs.declared.given_sets.GivenSets.{GivenSets}
-use Rattle.frame.specs.Stored.GivenSets.{AreFrames, kept_set}
-use Rattle.frame.specs.Stored.Merged.{AreMerged, with_each}
+use Rattle.frame.proofs.Words.{◌≡◌, ◌∙◌, ap, sym, subst, arith, refl, ⊎_map, ℕ, ◌-◌, ◌<◌, ◌≤◌, true, false, not, List, [], ◌∷◌, length, length-append, length-take, filter, take, Stmt, Entry, LastActive, Storage, hypotheses, is_hypothesis, is_assertion, is_float_in, expr_of, last_active_of, statements_of, Ascends, AreThose, IsGiven, In, set_at, ◌^◌, has_position, GivenSets, AreFrames, kept_set, AreMerged, with_each}
 use Rattle.frame.proofs.ActivePositions.{active-members, ascends-active}
 use Rattle.frame.proofs.AssertionViewLemmas.{IsThere}
 use Rattle.frame.proofs.CollectLemmas.{those-by}

@@ -1,12 +1,5 @@
 -- A set of positions and some that it has not, merged: what it has, how many there are, and what stands at an index.
-use Rattle.frame.proofs.Words.{◌≡◌, ◌∙◌, ap, sym, subst, arith, refl, inl, inr, ⊎_elim, ℕ, zero, suc, ◌+◌, ◌<◌, ◌≤◌, ◌==◌, ◌||◌, ◌⊎◌, true, false, List, [], ◌∷◌, length, get_or, slice_get, Some, slice_get-get_or, ◌-◌, Result, Ok, Err, or_right, or_left, or_cases, true≢false, Bool, not, not-true, cond, ◌++◌, filter, filter-append, take, take_more, ⊎_map, In, AreThose}
-use Rattle.std.proofs.lemmas.Bool.{cases_Bool, cases_eq, cases_lt, cond_both}
-use Rattle.std.specs.Prelude.{MatchResult, is_ok}
-use Rattle.std.proofs.lemmas.Bool.Decides.{nat_tests}
-use Rattle.std.proofs.lemmas.Option.{slice_get_cases}
-use Rattle.entries.specs.PositionSets.{AreAbove, Ascends, count_below, has_position}
-use Rattle.entries.proofs.PositionSetLemmas.{above-all, ascends-with, count-above, count-all, count-get, count-grows, count-less, count-with, get-count, has-above, has-get, has-with, length-with}
-use Rattle.frame.specs.Stored.Merged.{AreMissing, with_each}
+use Rattle.frame.proofs.Words.{◌≡◌, ◌∙◌, ap, sym, subst, arith, refl, inl, inr, ⊎_elim, ℕ, zero, suc, ◌+◌, ◌<◌, ◌≤◌, ◌==◌, ◌||◌, ◌⊎◌, true, false, List, [], ◌∷◌, length, get_or, slice_get, Some, slice_get-get_or, ◌-◌, Result, Ok, Err, or_right, or_left, or_cases, true≢false, Bool, not, not-true, cond, ◌++◌, filter, filter-append, take, take_more, ⊎_map, In, AreThose, cases_Bool, cases_eq, cases_lt, cond_both, MatchResult, is_ok, nat_tests, slice_get_cases, AreAbove, Ascends, count_below, has_position, above-all, ascends-with, count-above, count-all, count-get, count-grows, count-less, count-with, get-count, has-above, has-get, has-with, length-with, AreMissing, with_each}
 
 pub has-each : (q : ℕ) (own xs : List ℕ) → has_position q (with_each own xs) ≡ (has_position q own || has_position q xs)
 has-each q [] xs = refl

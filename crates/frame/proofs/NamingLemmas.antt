@@ -1,7 +1,5 @@
 -- The kinds of the names that statements declare.
-use Rattle.frame.proofs.Words.{sym, ◌∙◌, ap, subst, arith, append-nil, append_assoc, take-append-drop, ◌≡◌, ℕ, suc, ◌+◌, List, [], ◌∷◌, ◌++◌, length, take, drop, ◌-◌, Result, Ok, Err, OnOk, OnErr, slice_get, refl, take-append_seam}
-use Rattle.frame.proofs.Words.{Name, Stmt, Database, declared_with, IsLegal, symbols_of, labels_of, Declared, declared_symbols, declared_labels, is_symbol_kind, IsNumberingOf, declared_with-more, numbering-after, symbols_of-later, names_that-append, Extends, statements_of, AreAllLegal, naming_from, naming_of, Storage, AreStored, get-more, get-last}
-use Rattle.scope.proofs.KindCountLemmas.{both-counts}
+use Rattle.frame.proofs.Words.{sym, ◌∙◌, ap, subst, arith, append-nil, append_assoc, take-append-drop, ◌≡◌, ℕ, suc, ◌+◌, List, [], ◌∷◌, ◌++◌, length, take, drop, ◌-◌, Result, Ok, Err, OnOk, OnErr, slice_get, refl, take-append_seam, Name, Stmt, Database, declared_with, IsLegal, symbols_of, labels_of, Declared, declared_symbols, declared_labels, is_symbol_kind, IsNumberingOf, declared_with-more, numbering-after, symbols_of-later, names_that-append, Extends, statements_of, AreAllLegal, naming_from, naming_of, Storage, AreStored, get-more, get-last, both-counts}
 
 -- ---- names are only added at the end
 

@@ -1,10 +1,6 @@
 -- The frame collected from the active statements is the frame of the definition.
-use Rattle.frame.proofs.Words.{list_any, flat_map, position_or_len, ◌∙◌, ap, sym, arith, inl, inr, ◌≡◌, ℕ, ◌<◌, ◌≤◌, Bool, true, false, cond, ◌&&◌, ◌||◌, List, [], ◌∷◌, ◌++◌, map, filter, length, refl, Some, None, is_some, nat_lt, or-false, cases_lt}
-use Rattle.frame.proofs.Words.{Name, name_eq, has_name, Stmt, Database, Expr, active, separated, expr_of, is_essential, is_variable, name_at, code_of, has-at, same_name, lt-list_any, has_name-append, FrameParts, is_mandatory, is_hypothesis, hypotheses, groups, mandatory_groups, separates, AreMandatory, is_in_essential, asks, required, among, groups_among}
-use mathlib.Core.Path.{fun_ext}
+use Rattle.frame.proofs.Words.{list_any, flat_map, position_or_len, ◌∙◌, ap, sym, arith, inl, inr, ◌≡◌, ℕ, ◌<◌, ◌≤◌, Bool, true, false, cond, ◌&&◌, ◌||◌, List, [], ◌∷◌, ◌++◌, map, filter, length, refl, Some, None, is_some, nat_lt, or-false, cases_lt, Name, name_eq, has_name, Stmt, Database, Expr, active, separated, expr_of, is_essential, is_variable, name_at, code_of, has-at, same_name, lt-list_any, has_name-append, FrameParts, is_mandatory, is_hypothesis, hypotheses, groups, mandatory_groups, separates, AreMandatory, is_in_essential, asks, required, among, groups_among, fun_ext, stands_at, standing_of, Standing}
 use Rattle.mm_read.specs.declared.stmt.Stmt.TheVariants.{Disj, Float, Ess}
-use Rattle.scope.specs.Standing.{stands_at, standing_of}
-use Rattle.scope.specs.declared.standing.Standing.{Standing}
 
 -- one more test, for a name that stands among the names already, changes nothing
 known : (names : List Name) (x y : Name) (b : Bool) → name_eq x y ≡ b → has_name y names ≡ true → has_name x names ≡ (has_name x names || b)

@@ -1,6 +1,5 @@
 -- Blocks that stay open when statements are appended, and the last active statement of a kind.
-use Rattle.frame.proofs.Words.{sym, ◌∙◌, ap, arith, inl, inr, append-nil, ◌≡◌, ℕ, suc, ◌+◌, ◌-◌, Bool, true, false, cond, ◌⊎◌, List, [], ◌∷◌, ◌++◌, length, filter, refl, or-true, filter-append, list_any-append, Stmt, Open, Close, Database, stays_open, active, active_from, is_open, is_close, actives_from, actives, last_position, last_active_of_kind, deficit, deficit-below, below-deficit, no_deficit, some_deficit, left_open, active_from-later, active_from-close, before_open-none}
-use Rattle.scope.specs.Laws.{has_open, before_open}
+use Rattle.frame.proofs.Words.{sym, ◌∙◌, ap, arith, inl, inr, append-nil, ◌≡◌, ℕ, suc, ◌+◌, ◌-◌, Bool, true, false, cond, ◌⊎◌, List, [], ◌∷◌, ◌++◌, length, filter, refl, or-true, filter-append, list_any-append, Stmt, Open, Close, Database, stays_open, active, active_from, is_open, is_close, actives_from, actives, last_position, last_active_of_kind, deficit, deficit-below, below-deficit, no_deficit, some_deficit, left_open, active_from-later, active_from-close, before_open-none, has_open, before_open}
 
 -- later statements close first the blocks that the earlier ones leave open
 pub deficit-join : (S T : Database) → deficit (S ++ T) ≡ deficit S + (deficit T - left_open S)

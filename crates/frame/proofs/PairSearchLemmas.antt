@@ -1,10 +1,6 @@
 -- The search for an active `$d` that has two variables, and one that is known to have both.
-use Rattle.frame.proofs.Words.{◌≡◌, ◌∙◌, ap, sym, subst, arith, refl, ℕ, suc, ◌+◌, ◌-◌, ◌<◌, ◌≤◌, Bool, true, false, cond, not, ◌||◌, ◌&&◌, List, [], ◌∷◌, length, map, filter, take, drop, slice_get, Some, list_any, list_any-map}
-use Rattle.frame.proofs.Words.{has_name, name_at, is_active, active, separated, stays_open, stmt_of, names_in, labels_in, statements_of, is_disj, Stmt, Storage, Entry, Kind, Disj, In, IsPlain, Name, name_eq, Expr, stmt_by}
+use Rattle.frame.proofs.Words.{◌≡◌, ◌∙◌, ap, sym, subst, arith, refl, ℕ, suc, ◌+◌, ◌-◌, ◌<◌, ◌≤◌, Bool, true, false, cond, not, ◌||◌, ◌&&◌, List, [], ◌∷◌, length, map, filter, take, drop, slice_get, Some, list_any, list_any-map, has_name, name_at, is_active, active, separated, stays_open, stmt_of, names_in, labels_in, statements_of, is_disj, Stmt, Storage, Entry, Kind, Disj, In, IsPlain, Name, name_eq, Expr, stmt_by, history, stack_at, AreSought, IsLeft, are_pair, AreOfKind, IsOfKind, has_code}
 use Rattle.mm_read.specs.declared.stmt.Stmt.TheVariants as stmt
-use Rattle.entries.specs.Histories.{history, stack_at}
-use Rattle.frame.specs.Stored.PairSearch.{AreSought, IsLeft, are_pair}
-use Rattle.frame.specs.Stored.Stacks.{AreOfKind, IsOfKind, has_code}
 use Rattle.frame.proofs.ActivePositions.{members-active}
 use Rattle.frame.proofs.BlockWalkLemmas.{active-stays, get-take}
 use Rattle.frame.proofs.KindWalk.{same-number, disjoint_lists}

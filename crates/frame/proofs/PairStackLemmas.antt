@@ -1,9 +1,5 @@
 -- Two variables that stand together in an active `$d`, and the variables that are active, by the stacks.
-use Rattle.frame.proofs.Words.{◌≡◌, ◌∙◌, ap, sym, subst, arith, refl, ℕ, suc, ◌+◌, ◌-◌, ◌<◌, ◌≤◌, Bool, true, false, cond, not, ◌||◌, ◌&&◌, ◌==◌, nat_eq, List, [], ◌∷◌, ◌++◌, length, map, filter, take, slice_get, slice_get_within, Option, Some, None, length-take, same_Some, list_any, or-false, append_assoc, length-append, take-get, and_comm, list_any-map, AllBelow, AreBelow}
-use Rattle.frame.proofs.Words.{Name, name_eq, has_name, name_at, decode, AreDistinct, Stmt, Database, Entry, Storage, stays_open, active_from, actives, actives_from, is_disj, is_var, is_variable, separated, variables, is_pair, groups, names_in, labels_in, statements_of, stmt_of, AreStored}
-use Rattle.entries.specs.Histories.{history, stack_at}
-use Rattle.frame.specs.Stored.AssertionParts.{symbols_at, option_symbols}
-use Rattle.frame.specs.Stored.Stacks.{has_code, having_behind, having, IsOfKind, AreOfKind}
+use Rattle.frame.proofs.Words.{◌≡◌, ◌∙◌, ap, sym, subst, arith, refl, ℕ, suc, ◌+◌, ◌-◌, ◌<◌, ◌≤◌, Bool, true, false, cond, not, ◌||◌, ◌&&◌, ◌==◌, nat_eq, List, [], ◌∷◌, ◌++◌, length, map, filter, take, slice_get, slice_get_within, Option, Some, None, length-take, same_Some, list_any, or-false, append_assoc, length-append, take-get, and_comm, list_any-map, AllBelow, AreBelow, Name, name_eq, has_name, name_at, decode, AreDistinct, Stmt, Database, Entry, Storage, stays_open, active_from, actives, actives_from, is_disj, is_var, is_variable, separated, variables, is_pair, groups, names_in, labels_in, statements_of, stmt_of, AreStored, history, stack_at, symbols_at, option_symbols, has_code, having_behind, having, IsOfKind, AreOfKind}
 use Rattle.frame.proofs.FoundByNumber.{map-back}
 use Rattle.frame.proofs.LegalBehind.{stands-at}
 use Rattle.frame.proofs.StoredOneMore.{numbered-at}

@@ -1,7 +1,6 @@
 -- Frames, worked out.
-use Rattle.frame.proofs.Words.{◌≡◌, [], ◌∷◌, codes, refl, true, false, frame_of, is_pair, before}
+use Rattle.frame.proofs.Words.{◌≡◌, [], ◌∷◌, codes, refl, true, false, frame_of, is_pair, before, w, demo_before, demo_mp, demo, rows_front, row_ax, row_seven, row_th}
 use Rattle.mm_read.specs.declared.stmt.Stmt.TheVariants.{Axiom}
-use Rattle.scope.proofs.Databases.{w, demo_before, demo_mp, demo, rows_front, row_ax, row_seven, row_th}
 
 -- `mp` takes the `$f` of P and Q and both `$e`
 mp_frame : frame_of demo_before demo_mp ≡ record { hypotheses = 6 ∷ 7 ∷ 15 ∷ 16 ∷ []; groups = []; conclusion = w (codes "|- Q") }

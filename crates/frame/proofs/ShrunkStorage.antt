@@ -1,9 +1,5 @@
 -- The storage after room was given back: its lists are as before.
-use Rattle.frame.proofs.Words.{◌≡◌, ◌∙◌, ap, sym, subst, refl, Bool, List, length, Stmt, Database, Entry, Storage, AreStored, statements_of, is_disj, is_var}
-use Rattle.entries.specs.Histories.{StackVersion, IsUntil, AreSame, stack_at}
-use Rattle.frame.specs.Stored.GivenSets.{AreFrames}
-use Rattle.frame.specs.Stored.Stacks.{AreStacks}
-use Rattle.frame.specs.declared.given_sets.GivenSets.{GivenSets}
+use Rattle.frame.proofs.Words.{◌≡◌, ◌∙◌, ap, sym, subst, refl, Bool, List, length, Stmt, Database, Entry, Storage, AreStored, statements_of, is_disj, is_var, StackVersion, IsUntil, AreSame, stack_at, AreFrames, AreStacks, GivenSets}
 use Rattle.frame.proofs.GivenSetLemmas.{sets-moved}
 
 pub record IsShrunk (k new : Storage) : Type 0 where

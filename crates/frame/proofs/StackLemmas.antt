@@ -1,18 +1,10 @@
 -- The stacks by number: what one more statement changes, the first statements alone, and a `$}`.
-use Rattle.frame.proofs.Words.{◌≡◌, ◌∙◌, ap, sym, subst, arith, refl, inl, inr, ℕ, zero, suc, ◌+◌, ◌-◌, ◌<◌, ◌≤◌, ◌⊎◌, Bool, true, false, cond, ◌||◌, nat_eq, List, [], ◌∷◌, ◌++◌, length, filter, take, take_all, take-take, take-append-le, take-append_seam, length-append, length-take, length-take-le, get_or, slice_get, cases_lt, nat_le, list_any, list_any_more, append-nil, get-last}
-use Rattle.frame.proofs.Words.{Stmt, Database, Entry, stays_open, active_from, is_open, is_close, actives, actives_from, is_disj, is_var, last_active_of_kind, kind_of, Storage, AreStored, names_in, labels_in, statements_of, stmt_of, length-map}
+use Rattle.frame.proofs.Words.{◌≡◌, ◌∙◌, ap, sym, subst, arith, refl, inl, inr, ℕ, zero, suc, ◌+◌, ◌-◌, ◌<◌, ◌≤◌, ◌⊎◌, Bool, true, false, cond, ◌||◌, nat_eq, List, [], ◌∷◌, ◌++◌, length, filter, take, take_all, take-take, take-append-le, take-append_seam, length-append, length-take, length-take-le, get_or, slice_get, cases_lt, nat_le, list_any, list_any_more, append-nil, get-last, Stmt, Database, Entry, stays_open, active_from, is_open, is_close, actives, actives_from, is_disj, is_var, last_active_of_kind, kind_of, Storage, AreStored, names_in, labels_in, statements_of, stmt_of, length-map, Disj, Var, StackVersion, IsUntil, AreUntil, AreSame, AreKeptUntil, history, kept_until, pushed, gone_back, stack_at, until-later, until-kept, stack-later, stack-kept, stack-changed, changed-twice, until-changed, kept-changed, NextStatement, option_symbols, has_code, having_behind, having, AreStacks, opening, with_top, latest_of, KeepsUntil, AreChangedBy, IsNext, leb-true}
 use Rattle.mm_read.specs.declared.stmt.Stmt.TheVariants as stmt
-use Rattle.entries.specs.declared.kind.Kind.TheVariants.{Disj, Var}
-use Rattle.entries.specs.Histories.{StackVersion, IsUntil, AreUntil, AreWith, AreSame, AreKeptUntil, history, kept_until, pushed, gone_back, stack_at}
-use Rattle.entries.proofs.LogLemmas.{until-later, until-kept}
-use Rattle.entries.proofs.HistoryLemmas.{stack-later, stack-kept, stack-changed, changed-twice, until-changed, kept-changed}
-use Rattle.frame.specs.declared.stacks.NextStatement.{NextStatement}
-use Rattle.frame.specs.Stored.AssertionParts.{option_symbols}
-use Rattle.frame.specs.Stored.Stacks.{has_code, having_behind, having, AreStacks, opening, with_top, latest_of, KeepsUntil, AreChangedBy, IsNext}
+use Rattle.entries.specs.Histories.{AreWith}
 use Rattle.frame.proofs.OpenLemmas.{IsNoClose}
 use Rattle.frame.proofs.LastActiveLemmas.{actives-push, actives-close}
 use Rattle.frame.proofs.BlockWalkLemmas.{get-take, last-within}
-use Rattle.std.proofs.lemmas.Bool.{leb-true}
 
 -- ---- a change of some symbols
 

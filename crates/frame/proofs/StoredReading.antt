@@ -1,6 +1,5 @@
 -- Reading an entry of the storage, and the position of a label.
-use Rattle.frame.proofs.Words.{sym, ◌∙◌, ap, subst, arith, inl, inr, ◌≡◌, ℕ, zero, suc, ◌+◌, ◌-◌, ◌<◌, ◌≤◌, true, false, ◌⊎◌, List, [], ◌∷◌, length, map, get_or, slice_get, Option, Some, None, option_map, refl, same_Some, slice_get-map, slice_get_within, get_or_from_slice_get, bytes_eq-Decides, both_ways, list_any_at}
-use Rattle.frame.proofs.Words.{Name, Stmt, Database, stmt_at, label_of, expr_of, is_assertion, was_label, has_label, name_at, decode, labels_of, option_list, is_hypothesis_kind, Kind, Float, Ess, Axiom, Prove, Entry, is_label_kind, stmt_by, stmt_of, positions_from, option_position, HasTwo, AreNumbered, place}
+use Rattle.frame.proofs.Words.{sym, ◌∙◌, ap, subst, arith, inl, inr, ◌≡◌, ℕ, zero, suc, ◌+◌, ◌-◌, ◌<◌, ◌≤◌, true, false, ◌⊎◌, List, [], ◌∷◌, length, map, get_or, slice_get, Option, Some, None, option_map, refl, same_Some, slice_get-map, slice_get_within, get_or_from_slice_get, bytes_eq-Decides, both_ways, list_any_at, Name, Stmt, Database, stmt_at, label_of, expr_of, is_assertion, was_label, has_label, name_at, decode, labels_of, option_list, is_hypothesis_kind, Kind, Float, Ess, Axiom, Prove, Entry, is_label_kind, stmt_by, stmt_of, positions_from, option_position, HasTwo, AreNumbered, place}
 
 -- ---- reading an entry
 

@@ -1,6 +1,5 @@
 -- Numbers and the names that they stand for, as both grow.
-use Rattle.frame.proofs.Words.{replicate, take_all, zero, ◌∙◌, ap, arith, ◌≡◌, ℕ, ◌<◌, ◌≤◌, List, [], ◌∷◌, ◌++◌, length, take, refl, suc, take-append_seam, Name, name_at, decode, AreBelow, Symbol, Extends, zero_symbol, AreZero, AreZeroBehind}
-use Rattle.names.proofs.DistinctLemmas.{name_at-more}
+use Rattle.frame.proofs.Words.{replicate, take_all, zero, ◌∙◌, ap, arith, ◌≡◌, ℕ, ◌<◌, ◌≤◌, List, [], ◌∷◌, ◌++◌, length, take, refl, suc, take-append_seam, Name, name_at, decode, AreBelow, Symbol, Extends, zero_symbol, AreZero, AreZeroBehind, name_at-more}
 
 -- cut back to where it began, the list is as before
 pub take-extends : {A : Type 0} (a b : List A) → Extends a b → take (length a) b ≡ a

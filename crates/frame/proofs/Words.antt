@@ -1,65 +1,107 @@
 -- The words in which this crate is proved, and the lemmas of std and of the layers below, passed on from one place.
 pub use Rattle.entries.proofs.AddedStatement.{ok-weaker, on-err}
 pub use Rattle.entries.proofs.BufferPlaceLemmas.{get-push, take-get}
+pub use Rattle.entries.proofs.HistoryLemmas.{changed-twice, kept-changed, stack-changed, stack-kept, stack-later, until-changed}
+pub use Rattle.entries.proofs.LogLemmas.{until-kept, until-later}
+pub use Rattle.entries.proofs.PositionSetLemmas.{above-all, ascends-with, count-above, count-all, count-get, count-grows, count-less, count-with, get-count, has-above, has-get, has-with, length-with}
+pub use Rattle.entries.proofs.SetNodeLemmas.{cut-back, set_at-extends}
 pub use Rattle.entries.proofs.SpanLemmas.{cut-more, cut-push, extends-length, extends-refl, extends-take, extends-trans, range-behind, spans-push, spans-reverse}
 pub use Rattle.entries.proofs.StatementRecordLemmas.{get-last, get-more}
-pub use Rattle.entries.specs.Entries.{AreWhole, Assertion, Entry, made, partless, seen}
+pub use Rattle.entries.specs.Entries.{AreWhole, Assertion, Entry, assertion_of, made, partless, seen}
+pub use Rattle.entries.specs.Histories.{AreKeptUntil, AreSame, AreUntil, IsUntil, StackVersion, gone_back, history, kept_until, pushed, stack_at}
 pub use Rattle.entries.specs.Hypotheses.{told}
-pub use Rattle.entries.specs.PositionSets.{AreAbove, Ascends, IsSet, set_at, with_position}
+pub use Rattle.entries.specs.PositionSets.{AreAbove, Ascends, IsSet, count_below, has_position, set_at, with_position}
 pub use Rattle.entries.specs.Stored.Spans.{AreSpansIn, Extends, cut}
+pub use Rattle.entries.specs.SymbolPlaces.{ArePlacesOf}
 pub use Rattle.entries.specs.declared.assertion_view.AssertionView.{AssertionView}
+pub use Rattle.entries.specs.declared.assertion_view.Hypothesis.{Hypothesis}
+pub use Rattle.entries.specs.declared.buffer_part.BufferPart.{BufferPart}
+pub use Rattle.entries.specs.declared.entry_header.EntryHeader.{EntryHeader}
 pub use Rattle.entries.specs.declared.kind.Kind.{Kind}
 pub use Rattle.entries.specs.declared.kind.Kind.TheVariants.{Axiom, Disj, Ess, Float, Prove, Var}
 pub use Rattle.entries.specs.declared.last_active.LastActive.{LastActive}
+pub use Rattle.frame.specs.AssertionView.{AreListsOf, AreRequired, IsOf, IsRequired, IsTypecode, IsViewOf, typecode_of}
 pub use Rattle.frame.specs.AtPosition.{AreLegal, ArePositions, HasLabelsOnce, IsPosition, IsSingle}
 pub use Rattle.frame.specs.Below.{AllBelow, AreBelow}
 pub use Rattle.frame.specs.Bound.{HasFloat, IsBound, IsFirstFixed}
 pub use Rattle.frame.specs.Citations.{Carries, OfVariables, expr_at, is_hypothesis_kind, premises}
-pub use Rattle.frame.specs.AssertionView.{AreRequired, AreListsOf, IsRequired, IsViewOf, IsTypecode, IsOf, typecode_of}
 pub use Rattle.frame.specs.Disjoint.{are_disjoint, is_pair_disjoint, is_symbol_disjoint, is_variable_disjoint}
+pub use Rattle.frame.specs.ExprPlaces.{AreExprPlaces}
 pub use Rattle.frame.specs.FrameOf.{HasAssertion, frame_of, groups, hypotheses, is_hypothesis, is_mandatory, is_pair, is_used, mandatory_groups, separates}
-pub use Rattle.frame.specs.LastActive.{actives, actives_from, is_disj, is_var, last_active_of_kind, last_position, last_active_of}
+pub use Rattle.frame.specs.LastActive.{actives, actives_from, is_disj, is_var, last_active_of, last_active_of_kind, last_position}
+pub use Rattle.frame.specs.Laws.{GroupsArePairs}
 pub use Rattle.frame.specs.Parts.{FrameParts, Numbered}
-pub use Rattle.frame.specs.Stored.AssertionParts.{IsKeptAs, required_at, required_by, floats_in, groups_by, has_parts, has_two, typecode_at, is_float_in, is_typed, is_typed_by, kept_with, recorded_in, option_required, option_symbols, symbols_at, typed}
+pub use Rattle.frame.specs.Stored.AssertionParts.{IsKeptAs, floats_in, groups_by, has_parts, has_two, is_float_in, is_typed, is_typed_by, kept_with, option_required, option_symbols, recorded_in, required_at, required_by, symbols_at, typecode_at, typed}
 pub use Rattle.frame.specs.Stored.Counts.{AreNumbered, AreZero, AreZeroBehind, Grown, HasRoom, HasTwo, IsBehind, IsLabelBelow, IsPlain, KeepsCounts, kind_of, next_last_active, with_declared, with_entry, zero_symbol}
 pub use Rattle.frame.specs.Stored.Ends.{AreBlocks, AreEnds, TellEnds, end_from, end_of, with_end}
 pub use Rattle.frame.specs.Stored.EntryMeanings.{AreAllLegal, ReadsAs, declared_by, declares, floats, is_float_kind, is_var_kind, labels_in, last_from, last_of, last_where, names_in, option_position, positions_from, replaced_behind, replaced_by, replaced_of, second_is, statements_of, stmt_by, stmt_of, symbol_of, with_last}
-pub use Rattle.frame.specs.Stored.Hypotheses.{AreCollected, AreDescribed, AreFloats, AreHypotheses, AreLooked, AreThose, AreWith, HasMore, In, IsFloatOf, IsGiven, IsFilledFrom, IsWith, OfSome, SomeFloat, is_hypothesis_entry, kept_at, option_kept}
+pub use Rattle.frame.specs.Stored.GivenSets.{AreFrames, AreGivenSets, IsGivenBy, IsKeptSet, kept_set, option_set}
+pub use Rattle.frame.specs.Stored.Hypotheses.{AreCollected, AreDescribed, AreFloats, AreHypotheses, AreLooked, AreThose, AreWith, HasMore, In, IsFilledFrom, IsFloatOf, IsGiven, IsWith, OfSome, SomeFloat, is_hypothesis_entry, kept_at, option_kept}
 pub use Rattle.frame.specs.Stored.Labels.{is_label_kind}
+pub use Rattle.frame.specs.Stored.LongExpressions.{AreLongIn, IsLongIn}
+pub use Rattle.frame.specs.Stored.Merged.{AreMerged, AreMissing, with_each}
 pub use Rattle.frame.specs.Stored.Naming.{is_declared, naming_from, naming_of}
-pub use Rattle.frame.specs.Stored.OneFrame.{AreMandatory, among, required, asks, groups_among, is_in_essential}
-pub use Rattle.frame.specs.Stored.Whole.{AreKept, AreStored, ArePartsFor, IsKeptOf}
+pub use Rattle.frame.specs.Stored.OneFrame.{AreMandatory, among, asks, groups_among, is_in_essential, required}
+pub use Rattle.frame.specs.Stored.PairSearch.{AreSought, IsLeft, are_pair}
+pub use Rattle.frame.specs.Stored.Stacks.{AreChangedBy, AreOfKind, AreStacks, IsNext, IsOfKind, KeepsUntil, has_code, having, having_behind, kind_test, last_by_kind, latest_of, opening, with_top}
+pub use Rattle.frame.specs.Stored.Whole.{AreKept, ArePartsFor, AreStored, IsEntryHeader, IsKeptOf, IsWalked}
+pub use Rattle.frame.specs.declared.given_sets.GivenSets.{GivenSets}
+pub use Rattle.frame.specs.declared.given_sets.KeptSet.{KeptSet}
+pub use Rattle.frame.specs.declared.stacks.NextStatement.{NextStatement}
 pub use Rattle.frame.specs.declared.storage.Storage.{Storage}
 pub use Rattle.frame.specs.declared.storage.Symbol.{Symbol}
 pub use Rattle.mm_lex.specs.Alphabet.{Name, has_name, name_eq}
+pub use Rattle.mm_lex.specs.Words.{AreWords}
 pub use Rattle.mm_read.specs.Statements.{Database, Expr}
 pub use Rattle.mm_read.specs.declared.stmt.Stmt.{Stmt}
 pub use Rattle.mm_read.specs.declared.stmt.Stmt.TheVariants.{Close, Const, Open}
 pub use Rattle.names.proofs.AddedNames.{has_name-append}
 pub use Rattle.names.proofs.CodesLemmas.{code-absent, code-at, has-at, list_any-map, lt-list_any, name_at-get_or, name_at-last, name_same, same_name}
+pub use Rattle.names.proofs.DistinctLemmas.{name_at-more}
 pub use Rattle.names.specs.Codes.{AreCodes, AreDistinct, code_of, decode, name_at, with_name, with_names}
 pub use Rattle.scope.proofs.ActiveLemmas.{active_from-close, active_from-later, before_open-none, below-deficit, count-left_open, deficit, deficit-below, deficit-close, left_open, no_deficit, place, some_deficit, stays_open-append, stays_open-same}
-pub use Rattle.scope.proofs.DeclaredLemmas.{declared_with-more, may-declare, recorded-after, numbering-after}
+pub use Rattle.scope.proofs.BareLemmas.{bare-same, declared_with-bare, legal-bare, symbols_by-bare}
+pub use Rattle.scope.proofs.Databases.{demo, demo_before, demo_mp, row_ax, row_seven, row_th, rows_front, w}
+pub use Rattle.scope.proofs.DeclaredLemmas.{declared_with-more, may-declare, numbering-after, recorded-after}
 pub use Rattle.scope.proofs.GoingBackLemmas.{all-has}
+pub use Rattle.scope.proofs.KindCountLemmas.{both-counts}
 pub use Rattle.scope.proofs.NamesLemmas.{active-was, labels_of-append, symbols-distinct, symbols_of-append, symbols_of-later}
 pub use Rattle.scope.proofs.SortsLemmas.{is_variable-active, was_symbol-either}
 pub use Rattle.scope.proofs.SymbolNameLemmas.{AreDone, names_that-append}
 pub use Rattle.scope.specs.Active.{active, active_from, bare, before, constants, count, expr_of, has_float, has_label, is_active, is_assertion, is_close, is_constant, is_essential, is_float_of, is_open, is_variable, label_of, separated, stays_open, stmt_at, variables, was_label, was_symbol, was_variable}
 pub use Rattle.scope.specs.Declares.{IsRecordedBy, declared_with}
 pub use Rattle.scope.specs.Kinds.{Declared, IsNumberOf, IsNumberingOf, MatchesKind, MatchesKinds, declared_labels, declared_symbols, is_constant_kind, is_symbol_kind, is_variable_kind, kind_in}
+pub use Rattle.scope.specs.Laws.{before_open, has_open}
 pub use Rattle.scope.specs.Legal.{IsLegal, is_fresh_label, keeps, starts_with_constant}
+pub use Rattle.scope.specs.Standing.{standing_of, stands_at}
 pub use Rattle.scope.specs.Stored.SymbolNumbers.{AreRecorded}
 pub use Rattle.scope.specs.Symbols.{AreNumbers, AreVariableNumbers, labels_of, option_list, symbols_after, symbols_by, symbols_from, symbols_in, symbols_of}
+pub use Rattle.scope.specs.declared.numbering.NameKind.{NameKind}
+pub use Rattle.scope.specs.declared.numbering.NameKind.TheVariants.{Constant}
 pub use Rattle.scope.specs.declared.rule.Rule.TheVariants.{G1, G10, G2, G3, G4, G5, G6, G7, G8, G9}
-pub use Rattle.std.proofs.Common.{Bool, Bor, Err, IfNone, IfSome, IsTrue, List, None, Ok, OnErr, OnOk, Option, Result, Some, [], add-zero, ap, append-nil, append_assoc, arith, cond, drop, eqb, false, filter, get_or, get_or-set_same, get_or-take, if◌then◌else◌, inl, inr, is_some, le-leb, length, length-append, length-drop, length-set, length-take, length-take-le, lt-ltb, map, nat_cmp, nat_eq, nat_le, nat_lt, not, option_map, refl, replicate, reverse, slice_get, slice_index_or, slice_range, slice_set, subst, suc, sym, take, take-append-drop, take-take, take_all, true, true≢false, zero, ℕ, ⊎_elim, ◌%◌, ◌&&◌, ◌++◌, ◌+◌, ◌-◌, ◌<◌, ◌==◌, ◌||◌, ◌∙◌, ◌∷◌, ◌≡◌, ◌≢◌, ◌≤◌, ◌⊎◌}
-pub use Rattle.std.proofs.Math.Bool.{and-false, and_comm, or-false, or-true}
+pub use Rattle.scope.specs.declared.standing.Standing.{Standing}
+pub use Rattle.std.proofs.Common.{Bool, Bor, Err, IfNone, IfSome, IsTrue, List, None, Ok, OnErr, OnOk, Option, Result, Some, [], add-zero, ap, append-nil, append_assoc, arith, cond, drop, eqb, false, filter, get_or, get_or-set_same, get_or-take, if◌then◌else◌, inl, inr, is_some, le-leb, length, length-append, length-drop, length-set, length-take, length-take-le, lt-ltb, map, nat_cmp, nat_eq, nat_le, nat_lt, not, option_map, refl, replicate, reverse, rules, slice_get, slice_index_or, slice_range, slice_set, subst, suc, sym, take, take-append-drop, take-take, take_all, true, true≢false, zero, ℕ, ⊎_elim, ◌%◌, ◌&&◌, ◌++◌, ◌+◌, ◌-◌, ◌<◌, ◌==◌, ◌||◌, ◌∙◌, ◌∷◌, ◌≡◌, ◌≢◌, ◌≤◌, ◌⊎◌}
+pub use Rattle.std.proofs.Math.Bool.{and-false, and-or_distrib_left, and_comm, or-false, or-true, or_comm}
+pub use Rattle.std.proofs.Math.ListN.{get_or-append}
 pub use Rattle.std.proofs.Math.Logic.{⊎_map}
 pub use Rattle.std.proofs.Math.Seq.{drop-append_seam, get_or-append_seam, take-append-add, take-append_seam, take-length}
-pub use Rattle.std.proofs.lemmas.Bool.{and_from, and_parts, and_right, both_ways, both_ways as not_both, cases_eq, cases_lt, false_from_ne_true, false≢true, ltb-true, not-false, not-true, not_from_false, or_cases, or_from, or_left, or_parts, or_right, true_from_ne_false}
+pub use Rattle.std.proofs.lemmas.Bool.{and_from, and_parts, and_right, both_ways, both_ways as not_both, cases_Bool, cases_eq, cases_lt, cond_both, eqb-true, false_from_ne_true, false≢true, leb-true, ltb-true, not-false, not-true, not_from_false, or_cases, or_from, or_left, or_parts, or_right, true_from_ne_false}
+pub use Rattle.std.proofs.lemmas.Bool.Decides.{nat_tests}
+pub use Rattle.std.proofs.lemmas.Grind.{get_or-set_at}
 pub use Rattle.std.proofs.lemmas.List.{drop-append-le, drop-take, drop_all, drop_more, get_or-map, get_or-set_other, get_or_append_left, get_or_at, get_or_past, get_or_read, length-map, map-append, map_push, nil_from_length, reverse-append, take-append-le, take-map, take_at, take_more}
-pub use Rattle.std.proofs.lemmas.List.Elements.{All-filter, All-from_get_or, All-get_or, All-map, filter-append}
+pub use Rattle.std.proofs.lemmas.List.Elements.{All-cons, All-filter, All-from_get_or, All-get_or, All-head, All-map, All-nil, All-push, All-tail, All-weaker, filter-append}
+pub use Rattle.std.proofs.lemmas.List.Filters.{dedup_is}
 pub use Rattle.std.proofs.lemmas.List.Folds.{Any-from_list_any, list_all-map, list_all_at, list_all_more, list_any-append, list_any-from_Any, list_any_at, list_any_more}
-pub use Rattle.std.proofs.lemmas.Option.{get_or_from_slice_get, same_Some, slice_get-get_or, slice_get-map, slice_get_read, slice_get_within}
+pub use Rattle.std.proofs.lemmas.List.Kept.{Contains-dedup_nat, Contains-from_dedup}
+pub use Rattle.std.proofs.lemmas.List.Sorted.{Contains-permutation, IsPermutation-sym, searched}
+pub use Rattle.std.proofs.lemmas.Map.Keys.{IsStrictlyIncreasing-dedup}
+pub use Rattle.std.proofs.lemmas.Map.Views.{any-filter_same}
+pub use Rattle.std.proofs.lemmas.Option.{get_or_from_slice_get, same_Some, slice_get-get_or, slice_get-map, slice_get_cases, slice_get_read, slice_get_within}
+pub use Rattle.std.proofs.lemmas.Result.{IfOk-weaker}
+pub use Rattle.std.proofs.lemmas.Simd.{map-map}
 pub use Rattle.std.proofs.lemmas.Slice.Eq.{bytes_eq-Decides}
 pub use Rattle.std.specs.List.{All, Contains, dedup, find, flat_map, list_all, list_any, position_or_len}
-pub use Rattle.std.specs.Prelude.{codes}
+pub use Rattle.std.specs.List.Sorted.{IsPermutation, IsSorted, IsStrictlyIncreasing}
+pub use Rattle.std.specs.Map.{lookup}
+pub use Rattle.std.specs.Prelude.{MatchResult, codes, is_ok, max, ◌^◌}
+pub use mathlib.Core.Path.{fun_ext}

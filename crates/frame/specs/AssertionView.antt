@@ -2,11 +2,9 @@
 -- Metamath, 4.2.6: a citation of an assertion needs results for its mandatory hypotheses.
 -- The code keeps these parts by the assertion; the expression of a `$e` is read where the `$e` stands.
 use Rattle.std.specs.Prelude.{◌≡◌, ℕ, ◌<◌, List, [], ◌∷◌, length, map, Some}
-use Rattle.frame.specs.Words.{Name, Stmt, Expr, Database, stmt_at, before, expr_of, name_at, decode, Hypothesis, Assertion}
+use Rattle.frame.specs.Words.{Name, Stmt, Expr, Database, stmt_at, before, expr_of, name_at, decode, Hypothesis, Assertion, Essential, AssertionView, NO_TYPECODE}
 use Rattle.mm_read.specs.declared.stmt.Stmt.TheVariants as stmt
-use Rattle.entries.specs.declared.assertion_view.Hypothesis.TheVariants.{Float, Essential}
-use Rattle.entries.specs.declared.assertion_view.AssertionView.{AssertionView}
-use Rattle.entries.specs.declared.assertion_view.TheConstants.{NO_TYPECODE}
+use Rattle.entries.specs.declared.assertion_view.Hypothesis.TheVariants.{Float}
 use Rattle.frame.specs.FrameOf.{hypotheses, mandatory_groups}
 use Rattle.frame.specs.Below.{AreBelow, AllBelow}
 

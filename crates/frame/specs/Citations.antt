@@ -2,8 +2,7 @@
 -- Metamath, 4.2.6: the hypotheses of a cited assertion, with the images put in, are the results that it takes.
 -- The code knows no images: it reads them off the results.
 use Rattle.std.specs.Prelude.{◌≡◌, ℕ, ◌<◌, Bool, true, false, IsTrue, List, [], map, Option, Some, None}
-use Rattle.std.specs.List.{list_all}
-use Rattle.frame.specs.Words.{Name, Stmt, Expr, Database, stmt_at, before, is_active, is_variable, is_assertion, expr_of, label_of}
+use Rattle.frame.specs.Words.{list_all, Name, Stmt, Expr, Database, stmt_at, before, is_active, is_variable, is_assertion, expr_of, label_of}
 use Rattle.mm_read.specs.declared.stmt.Stmt.TheVariants.{Float, Ess}
 use Rattle.frame.specs.FrameOf.{hypotheses, mandatory_groups}
 use Rattle.frame.specs.Substitution.{Images, apply as applied}

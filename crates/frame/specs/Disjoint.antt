@@ -1,7 +1,6 @@
 -- Images that are disjoint by the `$d` active after the statements S.
 use Rattle.std.specs.Prelude.{Bool, not, ◌||◌, List}
-use Rattle.std.specs.List.{list_all}
-use Rattle.frame.specs.Words.{Name, name_eq, Expr, Database, is_variable}
+use Rattle.frame.specs.Words.{list_all, Name, name_eq, Expr, Database, is_variable}
 use Rattle.frame.specs.FrameOf.{is_pair}
 use Rattle.frame.specs.Substitution.{Images, image}
 

@@ -2,9 +2,8 @@
 -- Metamath, 4.2.6: an image is put in for a variable wherever it stands.
 -- The code keeps this for long expressions alone.
 use Rattle.std.specs.Prelude.{◌≡◌, ℕ, List, length}
-use Rattle.frame.specs.Words.{Name, Expr, decode}
+use Rattle.frame.specs.Words.{Name, Expr, decode, ArePlacesOf}
 use Rattle.frame.specs.Below.{AreBelow}
-use Rattle.entries.specs.SymbolPlaces.{ArePlacesOf}
 
 -- the groups are the places of numbers that stand for the expression
 pub record AreExprPlaces (names : List Name) (e : Expr) (groups : List (List ℕ)) : Type 0 where

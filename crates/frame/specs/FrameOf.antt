@@ -1,7 +1,6 @@
 -- The frame of an assertion after the statements S.
 use Rattle.std.specs.Prelude.{◌≡◌, ℕ, Bool, true, false, not, ◌&&◌, ◌||◌, List, [], ◌∷◌, map, filter, Some, IsTrue}
-use Rattle.std.specs.List.{list_any}
-use Rattle.frame.specs.Words.{Name, name_eq, has_name, Stmt, Database, active, stmt_at, separated, expr_of, is_essential, is_variable, is_assertion}
+use Rattle.frame.specs.Words.{list_any, Name, name_eq, has_name, Stmt, Database, active, stmt_at, separated, expr_of, is_essential, is_variable, is_assertion}
 use Rattle.mm_read.specs.declared.stmt.Stmt.TheVariants.{Float, Ess}
 use Rattle.frame.specs.Parts.{FrameParts}
 

@@ -1,7 +1,14 @@
 -- The words of the layers below in which this crate is specified, passed on from one place.
 pub use Rattle.entries.specs.Entries.{Assertion, Entry, partless}
+pub use Rattle.entries.specs.Histories.{AreUntil, StackVersion, history, kept_until, stack_at}
+pub use Rattle.entries.specs.PositionSets.{Ascends, set_at}
 pub use Rattle.entries.specs.Stored.Spans.{AreSpansIn, Extends, cut}
+pub use Rattle.entries.specs.SymbolPlaces.{ArePlacesOf}
+pub use Rattle.entries.specs.declared.assertion_view.AssertionView.{AssertionView}
 pub use Rattle.entries.specs.declared.assertion_view.Hypothesis.{Hypothesis}
+pub use Rattle.entries.specs.declared.assertion_view.Hypothesis.TheVariants.{Essential}
+pub use Rattle.entries.specs.declared.assertion_view.TheConstants.{NO_TYPECODE}
+pub use Rattle.entries.specs.declared.entry_header.EntryHeader.{EntryHeader}
 pub use Rattle.entries.specs.declared.kind.Kind.{Kind}
 pub use Rattle.entries.specs.declared.kind.Kind.TheVariants.{Axiom, Close, Const, Disj, Ess, Float, Open, Prove, Var}
 pub use Rattle.entries.specs.declared.last_active.LastActive.{LastActive}
@@ -10,5 +17,10 @@ pub use Rattle.mm_read.specs.Statements.{Database, Expr}
 pub use Rattle.mm_read.specs.declared.stmt.Stmt.{Stmt}
 pub use Rattle.names.specs.Codes.{AreDistinct, decode, name_at}
 pub use Rattle.scope.specs.Active.{active, active_from, before, expr_of, is_active, is_assertion, is_close, is_essential, is_open, is_variable, label_of, separated, stays_open, stmt_at}
+pub use Rattle.scope.specs.Declares.{declared_with}
 pub use Rattle.scope.specs.Kinds.{Declared, declared_labels, declared_symbols, is_constant_kind, is_variable_kind}
+pub use Rattle.scope.specs.Legal.{IsLegal}
 pub use Rattle.scope.specs.Symbols.{labels_of, symbols_of}
+pub use Rattle.scope.specs.declared.numbering.NameKind.{NameKind}
+pub use Rattle.scope.specs.declared.standing.Standing.{Standing}
+pub use Rattle.std.specs.List.{All, list_all, list_any}

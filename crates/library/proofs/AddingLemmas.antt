@@ -1,6 +1,5 @@
 -- Statements added one by one: those that are left to judge after the accepted ones.
-use Rattle.library.proofs.Words.{◌≡◌, ℕ, ◌+◌, ◌<◌, [], ◌∷◌, ◌++◌, length, length-append, take, drop, get_or, Option, Some, None, Result, Ok, Err, IfSome, arith, refl, sym, ◌∙◌, ap, append_assoc, map_more, drop_more, Stmt, Database, IsKnown, BrokenRule as Rule, bare, bares, broken_rule, first_broken}
-use Rattle.scope.specs.declared.rule.Rule.TheVariants.{Memory}
+use Rattle.library.proofs.Words.{◌≡◌, ℕ, ◌+◌, ◌<◌, [], ◌∷◌, ◌++◌, length, length-append, take, drop, get_or, Option, Some, None, Result, Ok, Err, IfSome, arith, refl, sym, ◌∙◌, ap, append_assoc, map_more, drop_more, Stmt, Database, IsKnown, BrokenRule as Rule, bare, bares, broken_rule, first_broken, Memory}
 use Rattle.library.proofs.JoinedRulesLemmas.{first_broken-taken}
 
 pub taken-more : (S : Database) (i : ℕ) (s : Stmt) → i < length S → s ≡ get_or S i s → bares (take (i + 1) S) ≡ bares (take i S) ++ bare s ∷ []

@@ -1,8 +1,6 @@
 -- Statements that were added while the proofs of the first ones were judged.
-use Rattle.library.proofs.Words.{ℕ, ◌≤◌, length, take, arith, length-take-le, Database}
-use Rattle.library.specs.Added.{AreProvedTo, IsAdded}
+use Rattle.library.proofs.Words.{ℕ, ◌≤◌, length, take, arith, length-take-le, Database, AreProvedTo, IsAdded, Tables}
 use Rattle.library.specs.declared.adding.Added.{Added}
-use Rattle.library.specs.declared.adding.Tables.{Tables}
 use Rattle.library.proofs.UnprovedLemmas.{known-alone, to-later}
 
 -- a `$p` that is proved among the first statements of a library is known to be proved among all

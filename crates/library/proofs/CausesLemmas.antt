@@ -1,17 +1,9 @@
 -- One verdict: one answer is true of a text that is judged after given statements, under a given charter.
-use Rattle.library.proofs.Words.{◌≡◌, ◌≢◌, ℕ, zero, suc, ◌+◌, ◌-◌, ◌<◌, ◌≤◌, true, false, IsTrue, IsFalse, List, ◌++◌, length, Option, Some, None, refl, sym, ◌∙◌, ap, subst, arith, Name, Stmt, Database, spelled, Reads, HasTokens, IsNoDatabase, BrokenRule, proof_of, first_broken, is_unfinished, Submission, Cause, TooLong, Shape, NotChartered, Rule, Proof, Unfinished, Verdict, Added, Refused, forbidden, Good, IsReadable, IsAllowed, IsFirstUnproved, IsFault, IsCause}
-use Rattle.mm_lex.specs.declared.fault.LexFault.{LexFault}
+use Rattle.library.proofs.Words.{◌≡◌, ◌≢◌, ℕ, zero, suc, ◌+◌, ◌-◌, ◌<◌, ◌≤◌, true, false, IsTrue, IsFalse, List, ◌++◌, length, Option, Some, None, refl, sym, ◌∙◌, ap, subst, arith, Name, Stmt, Database, spelled, Reads, HasTokens, IsNoDatabase, BrokenRule, proof_of, first_broken, is_unfinished, Submission, Cause, TooLong, Shape, NotChartered, Rule, Proof, Unfinished, Verdict, Added, Refused, forbidden, Good, IsReadable, IsAllowed, IsFirstUnproved, IsFault, IsCause, LexFault, IsLexFault, IsClean-no_fault, AreTokens-no_comment_fault, one_spelling, MOST_BYTES, some-same, same_tokens}
 use Rattle.mm_lex.specs.declared.fault.LexFault.TheVariants as lex
-use Rattle.mm_lex.specs.TextFaults.{IsLexFault}
-use Rattle.mm_lex.proofs.BadByteLemmas.{IsClean-no_fault}
-use Rattle.mm_lex.proofs.TokensLemmas.{AreTokens-no_comment_fault}
-use Rattle.mm_read.proofs.OneSpelling.{one_spelling}
-use Rattle.library.specs.declared.submission.TheConstants.{MOST_BYTES}
 use Rattle.library.specs.declared.verdict.Cause.TheVariants.{Text}
-use Rattle.frame.proofs.FoundByNumber.{some-same}
 use Rattle.library.proofs.GoodLemmas.{provable-behind}
 use Rattle.library.proofs.JoinedRulesLemmas.{legal-text}
-use Rattle.mm_read.proofs.OneReading.{same_tokens}
 
 -- ---- the statements that a text reads as
 

@@ -1,10 +1,6 @@
 -- A text whole or not at all: what the judging of its statements makes of good statements.
-use Rattle.library.proofs.Words.{◌≡◌, ℕ, zero, suc, ◌+◌, ◌-◌, ◌<◌, ◌≤◌, ◌&&◌, [], ◌∷◌, ◌++◌, length, take, drop, get_or, Option, Some, None, refl, list_all, sym, ◌∙◌, ap, subst, arith, inl, inr, Result, Ok, IfOk, length-append, true_from_ne_false, true≢false, map-append, take-append-drop, length-take-le, length-map, take_rest, take-append_seam, drop-append_seam}
-use Rattle.library.proofs.Words.{Stmt, Database, AreShaped, is_shaped, BrokenRule, bare, bares, is_provable, stmt_at, first_broken, stands-within, IsProvable, Good, IsProved, IsFirstUnproved, IsKnown, IsLeastUnproved, IsJudged, IsChecked}
-use Rattle.std.proofs.lemmas.List.Folds.{list_all-append}
-use Rattle.library.specs.Added.{IsAdded, IsAddedAfter}
+use Rattle.library.proofs.Words.{◌≡◌, ℕ, zero, suc, ◌+◌, ◌-◌, ◌<◌, ◌≤◌, ◌&&◌, [], ◌∷◌, ◌++◌, length, take, drop, get_or, Option, Some, None, refl, list_all, sym, ◌∙◌, ap, subst, arith, inl, inr, Result, Ok, IfOk, length-append, true_from_ne_false, true≢false, map-append, take-append-drop, length-take-le, length-map, take_rest, take-append_seam, drop-append_seam, Stmt, Database, AreShaped, is_shaped, BrokenRule, bare, bares, is_provable, stmt_at, first_broken, stands-within, IsProvable, Good, IsProved, IsFirstUnproved, IsKnown, IsLeastUnproved, IsJudged, IsChecked, list_all-append, IsAdded, IsAddedAfter, Tables}
 use Rattle.library.specs.declared.adding.Added.{Added}
-use Rattle.library.specs.declared.adding.Tables.{Tables}
 use Rattle.library.proofs.FrontLemmas.{stmt_at-behind, stands_index}
 use Rattle.library.proofs.GoodLemmas.{provable-where, provable-behind, proved-later}
 use Rattle.library.proofs.JoinedRulesLemmas.{legal-more, first_broken-bares, bare-bare}

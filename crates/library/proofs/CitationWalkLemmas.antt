@@ -1,10 +1,8 @@
 -- A proof cites earlier statements, and a walk down has marked the statements that citations lead to.
-use Rattle.library.proofs.Words.{◌≡◌, ◌↔◌, ◌⊎◌, ℕ, zero, suc, ◌-◌, ◌<◌, ◌≤◌, Bool, true, false, List, [], ◌∷◌, ◌++◌, length, get_or, Some, option_map, slice_get, slice_set, replicate, refl, sym, ◌∙◌, ap, subst, arith, inl, inr, cases_eq, get_or_default}
-use Rattle.library.proofs.Words.{Name, Stmt, Database, bare, bares, stmt_at, label_of, proof_of, stmt_at-bares, Carries, HasLabelsOnce, Item, Cite, Recall, Mark, one_list, Derivation, Derivations, Spells, SpellsAll, cites_hypothesis, cites_assertion, recalls, marks, spells_none, spells_more, mandatory_labels, IsRight, Good, HasItems, ItemsCite, Cites, RestsOn, directly, through, IsMarked, is_marked, Marks, label_of-bare}
+use Rattle.library.proofs.Words.{◌≡◌, ◌↔◌, ◌⊎◌, ℕ, zero, suc, ◌-◌, ◌<◌, ◌≤◌, Bool, true, false, List, [], ◌∷◌, ◌++◌, length, get_or, Some, option_map, slice_get, slice_set, replicate, refl, sym, ◌∙◌, ap, subst, arith, inl, inr, cases_eq, get_or_default, Name, Stmt, Database, bare, bares, stmt_at, label_of, proof_of, stmt_at-bares, Carries, HasLabelsOnce, Item, Cite, Recall, Mark, one_list, Derivation, Derivations, Spells, SpellsAll, cites_hypothesis, cites_assertion, recalls, marks, spells_none, spells_more, mandatory_labels, IsRight, Good, HasItems, ItemsCite, Cites, RestsOn, directly, through, IsMarked, is_marked, Marks, label_of-bare, legal-labels}
 use Rattle.library.proofs.FrontLemmas.{active-below}
 use Rattle.library.proofs.UseMarkLemmas.{marked-within, one-marked, get-either}
 use Rattle.library.proofs.ProvingLemmas.{unbare, written-of}
-use Rattle.frame.proofs.LegalLabels.{legal-labels}
 use Rattle.library.proofs.JoinedRulesLemmas.{legal-each}
 
 -- ---- labels, with proofs and without

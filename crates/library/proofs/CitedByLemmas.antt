@@ -1,10 +1,8 @@
 -- Who uses a statement, and the `$a` that a proof uses: the labels of what a walk over the positions has marked.
-use Rattle.library.proofs.Words.{◌≡◌, ◌↔◌, ◌⊎◌, ℕ, zero, suc, ◌+◌, ◌-◌, ◌<◌, ◌≤◌, Bool, true, false, cond, ◌&&◌, List, [], ◌∷◌, ◌++◌, length, replicate, get_or, false_from_ne_true, Some, None, Option, slice_get, slice_set, refl, sym, ◌∙◌, ap, subst, arith, inl, inr, append-nil, cases_eq, map-append, Name, Stmt, Prove, Database, bares, stmt_at, is_provable, stands-within, Item, label_or_none, Good, HasItems, Cites, RestsOn, directly, through, IsUser, Rises, IsIn, AreLabelsOf, IsMarked, mark, ItemsMeet, ProofMeets, Axiom, IsProvable, Uses, is_axiom, IsAxiomAt, IsMarkedAxiom}
-use Rattle.verify_pool.proofs.JobsLemmas.{get-last, get-more}
+use Rattle.library.proofs.Words.{◌≡◌, ◌↔◌, ◌⊎◌, ℕ, zero, suc, ◌+◌, ◌-◌, ◌<◌, ◌≤◌, Bool, true, false, cond, ◌&&◌, List, [], ◌∷◌, ◌++◌, length, replicate, get_or, false_from_ne_true, Some, None, Option, slice_get, slice_set, refl, sym, ◌∙◌, ap, subst, arith, inl, inr, append-nil, cases_eq, map-append, Name, Stmt, Prove, Database, bares, stmt_at, is_provable, stands-within, Item, label_or_none, Good, HasItems, Cites, RestsOn, directly, through, IsUser, Rises, IsIn, AreLabelsOf, IsMarked, mark, ItemsMeet, ProofMeets, Axiom, IsProvable, Uses, is_axiom, IsAxiomAt, IsMarkedAxiom, get-last, get-more, set-get_or}
 use Rattle.library.proofs.ProvingLemmas.{not-there}
 use Rattle.library.proofs.UseMarkLemmas.{mark-count, mark-kept, mark-sound, mark-whole, one-marked, get-either, marked-within}
 use Rattle.library.proofs.CitationWalkLemmas.{cites-below, cites-of, cited-of}
-use Rattle.std.proofs.lemmas.List.{set-get_or}
 
 -- ---- one more label
 

@@ -1,11 +1,7 @@
 -- A table of standings under what is put into it.
-use Rattle.library.proofs.Words.{◌≡◌, ℕ, ◌==◌, ◌&&◌, List, [], ◌∷◌, ◌++◌, Option, Some, None, refl, arith, status, Cause}
+use Rattle.library.proofs.Words.{◌≡◌, ℕ, ◌==◌, ◌&&◌, List, [], ◌∷◌, ◌++◌, Option, Some, None, refl, arith, status, Cause, BTreeMap, get, is_at, Updates, Standing, Decided, IsTableOf, key_cmp, verdict_of}
 use mathlib.Core.Bool.{cond}
-use Rattle.std.specs.BTreeMap.{BTreeMap, get, is_at, Updates}
-use Rattle.library.specs.declared.decided.Standing.{Standing}
 use Rattle.library.specs.declared.decided.Standing.TheVariants.{Undecided, Decided as Settled}
-use Rattle.library.specs.LibraryOf.{Decided}
-use Rattle.library.specs.LibraryState.{IsTableOf, key_cmp, verdict_of}
 
 -- a table finds a key by the two numbers
 same-key : (a s b t : ℕ) → is_at (key_cmp (a, s)) (b, t) ≡ (b == a) && (t == s)

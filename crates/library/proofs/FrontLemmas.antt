@@ -1,7 +1,5 @@
 -- The values that are read of the first statements of a list stay the same when others are appended.
-use Rattle.library.proofs.Words.{◌≡◌, ℕ, zero, suc, ◌+◌, ◌-◌, ◌<◌, ◌≤◌, true, ◌&&◌, nat_le, nat_lt, List, [], ◌∷◌, ◌++◌, length, map, take, drop, get_or, Some, slice_get, refl, sym, ◌∙◌, ap, subst, arith, and_parts, nat_tests, take-append-le, drop-append-le, length-drop, take-append-drop, slice_get-get_or, Stmt, Prove, Database, stmt_at, before, bare, is_active, stays_open, hypotheses, is_hypothesis_kind, stands-within, stmt_stays}
-use Rattle.frame.proofs.AssertionLemmas.{hypothesis-kinds}
-use Rattle.frame.proofs.PlacedHypotheses.{IsHyp, AreHyps, hyps}
+use Rattle.library.proofs.Words.{◌≡◌, ℕ, zero, suc, ◌+◌, ◌-◌, ◌<◌, ◌≤◌, true, ◌&&◌, nat_le, nat_lt, List, [], ◌∷◌, ◌++◌, length, map, take, drop, get_or, Some, slice_get, refl, sym, ◌∙◌, ap, subst, arith, and_parts, nat_tests, take-append-le, drop-append-le, length-drop, take-append-drop, slice_get-get_or, Stmt, Prove, Database, stmt_at, before, bare, is_active, stays_open, hypotheses, is_hypothesis_kind, stands-within, stmt_stays, hypothesis-kinds, IsHyp, AreHyps, hyps}
 
 pub get-front : {A : Type 0} (xs ys : List A) (n : ℕ) → n < length xs → slice_get (xs ++ ys) n ≡ slice_get xs n
 get-front [] ys n h = absurd (omega (arith, h))

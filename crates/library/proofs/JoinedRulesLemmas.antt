@@ -1,10 +1,6 @@
 -- The rules over two lists, one after the other.
-use Rattle.library.proofs.Words.{◌≡◌, ℕ, zero, suc, Bool, true, false, cond, IsTrue, ◌+◌, ◌-◌, [], ◌∷◌, ◌++◌, map, take, slice_get, Option, Some, None, refl, sym, ◌∙◌, ap, subst, arith, append_assoc, append-nil, map-append, Stmt, Prove, Database, bare, bares, before, stmt_at, broken_rule, end_rule, first_broken, or_later, numbered, AllLegal, IsLegal}
+use Rattle.library.proofs.Words.{◌≡◌, ℕ, zero, suc, Bool, true, false, cond, IsTrue, ◌+◌, ◌-◌, [], ◌∷◌, ◌++◌, map, take, slice_get, Option, Some, None, refl, sym, ◌∙◌, ap, subst, arith, append_assoc, append-nil, map-append, Stmt, Prove, Database, bare, bares, before, stmt_at, broken_rule, end_rule, first_broken, or_later, numbered, AllLegal, IsLegal, G10, is_closed, Good, broken_rule-bares, end_rule-bares}
 use Rattle.scope.specs.declared.rule.Rule.{Rule}
-use Rattle.scope.specs.declared.rule.Rule.TheVariants.{G10}
-use Rattle.library.specs.Words.{is_closed}
-use Rattle.library.specs.Good.{Good}
-use Rattle.scope.proofs.BareLemmas.{broken_rule-bares, end_rule-bares}
 
 -- each of the statements keeps the rules after those before it
 abbrev pub AreLegal : Database → Database → Type 0

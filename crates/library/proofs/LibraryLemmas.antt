@@ -1,6 +1,5 @@
 -- The library of a log is one, it only grows, and it is good.
-use Rattle.library.proofs.Words.{◌≡◌, ℕ, ◌==◌, ◌&&◌, List, [], ◌∷◌, ◌++◌, Option, Some, None, refl, sym, ◌∙◌, ap, subst, append-nil, append_assoc, arith, map-append, option_map, both_ways, Stmt, Database, IsProvable, Submission, Text, Charter, Verdict, Added, Refused, Cause, may_declare, Good, Replica, empty, status, status_of, decided_with, Decides, AppliesAt, Applies, Runs, IsLibraryOf}
-use Rattle.library.specs.declared.entry.Entry.{Entry}
+use Rattle.library.proofs.Words.{◌≡◌, ℕ, ◌==◌, ◌&&◌, List, [], ◌∷◌, ◌++◌, Option, Some, None, refl, sym, ◌∙◌, ap, subst, append-nil, append_assoc, arith, map-append, option_map, both_ways, Stmt, Database, IsProvable, Submission, Text, Charter, Verdict, Added, Refused, Cause, may_declare, Good, Replica, empty, status, status_of, decided_with, Decides, AppliesAt, Applies, Runs, IsLibraryOf, Entry}
 use Rattle.library.proofs.CausesLemmas.{one-verdict, one-reading}
 
 -- ---- one verdict and one replica

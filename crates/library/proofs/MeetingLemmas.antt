@@ -1,18 +1,7 @@
 -- Whether a compressed proof cites what is marked, from its numbers and from a test of each of its labels.
-use Rattle.library.proofs.Words.{◌≡◌, ◌↔◌, ℕ, zero, suc, ◌+◌, ◌-◌, ◌<◌, ◌≤◌, Bool, true, false, ◌||◌, if◌then◌else◌, List, [], ◌∷◌, ◌++◌, length, map, get_or, slice_index_or, take, drop, Option, Some, None, option_map, slice_get, refl, list_any, true≢false, length-append, sym, ◌∙◌, ap, subst, arith, append_assoc, inl, inr, slice_get-map, bytes_eq-Decides, map-append, length-map, length-drop, take_more, drop_more, get_or_append_left, append-nil, both_ways, true_from_ne_false, cases_lt}
-use Rattle.library.proofs.Words.{Name, name_eq, has_name, Stmt, Database, bare, bares, before, stmt_at, proof_of, hypotheses, HasLabelsOnce, IsPosition, Item, Cite, Recall, item_of, items_of, finish, Writes, WritesCompressed, WritesPacked, WritesPlain, is_compressed, label_or_none, mandatory_labels, IsProvable, Good, HasItems, is_marked, place_of, AreWanted, ItemsMeet, ProofMeets, listed_in, ListsNone, ListsSome}
-use Rattle.std.proofs.Math.ListN.{get_or-map}
-use Rattle.std.proofs.lemmas.Option.{get_or_from_slice_get, slice_get_within}
-use Rattle.std.proofs.lemmas.List.{get_or-append_right}
-use Rattle.std.proofs.Math.Seq.{take-add}
-use Rattle.std.proofs.lemmas.Bool.{cases_Bool}
-use Rattle.std.proofs.lemmas.Simd.{map-map}
-use Rattle.proof_code.specs.Reading.{IsHeading, share_label}
+use Rattle.library.proofs.Words.{◌≡◌, ◌↔◌, ℕ, zero, suc, ◌+◌, ◌-◌, ◌<◌, ◌≤◌, Bool, true, false, ◌||◌, if◌then◌else◌, List, [], ◌∷◌, ◌++◌, length, map, get_or, slice_index_or, take, drop, Option, Some, None, option_map, slice_get, refl, list_any, true≢false, length-append, sym, ◌∙◌, ap, subst, arith, append_assoc, inl, inr, slice_get-map, bytes_eq-Decides, map-append, length-map, length-drop, take_more, drop_more, get_or_append_left, append-nil, both_ways, true_from_ne_false, cases_lt, Name, name_eq, has_name, Stmt, Database, bare, bares, before, stmt_at, proof_of, hypotheses, HasLabelsOnce, IsPosition, Item, Cite, Recall, item_of, items_of, finish, Writes, WritesCompressed, WritesPacked, WritesPlain, is_compressed, label_or_none, mandatory_labels, IsProvable, Good, HasItems, is_marked, place_of, AreWanted, ItemsMeet, ProofMeets, listed_in, ListsNone, ListsSome, get_or-map, get_or_from_slice_get, slice_get_within, get_or-append_right, take-add, cases_Bool, map-map, IsHeading, share_label, positions-end, apart-written, shared-none, item-cite, item-recall}
 use Rattle.library.proofs.FrontLemmas.{AreHypothesesAt, hypotheses-at}
-use Rattle.frame.proofs.PositionLemmas.{positions-end}
 use Rattle.library.proofs.UseMarkLemmas.{meets-items}
-use Rattle.proof_code.proofs.ReadProofLemmas.{apart-written, shared-none}
-use Rattle.proof_code.proofs.RowOfNumbers.{item-cite, item-recall}
 use Rattle.library.proofs.MayCiteLemmas.{kind-labelled, cited-label}
 use Rattle.library.proofs.ProvingLemmas.{has-items, written-of, labels-bare}
 use Rattle.library.proofs.CitedByLemmas.{proof-meets}

@@ -1,7 +1,5 @@
 -- No charter, no difference: a log of texts has the library of the definition that knows no charter.
-use Rattle.library.proofs.Words.{◌≡◌, ◌↔◌, List, [], ◌∷◌, map, option_map, Option, Some, None, refl, sym, ◌∙◌, ap, subst, Database, Submission, Text, Verdict, Added, Refused, Cause, TooLong, BadText, Shape, NotChartered, IsCause, Replica, Decided, status, Decides, AppliesAt, Applies, Runs}
-use Rattle.library.specs.PlainLibraryOf.{PlainReplica, IsPlainCause, PlainDecides, PlainAppliesAt, PlainApplies, PlainRuns}
-use Rattle.library.specs.Laws.{without_charter}
+use Rattle.library.proofs.Words.{◌≡◌, ◌↔◌, List, [], ◌∷◌, map, option_map, Option, Some, None, refl, sym, ◌∙◌, ap, subst, Database, Submission, Text, Verdict, Added, Refused, Cause, TooLong, BadText, Shape, NotChartered, IsCause, Replica, Decided, status, Decides, AppliesAt, Applies, Runs, PlainReplica, IsPlainCause, PlainDecides, PlainAppliesAt, PlainApplies, PlainRuns, without_charter}
 
 -- ---- causes
 

@@ -1,7 +1,6 @@
 -- The `$p` of a label, and the answers for it.
-use Rattle.library.proofs.Words.{◌≡◌, ◌↔◌, ◌⊎◌, ℕ, List, Option, Some, None, Result, Err, MatchOption, refl, inl, inr, sym, ◌∙◌, ap, subst, true≢false, Name, Stmt, Database, bare, bares, proof_of, stmt_at, is_provable, Carries, HasLabelsOnce, Item, Derivation, mandatory_labels, IsProvable, IsRight, Derives, Good, HasItems, HasNoLabel, NamesNoProof, NamesProof, SpellsTree, IsTreeOf}
-use Rattle.library.specs.declared.queries.AskFault.{AskFault}
-use Rattle.library.specs.declared.queries.AskFault.TheVariants.{NoLabel, NotProvable, TooLarge, Memory}
+use Rattle.library.proofs.Words.{◌≡◌, ◌↔◌, ◌⊎◌, ℕ, List, Option, Some, None, Result, Err, MatchOption, refl, inl, inr, sym, ◌∙◌, ap, subst, true≢false, Name, Stmt, Database, bare, bares, proof_of, stmt_at, is_provable, Carries, HasLabelsOnce, Item, Derivation, mandatory_labels, IsProvable, IsRight, Derives, Good, HasItems, HasNoLabel, NamesNoProof, NamesProof, SpellsTree, IsTreeOf, AskFault, NoLabel, NotProvable, TooLarge}
+use Rattle.library.specs.declared.queries.AskFault.TheVariants.{Memory}
 use Rattle.library.proofs.ProvingLemmas.{Found, has-items, written-of}
 use Rattle.library.proofs.CitationWalkLemmas.{carries-bare, carries-whole, labels-once, one-items}
 

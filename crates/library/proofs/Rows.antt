@@ -1,9 +1,5 @@
 -- Verdicts, worked out.
-use Rattle.library.proofs.Words.{◌≡◌, ℕ, zero, suc, ◌+◌, ◌<◌, true, false, List, [], ◌∷◌, ◌++◌, codes, refl, length, Some, None, list_all, true≢false, sym, ◌∙◌, ap, arith, inl, inr, lit≤, append-nil}
-use Rattle.library.proofs.Words.{Name, is_allowed, runs, word, Stmt, Const, Var, Axiom, Prove, Database, AreShaped, spelled, Reads, proof_of, stmt_at, is_provable, G4, Writes, is_unfinished, IsProvable, Submission, Text, Charter, Rule, Unfinished, NotChartered, Added, Nothing, Repeat, Refused, is_rising, forbidden, IsProved, IsCause, Replica, empty, Applies}
-use Rattle.mm_lex.specs.Tokens.{is_plain, words}
-use Rattle.scope.proofs.Databases.{w}
-use Rattle.frame.proofs.FoundByNumber.{some-same}
+use Rattle.library.proofs.Words.{◌≡◌, ℕ, zero, suc, ◌+◌, ◌<◌, true, false, List, [], ◌∷◌, ◌++◌, codes, refl, length, Some, None, list_all, true≢false, sym, ◌∙◌, ap, arith, inl, inr, lit≤, append-nil, Name, is_allowed, runs, word, Stmt, Const, Var, Axiom, Prove, Database, AreShaped, spelled, Reads, proof_of, stmt_at, is_provable, G4, Writes, is_unfinished, IsProvable, Submission, Text, Charter, Rule, Unfinished, NotChartered, Added, Nothing, Repeat, Refused, is_rising, forbidden, IsProved, IsCause, Replica, empty, Applies, is_plain, words, w, some-same}
 use Rattle.library.proofs.LibraryLemmas.{good-empty}
 
 -- a text without comments

@@ -1,11 +1,7 @@
 -- The positions of the `$p` after the first statements, and the consequences of their least that is not right for all statements.
-use Rattle.library.proofs.Words.{◌≡◌, ℕ, zero, suc, ◌+◌, ◌-◌, ◌<◌, ◌≤◌, List, [], ◌∷◌, ◌++◌, length, get_or, Option, Some, None, slice_get, slice_get-get_or, get_or_default, ◌∙◌, ap, sym, subst, arith, inl, inr, cases_eq, cases_order, Stmt, Database, stmt_at, IsProvable, AreProofs, AreBehind, StandsProved, IsKnown, IsLeastUnproved}
-use Rattle.library.proofs.Words.{true, AreShaped, is_shaped, and_parts, list_all, take, drop, cases_lt, take-append-drop, IsProved}
-use Rattle.library.specs.Added.{AreProvedTo}
+use Rattle.library.proofs.Words.{◌≡◌, ℕ, zero, suc, ◌+◌, ◌-◌, ◌<◌, ◌≤◌, List, [], ◌∷◌, ◌++◌, length, get_or, Option, Some, None, slice_get, slice_get-get_or, get_or_default, ◌∙◌, ap, sym, subst, arith, inl, inr, cases_eq, cases_order, Stmt, Database, stmt_at, IsProvable, AreProofs, AreBehind, StandsProved, IsKnown, IsLeastUnproved, true, AreShaped, is_shaped, and_parts, list_all, take, drop, cases_lt, take-append-drop, IsProved, AreProvedTo, list_all-append, IsLeast}
 use Rattle.library.proofs.FrontLemmas.{stands_index}
-use Rattle.std.proofs.lemmas.List.Folds.{list_all-append}
 use Rattle.library.proofs.GoodLemmas.{provable-where, proved-later}
-use Rattle.verify_pool.specs.Least.{IsLeast}
 
 -- ---- one more statement
 

@@ -1,9 +1,5 @@
 -- The positions of labels, and the marks of what items cite.
-use Rattle.library.proofs.Words.{◌≡◌, ◌↔◌, ◌⊎◌, ℕ, zero, suc, ◌-◌, ◌<◌, ◌≤◌, Bool, true, false, List, [], ◌∷◌, ◌++◌, length, replicate, get_or, slice_set, Option, Some, None, option_map, slice_get, refl, list_any, sym, ◌∙◌, ap, subst, arith, inl, inr, cases_eq, cases_lt, any_passes_from_place, slice_get-map, slice_get_read, length-set, length-replicate, get_or-set_same, get_or-set_other, get_or_past}
-use Rattle.library.proofs.Words.{Name, Stmt, Database, Carries, IsPosition, ArePositions, HasLabelsOnce, Item, Cite, Recall, item_of, items_of, IsMarked, is_marked, mark, place_of, mark_items, ItemsMeet, Marks, ItemsCite, stands-within, no-mark}
-use Rattle.frame.proofs.FoundByNumber.{map-back}
-use Rattle.proof_code.proofs.RowOfNumbers.{item-cite, item-recall}
-use Rattle.std.proofs.lemmas.List.Folds.{Any-from_list_any}
+use Rattle.library.proofs.Words.{◌≡◌, ◌↔◌, ◌⊎◌, ℕ, zero, suc, ◌-◌, ◌<◌, ◌≤◌, Bool, true, false, List, [], ◌∷◌, ◌++◌, length, replicate, get_or, slice_set, Option, Some, None, option_map, slice_get, refl, list_any, sym, ◌∙◌, ap, subst, arith, inl, inr, cases_eq, cases_lt, any_passes_from_place, slice_get-map, slice_get_read, length-set, length-replicate, get_or-set_same, get_or-set_other, get_or_past, Name, Stmt, Database, Carries, IsPosition, ArePositions, HasLabelsOnce, Item, Cite, Recall, item_of, items_of, IsMarked, is_marked, mark, place_of, mark_items, ItemsMeet, Marks, ItemsCite, stands-within, no-mark, map-back, item-cite, item-recall, Any-from_list_any}
 
 -- ---- one mark
 

@@ -122,7 +122,8 @@ impl Library {
     /// the gate before each proof; the jobs are the `$p` of the text, in order, and of a long text that is judged ahead first
     /// those of its first part, then the others, each counted from 0. No answer depends on the number of workers.
     ///
-    /// Errors and steps: those of `apply`. Cost: that of the entry's own text, a large text and its proofs over the workers.
+    /// Errors and steps: those of `apply`, and out of memory if a proof is heavy and the gate keeps these out
+    /// (`Gate::admits_heavy`). Cost: that of the entry's own text, a large text and its proofs over the workers.
     pub fn apply_with<G: Gate + Sync, R: Threads + Sync>(
         &mut self,
         rt: &R,

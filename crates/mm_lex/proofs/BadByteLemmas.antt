@@ -1,14 +1,5 @@
 -- The first byte that is not allowed.
-use Rattle.std.specs.Prelude.{◌≡◌, ℕ, ◌+◌, ◌<◌, nat_lt, suc, zero, Bool, true, false, not, List, [], ◌∷◌, length, take, Some, None, refl}
-use Rattle.std.specs.List.{list_all, position, position_or_len}
-use Rattle.std.proofs.Common.{cond, ltb-true, sym, ◌∙◌, ap, arith, get_or}
-use Rattle.std.proofs.lemmas.List.Sums.{passes_at_first}
-use Rattle.std.proofs.Math.Seq.{take-length}
-use Rattle.std.proofs.lemmas.Bool.{not-true, and_parts}
-use Rattle.std.proofs.Math.Bool.{not-not}
-use Rattle.mm_lex.specs.Alphabet.{is_allowed}
-use Rattle.mm_lex.specs.Tokens.{IsClean}
-use Rattle.mm_lex.specs.TextFaults.{IsFirstBadByte}
+use Rattle.mm_lex.proofs.Prelude.{◌≡◌, ℕ, ◌+◌, ◌<◌, nat_lt, suc, zero, Bool, true, false, not, List, [], ◌∷◌, length, take, Some, None, refl, list_all, position, position_or_len, cond, ltb-true, sym, ◌∙◌, ap, arith, get_or, passes_at_first, take-length, not-true, and_parts, not-not, is_allowed, IsClean, IsFirstBadByte}
 use Rattle.mm_lex.proofs.RunsLemmas.{all_before, found_at, found_none}
 
 abbrev pub is_bad : ℕ → Bool

@@ -1,17 +1,5 @@
 -- From place to place in a text: what stands between two places, and between a third one; and what then stands after them.
-use Rattle.std.specs.Prelude.{◌≡◌, ℕ, ◌≤◌, true, List, [], ◌∷◌, ◌++◌, length, flat_map, None, Ok, Err, refl}
-use Rattle.std.proofs.Common.{sym, ◌∙◌, ap, arith, subst, append_assoc}
-use Rattle.std.proofs.lemmas.List.{append-nil, map-append}
-use Rattle.std.proofs.Math.Seq.{drop-length}
-use Rattle.std.proofs.lemmas.Bool.{and_from, and_parts}
-use Rattle.mm_lex.specs.declared.span.Span.{Span}
-use Rattle.mm_lex.specs.declared.fault.LexFault.{LexFault}
-use Rattle.mm_lex.specs.declared.fault.LexFault.TheVariants.{Text, Comment, Memory}
-use Rattle.mm_lex.specs.Alphabet.{Name, word, runs_from, IsRunAt}
-use Rattle.mm_lex.specs.Tokens.{opener, is_plain, AllPlain, Part, part_spans, AreParts, Cuts, words}
-use Rattle.mm_lex.specs.TextFaults.{StopsAt}
-use Rattle.mm_lex.specs.Comments.{runs_behind, IsClosedAt}
-use Rattle.mm_lex.specs.Between.{HasBetween, AreBehind, StopsBehind, FailsBehind}
+use Rattle.mm_lex.proofs.Prelude.{◌≡◌, ℕ, ◌≤◌, true, List, [], ◌∷◌, ◌++◌, length, flat_map, None, Ok, Err, refl, sym, ◌∙◌, ap, arith, subst, append_assoc, append-nil, map-append, drop-length, and_from, and_parts, Span, LexFault, Text, Comment, Memory, Name, word, runs_from, IsRunAt, opener, is_plain, AllPlain, Part, part_spans, AreParts, Cuts, words, StopsAt, runs_behind, IsClosedAt, HasBetween, AreBehind, StopsBehind, FailsBehind}
 use Rattle.mm_lex.proofs.Cutting.{Outcome, prepend, scan, scan_cut, scan-cut, scan-stops}
 use Rattle.mm_lex.proofs.CuttingMeans.{with_plain, with_comment, cuts_as, no_runs, cut-scan, stops-scan}
 

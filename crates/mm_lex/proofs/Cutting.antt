@@ -1,13 +1,6 @@
 -- The cut at the comments, read once from left to right: it gives tokens exactly where there is a cut,
 -- and else the offset of the comment fault.
-use Rattle.std.specs.Prelude.{◌≡◌, ℕ, Bool, true, false, ◌||◌, List, [], ◌∷◌, ◌++◌, flat_map, Option, Some, None, Result, Ok, Err, refl}
-use Rattle.std.proofs.Common.{sym, ◌∙◌, ap, inl, inr, append_assoc}
-use Rattle.std.proofs.lemmas.List.{append-nil}
-use Rattle.std.proofs.lemmas.Bool.{and_parts, or_parts, not-true}
-use Rattle.mm_lex.specs.declared.span.Span.{Span}
-use Rattle.mm_lex.specs.Alphabet.{name_eq, word}
-use Rattle.mm_lex.specs.Tokens.{opener, closer, is_plain, AllPlain, Part, part_spans, IsPart, AreParts, Cuts}
-use Rattle.mm_lex.specs.TextFaults.{IsStrayCloser, IsNestedOpener, IsUnclosed, StopsAt}
+use Rattle.mm_lex.proofs.Prelude.{◌≡◌, ℕ, Bool, true, false, ◌||◌, List, [], ◌∷◌, ◌++◌, flat_map, Option, Some, None, Result, Ok, Err, refl, sym, ◌∙◌, ap, inl, inr, append_assoc, append-nil, and_parts, or_parts, not-true, Span, name_eq, word, opener, closer, is_plain, AllPlain, Part, part_spans, IsPart, AreParts, Cuts, IsStrayCloser, IsNestedOpener, IsUnclosed, StopsAt}
 
 -- the tokens, or the offset at which the cut stops
 abbrev pub Outcome : Type 0

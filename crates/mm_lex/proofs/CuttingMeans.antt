@@ -1,12 +1,5 @@
 -- The result of the scan of a list of runs is justified: a cut, or the fault at its offset.
-use Rattle.std.specs.Prelude.{◌≡◌, ℕ, Bool, true, false, ◌⊎◌, List, [], ◌∷◌, ◌++◌, flat_map, Option, Some, None, Ok, Err, refl}
-use Rattle.std.proofs.Common.{sym, ◌∙◌, ap, inl, inr, append_assoc}
-use Rattle.std.proofs.lemmas.Slice.Eq.{bytes_eq-Decides}
-use Rattle.std.proofs.lemmas.Bool.{and_from}
-use Rattle.mm_lex.specs.declared.span.Span.{Span}
-use Rattle.mm_lex.specs.Alphabet.{name_eq, word}
-use Rattle.mm_lex.specs.Tokens.{opener, closer, is_plain, AllPlain, Part, part_spans, Cuts}
-use Rattle.mm_lex.specs.TextFaults.{StopsAt}
+use Rattle.mm_lex.proofs.Prelude.{◌≡◌, ℕ, Bool, true, false, ◌⊎◌, List, [], ◌∷◌, ◌++◌, flat_map, Option, Some, None, Ok, Err, refl, sym, ◌∙◌, ap, inl, inr, append_assoc, bytes_eq-Decides, and_from, Span, name_eq, word, opener, closer, is_plain, AllPlain, Part, part_spans, Cuts, StopsAt}
 use Rattle.mm_lex.proofs.Cutting.{Outcome, prepend, outside, inside, scan}
 
 module _ (text : List ℕ) where

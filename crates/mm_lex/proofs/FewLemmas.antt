@@ -1,13 +1,5 @@
 -- No more tokens stand between two places than bytes.
-use Rattle.std.specs.Prelude.{◌≡◌, ℕ, ◌+◌, ◌-◌, ◌<◌, ◌≤◌, zero, suc, Bool, true, false, List, [], ◌∷◌, length, drop, flat_map, refl}
-use Rattle.std.proofs.Common.{sym, ◌∙◌, ap, arith, length-append, drop-cons, get_or, subst}
-use Rattle.std.proofs.lemmas.List.{length-map}
-use Rattle.std.proofs.Math.Seq.{drop-length}
-use Rattle.mm_lex.specs.declared.span.Span.{Span}
-use Rattle.mm_lex.specs.Alphabet.{Name, is_white, starts_white, with_byte, word, runs_from}
-use Rattle.mm_lex.specs.Tokens.{Part, part_spans, Cuts}
-use Rattle.mm_lex.specs.Comments.{runs_behind}
-use Rattle.mm_lex.specs.Between.{HasBetween, AreBehind}
+use Rattle.mm_lex.proofs.Prelude.{◌≡◌, ℕ, ◌+◌, ◌-◌, ◌<◌, ◌≤◌, zero, suc, Bool, true, false, List, [], ◌∷◌, length, drop, flat_map, refl, sym, ◌∙◌, ap, arith, length-append, drop-cons, get_or, subst, length-map, drop-length, Span, Name, is_white, starts_white, with_byte, word, runs_from, Part, part_spans, Cuts, runs_behind, HasBetween, AreBehind}
 
 -- a visible byte before runs makes at most one run more
 with_few : (at : ℕ) (t : Bool) (spans : List Span) → length (with_byte at t spans) ≤ 1 + length spans

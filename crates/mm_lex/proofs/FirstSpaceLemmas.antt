@@ -1,11 +1,5 @@
 -- The first space among eight bytes that are looked at together.
-use Rattle.std.specs.Prelude.{◌≡◌, ℕ, ◌<◌, ◌≤◌, Bool, true, false, cond, nat_eq, nat_lt, List, Option, Some, None, length, take, map, refl}
-use Rattle.std.specs.List.{position, position_or_len}
-use Rattle.std.proofs.Common.{sym, ◌∙◌, ap, arith, eqb, ltb, replicate, w8, ◌%◌, ◌^◌}
-use Rattle.std.specs.Simd.Lanes.{zip2, mask_l, top}
-use Rattle.std.specs.Int.Count.{count_trailing_zeros}
-use Rattle.std.proofs.lemmas.Simd.{bitmask_splat, trailing_mask_l}
-use Rattle.std.proofs.lemmas.List.{length-take-le}
+use Rattle.mm_lex.proofs.Prelude.{◌≡◌, ℕ, ◌<◌, ◌≤◌, Bool, true, false, cond, nat_eq, nat_lt, List, Option, Some, None, length, take, map, refl, position, position_or_len, sym, ◌∙◌, ap, arith, eqb, ltb, replicate, w8, ◌%◌, ◌^◌, zip2, mask_l, top, count_trailing_zeros, bitmask_splat, trailing_mask_l, length-take-le}
 use Rattle.mm_lex.proofs.LanesLemmas.{first_among}
 
 abbrev pub is_space : ℕ → Bool

@@ -1,15 +1,5 @@
 -- The first white byte, found among the bytes up to the space, many bytes at a time.
-use Rattle.std.specs.Prelude.{◌≡◌, ℕ, ◌+◌, ◌<◌, ◌≤◌, Bool, true, false, not, cond, nat_le, nat_lt, List, [], ◌∷◌, length, take, drop, map, refl}
-use Rattle.std.specs.List.{list_all, position_or_len, prefix_len}
-use Rattle.std.proofs.Common.{sym, ◌∙◌, ap, arith, leb, ltb, eqb, replicate, w8, ◌%◌, ◌^◌}
-use Rattle.std.proofs.lemmas.Bool.{eqb-true, eqb-false, and_parts}
-use Rattle.std.specs.Simd.Lanes.{zip2, mask_l, top}
-use Rattle.std.specs.Int.Count.{count_trailing_zeros}
-use Rattle.std.proofs.lemmas.Simd.{bitmask_splat, tops_compared, zip2_splat_left, mask_l-mod, trailing_mask_l, leading_from_mask_l}
-use Rattle.std.proofs.lemmas.List.{length-map, take-append-drop, length-drop, length-take-le, drop-drop}
-use Rattle.std.proofs.lemmas.List.Folds.{prefix_len-append, list_all-append}
-use Rattle.mm_lex.specs.Alphabet.{is_white, is_allowed}
-use Rattle.mm_lex.specs.Tokens.{IsClean}
+use Rattle.mm_lex.proofs.Prelude.{◌≡◌, ℕ, ◌+◌, ◌<◌, ◌≤◌, Bool, true, false, not, cond, nat_le, nat_lt, List, [], ◌∷◌, length, take, drop, map, refl, list_all, position_or_len, prefix_len, sym, ◌∙◌, ap, arith, leb, ltb, eqb, replicate, w8, ◌%◌, ◌^◌, eqb-true, eqb-false, and_parts, zip2, mask_l, top, count_trailing_zeros, bitmask_splat, tops_compared, zip2_splat_left, mask_l-mod, trailing_mask_l, leading_from_mask_l, length-map, take-append-drop, length-drop, length-take-le, drop-drop, prefix_len-append, list_all-append, is_white, is_allowed, IsClean}
 
 abbrev pub is_low : ℕ → Bool
 is_low b = nat_le b 32

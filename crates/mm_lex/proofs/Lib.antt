@@ -1,3 +1,4 @@
+pub mod Prelude
 pub mod NameLemmas
 pub mod WordsLemmas
 pub mod PushLemmas

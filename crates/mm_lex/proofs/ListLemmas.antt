@@ -1,18 +1,5 @@
 -- A list of symbols, piece by piece and word by word.
-use Rattle.std.specs.Prelude.{◌≡◌, ℕ, ◌+◌, ◌-◌, ◌<◌, ◌≤◌, true, false, List, [], ◌∷◌, ◌++◌, length, take, drop, refl}
-use Rattle.std.specs.List.{list_all}
-use Rattle.std.proofs.Common.{sym, ◌∙◌, ap, arith, append_assoc}
-use Rattle.std.proofs.lemmas.List.{append-nil}
-use Rattle.std.proofs.lemmas.List.Folds.{list_all-append}
-use Rattle.std.proofs.lemmas.Bool.{and_from}
-use Rattle.mm_lex.specs.declared.span.Span.{Span}
-use Rattle.mm_lex.specs.Alphabet.{Name, starts_white, word, is_symbol}
-use Rattle.mm_lex.specs.Words.{words_of, AreWords}
-use Rattle.mm_lex.specs.Tokens.{IsClean, words}
-use Rattle.mm_lex.specs.Comments.{runs_behind}
-use Rattle.mm_lex.specs.Stored.Stretch.{stretch}
-use Rattle.mm_lex.specs.Between.{AreBehind, IsTokenBehind}
-use Rattle.mm_lex.specs.SymbolList.{AddsSymbols, EndsSymbols}
+use Rattle.mm_lex.proofs.Prelude.{◌≡◌, ℕ, ◌+◌, ◌-◌, ◌<◌, ◌≤◌, true, false, List, [], ◌∷◌, ◌++◌, length, take, drop, refl, list_all, sym, ◌∙◌, ap, arith, append_assoc, append-nil, list_all-append, and_from, Span, Name, starts_white, word, is_symbol, words_of, AreWords, IsClean, words, runs_behind, stretch, AreBehind, IsTokenBehind, AddsSymbols, EndsSymbols}
 use Rattle.mm_lex.proofs.LanesLemmas.{clean-drop}
 use Rattle.mm_lex.proofs.VisibleRunLemmas.{IsFrontOf, stretch_front, symbols_words}
 use Rattle.mm_lex.proofs.BetweenLemmas.{between_none, between_on, between_as, between_plain, between_runs, behind_on, behind_as}

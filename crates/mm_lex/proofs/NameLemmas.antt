@@ -1,7 +1,5 @@
 -- The test whether two names are the same tells it.
-use Rattle.std.specs.Prelude.{◌≡◌, true, refl, Bool, false, cond, ◌||◌}
-use Rattle.std.proofs.lemmas.Slice.Eq.{bytes_eq-Decides}
-use Rattle.mm_lex.specs.Alphabet.{Name, name_eq}
+use Rattle.mm_lex.proofs.Prelude.{◌≡◌, true, refl, Bool, false, cond, ◌||◌, bytes_eq-Decides, Name, name_eq}
 
 -- a name is the same as itself
 pub name_same : (x : Name) → name_eq x x ≡ true

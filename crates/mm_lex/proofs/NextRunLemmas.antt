@@ -1,12 +1,5 @@
 -- At the next run: a token, or the place at which the comments are at fault.
-use Rattle.std.specs.Prelude.{◌≡◌, ℕ, ◌≤◌, true, List, [], ◌∷◌, refl}
-use Rattle.std.proofs.Common.{◌∙◌, ap, arith, inl, inr}
-use Rattle.mm_lex.specs.declared.span.Span.{Span}
-use Rattle.mm_lex.specs.Alphabet.{word, IsRunAt}
-use Rattle.mm_lex.specs.Tokens.{opener, closer, is_plain, AllPlain, IsClean}
-use Rattle.mm_lex.specs.TextFaults.{StopsAt}
-use Rattle.mm_lex.specs.Comments.{runs_behind, IsNestedAt}
-use Rattle.mm_lex.specs.Between.{HasBetween, IsTokenBehind}
+use Rattle.mm_lex.proofs.Prelude.{◌≡◌, ℕ, ◌≤◌, true, List, [], ◌∷◌, refl, ◌∙◌, ap, arith, inl, inr, Span, word, IsRunAt, opener, closer, is_plain, AllPlain, IsClean, StopsAt, runs_behind, IsNestedAt, HasBetween, IsTokenBehind}
 use Rattle.mm_lex.proofs.CuttingMeans.{no_runs}
 use Rattle.mm_lex.proofs.Progress.{IsWordAt-run}
 use Rattle.mm_lex.proofs.BetweenLemmas.{between_on, between_token, stops_on}

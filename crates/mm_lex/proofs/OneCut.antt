@@ -1,10 +1,5 @@
 -- The cut at the comments is unique: a list of plain runs ends where the first run stands that is not plain.
-use Rattle.std.specs.Prelude.{◌≡◌, ℕ, true, false, List, [], ◌∷◌, ◌++◌, flat_map, refl}
-use Rattle.std.proofs.Common.{sym, ◌∙◌, ap, true≢false, append_assoc}
-use Rattle.std.proofs.lemmas.Bool.{and_parts}
-use Rattle.mm_lex.specs.declared.span.Span.{Span}
-use Rattle.mm_lex.specs.Alphabet.{word}
-use Rattle.mm_lex.specs.Tokens.{opener, closer, is_plain, AllPlain, Part, part_spans, AreParts, Cuts}
+use Rattle.mm_lex.proofs.Prelude.{◌≡◌, ℕ, true, false, List, [], ◌∷◌, ◌++◌, flat_map, refl, sym, ◌∙◌, ap, true≢false, append_assoc, and_parts, Span, word, opener, closer, is_plain, AllPlain, Part, part_spans, AreParts, Cuts}
 
 module _ (text : List ℕ) where
   -- the runs are none, or begin with one that is not plain

@@ -1,14 +1,5 @@
 -- Runs whose bytes hold no `$` are plain, and a list of bytes that ends white can be cut off.
-use Rattle.std.specs.Prelude.{◌≡◌, ℕ, ◌+◌, ◌-◌, ◌<◌, ◌≤◌, suc, zero, Bool, true, false, List, [], ◌∷◌, ◌++◌, length, take, drop, refl}
-use Rattle.std.proofs.Common.{sym, ◌∙◌, ap, arith, get_or, subst, eqb, eq-eqb}
-use Rattle.std.proofs.lemmas.List.{append-nil, get_or-take, get_or-drop, length-take, length-drop, take-append-drop, drop-drop}
-use Rattle.std.proofs.Math.Seq.{drop-length}
-use Rattle.std.proofs.lemmas.Bool.{and_from}
-use Rattle.memchr.specs.Find.{Nowhere, NoneBefore, Passes, is_byte}
-use Rattle.mm_lex.specs.declared.span.Span.{Span}
-use Rattle.mm_lex.specs.Alphabet.{Name, is_white, starts_white, with_byte, runs_from, word}
-use Rattle.mm_lex.specs.Tokens.{is_plain, AllPlain}
-use Rattle.mm_lex.specs.Comments.{runs_behind, PassesPlain}
+use Rattle.mm_lex.proofs.Prelude.{◌≡◌, ℕ, ◌+◌, ◌-◌, ◌<◌, ◌≤◌, suc, zero, Bool, true, false, List, [], ◌∷◌, ◌++◌, length, take, drop, refl, sym, ◌∙◌, ap, arith, get_or, subst, eqb, eq-eqb, append-nil, get_or-take, get_or-drop, length-take, length-drop, take-append-drop, drop-drop, drop-length, and_from, Nowhere, NoneBefore, Passes, is_byte, Span, Name, is_white, starts_white, with_byte, runs_from, word, is_plain, AllPlain, runs_behind, PassesPlain}
 
 -- ---- where the runs stand
 

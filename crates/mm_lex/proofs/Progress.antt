@@ -1,18 +1,5 @@
 -- How far the code has read: what the scan of the whole text gives, by what is left of it.
-use Rattle.std.specs.Prelude.{◌≡◌, ℕ, ◌-◌, ◌<◌, ◌≤◌, Bool, true, false, not, cond, ◌||◌, List, [], ◌∷◌, ◌++◌, length, drop, Some, None, Ok, Err, refl}
-use Rattle.std.specs.List.{list_all, All}
-use Rattle.std.proofs.Common.{sym, ◌∙◌, ap, arith, append_assoc, true≢false, min}
-use Rattle.std.proofs.lemmas.List.{append-nil, length-take, length-drop}
-use Rattle.std.proofs.lemmas.List.Elements.{All-push}
-use Rattle.std.proofs.lemmas.List.Folds.{list_all-append}
-use Rattle.std.proofs.lemmas.Slice.Eq.{bytes_eq-Decides}
-use Rattle.std.proofs.lemmas.Bool.{and_from, and_parts}
-use Rattle.mm_lex.specs.declared.span.Span.{Span}
-use Rattle.mm_lex.specs.Alphabet.{Name, is_white, is_visible, is_allowed, runs, word, IsRunAt}
-use Rattle.mm_lex.specs.Words.{is_word}
-use Rattle.mm_lex.specs.Tokens.{opener, closer, is_plain, AllPlain, IsClean, AreTokens, IsWordAt}
-use Rattle.mm_lex.specs.TextFaults.{IsCommentFault}
-use Rattle.mm_lex.specs.Comments.{runs_behind, PassesPlain, IsClosedAt, IsNestedAt}
+use Rattle.mm_lex.proofs.Prelude.{◌≡◌, ℕ, ◌-◌, ◌<◌, ◌≤◌, Bool, true, false, not, cond, ◌||◌, List, [], ◌∷◌, ◌++◌, length, drop, Some, None, Ok, Err, refl, list_all, All, sym, ◌∙◌, ap, arith, append_assoc, true≢false, min, append-nil, length-take, length-drop, All-push, list_all-append, bytes_eq-Decides, and_from, and_parts, Span, Name, is_white, is_visible, is_allowed, runs, word, IsRunAt, is_word, opener, closer, is_plain, AllPlain, IsClean, AreTokens, IsWordAt, IsCommentFault, runs_behind, PassesPlain, IsClosedAt, IsNestedAt}
 use Rattle.mm_lex.proofs.LanesLemmas.{clean-take, clean-drop}
 use Rattle.mm_lex.proofs.Cutting.{prepend, prepend-append, scan, opens, closes, scan_opener, scan_closer, scan_plain, scan_nested, scan_closing, scan_all_inside, is_opener, is_closer, closer_no_opener, scan-stops}
 use Rattle.mm_lex.proofs.CuttingMeans.{cut-scan, stops-scan, plain}

@@ -1,10 +1,5 @@
 -- Words at the end of a buffer.
-use Rattle.std.specs.Prelude.{◌≡◌, ℕ, true, false, cond, ◌==◌, List, [], ◌∷◌, ◌++◌, length, ◌<◌, Result, Ok, Err, is_ok, is_err, OnOk, refl}
-use Rattle.std.specs.List.{list_all}
-use Rattle.std.proofs.Common.{◌∙◌, ap, arith, append_assoc}
-use Rattle.std.proofs.lemmas.List.Folds.{list_all-append}
-use Rattle.mm_lex.specs.Alphabet.{Name}
-use Rattle.mm_lex.specs.Words.{words_of, is_word}
+use Rattle.mm_lex.proofs.Prelude.{◌≡◌, ℕ, true, false, cond, ◌==◌, List, [], ◌∷◌, ◌++◌, length, ◌<◌, Result, Ok, Err, is_ok, is_err, OnOk, refl, list_all, ◌∙◌, ap, arith, append_assoc, list_all-append, Name, words_of, is_word}
 use Rattle.mm_lex.proofs.WordsLemmas.{slice_split-space, some_by_len}
 
 -- the words of two texts with a space between them

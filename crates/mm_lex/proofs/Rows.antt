@@ -1,11 +1,5 @@
 -- The definitions on small texts.
-use Rattle.std.specs.Prelude.{◌≡◌, true, false, [], ◌∷◌, ◌++◌, codes, refl}
-use Rattle.std.proofs.Common.{inl, inr, arith}
-use Rattle.mm_lex.specs.Alphabet.{is_label, is_symbol}
-use Rattle.mm_lex.specs.Words.{spaced, words_of}
-use Rattle.mm_lex.specs.Tokens.{AreTokens}
-use Rattle.mm_lex.specs.TextFaults.{IsFirstBadByte, IsCommentFault}
-use Rattle.mm_lex.specs.Stored.Stretch.{stretch}
+use Rattle.mm_lex.proofs.Prelude.{◌≡◌, true, false, [], ◌∷◌, ◌++◌, codes, refl, inl, inr, arith, is_label, is_symbol, spaced, words_of, AreTokens, IsFirstBadByte, IsCommentFault, stretch}
 
 -- `$. $( hi $) p`: a comment goes
 comment_goes : AreTokens (codes "$. $( hi $) p") (record { start = 0; end = 2 } ∷ record { start = 12; end = 13 } ∷ [])

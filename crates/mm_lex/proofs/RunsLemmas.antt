@@ -1,13 +1,5 @@
 -- The runs of a text, found from the left: white bytes are passed over, and a run ends at the next white byte.
-use Rattle.std.specs.Prelude.{◌≡◌, ℕ, ◌+◌, ◌-◌, ◌<◌, ◌≤◌, suc, Bool, true, false, not, cond, nat_lt, List, [], ◌∷◌, length, take, drop, Some, None, refl}
-use Rattle.std.specs.List.{list_all, position, position_or_len}
-use Rattle.std.specs.Option.{unwrap_or}
-use Rattle.std.proofs.Common.{sym, ◌∙◌, ap, arith, ltb-true, ltb-false, add-zero}
-use Rattle.std.proofs.lemmas.List.{length-drop, drop-drop}
-use Rattle.std.proofs.Math.Seq.{drop-length}
-use Rattle.std.proofs.lemmas.List.Sums.{prefix_len-le-length}
-use Rattle.mm_lex.specs.declared.span.Span.{Span}
-use Rattle.mm_lex.specs.Alphabet.{is_white, starts_white, with_byte, runs_from, IsRunAt}
+use Rattle.mm_lex.proofs.Prelude.{◌≡◌, ℕ, ◌+◌, ◌-◌, ◌<◌, ◌≤◌, suc, Bool, true, false, not, cond, nat_lt, List, [], ◌∷◌, length, take, drop, Some, None, refl, list_all, position, position_or_len, unwrap_or, sym, ◌∙◌, ap, arith, ltb-true, ltb-false, add-zero, length-drop, drop-drop, drop-length, prefix_len-le-length, Span, is_white, starts_white, with_byte, runs_from, IsRunAt}
 
 -- ---- the first place that passes a test
 

@@ -1,13 +1,5 @@
 -- How far symbols with one space between two go on, found in lanes of bytes.
-use Rattle.std.specs.Prelude.{◌≡◌, ℕ, ◌+◌, ◌<◌, ◌≤◌, zero, suc, Bool, true, false, not, cond, ◌&&◌, ◌||◌, List, [], ◌∷◌, length, take, drop, map, refl}
-use Rattle.std.specs.List.{prefix_len}
-use Rattle.std.proofs.Common.{sym, ◌∙◌, ap, arith, leb, ltb, eqb, replicate, ◌%◌, ◌^◌, bit_or, bit_and}
-use Rattle.std.specs.Simd.Lanes.{zip2, mask_l, top}
-use Rattle.std.specs.Int.Count.{count_trailing_zeros}
-use Rattle.std.proofs.lemmas.Simd.{trailing_mask_l, leading_from_mask_l, mask_l-mod, length-zip2}
-use Rattle.std.proofs.lemmas.List.{length-drop, drop-drop}
-use Rattle.std.proofs.lemmas.List.Sums.{prefix_len-le-length}
-use Rattle.mm_lex.specs.Stored.Stretch.{stretch, ends_here, ends_between, lanes_end}
+use Rattle.mm_lex.proofs.Prelude.{◌≡◌, ℕ, ◌+◌, ◌<◌, ◌≤◌, zero, suc, Bool, true, false, not, cond, ◌&&◌, ◌||◌, List, [], ◌∷◌, length, take, drop, map, refl, prefix_len, sym, ◌∙◌, ap, arith, leb, ltb, eqb, replicate, ◌%◌, ◌^◌, bit_or, bit_and, zip2, mask_l, top, count_trailing_zeros, trailing_mask_l, leading_from_mask_l, mask_l-mod, length-zip2, length-drop, drop-drop, prefix_len-le-length, stretch, ends_here, ends_between, lanes_end}
 
 -- ---- one lane
 

@@ -1,11 +1,5 @@
 -- Symbols with one space between two: a stretch of bytes is tidy, and the words of tidy bytes.
-use Rattle.std.specs.Prelude.{◌≡◌, ℕ, ◌<◌, zero, suc, Bool, true, false, not, cond, ◌&&◌, ◌||◌, ◌==◌, List, [], ◌∷◌, take, refl}
-use Rattle.std.specs.List.{list_all, slice_split, onto_first}
-use Rattle.std.proofs.Common.{sym, ◌∙◌, ap, arith}
-use Rattle.std.proofs.lemmas.Bool.{and_from, and_parts}
-use Rattle.mm_lex.specs.Alphabet.{Name, is_white, is_visible, is_allowed, starts_white, is_symbol, has_byte, is_empty}
-use Rattle.mm_lex.specs.Tokens.{IsClean}
-use Rattle.mm_lex.specs.Stored.Stretch.{stretch, ends_here, ends_between}
+use Rattle.mm_lex.proofs.Prelude.{◌≡◌, ℕ, ◌<◌, zero, suc, Bool, true, false, not, cond, ◌&&◌, ◌||◌, ◌==◌, List, [], ◌∷◌, take, refl, list_all, slice_split, onto_first, sym, ◌∙◌, ap, arith, and_from, and_parts, Name, is_white, is_visible, is_allowed, starts_white, is_symbol, has_byte, is_empty, IsClean, stretch, ends_here, ends_between}
 use Rattle.mm_lex.proofs.WordsLemmas.{first_part}
 
 abbrev pub is_space : ℕ → Bool

@@ -1,12 +1,5 @@
 -- A text has exactly one of tokens, text fault and comment fault.
-use Rattle.std.specs.Prelude.{◌≡◌, ℕ, List, Option, Some, None, Ok, Err, refl}
-use Rattle.std.specs.List.{position}
-use Rattle.std.proofs.Common.{sym, inl, inr}
-use Rattle.mm_lex.specs.declared.span.Span.{Span}
-use Rattle.mm_lex.specs.Alphabet.{runs}
-use Rattle.mm_lex.specs.Tokens.{IsClean, Cuts, AreTokens}
-use Rattle.mm_lex.specs.TextFaults.{IsCommentFault}
-use Rattle.mm_lex.specs.Laws.{SomeAnswer}
+use Rattle.mm_lex.proofs.Prelude.{◌≡◌, ℕ, List, Option, Some, None, Ok, Err, refl, position, sym, inl, inr, Span, runs, IsClean, Cuts, AreTokens, IsCommentFault, SomeAnswer}
 use Rattle.mm_lex.proofs.Cutting.{Outcome, scan, scan-cut, scan-stops}
 use Rattle.mm_lex.proofs.Progress.{AreTokens-scan, IsCommentFault-scan, same_fault, no_fault}
 use Rattle.mm_lex.proofs.BadByteLemmas.{is_bad, IsFirstBadByte-found, IsClean-none}

@@ -1,12 +1,5 @@
 -- Words at the end of a buffer.
-use Rattle.std.specs.Prelude.{◌≡◌, ℕ, ◌+◌, Bool, true, false, not, cond, ◌==◌, List, [], ◌∷◌, ◌++◌, length, ◌<◌, take, drop, count_by, nat_lt, Some, None, refl}
-use Rattle.std.specs.List.{list_all, slice_split, onto_first, position, position_or_len, before_first, after_first}
-use Rattle.std.proofs.Common.{sym, ◌∙◌, ap, arith, true≢false, ltb-true, ltb-false}
-use Rattle.std.proofs.lemmas.List.Splits.{join_with_byte-slice_split, slice_split_first, length-slice_split}
-use Rattle.std.proofs.lemmas.List.Sums.{prefix_len-le-length}
-use Rattle.std.proofs.lemmas.Bool.{and_parts}
-use Rattle.mm_lex.specs.Alphabet.{Name, is_visible}
-use Rattle.mm_lex.specs.Words.{spaced, words_of, is_word}
+use Rattle.mm_lex.proofs.Prelude.{◌≡◌, ℕ, ◌+◌, Bool, true, false, not, cond, ◌==◌, List, [], ◌∷◌, ◌++◌, length, ◌<◌, take, drop, count_by, nat_lt, Some, None, refl, list_all, slice_split, onto_first, position, position_or_len, before_first, after_first, sym, ◌∙◌, ap, arith, true≢false, ltb-true, ltb-false, join_with_byte-slice_split, slice_split_first, length-slice_split, prefix_len-le-length, and_parts, Name, is_visible, spaced, words_of, is_word}
 
 abbrev is_space : ℕ → Bool
 is_space c = c == 32

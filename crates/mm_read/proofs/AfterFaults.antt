@@ -1,18 +1,6 @@
 -- Why no statement stands after a place: by the tokens that stand before it, and what the parts of the statement tell.
-use Rattle.std.specs.Prelude.{◌≡◌, ℕ, Bool, ◌+◌, ◌≤◌, true, false, List, [], ◌∷◌, ◌++◌, length, Some, None, codes}
-use Rattle.std.specs.List.{list_all}
-use Rattle.std.specs.Option.{option_and_then}
-use Rattle.std.proofs.Common.{sym, ◌∙◌, ap, arith, refl, subst, append_assoc, length-append}
-use Rattle.mm_lex.specs.declared.fault.LexFault.{LexFault}
+use Rattle.mm_read.proofs.Words.{◌≡◌, ℕ, Bool, ◌+◌, ◌≤◌, true, false, List, [], ◌∷◌, ◌++◌, length, Some, None, codes, list_all, option_and_then, sym, ◌∙◌, ap, arith, refl, subst, append_assoc, length-append, LexFault, Name, name_eq, is_symbol, is_label, HasBetween, AreBehind, StopsBehind, behind_rest, behind_unique, stops_behind, between_on, ReadFault, Text, Shape, Memory, IsShapeFault, read_fault, StopsList, IsListStop, IsListFault, StartsOtherwise, IsTokenFault, IsFaultAfter}
 use Rattle.mm_lex.specs.declared.fault.LexFault.TheVariants as lex
-use Rattle.mm_lex.specs.Alphabet.{Name, name_eq, is_symbol, is_label}
-use Rattle.mm_lex.specs.Between.{HasBetween, AreBehind, StopsBehind}
-use Rattle.mm_lex.proofs.BetweenLemmas.{behind_rest, behind_unique, stops_behind, between_on}
-use Rattle.mm_read.specs.declared.fault.ReadFault.{ReadFault}
-use Rattle.mm_read.specs.declared.fault.ReadFault.TheVariants.{Text, Shape, Memory}
-use Rattle.mm_read.specs.Reads.{IsShapeFault, read_fault}
-use Rattle.mm_read.specs.Front.{StopsList, IsListStop, IsListFault, StartsOtherwise, IsTokenFault}
-use Rattle.mm_read.specs.Next.{IsFaultAfter}
 use Rattle.mm_read.proofs.Places.{Place, between, labelled, listing, floating, proving, step, go}
 use Rattle.mm_read.proofs.PlacesOver.{go-label, go-proving}
 use Rattle.mm_read.proofs.ShapeFaults.{stops_at}

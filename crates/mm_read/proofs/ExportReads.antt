@@ -1,24 +1,8 @@
 -- The export form of statements reads as these statements: it is their tokens, each with one white byte after it, and no
 -- token of a statement begins or ends a comment.
-use Rattle.std.specs.Prelude.{◌≡◌, ℕ, ◌+◌, ◌-◌, Bool, true, false, not, ◌&&◌, ◌||◌, cond, List, [], ◌∷◌, ◌++◌, length, take, map, codes}
-use Rattle.std.specs.List.{list_all}
-use Rattle.std.proofs.Common.{sym, ◌∙◌, ap, arith, refl, true≢false, append_assoc, length-append, append-nil}
-use Rattle.std.proofs.Math.Seq.{take-append_seam, drop-append_seam}
-use Rattle.std.proofs.lemmas.Bool.{and_parts, and_from}
-use Rattle.std.proofs.lemmas.Bool.Decides.{nat_tests}
-use Rattle.std.proofs.lemmas.List.Folds.{list_all-map, list_all-append}
-use Rattle.mm_lex.proofs.WordsLemmas.{word-visible}
-use Rattle.mm_lex.specs.declared.span.Span.{Span}
-use Rattle.mm_lex.specs.Alphabet.{Name, is_empty, is_white, is_visible, is_allowed, is_symbol, is_label, is_label_byte, has_byte, runs, runs_from, starts_white, with_byte, word}
-use Rattle.mm_lex.specs.Words.{spaced, is_word}
-use Rattle.mm_lex.specs.Tokens.{is_plain, words}
-use Rattle.mm_read.specs.declared.stmt.Stmt.{Stmt}
-use Rattle.mm_read.specs.declared.stmt.Stmt.TheVariants.{Open, Close, Const, Var, Disj, Float, Ess, Axiom, Prove}
-use Rattle.mm_read.specs.Statements.{Database, is_shaped, are_symbols, has_two, stmt_tokens, spelled}
-use Rattle.mm_read.specs.Export.{export_of}
+use Rattle.mm_read.proofs.Words.{◌≡◌, ℕ, ◌+◌, ◌-◌, Bool, true, false, not, ◌&&◌, ◌||◌, cond, List, [], ◌∷◌, ◌++◌, length, take, map, codes, list_all, sym, ◌∙◌, ap, arith, refl, true≢false, append_assoc, length-append, append-nil, take-append_seam, drop-append_seam, and_parts, and_from, nat_tests, list_all-map, list_all-append, word-visible, Span, Name, is_empty, is_white, is_visible, is_allowed, is_symbol, is_label, is_label_byte, has_byte, runs, runs_from, starts_white, with_byte, word, spaced, is_word, is_plain, words, Stmt, Open, Close, Const, Var, Disj, Float, Ess, Axiom, Prove, Database, is_shaped, are_symbols, has_two, stmt_tokens, spelled, export_of, white_run}
 use Rattle.mm_read.specs.Laws as laws
 use Rattle.mm_read.proofs.StatementsLemmas.{symbol_plain, label_plain, symbols_of, plain_is_no_key}
-use Rattle.mm_lex.proofs.VisibleRunLemmas.{white_run}
 
 -- ---- the runs of words with a white byte after each
 

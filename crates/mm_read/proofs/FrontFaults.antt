@@ -1,14 +1,6 @@
 -- Where the tokens after others stop being a statement, the machine of `Places` stops.
-use Rattle.std.specs.Prelude.{◌≡◌, ℕ, ◌+◌, ◌-◌, ◌<◌, ◌⊎◌, zero, suc, true, false, cond, List, [], ◌∷◌, ◌++◌, length, Some, None, codes}
-use Rattle.std.specs.List.{list_all}
-use Rattle.std.specs.Option.{option_and_then}
-use Rattle.std.proofs.Common.{sym, ◌∙◌, ap, arith, refl, inl, inr, subst, append_assoc, length-append, append-nil}
-use Rattle.std.proofs.lemmas.Bool.{and_parts, or_parts}
-use Rattle.mm_lex.specs.Alphabet.{Name, name_eq, has_name, is_symbol, is_label}
-use Rattle.mm_read.specs.declared.keyword.Keyword.{Keyword}
-use Rattle.mm_read.specs.declared.keyword.Keyword.TheVariants.{Open, Close, Const, Var, Disj, Float, Ess, Axiom, Prove, Other}
-use Rattle.mm_read.specs.Reads.{IsShapeFault}
-use Rattle.mm_read.specs.Front.{IsKeyword, StopsList, EndsNoList}
+use Rattle.mm_read.proofs.Words.{◌≡◌, ℕ, ◌+◌, ◌-◌, ◌<◌, ◌⊎◌, zero, suc, true, false, cond, List, [], ◌∷◌, ◌++◌, length, Some, None, codes, list_all, option_and_then, sym, ◌∙◌, ap, arith, refl, inl, inr, subst, append_assoc, length-append, append-nil, and_parts, or_parts, Name, name_eq, has_name, is_symbol, is_label, Keyword, Other, IsShapeFault, IsKeyword, StopsList, EndsNoList}
+use Rattle.mm_read.specs.declared.keyword.Keyword.TheVariants.{Open, Close, Const, Var, Disj, Float, Ess, Axiom, Prove}
 use Rattle.mm_read.proofs.Places.{Place, between, labelled, listing, floating, proving, step, go, go-append}
 use Rattle.mm_read.proofs.ShapeFaults.{stops_at, ends_inside}
 

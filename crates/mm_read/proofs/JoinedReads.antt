@@ -1,24 +1,8 @@
 -- Two joined texts write the statements of the first and then those of the second, if no word goes on from the first into the
 -- other: the runs of both are those of the one and then those of the other, runs with the same words are cut at the same
 -- comments, and a cut may stand after another.
-use Rattle.std.specs.Prelude.{◌≡◌, ℕ, ◌+◌, ◌-◌, ◌<◌, suc, Bool, true, false, ◌||◌, if◌then◌else◌, List, [], ◌∷◌, ◌++◌, length, take, drop, Option, Some, None, Ok, Err, refl}
-use Rattle.std.specs.List.{list_all}
-use Rattle.std.proofs.Common.{sym, ◌∙◌, ap, arith, subst, true≢false}
-use Rattle.std.proofs.Math.Seq.{drop-append_seam}
-use Rattle.std.proofs.lemmas.Bool.{and_from}
-use Rattle.std.proofs.lemmas.Grind.{flat_map-append}
-use Rattle.std.proofs.lemmas.List.{append-nil, drop-drop, map-append}
-use Rattle.std.proofs.lemmas.List.Folds.{list_all-append}
-use Rattle.mm_lex.specs.declared.span.Span.{Span}
-use Rattle.mm_lex.specs.Alphabet.{Name, name_eq, is_white, is_allowed, starts_white, with_byte, runs, runs_from, word}
-use Rattle.mm_lex.specs.Tokens.{opener, closer, Cuts, words}
-use Rattle.mm_lex.proofs.PlainLemmas.{append_step}
-use Rattle.mm_lex.proofs.Cutting.{Outcome, outside, inside, prepend, scan, scan-cut}
-use Rattle.mm_lex.proofs.CuttingMeans.{cuts_as, cut-scan}
-use Rattle.mm_lex.proofs.BetweenLemmas.{cuts_join}
-use Rattle.mm_read.specs.Statements.{is_shaped, stmt_tokens, spelled}
-use Rattle.mm_read.specs.Reads.{HasTokens}
-use Rattle.mm_read.specs.Laws.{is_apart}
+use Rattle.mm_read.proofs.Words.{◌≡◌, ℕ, ◌+◌, ◌-◌, ◌<◌, suc, Bool, true, false, ◌||◌, if◌then◌else◌, List, [], ◌∷◌, ◌++◌, length, take, drop, Option, Some, None, Ok, Err, refl, list_all, sym, ◌∙◌, ap, arith, subst, true≢false, drop-append_seam, and_from, flat_map-append, drop-drop, map-append, list_all-append, Span, Name, name_eq, is_white, is_allowed, starts_white, with_byte, runs, runs_from, word, opener, closer, Cuts, words, append_step, Outcome, outside, inside, prepend, scan, scan-cut, cuts_as, cut-scan, cuts_join, is_shaped, stmt_tokens, spelled, HasTokens, is_apart}
+use Rattle.std.proofs.lemmas.List.{append-nil}
 use Rattle.mm_read.specs.Laws as laws
 
 -- ---- the runs of both texts

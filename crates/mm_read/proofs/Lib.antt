@@ -1,3 +1,4 @@
+pub mod Words
 pub mod StatementsLemmas
 pub mod SpacedLemmas
 pub mod OneSpelling

@@ -1,17 +1,5 @@
 -- Statement by statement from place to place: what stands between two places writes a statement, and the statements so far.
-use Rattle.std.specs.Prelude.{◌≡◌, ℕ, ◌+◌, ◌<◌, true, List, [], ◌∷◌, ◌++◌, length, codes, Result, Ok, Err, IfOk, IfErr, refl}
-use Rattle.std.specs.List.{list_all}
-use Rattle.std.proofs.Common.{sym, ◌∙◌, ap, arith, length-append, append-nil}
-use Rattle.std.proofs.lemmas.Bool.{and_from}
-use Rattle.mm_lex.specs.Alphabet.{Name, is_symbol, is_label}
-use Rattle.mm_lex.specs.Tokens.{IsClean}
-use Rattle.mm_lex.specs.Between.{HasBetween, AreBehind, CountBehind}
-use Rattle.mm_lex.proofs.BetweenLemmas.{between_on, between_as, behind_on, behind_as, behind_unique}
-use Rattle.mm_read.specs.declared.stmt.Stmt.{Stmt}
-use Rattle.mm_read.specs.declared.stmt.Stmt.TheVariants.{Float, Ess, Axiom, Prove}
-use Rattle.mm_read.specs.Statements.{Database, are_symbols, is_shaped, stmt_tokens, spelled}
-use Rattle.mm_read.specs.Reads.{Reads}
-use Rattle.mm_read.specs.Next.{IsNext, IsOneMore, AreBefore}
+use Rattle.mm_read.proofs.Words.{◌≡◌, ℕ, ◌+◌, ◌<◌, true, List, [], ◌∷◌, ◌++◌, length, codes, Result, Ok, Err, IfOk, IfErr, refl, list_all, sym, ◌∙◌, ap, arith, length-append, append-nil, and_from, Name, is_symbol, is_label, IsClean, HasBetween, AreBehind, CountBehind, between_on, between_as, behind_on, behind_as, behind_unique, Stmt, Float, Ess, Axiom, Prove, Database, are_symbols, is_shaped, stmt_tokens, spelled, Reads, IsNext, IsOneMore, AreBefore}
 use Rattle.mm_read.proofs.StatementsLemmas.{append_middle}
 use Rattle.mm_read.proofs.StatementByStatement.{spelled-append, shaped-append}
 

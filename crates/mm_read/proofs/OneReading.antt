@@ -1,19 +1,7 @@
 -- Reading returns the one true answer: a text has tokens or one fault of the tokens, and its tokens write one list of
 -- statements or have one token that fits nowhere.
-use Rattle.std.specs.Prelude.{◌≡◌, ℕ, ◌⊎◌, List, Result, Ok, Err, MatchResult, IfOk, IfErr, IsErrAnd}
-use Rattle.std.proofs.Common.{sym, ◌∙◌, ap, refl, subst, inl, inr}
+use Rattle.mm_read.proofs.Words.{◌≡◌, ℕ, ◌⊎◌, List, Result, Ok, Err, MatchResult, IfOk, IfErr, IsErrAnd, sym, ◌∙◌, ap, refl, subst, inl, inr, Name, IsClean, words, IsFirstBadByte, IsCommentFault, AreBehind, IsClean-no_fault, AreTokens-unique, AreTokens-no_comment_fault, IsCommentFault-unique, ReadFault, Text, Shape, Memory, Database, spelled, HasTokens, Reads, IsShapeFault, HasShapeFault, IsReadFault, IsFaultOf}
 use Rattle.mm_lex.specs.declared.fault.LexFault.TheVariants as lex
-use Rattle.mm_lex.specs.Alphabet.{Name}
-use Rattle.mm_lex.specs.Tokens.{IsClean, words}
-use Rattle.mm_lex.specs.TextFaults.{IsFirstBadByte, IsCommentFault}
-use Rattle.mm_lex.specs.Between.{AreBehind}
-use Rattle.mm_lex.proofs.BadByteLemmas.{IsClean-no_fault}
-use Rattle.mm_lex.proofs.TokensLemmas.{AreTokens-unique, AreTokens-no_comment_fault, IsCommentFault-unique}
-use Rattle.mm_read.specs.declared.fault.ReadFault.{ReadFault}
-use Rattle.mm_read.specs.declared.fault.ReadFault.TheVariants.{Text, Shape, Memory}
-use Rattle.mm_read.specs.Statements.{Database, spelled}
-use Rattle.mm_read.specs.Reads.{HasTokens, Reads, IsShapeFault, HasShapeFault, IsReadFault}
-use Rattle.mm_read.specs.Next.{IsFaultOf}
 use Rattle.mm_read.proofs.OneSpelling.{one_spelling}
 use Rattle.mm_read.proofs.ShapeFaults.{one_shape_fault}
 

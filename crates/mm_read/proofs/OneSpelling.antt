@@ -1,14 +1,6 @@
 -- Each list of tokens is spelled by at most one list of statements: the statement at the front of the tokens is found from
 -- the left, and it is the one that was written there.
-use Rattle.std.specs.Prelude.{◌≡◌, true, ◌&&◌, cond, List, [], ◌∷◌, ◌++◌, Option, Some, None, codes, refl}
-use Rattle.std.specs.List.{list_all}
-use Rattle.std.proofs.Common.{sym, ◌∙◌, ap}
-use Rattle.std.proofs.lemmas.Bool.{and_parts}
-use Rattle.std.proofs.lemmas.Option.{some_pair_parts}
-use Rattle.mm_lex.specs.Alphabet.{Name, name_eq, is_symbol, is_label, has_byte}
-use Rattle.mm_read.specs.declared.stmt.Stmt.{Stmt}
-use Rattle.mm_read.specs.declared.stmt.Stmt.TheVariants.{Open, Close, Const, Var, Disj, Float, Ess, Axiom, Prove}
-use Rattle.mm_read.specs.Statements.{is_shaped, are_symbols, has_two, stmt_tokens, spelled, Database}
+use Rattle.mm_read.proofs.Words.{◌≡◌, true, ◌&&◌, cond, List, [], ◌∷◌, ◌++◌, Option, Some, None, codes, refl, list_all, sym, ◌∙◌, ap, and_parts, some_pair_parts, Name, name_eq, is_symbol, is_label, has_byte, Stmt, Open, Close, Const, Var, Disj, Float, Ess, Axiom, Prove, is_shaped, are_symbols, has_two, stmt_tokens, spelled, Database}
 use Rattle.mm_read.specs.Laws as laws
 use Rattle.mm_read.proofs.StatementsLemmas.{symbol_plain, label_plain, symbols_of, append_middle}
 

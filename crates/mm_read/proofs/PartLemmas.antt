@@ -1,15 +1,6 @@
 -- The parts of a statement after a place: what stands there when a part does not.
-use Rattle.std.specs.Prelude.{◌≡◌, ℕ, Bool, ◌+◌, ◌<◌, ◌≤◌, ◌⊎◌, true, false, List, [], ◌∷◌, ◌++◌, length, Option, Some, None}
-use Rattle.std.specs.List.{list_all}
-use Rattle.std.proofs.Common.{sym, ◌∙◌, arith, refl, subst, append_assoc, length-append}
+use Rattle.mm_read.proofs.Words.{◌≡◌, ℕ, Bool, ◌+◌, ◌<◌, ◌≤◌, ◌⊎◌, true, false, List, [], ◌∷◌, ◌++◌, length, Option, Some, None, list_all, sym, ◌∙◌, arith, refl, subst, append_assoc, length-append, Span, Name, name_eq, is_symbol, word, AreBehind, IsTokenBehind, EndsSymbols, IsListEnd, behind_rest, behind_unique, between_few, behind_few, IsListStop, StartsOtherwise}
 use Rattle.std.proofs.lemmas.List.{append-nil}
-use Rattle.mm_lex.specs.declared.span.Span.{Span}
-use Rattle.mm_lex.specs.Alphabet.{Name, name_eq, is_symbol, word}
-use Rattle.mm_lex.specs.Between.{AreBehind, IsTokenBehind}
-use Rattle.mm_lex.specs.SymbolList.{EndsSymbols, IsListEnd}
-use Rattle.mm_lex.proofs.BetweenLemmas.{behind_rest, behind_unique}
-use Rattle.mm_lex.proofs.FewLemmas.{between_few, behind_few}
-use Rattle.mm_read.specs.Front.{IsListStop, StartsOtherwise}
 
 -- no more symbols stand in a list than bytes
 pub list_few : (text : List ℕ) (at : ℕ) (ws : List Name) (stop : Option Span) → at ≤ length text → IsListEnd text at ws stop → length ws + at ≤ length text

@@ -1,17 +1,7 @@
 -- How far the tokens of a list of statements have come: a machine that goes over them one by one, and goes on exactly where
 -- some list of statements does.
-use Rattle.std.specs.Prelude.{◌≡◌, ℕ, ◌≤◌, zero, suc, Bool, true, false, ◌&&◌, cond, List, [], ◌∷◌, ◌++◌, length, Option, Some, None, codes}
-use Rattle.std.specs.List.{list_all}
-use Rattle.std.specs.Option.{option_and_then}
-use Rattle.std.proofs.Common.{sym, ◌∙◌, ap, arith, refl, subst}
-use Rattle.std.proofs.lemmas.Bool.{and_parts}
-use Rattle.std.proofs.lemmas.Option.{option_and_then_some, same_Some}
-use Rattle.mm_lex.specs.Alphabet.{Name, name_eq, is_symbol, is_label}
+use Rattle.mm_read.proofs.Words.{◌≡◌, ℕ, ◌≤◌, zero, suc, Bool, true, false, ◌&&◌, cond, List, [], ◌∷◌, ◌++◌, length, Option, Some, None, codes, list_all, option_and_then, sym, ◌∙◌, ap, arith, refl, subst, and_parts, option_and_then_some, same_Some, Name, name_eq, is_symbol, is_label, Stmt, Open, Close, Const, Var, Disj, Float, Ess, Axiom, Prove, Database, AreShaped, is_shaped, stmt_tokens, spelled, CanGoOn}
 pub use Rattle.mm_lex.proofs.NameLemmas.{same_name as same}
-use Rattle.mm_read.specs.declared.stmt.Stmt.{Stmt}
-use Rattle.mm_read.specs.declared.stmt.Stmt.TheVariants.{Open, Close, Const, Var, Disj, Float, Ess, Axiom, Prove}
-use Rattle.mm_read.specs.Statements.{Database, AreShaped, is_shaped, stmt_tokens, spelled}
-use Rattle.mm_read.specs.Reads.{CanGoOn}
 use Rattle.mm_read.proofs.StatementsLemmas.{append_middle, are_symbols_of, has_two_of}
 
 -- the next expected part: a statement, the keyword after a label, at least (or exactly) so many symbols and then `$.`,

@@ -1,10 +1,5 @@
 -- Small texts, worked out: the statements that they write, their export form, and the tokens that fit nowhere.
-use Rattle.std.specs.Prelude.{◌≡◌, ℕ, [], ◌∷◌, ◌++◌, false, codes, refl}
-use Rattle.mm_lex.specs.declared.span.Span.{Span}
-use Rattle.mm_read.specs.declared.stmt.Stmt.TheVariants.{Const, Float, Axiom, Prove}
-use Rattle.mm_read.specs.Statements.{Database, is_shaped}
-use Rattle.mm_read.specs.Reads.{Reads, IsShapeFault}
-use Rattle.mm_read.specs.Export.{line_of, export_of, with_proof}
+use Rattle.mm_read.proofs.Words.{◌≡◌, ℕ, [], ◌∷◌, ◌++◌, false, codes, refl, Span, Const, Float, Axiom, Prove, Database, is_shaped, Reads, IsShapeFault, line_of, export_of, with_proof}
 use Rattle.mm_read.proofs.Places.{between, labelled, listing, floating, proving}
 use Rattle.mm_read.proofs.ShapeFaults.{stops_at, ends_inside}
 

@@ -1,10 +1,5 @@
 -- Words with one space between two, piece by piece.
-use Rattle.std.specs.Prelude.{◌≡◌, ℕ, true, if◌then◌else◌, List, [], ◌∷◌, ◌++◌, codes}
-use Rattle.std.proofs.Common.{sym, ◌∙◌, ap, refl, append_assoc}
-use Rattle.mm_lex.specs.Alphabet.{Name, is_empty}
-use Rattle.mm_lex.specs.Words.{spaced, words_of}
-use Rattle.mm_lex.proofs.WordsLemmas.{spaced-words_of}
-use Rattle.mm_read.specs.Statements.{are_symbols}
+use Rattle.mm_read.proofs.Words.{◌≡◌, ℕ, true, if◌then◌else◌, List, [], ◌∷◌, ◌++◌, codes, sym, ◌∙◌, ap, refl, append_assoc, Name, is_empty, spaced, words_of, spaced-words_of, are_symbols}
 
 -- words before others
 pub spaced-append : (w : Name) (ws : List Name) (v : Name) (vs : List Name) → spaced ((w ∷ ws) ++ v ∷ vs) ≡ spaced (w ∷ ws) ++ 32 ∷ spaced (v ∷ vs)

@@ -1,15 +1,6 @@
 -- A list of statements and what stands after it: what fits there fits the whole, and what does not fit there does not fit the
 -- whole.
-use Rattle.std.specs.Prelude.{◌≡◌, ℕ, ◌+◌, ◌-◌, ◌<◌, ◌⊎◌, suc, zero, true, List, [], ◌∷◌, ◌++◌, length, take}
-use Rattle.std.specs.List.{list_all}
-use Rattle.std.proofs.Common.{sym, ◌∙◌, ap, arith, refl, subst, inl, inr, append_assoc, length-append}
-use Rattle.std.proofs.Math.Seq.{take-append-add}
-use Rattle.std.proofs.lemmas.Bool.{and_parts}
-use Rattle.mm_lex.specs.Alphabet.{Name}
-use Rattle.mm_read.specs.declared.stmt.Stmt.{Stmt}
-use Rattle.mm_read.specs.declared.stmt.Stmt.TheVariants.{Open, Close, Const, Var, Disj, Float, Ess, Axiom, Prove}
-use Rattle.mm_read.specs.Statements.{Database, is_shaped, stmt_tokens, spelled}
-use Rattle.mm_read.specs.Reads.{CanGoOn, IsShapeFault}
+use Rattle.mm_read.proofs.Words.{◌≡◌, ℕ, ◌+◌, ◌-◌, ◌<◌, ◌⊎◌, suc, zero, true, List, [], ◌∷◌, ◌++◌, length, take, list_all, sym, ◌∙◌, ap, arith, refl, subst, inl, inr, append_assoc, length-append, take-append-add, and_parts, Name, Stmt, Open, Close, Const, Var, Disj, Float, Ess, Axiom, Prove, Database, is_shaped, stmt_tokens, spelled, CanGoOn, IsShapeFault}
 use Rattle.mm_read.proofs.OneSpelling.{same_front}
 
 pub spelled-append : (S T : Database) → spelled (S ++ T) ≡ spelled S ++ spelled T

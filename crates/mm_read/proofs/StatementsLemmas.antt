@@ -1,11 +1,5 @@
 -- Symbols and labels have no `$`, and keywords do; the parts of a shaped statement.
-use Rattle.std.specs.Prelude.{◌≡◌, ℕ, ◌≤◌, Bool, true, false, not, ◌&&◌, ◌||◌, ◌==◌, List, [], ◌∷◌, ◌++◌, length}
-use Rattle.std.specs.List.{list_all}
-use Rattle.std.proofs.Common.{sym, ◌∙◌, ap, arith, true≢false, refl}
-use Rattle.std.proofs.lemmas.Bool.{and_parts, not-true}
-use Rattle.std.proofs.lemmas.Slice.Eq.{bytes_eq-Decides}
-use Rattle.mm_lex.specs.Alphabet.{Name, name_eq, is_empty, is_symbol, is_label, is_label_byte, has_byte, is_visible}
-use Rattle.mm_read.specs.Statements.{are_symbols, has_two}
+use Rattle.mm_read.proofs.Words.{◌≡◌, ℕ, ◌≤◌, Bool, true, false, not, ◌&&◌, ◌||◌, ◌==◌, List, [], ◌∷◌, ◌++◌, length, list_all, sym, ◌∙◌, ap, arith, true≢false, refl, and_parts, not-true, bytes_eq-Decides, Name, name_eq, is_empty, is_symbol, is_label, is_label_byte, has_byte, is_visible, are_symbols, has_two}
 
 -- a symbol has no `$`
 pub symbol_plain : (w : Name) → is_symbol w ≡ true → has_byte 36 w ≡ false

@@ -1,13 +1,6 @@
 -- Names are only added at the end, and a name keeps its code.
-use Rattle.std.specs.Prelude.{◌≡◌, ℕ, ◌+◌, Bool, true, false, not, cond, ◌||◌, List, [], ◌∷◌, ◌++◌, refl}
-use Rattle.std.proofs.Common.{sym, ◌∙◌, ap, subst, arith, inl, inr, append_assoc}
-use Rattle.std.proofs.lemmas.List.{append-nil}
-use Rattle.std.proofs.lemmas.Bool.{or_left, or_right}
-use Rattle.std.proofs.Math.Bool.{or_assoc}
+use Rattle.names.proofs.Words.{◌≡◌, ℕ, ◌+◌, Bool, true, false, not, cond, ◌||◌, List, [], ◌∷◌, ◌++◌, refl, sym, ◌∙◌, ap, subst, arith, inl, inr, append_assoc, append-nil, or_left, or_right, or_assoc, Name, name_eq, has_name, with_name, with_names, number_in, numbers_in, AreNamed, name_same, same_name}
 pub use Rattle.std.proofs.lemmas.Bool.{or_cases}
-use Rattle.mm_lex.specs.Alphabet.{Name, name_eq, has_name}
-use Rattle.names.specs.Codes.{with_name, with_names, number_in, numbers_in, AreNamed}
-use Rattle.mm_lex.proofs.NameLemmas.{name_same, same_name}
 
 pub has_name-append : (x : Name) (xs ys : List Name) → has_name x (xs ++ ys) ≡ (has_name x xs || has_name x ys)
 has_name-append x [] ys = refl

@@ -1,13 +1,6 @@
 -- Names and the places where they stand.
-use Rattle.std.specs.Prelude.{◌≡◌, ℕ, zero, suc, ◌+◌, ◌<◌, Bool, true, false, not, cond, ◌||◌, nat_lt, length, List, [], ◌∷◌, ◌++◌, map, Option, Some, None, get_or, refl}
-use Rattle.std.specs.List.{list_any, position_or_len, prefix_len}
-use Rattle.std.proofs.Common.{sym, ◌∙◌, ap, true≢false, arith, length-append}
-use Rattle.std.proofs.lemmas.List.Quantifiers.{position-Some}
-use Rattle.std.proofs.lemmas.Bool.{or_right, false_from_ne_true}
-use Rattle.std.proofs.lemmas.Option.{cond_some}
-use Rattle.mm_lex.specs.Alphabet.{Name, name_eq, has_name}
+use Rattle.names.proofs.Words.{◌≡◌, ℕ, zero, suc, ◌+◌, ◌<◌, Bool, true, false, not, cond, ◌||◌, nat_lt, length, List, [], ◌∷◌, ◌++◌, map, Option, Some, None, get_or, refl, list_any, position_or_len, prefix_len, sym, ◌∙◌, ap, true≢false, arith, length-append, position-Some, or_right, false_from_ne_true, cond_some, Name, name_eq, has_name, name_at, code_of, AreDistinct, number_in, AreNamed}
 pub use Rattle.mm_lex.proofs.NameLemmas.{name_same, same_name}
-use Rattle.names.specs.Codes.{name_at, code_of, AreDistinct, number_in, AreNamed}
 
 pub list_any-map : {A B : Type 0} (f : A → B) (p : B → Bool) (xs : List A) → list_any (λ a. p (f a)) xs ≡ list_any p (map f xs)
 list_any-map f p [] = refl

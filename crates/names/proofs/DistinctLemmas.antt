@@ -1,10 +1,5 @@
 -- Names that stay distinct: one more appended, or truncated to the first ones.
-use Rattle.std.specs.Prelude.{◌≡◌, ℕ, zero, suc, ◌+◌, ◌<◌, ◌≤◌, Bool, true, false, cond, List, [], ◌∷◌, ◌++◌, length, take, drop, refl}
-use Rattle.std.proofs.Common.{sym, ◌∙◌, ap, arith, length-append, add-one}
-use Rattle.std.proofs.lemmas.List.{take-append-drop}
-use Rattle.std.proofs.lemmas.Bool.{or_parts, or_from}
-use Rattle.mm_lex.specs.Alphabet.{Name, name_eq, has_name}
-use Rattle.names.specs.Codes.{name_at, with_name, with_names, AreDistinct}
+use Rattle.names.proofs.Words.{◌≡◌, ℕ, zero, suc, ◌+◌, ◌<◌, ◌≤◌, Bool, true, false, cond, List, [], ◌∷◌, ◌++◌, length, take, drop, refl, sym, ◌∙◌, ap, arith, length-append, add-one, take-append-drop, or_parts, or_from, Name, name_eq, has_name, name_at, with_name, with_names, AreDistinct}
 use Rattle.names.proofs.CodesLemmas.{name_eq-comm}
 
 pub name_at-more : (names more : List Name) (n : ℕ) → n < length names → name_at (names ++ more) n ≡ name_at names n

@@ -1,17 +1,5 @@
 -- Each name has its key or is in the overflow, also when names come and go.
-use Rattle.std.specs.Prelude.{◌≡◌, ◌≢◌, ℕ, zero, suc, ◌+◌, ◌<◌, ◌≤◌, ◌⊎◌, List, [], ◌∷◌, ◌++◌, false, length, take, get_or, Some, Ok, Err, Result, OnOk, OnErr, refl}
-use Rattle.std.proofs.Common.{sym, ◌∙◌, ap, subst, arith, inl, inr, slice_set, length-append, true≢false}
-use Rattle.std.proofs.lemmas.Bool.{cases_lt, cases_eq}
-use Rattle.std.proofs.lemmas.List.{length-set, get_or-set_same, get_or-set_other}
-use Rattle.std.proofs.lemmas.Option.{same_Some}
-use Rattle.mm_lex.specs.Alphabet.{Name, has_name}
-use Rattle.names.specs.Codes.{name_at, AreDistinct}
-use Rattle.names.specs.Stored.Keys.{AreBytes, key_of}
-use Rattle.names.specs.Stored.Overflow.{number_of}
-use Rattle.names.specs.declared.keys.TheConstants.{APART}
-use Rattle.names.specs.declared.kept.Kept.{Kept}
-use Rattle.names.specs.declared.table.Slot.{Slot}
-use Rattle.names.specs.Stored.Table.{IsHeld, IsKept, AreKept, AreFewer, AreHeld, AreFound, IsTable}
+use Rattle.names.proofs.Words.{◌≡◌, ◌≢◌, ℕ, zero, suc, ◌+◌, ◌<◌, ◌≤◌, ◌⊎◌, List, [], ◌∷◌, ◌++◌, false, length, take, get_or, Some, Ok, Err, Result, OnOk, OnErr, refl, sym, ◌∙◌, ap, subst, arith, inl, inr, slice_set, length-append, true≢false, cases_lt, cases_eq, length-set, get_or-set_same, get_or-set_other, same_Some, Name, has_name, name_at, AreDistinct, AreBytes, key_of, number_of, APART, Kept, Slot, IsHeld, IsKept, AreKept, AreFewer, AreHeld, AreFound, IsTable}
 use Rattle.names.proofs.CodesLemmas.{code-at, has-at, name_at-last}
 use Rattle.names.proofs.DistinctLemmas.{name_at-more, name_at-take, length-take-below}
 

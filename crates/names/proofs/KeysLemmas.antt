@@ -1,9 +1,6 @@
 -- Below the hints a key is the key of one name alone.
-use Rattle.std.specs.Prelude.{◌≡◌, ℕ, zero, suc, ◌+◌, ◌-◌, ◌*◌, ◌/◌, ◌%◌, ◌<◌, ◌≤◌, ◌^◌, Bool, true, false, cond, List, [], ◌∷◌, length, nat_lt, refl}
-use Rattle.std.proofs.Common.{sym, ◌∙◌, ap, subst, arith}
-use Rattle.mm_lex.specs.Alphabet.{Name}
-use Rattle.names.specs.declared.keys.TheConstants.{LONG, HINTS}
-use Rattle.names.specs.Stored.Keys.{AreBytes, digits, ends, front_and_back, picked, eight, mixed, mixed_front, hint_of, key_of}
+use Rattle.names.proofs.Words.{◌≡◌, ℕ, zero, suc, ◌+◌, ◌-◌, ◌*◌, ◌/◌, ◌%◌, ◌<◌, ◌≤◌, ◌^◌, Bool, true, false, cond, List, [], ◌∷◌, length, nat_lt, refl, sym, ◌∙◌, ap, subst, arith, Name, LONG, HINTS, AreBytes, digits, ends, front_and_back, picked, eight, mixed, mixed_front, key_of}
+use Rattle.names.specs.Stored.Keys.{hint_of}
 
 -- the first digit and the others
 digit-same : (a b m n : ℕ) → a < 256 → b < 256 → a + 256 * m ≡ b + 256 * n → (a ≡ b) × (m ≡ n)

@@ -1,3 +1,4 @@
+pub mod Words
 pub mod OverflowLemmas
 pub mod KeptKeyLemmas
 pub mod AddedNames

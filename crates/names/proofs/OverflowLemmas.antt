@@ -1,23 +1,6 @@
 -- A name's number in the overflow stays when that of another is written or taken away.
-use Rattle.std.specs.Prelude.{◌≡◌, ◌≢◌, ◌<◌, ◌≤◌, Bool, true, false, List, ℕ, Option, length, nat_lt, if◌then◌else◌, refl}
-use Rattle.std.proofs.Common.{sym, ◌∙◌, ap, arith, ◌⊎◌, inl, inr}
-use Rattle.std.specs.declared.vec.Vec.{Vec}
-use Rattle.std.specs.declared.alloc.Global.{Global}
-use Rattle.std.specs.BTreeMap.{BTreeMap, UpdatesBy, get_by}
-use Rattle.std.specs.Map.{KeepsOthers, IsKeyTest, AreApart, lookup}
-use Rattle.std.specs.Cmp.{eq_by_cmp_equiv, Equal-is}
-use Rattle.std.specs.Cmp.Lexicographic.{slice_cmp, nat_list_cmp_total}
-use Rattle.std.specs.Ordering.{nat_cmp, is_eq}
-use Rattle.std.specs.Str.{bytes_eq}
-use Rattle.std.proofs.lemmas.Bool.{cases_lt}
-use Rattle.std.proofs.lemmas.Map.Lookups.{exact_unsigned}
-use Rattle.std.proofs.lemmas.Map.Text.{is_eq-slice_cmp}
-use Rattle.std.proofs.lemmas.Slice.Eq.{bytes_eq-Decides}
-use Rattle.mm_lex.specs.Alphabet.{Name}
-use Rattle.names.specs.Stored.Keys.{AreBytes, key_of}
-use Rattle.names.specs.Stored.Overflow.{number_of}
-use Rattle.names.specs.declared.keys.TheConstants.{LONG}
-use Rattle.names.specs.declared.overflow.Overflow.{Overflow}
+use Rattle.names.proofs.Words.{◌≡◌, ◌≢◌, ◌<◌, ◌≤◌, Bool, true, false, List, ℕ, Option, length, nat_lt, if◌then◌else◌, refl, sym, ◌∙◌, ap, arith, ◌⊎◌, inl, inr, Vec, Global, BTreeMap, UpdatesBy, get_by, IsKeyTest, AreApart, lookup, eq_by_cmp_equiv, Equal-is, slice_cmp, nat_list_cmp_total, nat_cmp, is_eq, bytes_eq, cases_lt, exact_unsigned, is_eq-slice_cmp, bytes_eq-Decides, Name, AreBytes, key_of, number_of, LONG, Overflow}
+use Rattle.std.specs.Map.{KeepsOthers}
 use Rattle.names.proofs.KeysLemmas.{key-same}
 
 -- an update keeps what is looked up by another key

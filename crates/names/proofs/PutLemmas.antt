@@ -1,16 +1,6 @@
 -- Names by number stay so when one is put last, and when that fails.
-use Rattle.std.specs.Prelude.{◌≡◌, ◌≢◌, ℕ, ◌+◌, ◌<◌, ◌≤◌, ◌^◌, List, [], ◌∷◌, ◌++◌, false, length, take, get_or, Some}
-use Rattle.std.proofs.Common.{sym, ◌∙◌, ap, subst, arith, slice_set, length-append}
+use Rattle.names.proofs.Words.{◌≡◌, ◌≢◌, ℕ, ◌+◌, ◌<◌, ◌≤◌, ◌^◌, List, [], ◌∷◌, ◌++◌, false, length, take, get_or, Some, sym, ◌∙◌, ap, subst, arith, slice_set, length-append, Name, has_name, name_at, AreDistinct, AreBytes, key_of, number_of, APART, Kept, Slot, NO_NAME, slot_of, IsFree, AreHeld, IsTable}
 use Rattle.names.proofs.CodesLemmas.{name_at-last}
-use Rattle.mm_lex.specs.Alphabet.{Name, has_name}
-use Rattle.names.specs.Codes.{name_at, AreDistinct}
-use Rattle.names.specs.Stored.Keys.{AreBytes, key_of}
-use Rattle.names.specs.Stored.Overflow.{number_of}
-use Rattle.names.specs.declared.keys.TheConstants.{APART}
-use Rattle.names.specs.declared.kept.Kept.{Kept}
-use Rattle.names.specs.declared.table.Slot.{Slot}
-use Rattle.names.specs.declared.table.TheConstants.{NO_NAME}
-use Rattle.names.specs.Stored.Table.{slot_of, IsFree, AreHeld, IsTable}
 use Rattle.names.proofs.DistinctLemmas.{distinct-push, distinct-take, length-take-below}
 use Rattle.names.proofs.TableLemmas.{put-held}
 use Rattle.names.proofs.KeptKeyLemmas.{table-same, held-same, held-more, held-take, kept-push, kept-push_apart, kept-take, held-passed}

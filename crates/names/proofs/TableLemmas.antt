@@ -1,19 +1,5 @@
 -- A table by keys: what is put there is found, and what is not found is not there.
-use Rattle.std.specs.Prelude.{◌≡◌, ◌≢◌, ℕ, zero, suc, ◌+◌, ◌<◌, ◌≤◌, ◌^◌, ◌⊎◌, List, [], ◌∷◌, ◌++◌, length, take, slice_get, Option, Some, None, IfSome, refl}
-use Rattle.std.proofs.Common.{sym, ◌∙◌, ap, subst, arith, inl, inr, slice_set}
-use Rattle.std.proofs.lemmas.Bool.{cases_lt}
-use Rattle.std.specs.Prelude.{unwrap_or, replicate}
-use Rattle.std.proofs.lemmas.List.{length-set, length-replicate, get_or-replicate}
-use Rattle.std.proofs.lemmas.Option.{slice_get_within, unwrap_or-slice_get, same_Some}
-use Rattle.mm_lex.specs.Alphabet.{Name}
-use Rattle.names.specs.Codes.{name_at, code_of}
-use Rattle.names.specs.declared.table.Slot.{Slot}
-use Rattle.names.specs.declared.table.TheConstants.{NO_NAME, REACH}
-use Rattle.names.specs.declared.kept.Kept.{Kept}
-use Rattle.names.specs.declared.overflow.Overflow.{Overflow}
-use Rattle.names.specs.Stored.Overflow.{number_of}
-use Rattle.names.specs.Stored.Keys.{key_of}
-use Rattle.names.specs.Stored.Table.{half_of, slot_of, place_of, slot_at, IsTaken, IsHeld, AreHeld, AreFound, AreUnused, IsFree, IsPassed}
+use Rattle.names.proofs.Words.{◌≡◌, ◌≢◌, ℕ, zero, suc, ◌+◌, ◌<◌, ◌≤◌, ◌^◌, ◌⊎◌, List, [], ◌∷◌, ◌++◌, length, take, slice_get, Option, Some, None, IfSome, refl, sym, ◌∙◌, ap, subst, arith, inl, inr, slice_set, cases_lt, unwrap_or, replicate, length-set, length-replicate, get_or-replicate, slice_get_within, unwrap_or-slice_get, same_Some, Name, name_at, code_of, Slot, NO_NAME, REACH, Kept, Overflow, number_of, key_of, half_of, slot_of, place_of, slot_at, IsTaken, IsHeld, AreHeld, AreFound, AreUnused, IsFree, IsPassed}
 use Rattle.names.proofs.CodesLemmas.{code-absent}
 
 same-slot : (slots : List Slot) (key step : ℕ) (s t : Slot) → slot_at slots key step s → slot_at slots key step t → s ≡ t

@@ -1,11 +1,5 @@
 -- Texts one after the other in one buffer.
-use Rattle.std.specs.Prelude.{◌≡◌, ℕ, zero, suc, ◌+◌, ◌-◌, ◌<◌, ◌≤◌, List, [], ◌∷◌, ◌++◌, length, take, drop, slice_get, slice_range, Some, refl}
-use Rattle.std.proofs.Common.{◌∙◌, ap, sym, subst, arith}
-use Rattle.std.proofs.lemmas.List.{length-drop, length-take-le, take-append-le, drop-append-le, take-append-drop, take_all}
-use Rattle.std.proofs.Math.Seq.{drop-append_seam}
-use Rattle.std.proofs.lemmas.Option.{same_Some}
-use Rattle.names.specs.Codes.{name_at}
-use Rattle.names.specs.Stored.Texts.{cut, start_of, AreLaid}
+use Rattle.names.proofs.Words.{◌≡◌, ℕ, zero, suc, ◌+◌, ◌-◌, ◌<◌, ◌≤◌, List, [], ◌∷◌, ◌++◌, length, take, drop, slice_get, slice_range, Some, refl, ◌∙◌, ap, sym, subst, arith, length-drop, length-take-le, take-append-le, drop-append-le, take-append-drop, take_all, drop-append_seam, same_Some, name_at, cut, start_of, AreLaid}
 
 pub cut-length : (xs : List ℕ) (from : ℕ) (ends : List ℕ) → length (cut xs from ends) ≡ length ends
 cut-length xs from [] = refl

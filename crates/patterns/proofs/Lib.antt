@@ -1,3 +1,4 @@
+pub mod Prelude
 pub mod WordsLemmas
 pub mod SegmentLemmas
 pub mod PatternLemmas

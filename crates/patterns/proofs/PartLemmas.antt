@@ -1,13 +1,5 @@
 -- Words as parts of a text, whatever the case of letters.
-use Rattle.std.proofs.Common.{◌≡◌, ℕ, ◌+◌, ◌-◌, ◌<◌, ◌≤◌, Bool, true, false, List, [], ◌∷◌, ◌++◌, length, take, drop, map, refl, ap, sym, ◌∙◌, subst, arith, append_assoc, length-append}
-use Rattle.std.specs.List.{AllByRecursion}
-use Rattle.std.specs.Str.{str_to_ascii_lowercase}
-use Rattle.std.specs.Char.{to_ascii_lowercase}
-use Rattle.std.proofs.Math.Seq.{drop-append_seam, take-append_seam}
-use Rattle.std.proofs.lemmas.List.{take-append-drop, length-map, length-take}
-use Rattle.mm_lex.specs.Alphabet.{Name}
-use Rattle.patterns.specs.Words.{words_behind}
-use Rattle.patterns.specs.Described.{HasPart, HasWords}
+use Rattle.patterns.proofs.Prelude.{◌≡◌, ℕ, ◌+◌, ◌-◌, ◌<◌, ◌≤◌, Bool, true, false, List, [], ◌∷◌, ◌++◌, length, take, drop, map, refl, ap, sym, ◌∙◌, subst, arith, append_assoc, length-append, AllByRecursion, str_to_ascii_lowercase, to_ascii_lowercase, drop-append_seam, take-append_seam, take-append-drop, length-map, length-take, Name, words_behind, HasPart, HasWords}
 
 -- the text begins with the word at a place
 abbrev pub IsAlikeAt : List ℕ → Name → ℕ → Type 0

@@ -1,14 +1,5 @@
 -- The parts stand for a contiguous part of an expression exactly if some tail of it begins with what they stand for.
-use Rattle.std.proofs.Common.{◌≡◌, ◌↔◌, ℕ, ◌+◌, ◌≤◌, IsTrue, Some, None, Bool, true, false, List, [], ◌∷◌, ◌++◌, length, take, drop, map, refl, ap, sym, ◌∙◌, subst, arith, append_assoc, length-append}
-use Rattle.std.proofs.Math.Seq.{drop-append_seam}
-use Rattle.std.proofs.lemmas.Bool.{and_parts, and_from, both_ways}
-use Rattle.std.proofs.lemmas.List.{take-append-drop, drop-map}
-use Rattle.mm_lex.specs.Alphabet.{Name, name_eq}
-use Rattle.mm_lex.proofs.NameLemmas.{name_same, same_name}
-use Rattle.patterns.specs.declared.part.Part.{Part}
-use Rattle.patterns.specs.declared.part.Part.TheVariants.{Symbol, One, Many}
-use Rattle.patterns.specs.Matches.{StandsFor, Matches}
-use Rattle.patterns.specs.Segments.{part_view, segment_len, begins_with, IsFirstPlace}
+use Rattle.patterns.proofs.Prelude.{◌≡◌, ◌↔◌, ℕ, ◌+◌, ◌≤◌, IsTrue, Some, None, Bool, true, false, List, [], ◌∷◌, ◌++◌, length, take, drop, map, refl, ap, sym, ◌∙◌, subst, arith, append_assoc, length-append, drop-append_seam, and_parts, and_from, both_ways, take-append-drop, drop-map, Name, name_eq, name_same, same_name, Part, Symbol, One, Many, StandsFor, Matches, part_view, segment_len, begins_with, IsFirstPlace}
 use Rattle.patterns.proofs.SegmentLemmas.{Begins, IsSomewhere, GoesOn, none_found, all_found, goes_past}
 
 -- symbols that the parts stand for, before others

@@ -1,12 +1,6 @@
 -- The definitions on small patterns and expressions.
-use Rattle.std.proofs.Common.{◌≡◌, List, [], ◌∷◌, ◌++◌, map, codes, refl, Some}
-use Rattle.std.specs.List.{find, list_any}
-use Rattle.std.specs.Prelude.{true, false}
-use Rattle.mm_lex.specs.Alphabet.{Name}
-use Rattle.patterns.specs.Words.{words_in}
-use Rattle.patterns.specs.Matches.{Part, symbol, one, many, part_of, StandsFor, Matches}
-use Rattle.patterns.specs.Parsing.{is_symbol_word, is_unknown}
-use Rattle.patterns.specs.Described.{HasPart, HasWords}
+use Rattle.patterns.proofs.Prelude.{◌≡◌, List, [], ◌∷◌, ◌++◌, map, codes, refl, Some, find, list_any, true, false, Name, words_in, symbol, one, many, part_of, StandsFor, Matches, is_symbol_word, is_unknown, HasPart, HasWords}
+use Rattle.patterns.specs.Matches.{Part}
 
 -- the words of a pattern, between any white bytes
 pattern_words : words_in (codes "  E. $? A.  $* -> ") ≡ codes "E." ∷ codes "$?" ∷ codes "A." ∷ codes "$*" ∷ codes "->" ∷ []

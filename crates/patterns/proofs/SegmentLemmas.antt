@@ -1,13 +1,5 @@
 -- Greedy matching: the first place of a segment leaves the most for the parts after the next `$*`.
-use Rattle.std.proofs.Common.{◌≡◌, ℕ, suc, ◌+◌, ◌-◌, ◌<◌, ◌≤◌, Bool, true, false, ◌&&◌, List, [], ◌∷◌, length, map, take, drop, get_or, ltb, refl, ap, sym, ◌∙◌, subst, arith, Some, None, Option}
-use Rattle.std.proofs.Math.ListN.{drop_of_length-le}
-use Rattle.std.proofs.Math.Seq.{drop-cons}
-use Rattle.std.proofs.lemmas.Bool.{and_parts, and_from, both_ways, ltb-true, ltb-false}
-use Rattle.std.proofs.lemmas.List.{drop-drop, drop-map, length-drop, length-map, length-take-le, get_or-map}
-use Rattle.mm_lex.specs.Alphabet.{Name}
-use Rattle.patterns.specs.declared.part.Part.{Part}
-use Rattle.patterns.specs.declared.part.Part.TheVariants.{Symbol, One, Many}
-use Rattle.patterns.specs.Segments.{is_many, segment_len, may_be, begins_with, IsFirstPlace}
+use Rattle.patterns.proofs.Prelude.{◌≡◌, ℕ, suc, ◌+◌, ◌-◌, ◌<◌, ◌≤◌, Bool, true, false, ◌&&◌, List, [], ◌∷◌, length, map, take, drop, get_or, ltb, refl, ap, sym, ◌∙◌, subst, arith, Some, None, Option, drop_of_length-le, drop-cons, and_parts, and_from, both_ways, ltb-true, ltb-false, drop-drop, drop-map, length-drop, length-map, length-take-le, get_or-map, Name, Part, Symbol, One, Many, is_many, segment_len, may_be, begins_with, IsFirstPlace}
 
 -- the symbols begin with what the parts stand for, `$*` for so many symbols
 abbrev pub Begins : List Part → List Name → Type 0

@@ -1,13 +1,6 @@
 -- The words of an argument, one after another.
-use Rattle.std.proofs.Common.{◌≡◌, ℕ, Bool, true, false, List, [], ◌∷◌, ◌++◌, Some, refl, map, ap, sym, ◌∙◌, append_assoc}
-use Rattle.std.proofs.lemmas.List.{append-nil, map-append}
-use Rattle.std.specs.List.{find, list_any}
-use Rattle.mm_lex.specs.Alphabet.{Name}
-use Rattle.patterns.specs.declared.part.Part.{Part}
+use Rattle.patterns.proofs.Prelude.{◌≡◌, ℕ, Bool, true, false, List, [], ◌∷◌, ◌++◌, Some, refl, map, ap, sym, ◌∙◌, append_assoc, append-nil, map-append, find, list_any, Name, Part, part_of, part_view, words_in, words_behind}
 use Rattle.patterns.specs.Matches as m
-use Rattle.patterns.specs.Matches.{part_of}
-use Rattle.patterns.specs.Segments.{part_view}
-use Rattle.patterns.specs.Words.{words_in, words_behind}
 
 module _ (p : Name → Bool) (ws : List Name) (w : Name) (rest : List Name) (e : ws ≡ w ∷ rest) where
   -- a word that passes is found, ..

@@ -1,11 +1,5 @@
 -- The beginning of a statement, as a loop goes on.
-use Rattle.std.proofs.Common.{◌≡◌, ℕ, ◌+◌, ◌-◌, ◌<◌, ◌≤◌, List, [], IsTrue, IsFalse, get_or, take, length, arith, ap, sym, ◌∙◌, below_more, length-take}
-use Rattle.std.proofs.lemmas.List.{get_or-map, get_or-take}
-use Rattle.mm_lex.specs.declared.span.Span.{Span}
-use Rattle.mm_lex.specs.Tokens.{words}
-use Rattle.mm_lex.specs.Alphabet.{Name, word}
-use Rattle.places.specs.Places.{ends}
-use Rattle.places.specs.CommentFaults.{BeginsStatement}
+use Rattle.places.proofs.Words.{◌≡◌, ℕ, ◌+◌, ◌-◌, ◌<◌, ◌≤◌, List, [], IsTrue, IsFalse, get_or, take, length, arith, ap, sym, ◌∙◌, below_more, length-take, get_or-map, get_or-take, Span, words, Name, word, ends, BeginsStatement}
 
 -- after a token that ends a statement the next statement begins
 pub statement_here : (tokens : List Name) (i : ℕ) → IsTrue (ends (get_or tokens i [])) → BeginsStatement tokens (i + 1) (i + 1)

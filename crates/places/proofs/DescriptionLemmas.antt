@@ -1,24 +1,5 @@
 -- The walk over the runs of a text finds the description of each statement.
-use Rattle.std.proofs.Common.{◌≡◌, ℕ, suc, ◌<◌, ◌≤◌, Bool, true, false, not, ◌&&◌, ◌||◌, cond, List, [], ◌∷◌, ◌++◌, length, drop, flat_map, Option, Some, None, codes, refl, sym, ◌∙◌, ap, arith, append_assoc, length-append}
-use Rattle.std.specs.List.{list_all}
-use Rattle.std.proofs.lemmas.Bool.{and_parts, and_from, both_ways}
-use Rattle.std.proofs.lemmas.List.{append-nil, map-append, length-map, length-drop}
-use Rattle.std.proofs.lemmas.List.Folds.{list_all-append}
-use Rattle.mm_lex.specs.declared.span.Span.{Span}
-use Rattle.mm_lex.specs.Alphabet.{Name, name_eq, runs, word, is_symbol, is_label}
-use Rattle.mm_lex.specs.Tokens.{opener, closer, is_plain, AllPlain, Part, part_spans, IsPart, AreParts, Cuts, words}
-use Rattle.mm_lex.specs.Comments.{runs_behind}
-use Rattle.mm_lex.proofs.NameLemmas.{name_same}
-use Rattle.mm_read.specs.declared.stmt.Stmt.{Stmt}
-use Rattle.mm_read.specs.declared.stmt.Stmt.TheVariants.{Open, Close, Const, Var, Disj, Float, Ess, Axiom, Prove}
-use Rattle.mm_read.specs.Statements.{Database, is_shaped, AreShaped, are_symbols, has_two, stmt_tokens, spelled}
-use Rattle.mm_read.specs.Reads.{Reads}
-use Rattle.mm_read.proofs.StatementsLemmas.{symbols_of}
-use Rattle.places.specs.declared.description.Walk.{Walk}
-use Rattle.places.specs.declared.description.Walk.TheVariants.{Inside, Outside}
-use Rattle.places.specs.Places.{ends}
-use Rattle.places.specs.Descriptions.{contents, comments_before, comments_in, comments_of, first_of, at_statements, AreDescriptions}
-use Rattle.places.specs.Walk.{at_start, after_run, begun, walk_over}
+use Rattle.places.proofs.Words.{◌≡◌, ℕ, suc, ◌<◌, ◌≤◌, Bool, true, false, not, ◌&&◌, ◌||◌, cond, List, [], ◌∷◌, ◌++◌, length, drop, flat_map, Option, Some, None, codes, refl, sym, ◌∙◌, ap, arith, append_assoc, length-append, list_all, and_parts, and_from, both_ways, append-nil, map-append, length-map, length-drop, list_all-append, Span, Name, name_eq, runs, word, is_symbol, is_label, opener, closer, is_plain, AllPlain, Part, part_spans, IsPart, AreParts, Cuts, words, runs_behind, name_same, Stmt, Open, Close, Const, Var, Disj, Float, Ess, Axiom, Prove, Database, is_shaped, AreShaped, are_symbols, has_two, stmt_tokens, spelled, Reads, symbols_of, Walk, Inside, Outside, ends, contents, comments_before, comments_in, comments_of, first_of, at_statements, AreDescriptions, at_start, after_run, begun, walk_over}
 use Rattle.places.proofs.TokenPlaceLemmas.{symbol_goes_on, label_goes_on}
 
 -- ---- the loop

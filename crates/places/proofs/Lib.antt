@@ -1,3 +1,4 @@
+pub mod Words
 pub mod BeginLemmas
 pub mod TokenPlaceLemmas
 pub mod DescriptionLemmas

@@ -1,7 +1,5 @@
 -- Descriptions on a small text.
-use Rattle.std.proofs.Common.{[], ◌∷◌, Some, None, codes, refl}
-use Rattle.mm_read.specs.declared.stmt.Stmt.TheVariants.{Const, Open, Close}
-use Rattle.places.specs.Descriptions.{AreDescriptions}
+use Rattle.places.proofs.Words.{[], ◌∷◌, Some, None, codes, refl, Const, Open, Close, AreDescriptions}
 
 -- `$( a $) $( b c $) $c x $( d $) $. ${ $( e $) $}`: the last comment before the first token, and none within a statement
 last_comment : AreDescriptions (codes "$( a $) $( b c $) $c x $( d $) $. ${ $( e $) $}") (Const (codes "x" ∷ []) ∷ Open ∷ Close ∷ [])

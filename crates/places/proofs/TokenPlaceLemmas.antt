@@ -1,20 +1,5 @@
 -- The tokens that end statements, and the place of a token of a statement.
-use Rattle.std.proofs.Common.{◌≡◌, ℕ, zero, suc, ◌+◌, ◌-◌, ◌<◌, ◌≤◌, true, false, ◌&&◌, cond, List, [], ◌∷◌, ◌++◌, length, take, drop, get_or, refl, sym, ◌∙◌, ap, arith, append_assoc, length-append, Some, slice_get, codes, zero-add, IsSomeAnd, Option, None}
-use Rattle.std.proofs.lemmas.Option.{slice_get_within, slice_get-get_or}
-use Rattle.std.proofs.lemmas.List.{length-map}
-use Rattle.std.proofs.Math.Seq.{drop-cons}
-use Rattle.std.specs.List.{list_all}
-use Rattle.std.proofs.lemmas.Bool.{and_parts}
-use Rattle.mm_lex.specs.declared.span.Span.{Span}
-use Rattle.mm_lex.specs.Alphabet.{Name, name_eq, is_symbol, is_label, has_byte, word}
-use Rattle.mm_lex.specs.Tokens.{AreTokens, words}
-use Rattle.mm_read.specs.declared.stmt.Stmt.{Stmt}
-use Rattle.mm_read.specs.declared.stmt.Stmt.TheVariants.{Open, Close, Const, Var, Disj, Float, Ess, Axiom, Prove}
-use Rattle.mm_read.specs.Statements.{Database, is_shaped, AreShaped, are_symbols, has_two, stmt_tokens, spelled}
-use Rattle.mm_read.specs.Reads.{Reads}
-use Rattle.mm_lex.proofs.TokensLemmas.{AreTokens-unique}
-use Rattle.mm_read.proofs.StatementsLemmas.{symbol_plain, label_plain, symbols_of, plain_is_no_key}
-use Rattle.places.specs.Places.{HasToken, index_of, IsPlaceOf, ends, behind_ends}
+use Rattle.places.proofs.Words.{◌≡◌, ℕ, zero, suc, ◌+◌, ◌-◌, ◌<◌, ◌≤◌, true, false, ◌&&◌, cond, List, [], ◌∷◌, ◌++◌, length, take, drop, get_or, refl, sym, ◌∙◌, ap, arith, append_assoc, length-append, Some, slice_get, codes, zero-add, IsSomeAnd, Option, None, slice_get_within, slice_get-get_or, length-map, drop-cons, list_all, and_parts, Span, Name, name_eq, is_symbol, is_label, has_byte, word, AreTokens, words, Stmt, Open, Close, Const, Var, Disj, Float, Ess, Axiom, Prove, Database, is_shaped, AreShaped, are_symbols, has_two, stmt_tokens, spelled, Reads, AreTokens-unique, symbol_plain, label_plain, symbols_of, plain_is_no_key, HasToken, index_of, IsPlaceOf, ends, behind_ends}
 
 -- ---- one end of a statement
 

@@ -1,15 +1,6 @@
 -- A walk that waits for a `$` passes runs that begin with another byte.
-use Rattle.std.specs.Prelude.{◌≡◌, ℕ, zero, suc, ◌+◌, ◌-◌, ◌<◌, ◌≤◌, Bool, true, false, cond, List, [], ◌∷◌, ◌++◌, length, take, drop, Some, None, refl}
-use Rattle.std.proofs.Common.{◌∙◌, ap, arith, eqb, get_or, sym}
-use Rattle.std.proofs.lemmas.List.{drop-drop, get_or-drop, get_or-take, length-drop, length-take, take-append-drop}
-use Rattle.mm_lex.specs.declared.span.Span.{Span}
-use Rattle.mm_lex.specs.Alphabet.{Name, is_white, name_eq, runs_from, starts_white, with_byte, word}
-use Rattle.mm_lex.specs.Comments.{runs_behind}
-use Rattle.mm_lex.specs.Tokens.{closer, opener}
-use Rattle.places.specs.declared.description.Walk.{Walk}
-use Rattle.places.specs.declared.description.Walk.TheVariants.{Inside, Outside}
-use Rattle.places.specs.Places.{ends}
-use Rattle.places.specs.Walk.{IsWaiting, PassesDull, walk_over}
+use Rattle.places.proofs.Words.{◌≡◌, ℕ, zero, suc, ◌+◌, ◌-◌, ◌<◌, ◌≤◌, Bool, true, false, cond, List, [], ◌∷◌, ◌++◌, length, take, drop, Some, None, refl, ◌∙◌, ap, arith, eqb, get_or, sym, drop-drop, get_or-drop, get_or-take, length-drop, take-append-drop, Span, Name, is_white, name_eq, runs_from, starts_white, with_byte, word, runs_behind, closer, opener, Walk, Inside, Outside, ends, IsWaiting, PassesDull, walk_over}
+use Rattle.std.proofs.lemmas.List.{length-take}
 
 -- ---- words that do not begin with `$`
 

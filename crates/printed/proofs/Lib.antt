@@ -1,3 +1,4 @@
+pub mod Words
 mod TreesLemmas
 mod PrintedNumbers
 mod Rows

@@ -1,11 +1,5 @@
 -- A printed number is a word.
-use Rattle.std.specs.Prelude.{◌≡◌, ℕ, ◌+◌, ◌<◌, ◌^◌, ◌%◌, true, [], ◌∷◌, ◌++◌, decimal, refl}
-use Rattle.std.proofs.Common.{◌∙◌, arith, leb}
-use Rattle.std.proofs.lemmas.Bool.{le-leb}
-use Rattle.std.proofs.lemmas.Fmt.{decimal_by_steps}
-use Rattle.std.proofs.lemmas.List.Folds.{list_all-append}
-use Rattle.mm_lex.specs.Alphabet.{Name, is_visible}
-use Rattle.mm_lex.specs.Words.{is_word}
+use Rattle.printed.proofs.Words.{◌≡◌, ℕ, ◌+◌, ◌<◌, ◌^◌, ◌%◌, true, [], ◌∷◌, ◌++◌, decimal, refl, ◌∙◌, arith, leb, le-leb, decimal_by_steps, list_all-append, Name, is_visible, is_word}
 
 -- a decimal digit is a visible byte
 digit_visible : (d : ℕ) → d < 10 → is_visible (48 + d) ≡ true

@@ -1,10 +1,5 @@
 -- The outline's lines on small statements.
-use Rattle.std.specs.Prelude.{◌≡◌, Some, None, [], ◌∷◌, codes, decimal, refl}
-use Rattle.std.proofs.Common.{arith}
-use Rattle.std.proofs.lemmas.Fmt.{decimal_digit}
-use Rattle.mm_read.specs.declared.stmt.Stmt.TheVariants.{Open, Prove}
-use Rattle.scope.specs.declared.rule.Rule.TheVariants.{G10}
-use Rattle.printed.specs.Outline.{outline_line, rules_line, numbered_line}
+use Rattle.printed.proofs.Words.{◌≡◌, Some, None, [], ◌∷◌, codes, decimal, refl, arith, decimal_digit, Open, Prove, G10, outline_line, rules_line, numbered_line}
 
 -- the digits of 1
 one : decimal 1 ≡ codes "1"

@@ -1,14 +1,6 @@
 -- The lines of a derivation: those of its first node, then those of the children.
-use Rattle.std.specs.Prelude.{◌≡◌, ℕ, ◌+◌, List, [], ◌++◌, map, Vec}
-use Rattle.std.specs.declared.alloc.Global.{Global}
-use Rattle.std.proofs.Common.{sym, ◌∙◌, ap, append_assoc}
+use Rattle.printed.proofs.Words.{◌≡◌, ℕ, ◌+◌, List, [], ◌++◌, map, Vec, Global, sym, ◌∙◌, ap, append_assoc, Database, Tree, Apply, derivation_of, from_list, derivation-apply, node_line, tree_lines, trees_lines}
 use Rattle.std.proofs.lemmas.List.{append-nil}
-use Rattle.mm_read.specs.Statements.{Database}
-use Rattle.verify.specs.declared.tree.Tree.{Tree}
-use Rattle.verify.specs.declared.tree.Tree.TheVariants.{Apply}
-use Rattle.verify.specs.Derivations.{derivation_of, from_list}
-use Rattle.verify.proofs.TreeLemmas.{derivation-apply}
-use Rattle.printed.specs.Trees.{node_line, tree_lines, trees_lines}
 
 -- a text with the line of a node, then with the lines of its children until none is left
 pub tree_lines_whole : (S : Database) (depth below at : ℕ) (kids : Vec Tree Global) (tree : Tree) (all left : List Tree) (old node new : List ℕ)

@@ -1,7 +1,5 @@
 -- Tokens that write items have no `?`; and the numbers of a normal proof.
-use Rattle.proof_code.proofs.Words.{◌≡◌, ℕ, ◌+◌, ◌-◌, ◌*◌, Bool, true, false, ◌==◌, List, [], ◌∷◌, ◌++◌, length, None, map, refl, list_all, list_any, range_with_len, sym, ◌∙◌, ap, arith, true≢false, inl, inr, length-map, get_or-map, list_any-append, fill_by_all, none-some, and_parts, or_cases, eqb-true, false_from_ne_true}
-use Rattle.proof_code.proofs.Words.{Name, has_byte, is_label, is_label_byte, spaced, Item, Cite, Mark, item_of, items_of, with_number, numbers_from, finish, question_mark, is_unfinished, WritesRow, WritesCompressed}
-use Rattle.std.proofs.lemmas.Simd.{map-map}
+use Rattle.proof_code.proofs.Words.{◌≡◌, ℕ, ◌+◌, ◌-◌, ◌*◌, Bool, true, false, ◌==◌, List, [], ◌∷◌, ◌++◌, length, None, map, refl, list_all, list_any, range_with_len, sym, ◌∙◌, ap, arith, true≢false, inl, inr, length-map, get_or-map, list_any-append, fill_by_all, none-some, and_parts, or_cases, eqb-true, false_from_ne_true, Name, has_byte, is_label, is_label_byte, spaced, Item, Cite, Mark, item_of, items_of, with_number, numbers_from, finish, question_mark, is_unfinished, WritesRow, WritesCompressed, map-map}
 use Rattle.proof_code.proofs.RowOfNumbers.{joined, by_letter, item-cite}
 use Rattle.proof_code.proofs.LetterItemLemmas.{RowIsRead, read-WritesRow}
 use Rattle.proof_code.proofs.TextLemmas.{list_any-spaced, list_any-joined}

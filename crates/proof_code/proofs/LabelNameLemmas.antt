@@ -1,12 +1,6 @@
 -- The names of labels, put into a set one by one.
-use Rattle.proof_code.proofs.Words.{◌≡◌, true, List, [], ◌∷◌, ◌++◌, bytes_eq, cond, sym, ◌∙◌, ap, append_assoc, list_any-append, same_from_decides, Decides-like, bytes_eq-Decides, Name, name_eq, has_name}
-use Rattle.std.specs.BTreeSet.{BTreeSet, contains}
-use Rattle.std.specs.Ordering.{nat_cmp, is_eq}
-use Rattle.std.specs.Cmp.Lexicographic.{slice_cmp}
+use Rattle.proof_code.proofs.Words.{◌≡◌, true, List, [], ◌∷◌, ◌++◌, bytes_eq, cond, sym, ◌∙◌, ap, append_assoc, list_any-append, same_from_decides, Decides-like, bytes_eq-Decides, Name, name_eq, has_name, BTreeSet, contains, nat_cmp, is_eq, slice_cmp, is_eq-slice_cmp, tried_first, AreNames}
 use Rattle.std.specs.Borrow.{Bor}
-use Rattle.std.proofs.lemmas.Map.Text.{is_eq-slice_cmp}
-use Rattle.mm_lex.proofs.NameLemmas.{tried_first}
-use Rattle.proof_code.specs.LabelNames.{AreNames}
 
 -- the set has the names of the labels before those that are left
 pub record NamesTo (labels left : List Name) (names : BTreeSet (Bor Name)) : Type 0 where

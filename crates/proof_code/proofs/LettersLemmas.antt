@@ -1,7 +1,5 @@
 -- A word's place in the order of all words is what the formula gives.
-use Rattle.proof_code.proofs.Words.{◌≡◌, ℕ, zero, suc, ◌+◌, ◌-◌, ◌*◌, ◌<◌, ◌≤◌, true, false, List, [], ◌∷◌, ◌++◌, map, flat_map, length, Option, Some, slice_get, get_or, refl, range_with_len, Contains, option_map, sym, ◌∙◌, ap, subst, arith, inl, inr, slice_get-map, slice_get-get_or, none-some, same_Some, cases_Bool, nat_tests, and-false, map-append, length-map, get_or-map, get_or-range_with_len, get_or-map-range_with_len}
-use Rattle.proof_code.proofs.Words.{Name, first_letters, words_of_size, words_below, IsNumber, is_last, is_first, number_from, number_of}
-use Rattle.std.proofs.lemmas.List.Elements.{Contains-append_left, Contains-append_right}
+use Rattle.proof_code.proofs.Words.{◌≡◌, ℕ, zero, suc, ◌+◌, ◌-◌, ◌*◌, ◌<◌, ◌≤◌, true, false, List, [], ◌∷◌, ◌++◌, map, flat_map, length, Option, Some, slice_get, get_or, refl, range_with_len, Contains, option_map, sym, ◌∙◌, ap, subst, arith, inl, inr, slice_get-map, slice_get-get_or, none-some, same_Some, cases_Bool, nat_tests, and-false, map-append, length-map, get_or-map, get_or-range_with_len, get_or-map-range_with_len, Name, first_letters, words_of_size, words_below, IsNumber, is_last, is_first, number_from, number_of, Contains-append_left, Contains-append_right}
 
 -- how many words have n letters before the last, and how many have fewer
 abbrev count_of_size : ℕ → ℕ

@@ -1,12 +1,5 @@
 -- The bytes of labels and the spaces among sixteen bytes, by the lanes of a vector.
-use Rattle.proof_code.proofs.Words.{◌≡◌, ℕ, zero, suc, ◌+◌, ◌-◌, ◌*◌, ◌<◌, ◌≤◌, true, false, cond, ◌==◌, List, [], ◌∷◌, length, take, refl, sym, ◌∙◌, ap, arith, map, get_or, slice_index_or, range_with_len, get_or-map-range_with_len, cases_Bool, inl, inr, is_listed, are_listed, count_by}
-use Rattle.std.specs.Prelude.{not}
-use Rattle.std.proofs.Common.{ltb, eqb, replicate, w8, Fits, ◌%◌, ◌^◌, bit_and, bit_or}
-use Rattle.std.specs.Simd.Lanes.{zip2, mask_l, top}
-use Rattle.std.specs.Int.RustNames.{count_ones}
-use Rattle.std.proofs.lemmas.Simd.{bitmask_splat, mask_l-mod, ones-mask_l}
-use Rattle.std.proofs.lemmas.List.{length-map, length-take-le}
-use Rattle.std.proofs.lemmas.List.Sums.{count_by-le-length}
+use Rattle.proof_code.proofs.Words.{◌≡◌, ℕ, zero, suc, ◌+◌, ◌-◌, ◌*◌, ◌<◌, ◌≤◌, true, false, cond, ◌==◌, List, [], ◌∷◌, length, take, refl, sym, ◌∙◌, ap, arith, map, get_or, slice_index_or, range_with_len, get_or-map-range_with_len, cases_Bool, inl, inr, is_listed, are_listed, count_by, not, ltb, eqb, replicate, w8, Fits, ◌%◌, ◌^◌, bit_and, bit_or, zip2, mask_l, top, count_ones, bitmask_splat, mask_l-mod, ones-mask_l, length-map, length-take-le, count_by-le-length}
 
 -- ---- one lane
 

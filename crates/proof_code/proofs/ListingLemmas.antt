@@ -1,7 +1,5 @@
 -- The labels counted are those that the header lists, whether byte by byte or sixteen bytes at a time.
-use Rattle.proof_code.proofs.Words.{◌≡◌, ℕ, zero, suc, ◌+◌, ◌-◌, ◌<◌, ◌≤◌, Bool, true, false, cond, ◌==◌, List, [], ◌∷◌, ◌++◌, length, drop, slice_index_or, Option, Some, None, refl, list_all, option_map, sym, ◌∙◌, ap, arith, true≢false, inl, inr, append-nil, drop_more, same_Some, bytes_eq-Decides, and_parts, cases_Bool, eqb-true, false_from_ne_true, and-false, Name, name_eq, is_visible, is_label, is_label_byte, spaced, is_word, class_of, is_listed, are_listed, count_by, take, take-append-drop, drop-drop, get_or-drop, letters_from, more_labels, behind_none, counted, Header, with_label, header_of, finish, get_or}
-use Rattle.std.proofs.lemmas.List.{length-drop}
-use Rattle.std.proofs.lemmas.List.Recursion.{is_count_by}
+use Rattle.proof_code.proofs.Words.{◌≡◌, ℕ, zero, suc, ◌+◌, ◌-◌, ◌<◌, ◌≤◌, Bool, true, false, cond, ◌==◌, List, [], ◌∷◌, ◌++◌, length, drop, slice_index_or, Option, Some, None, refl, list_all, option_map, sym, ◌∙◌, ap, arith, true≢false, inl, inr, append-nil, drop_more, same_Some, bytes_eq-Decides, and_parts, cases_Bool, eqb-true, false_from_ne_true, and-false, Name, name_eq, is_visible, is_label, is_label_byte, spaced, is_word, class_of, is_listed, are_listed, count_by, take, take-append-drop, drop-drop, get_or-drop, letters_from, more_labels, behind_none, counted, Header, with_label, header_of, finish, get_or, length-drop, is_count_by}
 use Rattle.proof_code.proofs.TextLemmas.{not_space}
 
 -- ---- the classes of bytes

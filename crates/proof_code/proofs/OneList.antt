@@ -1,6 +1,5 @@
 -- Tokens write one list of items at most, and there is one answer to them.
-use Rattle.proof_code.proofs.Words.{◌≡◌, ℕ, ◌⊎◌, Bool, true, false, List, [], ◌∷◌, ◌++◌, map, length, Option, Some, None, refl, list_all, sym, ◌∙◌, ap, true≢false, inl, inr, none-some, same_Some, bytes_eq-Decides, both_ways, cases_Bool, Name, is_label, Item, Cite, items_of, share_label, Header, header_of, numbers_from, starts_with_mark, begin, is_unfinished, is_compressed, WritesRow, WritesCompressed, WritesNormal, Writes, IsMalformed, WritesPacked}
-use Rattle.proof_code.specs.Laws.{OneAnswer}
+use Rattle.proof_code.proofs.Words.{◌≡◌, ℕ, ◌⊎◌, Bool, true, false, List, [], ◌∷◌, ◌++◌, map, length, Option, Some, None, refl, list_all, sym, ◌∙◌, ap, true≢false, inl, inr, none-some, same_Some, bytes_eq-Decides, both_ways, cases_Bool, Name, is_label, Item, Cite, items_of, share_label, Header, header_of, numbers_from, starts_with_mark, begin, is_unfinished, is_compressed, WritesRow, WritesCompressed, WritesNormal, Writes, IsMalformed, WritesPacked, OneAnswer}
 use Rattle.proof_code.proofs.LetterItemLemmas.{RowIsRead, WritesRow-read, read-WritesRow}
 use Rattle.proof_code.proofs.RowOfNumbers.{joined}
 use Rattle.proof_code.proofs.WritesLemmas.{without_header, row_behind, written_behind}

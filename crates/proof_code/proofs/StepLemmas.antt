@@ -1,8 +1,5 @@
 -- The table of the letters, and what a letter makes by it of the digits before it.
-use Rattle.proof_code.proofs.Words.{◌≡◌, ℕ, zero, suc, ◌+◌, ◌-◌, ◌*◌, ◌<◌, ◌≤◌, cond, ◌==◌, nat_le, List, [], ◌∷◌, refl, sym, ◌∙◌, ap, arith, map, get_or, range_with_len, get_or-map-range_with_len, cond_both, nat_tests, IsLetter}
-use Rattle.std.proofs.Common.{◌%◌, ◌^◌, bit_and}
-use Rattle.std.proofs.lemmas.Nat.{and_le_r, and_mask}
-use Rattle.proof_code.specs.declared.letter_numbers.TheConstants.{STEPS}
+use Rattle.proof_code.proofs.Words.{◌≡◌, ℕ, zero, suc, ◌+◌, ◌-◌, ◌*◌, ◌<◌, ◌≤◌, cond, ◌==◌, nat_le, List, [], ◌∷◌, refl, sym, ◌∙◌, ap, arith, map, get_or, range_with_len, get_or-map-range_with_len, cond_both, nat_tests, IsLetter, ◌%◌, ◌^◌, bit_and, and_le_r, and_mask, STEPS}
 
 -- the four numbers of a letter, where `A` is 0
 abbrev step : ℕ → List ℕ

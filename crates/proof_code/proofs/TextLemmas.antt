@@ -1,6 +1,5 @@
 -- The text of some words: its letters, its length, and a byte in it.
-use Rattle.proof_code.proofs.Words.{◌≡◌, ℕ, ◌+◌, ◌*◌, ◌≤◌, true, false, ◌||◌, ◌==◌, List, [], ◌∷◌, ◌++◌, flat_map, length, refl, list_all, list_any, sym, ◌∙◌, ap, arith, true≢false, length-append, append-nil, list_any-append, and_parts, eqb-true, false_from_ne_true, or-false, Name, is_visible, has_byte, spaced, is_word, letters_of}
-use Rattle.mm_lex.proofs.WordsLemmas.{word-visible}
+use Rattle.proof_code.proofs.Words.{◌≡◌, ℕ, ◌+◌, ◌*◌, ◌≤◌, true, false, ◌||◌, ◌==◌, List, [], ◌∷◌, ◌++◌, flat_map, length, refl, list_all, list_any, sym, ◌∙◌, ap, arith, true≢false, length-append, append-nil, list_any-append, and_parts, eqb-true, false_from_ne_true, or-false, Name, is_visible, has_byte, spaced, is_word, letters_of, word-visible}
 
 -- a byte that one can see is no space
 pub not_space : (b : ℕ) → is_visible b ≡ true → (b == 32) ≡ false

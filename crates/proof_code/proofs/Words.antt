@@ -1,7 +1,11 @@
 -- The words in which this crate is proved, and the lemmas of std and of the layers below, passed on from one place.
+pub use Rattle.mm_lex.proofs.NameLemmas.{tried_first}
+pub use Rattle.mm_lex.proofs.WordsLemmas.{word-visible}
 pub use Rattle.mm_lex.specs.Alphabet.{Name, has_byte, has_name, is_empty, is_label, is_label_byte, is_visible, name_eq}
 pub use Rattle.mm_lex.specs.Words.{AreWords, is_word, spaced, words_of}
 pub use Rattle.proof_code.specs.ItemNumbers.{item_of, items_of}
+pub use Rattle.proof_code.specs.LabelNames.{AreNames}
+pub use Rattle.proof_code.specs.Laws.{OneAnswer}
 pub use Rattle.proof_code.specs.Letters.{IsNumber, first_letters, is_first, is_last, number_from, number_of, words_below, words_of_size}
 pub use Rattle.proof_code.specs.Listing.{are_listed, behind_none, class_of, counted, is_listed, letters_from, more_labels}
 pub use Rattle.proof_code.specs.Reading.{Goes, IsHeading, IsLetter, before_rest, share_label}
@@ -9,15 +13,28 @@ pub use Rattle.proof_code.specs.Text.{Header, header_of, letters_of, numbers_fro
 pub use Rattle.proof_code.specs.Writes.{AreItems, IsMalformed, Writes, WritesCompressed, WritesNormal, WritesPacked, WritesPlain, WritesRow, begin, finish, is_compressed, is_unfinished, mark, question_mark, starts_with_result}
 pub use Rattle.proof_code.specs.declared.item.Item.{Item}
 pub use Rattle.proof_code.specs.declared.item.Item.TheVariants.{Cite, Mark, Recall}
-pub use Rattle.std.proofs.Common.{List, ap, append_assoc, arith, cond, drop, false, inl, inr, length, length-append, map, refl, subst, suc, sym, take, true, true≢false, ℕ, ◌++◌, ◌+◌, ◌-◌, ◌<◌, ◌∙◌, ◌∷◌, ◌≡◌, ◌≤◌}
+pub use Rattle.proof_code.specs.declared.letter_numbers.TheConstants.{STEPS}
+pub use Rattle.std.proofs.Common.{Bor, Fits, List, ap, append_assoc, arith, bit_and, bit_or, cond, drop, eqb, false, inl, inr, length, length-append, ltb, map, refl, replicate, subst, suc, sym, take, true, true≢false, w8, ℕ, ◌%◌, ◌++◌, ◌+◌, ◌-◌, ◌<◌, ◌^◌, ◌∙◌, ◌∷◌, ◌≡◌, ◌≤◌}
 pub use Rattle.std.proofs.Math.Bool.{and-false, or-false}
+pub use Rattle.std.proofs.Math.Seq.{take-append_seam}
 pub use Rattle.std.proofs.lemmas.Bool.{and_from, and_parts, both_ways, cases_Bool, cond_both, eqb-true, false_from_ne_true, le-ltb, leb-true, lt-ltb, ltb-false, ltb-true, or_cases}
 pub use Rattle.std.proofs.lemmas.Bool.Decides.{Decides-like, nat_tests, same_from_decides}
-pub use Rattle.std.proofs.lemmas.List.{append-nil, drop-drop, drop_more, get_or-drop, get_or-map, length-map, map-append, take-append-drop}
+pub use Rattle.std.proofs.lemmas.List.{append-nil, drop-drop, drop_more, get_or-drop, get_or-map, length-drop, length-map, length-take-le, map-append, take-append-drop, take_rest, with_items_is}
+pub use Rattle.std.proofs.lemmas.List.Elements.{Contains-append_left, Contains-append_right}
 pub use Rattle.std.proofs.lemmas.List.Folds.{list_all-append, list_any-append}
 pub use Rattle.std.proofs.lemmas.List.FromFn.{fill_by_all, get_or-map-range_with_len, get_or-range_with_len, map-range_with_len_more}
+pub use Rattle.std.proofs.lemmas.List.Recursion.{is_count_by}
+pub use Rattle.std.proofs.lemmas.List.Sums.{count_by-le-length}
+pub use Rattle.std.proofs.lemmas.Map.Text.{is_eq-slice_cmp}
+pub use Rattle.std.proofs.lemmas.Nat.{and_le_r, and_mask}
 pub use Rattle.std.proofs.lemmas.Option.{get_or_from_slice_get, none-some, same_Some, slice_get-get_or, slice_get-map, slice_get_within}
+pub use Rattle.std.proofs.lemmas.Simd.{bitmask_splat, map-map, mask_l-mod, ones-mask_l}
 pub use Rattle.std.proofs.lemmas.Slice.Eq.{bytes_eq-Decides}
+pub use Rattle.std.specs.BTreeSet.{BTreeSet, contains}
+pub use Rattle.std.specs.Cmp.Lexicographic.{slice_cmp}
+pub use Rattle.std.specs.Int.RustNames.{count_ones}
 pub use Rattle.std.specs.List.{Contains, count_by, list_all, list_any, range_with_len}
 pub use Rattle.std.specs.Option.{option_map}
-pub use Rattle.std.specs.Prelude.{Bool, MatchOption, None, Option, Some, [], bytes_eq, codes, flat_map, get_or, nat_le, nat_lt, slice_get, slice_index_or, zero, ◌&&◌, ◌*◌, ◌==◌, ◌||◌, ◌⊎◌}
+pub use Rattle.std.specs.Ordering.{is_eq, nat_cmp}
+pub use Rattle.std.specs.Prelude.{Bool, MatchOption, None, Option, Some, [], bytes_eq, codes, flat_map, get_or, nat_le, nat_lt, not, slice_get, slice_index_or, zero, ◌&&◌, ◌*◌, ◌==◌, ◌||◌, ◌⊎◌}
+pub use Rattle.std.specs.Simd.Lanes.{mask_l, top, zip2}

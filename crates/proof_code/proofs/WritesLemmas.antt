@@ -1,6 +1,5 @@
 -- Reading from left to right gives the items that the tokens write.
-use Rattle.proof_code.proofs.Words.{◌≡◌, ℕ, true, false, List, [], ◌∷◌, ◌++◌, Option, Some, None, MatchOption, refl, list_all, option_map, sym, ◌∙◌, ap, true≢false, inl, inr, none-some, same_Some, bytes_eq-Decides, and_from, and_parts, cases_Bool, false_from_ne_true, Name, name_eq, is_label, spaced, is_word, Item, share_label, Header, with_label, header_of, starts_with_mark, begin, finish, is_compressed, WritesRow, WritesCompressed}
-use Rattle.std.proofs.Common.{Bor}
+use Rattle.proof_code.proofs.Words.{◌≡◌, ℕ, true, false, List, [], ◌∷◌, ◌++◌, Option, Some, None, MatchOption, refl, list_all, option_map, sym, ◌∙◌, ap, true≢false, inl, inr, none-some, same_Some, bytes_eq-Decides, and_from, and_parts, cases_Bool, false_from_ne_true, Name, name_eq, is_label, spaced, is_word, Item, share_label, Header, with_label, header_of, starts_with_mark, begin, finish, is_compressed, WritesRow, WritesCompressed, Bor}
 use Rattle.proof_code.proofs.RowOfNumbers.{joined}
 
 -- ---- the header

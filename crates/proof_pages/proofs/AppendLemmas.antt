@@ -1,8 +1,5 @@
 -- Parts added one after another.
-use Rattle.std.specs.Prelude.{◌≡◌, ℕ, if◌then◌else◌, List, ◌++◌, Result, Ok, Err, OnOk}
-use Rattle.std.specs.Result.{is_ok}
-use Rattle.std.proofs.Common.{◌∙◌, ap}
-use Rattle.std.proofs.lemmas.List.{append_assoc}
+use Rattle.proof_pages.proofs.Words.{◌≡◌, ℕ, if◌then◌else◌, List, ◌++◌, Result, Ok, Err, OnOk, is_ok, ◌∙◌, ap, append_assoc}
 
 -- one part is appended
 pub joined : (a b c x y : List ℕ) → b ≡ a ++ x → c ≡ b ++ y → c ≡ a ++ (x ++ y)

@@ -1,10 +1,5 @@
 -- Writes one after another, and texts of rows one after another.
-use Rattle.std.specs.Prelude.{◌≡◌, ℕ, suc, ◌+◌, ◌<◌, ◌≤◌, List, [], ◌∷◌, ◌++◌, length, take, get_or, Option, Some, None, Result, Ok, Err, OnOk}
-use Rattle.std.specs.Io.KnownBytes.{Appends}
-use Rattle.std.proofs.Common.{sym, ◌∙◌, ap, subst, arith}
-use Rattle.std.proofs.lemmas.List.{append-nil, append_assoc, take_more, take_all, length-take-le}
-use Rattle.proof_pages.specs.StepLines.{texts_from}
-use Rattle.proof_pages.specs.Writing.{Wrote}
+use Rattle.proof_pages.proofs.Words.{◌≡◌, ℕ, suc, ◌+◌, ◌<◌, ◌≤◌, List, [], ◌∷◌, ◌++◌, length, take, get_or, Option, Some, None, Result, Ok, Err, OnOk, Appends, sym, ◌∙◌, ap, subst, arith, append-nil, append_assoc, take_more, take_all, length-take-le, texts_from, Wrote}
 
 -- a text that is written after another
 pub appends_on : (a b c : Option (List ℕ)) (x y : List ℕ) → Appends a b x → Appends b c y → Appends a c (x ++ y)

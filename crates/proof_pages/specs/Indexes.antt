@@ -2,13 +2,8 @@
 -- Source: HTML, tables and links; this project's own form.
 -- The code adds each row to the end of a buffer.
 use Rattle.std.specs.Prelude.{ℕ, ◌+◌, List, [], ◌++◌, codes}
-use Rattle.mm_lex.specs.Alphabet.{Name}
-use Rattle.mm_lex.specs.Words.{spaced}
-use Rattle.mm_read.specs.declared.stmt.Stmt.{Stmt}
-use Rattle.mm_read.specs.declared.stmt.Stmt.TheVariants.{Axiom, Prove}
-use Rattle.mm_read.specs.Statements.{Database, Expr}
+use Rattle.proof_pages.specs.Words.{Name, spaced, Stmt, Axiom, Prove, Database, Expr, html_text}
 use Rattle.proof_pages.specs.declared.index.TheConstants.{INDEX_START}
-use Rattle.markup.specs.Escapes.{html_text}
 use Rattle.proof_pages.specs.Notations.{page_link}
 use Rattle.proof_pages.specs.StepLines.{texts_from}
 

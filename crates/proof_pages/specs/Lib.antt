@@ -1,3 +1,4 @@
+pub mod Words
 pub mod StepLines
 pub mod Pictures
 pub mod Notations

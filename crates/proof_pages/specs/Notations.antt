@@ -2,14 +2,7 @@
 -- Source: HTML, links; this project's own form.
 -- The code adds each part to the end of a buffer.
 use Rattle.std.specs.Prelude.{ℕ, ◌==◌, Bool, ◌&&◌, if◌then◌else◌, List, [], ◌++◌, codes, decimal, flat_map, get_or, Option, Some, None}
-use Rattle.mm_lex.specs.Alphabet.{Name}
-use Rattle.mm_read.specs.declared.stmt.Stmt.{Stmt}
-use Rattle.mm_read.specs.Statements.{Database}
-use Rattle.scope.specs.Active.{is_assertion, stmt_at}
-use Rattle.names.specs.Codes.{name_at}
-use Rattle.verify.specs.Proves.{label_or_none}
-use Rattle.markup.specs.Escapes.{html_text}
-use Rattle.file_names.specs.FileNames.{file_name}
+use Rattle.proof_pages.specs.Words.{Name, Stmt, Database, is_assertion, stmt_at, name_at, label_or_none, html_text, file_name}
 
 -- a variable of the first class, and of another
 abbrev pub first_html : Name → List ℕ

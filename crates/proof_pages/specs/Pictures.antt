@@ -2,13 +2,7 @@
 -- Source: the DOT language of Graphviz.
 -- The code adds each part to the end of a buffer.
 use Rattle.std.specs.Prelude.{ℕ, List, [], ◌∷◌, ◌++◌, codes, flat_map}
-use Rattle.mm_lex.specs.Alphabet.{Name}
-use Rattle.mm_read.specs.Statements.{Database}
-use Rattle.scope.specs.Active.{stmt_at}
-use Rattle.names.specs.Codes.{name_at}
-use Rattle.verify.specs.Proves.{label_or_none}
-use Rattle.steps.specs.Rows.{Row}
-use Rattle.markup.specs.Escapes.{quoted_text}
+use Rattle.proof_pages.specs.Words.{Name, Database, stmt_at, name_at, label_or_none, Row, quoted_text}
 use Rattle.proof_pages.specs.StepLines.{number_text, texts_from}
 
 abbrev pub quoted_symbol : List Name → ℕ → List ℕ

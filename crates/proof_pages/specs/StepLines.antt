@@ -2,12 +2,7 @@
 -- Source: this project's own form.
 -- The code adds each part to the end of a buffer.
 use Rattle.std.specs.Prelude.{ℕ, suc, ◌+◌, List, [], ◌∷◌, ◌++◌, codes, decimal, flat_map}
-use Rattle.mm_lex.specs.Alphabet.{Name}
-use Rattle.mm_read.specs.Statements.{Database}
-use Rattle.scope.specs.Active.{stmt_at}
-use Rattle.names.specs.Codes.{name_at}
-use Rattle.verify.specs.Proves.{label_or_none}
-use Rattle.steps.specs.Rows.{Row}
+use Rattle.proof_pages.specs.Words.{Name, Database, stmt_at, name_at, label_or_none, Row}
 
 -- a place from 0 as a number from 1
 abbrev pub number_text : ℕ → List ℕ

@@ -2,9 +2,7 @@
 -- Source: HTML, tables, lists and links, and which end tags may be omitted; this project's own form.
 -- The code adds each part to the end of a buffer.
 use Rattle.std.specs.Prelude.{ℕ, Bool, List, [], ◌∷◌, ◌++◌, codes, flat_map}
-use Rattle.mm_lex.specs.Alphabet.{Name}
-use Rattle.mm_read.specs.Statements.{Database}
-use Rattle.steps.specs.Rows.{Row}
+use Rattle.proof_pages.specs.Words.{Name, Database, Row}
 use Rattle.proof_pages.specs.StepLines.{number_text}
 use Rattle.proof_pages.specs.Notations.{expr_html, cited_html}
 

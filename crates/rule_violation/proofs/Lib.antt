@@ -1,3 +1,4 @@
+pub mod Words
 pub mod SearchLemmas
 pub mod MarksLemmas
 pub mod ViolationLemmas

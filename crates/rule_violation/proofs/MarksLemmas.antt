@@ -1,17 +1,5 @@
 -- Marks given to names, one test after another, and names that are given codes.
-use Rattle.std.proofs.Common.{◌≡◌, ℕ, zero, suc, ◌<◌, Bool, true, false, cond, not, ◌&&◌, ◌||◌, List, [], ◌∷◌, ◌++◌, map, replicate, length, slice_set, slice_get, refl, sym, ◌∙◌, ap, arith, append-nil, Some, true≢false}
-use Rattle.mm_lex.specs.Alphabet.{Name, name_eq, has_name}
-use Rattle.names.specs.Codes.{name_at, code_of, AreDistinct}
-use Rattle.mm_lex.proofs.NameLemmas.{name_same, same_name}
-use Rattle.names.proofs.CodesLemmas.{name_eq-comm, has-at, code-name}
-use Rattle.names.proofs.AddedNames.{has_name-append}
-use Rattle.std.specs.Prelude.{slice_index_or, ◌≤◌}
-use Rattle.std.proofs.Common.{inl, inr}
-use Rattle.std.proofs.lemmas.Bool.{or_parts, or_right, cases_lt, false_from_ne_true}
-use Rattle.std.proofs.Math.Bool.{or_assoc, or-false}
-use Rattle.scope.specs.Legal.{all_different}
-use Rattle.rule_violation.specs.Violates.{IsTwice}
-use Rattle.rule_violation.specs.Marks.{marked}
+use Rattle.rule_violation.proofs.Words.{◌≡◌, ℕ, zero, suc, ◌<◌, Bool, true, false, cond, not, ◌&&◌, ◌||◌, List, [], ◌∷◌, ◌++◌, map, replicate, length, slice_set, slice_get, refl, sym, ◌∙◌, ap, arith, append-nil, Some, true≢false, Name, name_eq, has_name, name_at, code_of, AreDistinct, name_same, same_name, name_eq-comm, has-at, code-name, has_name-append, slice_index_or, ◌≤◌, inl, inr, or_parts, or_right, cases_lt, false_from_ne_true, or_assoc, or-false, all_different, IsTwice, marked}
 
 pub marked-same : (p q : Name → Bool) (v : Bool) → ((x : Name) → p x ≡ q x) → (names : List Name) (marks : List Bool) → marked p v names marks ≡ marked q v names marks
 marked-same p q v same [] marks = refl

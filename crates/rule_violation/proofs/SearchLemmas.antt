@@ -1,19 +1,5 @@
 -- Active statements, searched from the end back, and the places of names in a list.
-use Rattle.std.proofs.Common.{◌≡◌, ℕ, zero, suc, ◌+◌, ◌-◌, ◌<◌, ◌≤◌, Bool, true, false, not, ◌&&◌, ◌||◌, cond, List, [], ◌∷◌, length, drop, get_or, refl, sym, ◌∙◌, ap, arith, Some, slice_get, add-one}
-use Rattle.std.specs.Prelude.{nat_le, Option, None, MatchOption, is_some}
-use Rattle.std.proofs.Math.Bool.{or-true}
-use Rattle.std.specs.List.{list_any}
-use Rattle.std.proofs.Math.Seq.{drop-cons}
-use Rattle.mm_read.specs.declared.stmt.Stmt.{Stmt}
-use Rattle.mm_read.specs.declared.stmt.Stmt.TheVariants.{Open, Close, Const, Var, Disj, Float, Ess, Axiom, Prove}
-use Rattle.mm_read.specs.Statements.{Database}
-use Rattle.scope.specs.Active.{stays_open, active_from}
-use Rattle.std.specs.Prelude.{◌==◌}
-use Rattle.std.proofs.lemmas.Bool.{and_parts}
-use Rattle.std.proofs.lemmas.Option.{slice_get_read}
-use Rattle.std.proofs.lemmas.Map.Keys.{any_passes_from_place}
-use Rattle.scope.specs.Active.{stmt_at}
-use Rattle.rule_violation.specs.Search.{closed_by, closed_behind, IsAt, IsActiveAt}
+use Rattle.rule_violation.proofs.Words.{◌≡◌, ℕ, zero, suc, ◌+◌, ◌-◌, ◌<◌, ◌≤◌, Bool, true, false, not, ◌&&◌, ◌||◌, cond, List, [], ◌∷◌, length, drop, get_or, refl, sym, ◌∙◌, ap, arith, Some, slice_get, add-one, nat_le, Option, None, MatchOption, is_some, or-true, list_any, drop-cons, Stmt, Open, Close, Const, Var, Disj, Float, Ess, Axiom, Prove, Database, stays_open, active_from, ◌==◌, and_parts, slice_get_read, any_passes_from_place, stmt_at, closed_by, closed_behind, IsAt, IsActiveAt}
 
 -- no block of depth d is closed where no more than d are
 pub stays_open-closed : (d : ℕ) (S : Database) → stays_open d S ≡ nat_le (closed_behind S) d

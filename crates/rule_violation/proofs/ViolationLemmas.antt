@@ -1,26 +1,7 @@
 -- From what the searches tell to a violation of each rule.
-use Rattle.std.proofs.Common.{◌≡◌, ℕ, Bool, true, false, not, ◌&&◌, ◌||◌, List, [], ◌∷◌, refl, sym, ◌∙◌, ap, Option, Some, None, IsSomeAnd, MatchOption, IsTrue, true≢false, slice_get}
-use Rattle.std.specs.Prelude.{IfOk, Result}
-use Rattle.std.proofs.lemmas.Result.{IfOk-weaker}
-use Rattle.scope.specs.declared.rule.Rule.{Rule}
-use Rattle.rule_violation.specs.declared.symbol_search.Test.{Test}
-use Rattle.std.specs.List.{list_any, list_all}
-use Rattle.std.proofs.lemmas.Bool.{and_from, and_parts, or_parts, not-true}
-use Rattle.std.proofs.Math.Bool.{or_assoc, or_comm, not-not}
-use Rattle.scope.proofs.SortsLemmas.{or_swap}
-use Rattle.mm_lex.specs.Alphabet.{Name, has_name}
-use Rattle.mm_read.specs.declared.stmt.Stmt.{Stmt}
-use Rattle.mm_read.specs.declared.stmt.Stmt.TheVariants.{Open, Close, Const, Var, Disj, Float, Ess, Axiom, Prove}
-use Rattle.mm_read.specs.Statements.{Database, Expr}
-use Rattle.scope.specs.declared.rule.Rule.TheVariants.{G2, G3, G4, G5, G8, G9}
-use Rattle.scope.specs.Active.{constants, variables, label_of, has_label, expr_of, is_constant, is_variable, has_float, was_symbol, was_label}
-use Rattle.scope.specs.Legal.{keeps, all_different, is_fresh_label, are_typed}
-use Rattle.rule_violation.specs.declared.violation.RuleViolation.{RuleViolation}
-use Rattle.rule_violation.specs.declared.violation.RuleViolation.TheVariants.{Statement, Symbol, Twice, Earlier, Label}
+use Rattle.rule_violation.proofs.Words.{◌≡◌, ℕ, Bool, true, false, not, ◌&&◌, ◌||◌, List, [], ◌∷◌, refl, sym, ◌∙◌, ap, Option, Some, None, IsSomeAnd, MatchOption, IsTrue, true≢false, slice_get, IfOk, Result, IfOk-weaker, Rule, Test, list_any, list_all, and_from, and_parts, or_parts, not-true, or_assoc, or_comm, not-not, or_swap, Name, has_name, Stmt, Open, Close, Const, Var, Disj, Float, Ess, Axiom, Prove, Database, Expr, G2, G3, G4, G5, G8, G9, constants, variables, label_of, has_label, expr_of, is_constant, is_variable, has_float, was_symbol, was_label, keeps, all_different, is_fresh_label, are_typed, RuleViolation, Statement, Symbol, Twice, Earlier, Label, meets, fails, Violates, Among, IsTwice, IsRepeated, IsSymbolOf, IsLabelOf, typed_expr}
 use Rattle.rule_violation.specs.declared.search.Part.TheVariants as part
 use Rattle.rule_violation.specs.declared.symbol_search.Test.TheVariants as test
-use Rattle.rule_violation.specs.Search.{meets, fails}
-use Rattle.rule_violation.specs.Violates.{Violates, Among, IsTwice, IsRepeated, IsSymbolOf, IsLabelOf, typed_expr}
 
 -- ---- lists and tests
 

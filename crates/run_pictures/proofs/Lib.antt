@@ -1,3 +1,4 @@
+pub mod Words
 mod StepsLemmas
 mod MarksLemmas
 mod RunLemmas

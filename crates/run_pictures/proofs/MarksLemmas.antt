@@ -1,9 +1,5 @@
 -- Stumps packet by packet.
-use Rattle.std.specs.Prelude.{◌≡◌, ℕ, zero, suc, ◌+◌, ◌-◌, ◌<◌, ◌≤◌, List, [], ◌∷◌, ◌++◌, refl}
-use Rattle.std.proofs.Common.{sym, ◌∙◌, ap, arith, append_assoc, append-nil}
-use Rattle.run_pictures.specs.declared.step.Step.{Step}
-use Rattle.run_pictures.specs.declared.mark.Mark.{Mark}
-use Rattle.run_pictures.specs.Marks.{Packets, stump, stumps_from}
+use Rattle.run_pictures.proofs.Words.{◌≡◌, ℕ, zero, suc, ◌+◌, ◌-◌, ◌<◌, ◌≤◌, List, [], ◌∷◌, ◌++◌, refl, sym, ◌∙◌, ap, arith, append_assoc, append-nil, Step, Mark, Packets, stump, stumps_from}
 
 module _ (packets : Packets) (shown : List Step) (row : ℕ) (s : Step) where
   -- the stumps of the packets from a number on, and before another

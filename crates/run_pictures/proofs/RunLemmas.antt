@@ -1,20 +1,6 @@
 -- A run whose world takes a step.
-use Rattle.std.specs.Prelude.{◌≡◌, ℕ, false, List, [], ◌∷◌, ◌++◌, Option, Some, None, Result, Ok, Err, IfOk, IfSome, IsSomeAnd, OnErr, length, filter}
-use Rattle.std.proofs.Common.{sym, ◌∙◌, ap}
-use Rattle.net.specs.declared.event.Event.{Event}
-use Rattle.net.specs.declared.fault.StepFault.{StepFault}
-use Rattle.net.specs.Taken.{Taken, with_event, world_of}
-use Rattle.net.specs.World.{packets_after}
-use Rattle.library.specs.declared.entry.Entry.{Entry}
-use Rattle.library.specs.declared.verdict.Verdict.{Verdict}
-use Rattle.world.specs.declared.carried.Carried.{Carried}
-use Rattle.world.specs.Carried.{carried_size}
-use Rattle.world.specs.Replicas.{Replicas, new_replicas, then_event, next_entry, IsApplied}
-use Rattle.run_pictures.specs.declared.step.Step.{Step}
-use Rattle.run_pictures.specs.declared.step.Begun.{Begun}
-use Rattle.run_pictures.specs.Begun.{ended_of}
-use Rattle.run_pictures.specs.Steps.{Reached, begun_of, is_event, learned_in, node_in, step_of, steps_of}
-use Rattle.run_pictures.specs.RunView.{IsRecorded, packets_of}
+use Rattle.run_pictures.proofs.Words.{◌≡◌, ℕ, false, List, [], ◌∷◌, ◌++◌, Option, Some, None, Result, Ok, Err, IfOk, IfSome, IsSomeAnd, OnErr, length, filter, sym, ◌∙◌, ap, Event, StepFault, Taken, with_event, world_of, packets_after, Entry, Verdict, Carried, carried_size, Replicas, new_replicas, next_entry, IsApplied, Step, Begun, ended_of, Reached, begun_of, is_event, learned_in, node_in, step_of, steps_of, IsRecorded, packets_of}
+use Rattle.world.specs.Replicas.{then_event}
 use Rattle.run_pictures.proofs.StepsLemmas.{next_is, one_more, none_more}
 
 -- new nodes have no step

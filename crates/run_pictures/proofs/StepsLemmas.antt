@@ -1,16 +1,5 @@
 -- One event more is one step more.
-use Rattle.std.specs.Prelude.{◌≡◌, ℕ, suc, ◌+◌, true, false, List, [], ◌∷◌, ◌++◌, Result, Ok, Err, length, filter, refl}
-use Rattle.std.proofs.Common.{sym, ◌∙◌, ap, arith, append-nil}
-use Rattle.std.proofs.lemmas.List.Elements.{filter-append}
-use Rattle.net.specs.declared.event.Event.{Event}
-use Rattle.net.specs.declared.event.Event.TheVariants.{Offer, Begin, Deliver, Restart}
-use Rattle.net.specs.declared.fault.StepFault.{StepFault}
-use Rattle.net.specs.World.{all_happen}
-use Rattle.net.specs.Taken.{Taken, with_event, world_of}
-use Rattle.world.specs.declared.carried.Carried.{Carried}
-use Rattle.world.specs.Carried.{carried_size}
-use Rattle.run_pictures.specs.declared.step.Step.{Step}
-use Rattle.run_pictures.specs.Steps.{Reached, then_event, step_of, steps_from, steps_of, act_of, is_event, is_event_act}
+use Rattle.run_pictures.proofs.Words.{◌≡◌, ℕ, suc, ◌+◌, true, false, List, [], ◌∷◌, ◌++◌, Result, Ok, Err, length, filter, refl, sym, ◌∙◌, ap, arith, append-nil, filter-append, Event, Offer, Begin, Deliver, Restart, StepFault, all_happen, Taken, with_event, world_of, Carried, carried_size, Step, Reached, then_event, step_of, steps_from, steps_of, act_of, is_event, is_event_act}
 
 -- a fault stays
 fault_stays : (es : List (Event Carried)) (fault : StepFault) → all_happen carried_size es (Err fault) ≡ Err fault

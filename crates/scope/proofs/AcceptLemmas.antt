@@ -1,26 +1,6 @@
 -- Each kind of legal statement keeps what the rules keep.
-use Rattle.std.specs.Prelude.{◌≡◌, ℕ, ◌+◌, ◌<◌, ◌==◌, Bool, true, false, not, ◌&&◌, ◌||◌, List, [], ◌∷◌, ◌++◌, cond, nat_lt, length, None, is_some, refl}
-use Rattle.std.proofs.Common.{Result, Ok, Err, OnOk}
-use Rattle.std.specs.Result.{is_err}
-use Rattle.std.specs.List.{list_any, list_all}
-use Rattle.std.proofs.Common.{◌∙◌, ap, sym, subst, true≢false, arith}
-use Rattle.std.proofs.lemmas.List.{append-nil, append_assoc}
-use Rattle.std.proofs.lemmas.Bool.{not-true, and_parts, ltb-true}
-use Rattle.mm_lex.specs.Alphabet.{Name, name_eq, has_name}
-use Rattle.mm_read.specs.declared.stmt.Stmt.{Stmt}
-use Rattle.mm_read.specs.declared.stmt.Stmt.TheVariants.{Open, Close, Const, Var, Disj, Float, Ess, Axiom, Prove}
-use Rattle.mm_read.specs.Statements.{Database}
-use Rattle.scope.specs.Active.{bare, has_float, active_variables, typed_variables}
-use Rattle.scope.specs.Legal.{all_different, broken_rule}
-use Rattle.scope.specs.Stored.SymbolNumbers.{numbers_differ}
-use Rattle.names.specs.Codes.{name_at, decode, with_names, numbers_in, number_in, AreNamed, AreCodes, AreDistinct}
-use Rattle.scope.specs.Kinds.{Declared, kind_in, with_kind, with_kinds}
-use Rattle.scope.specs.Stored.Stacks.{IsKept, IsPlain, can_push}
-use Rattle.scope.specs.Symbols.{symbols_of, AreNumbers}
-use Rattle.scope.specs.declared.stack_heights.StackHeights.{StackHeights}
-use Rattle.scope.specs.declared.numbering.NameKind.{NameKind}
-use Rattle.names.proofs.AddedNames.{with_names-more, numbers_in-more, has-with_names}
-use Rattle.names.proofs.CodesLemmas.{same_name, code-at, found-number}
+use Rattle.scope.proofs.Words.{◌≡◌, ℕ, ◌+◌, ◌<◌, ◌==◌, Bool, true, false, not, ◌&&◌, ◌||◌, List, [], ◌∷◌, ◌++◌, cond, nat_lt, length, None, is_some, refl, Result, Ok, Err, OnOk, is_err, list_any, list_all, ◌∙◌, ap, sym, subst, true≢false, arith, append-nil, not-true, and_parts, ltb-true, Name, name_eq, has_name, Stmt, Open, Close, Const, Var, Disj, Float, Ess, Axiom, Prove, Database, bare, has_float, active_variables, typed_variables, all_different, broken_rule, numbers_differ, name_at, decode, with_names, numbers_in, number_in, AreNamed, AreCodes, AreDistinct, Declared, kind_in, with_kind, with_kinds, IsKept, IsPlain, can_push, symbols_of, AreNumbers, StackHeights, NameKind, with_names-more, numbers_in-more, has-with_names, same_name, code-at, found-number}
+use Rattle.std.proofs.lemmas.List.{append_assoc}
 use Rattle.scope.proofs.NamesLemmas.{symbols_of-append, symbols-distinct, active-named}
 use Rattle.scope.proofs.SortsLemmas.{numbers-has, is_variable-active, has_float-typed}
 use Rattle.scope.proofs.StackFollows.{kept-more}

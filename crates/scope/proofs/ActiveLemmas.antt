@@ -1,15 +1,5 @@
 -- The effect of one more statement on the active ones.
-use Rattle.std.specs.Prelude.{◌≡◌, ℕ, zero, suc, ◌+◌, ◌-◌, ◌≤◌, Bool, true, false, cond, List, [], ◌∷◌, ◌++◌, length, take, refl}
-use Rattle.std.specs.List.{flat_map}
-use Rattle.std.proofs.Common.{◌∙◌, ap, sym, arith, true≢false}
-use Rattle.std.proofs.lemmas.List.{take_at}
-use Rattle.std.proofs.lemmas.Grind.{flat_map-append}
-use Rattle.std.proofs.lemmas.Bool.{or_parts}
-use Rattle.mm_read.specs.declared.stmt.Stmt.{Stmt}
-use Rattle.mm_read.specs.declared.stmt.Stmt.TheVariants.{Open, Close}
-use Rattle.mm_read.specs.Statements.{Database}
-use Rattle.scope.specs.Laws.{NeverCloses, has_open, before_open}
-use Rattle.scope.specs.Active.{count, stays_open, active_from, is_open, is_close}
+use Rattle.scope.proofs.Words.{◌≡◌, ℕ, zero, suc, ◌+◌, ◌-◌, ◌≤◌, Bool, true, false, cond, List, [], ◌∷◌, ◌++◌, length, take, refl, flat_map, ◌∙◌, ap, sym, arith, true≢false, take_at, flat_map-append, or_parts, Stmt, Open, Close, Database, NeverCloses, has_open, before_open, count, stays_open, active_from, is_open, is_close}
 
 -- one that closes no block closes none
 pub stays_open-append : (d : ℕ) (S : Database) (s : Stmt) → is_close s ≡ false → stays_open d (S ++ s ∷ []) ≡ stays_open d S

@@ -1,17 +1,5 @@
 -- No rule looks at a proof, and a statement declares the same without it.
-use Rattle.std.specs.Prelude.{◌≡◌, ℕ, zero, suc, ◌+◌, ◌==◌, Bool, true, false, not, cond, ◌||◌, ◌&&◌, nat_lt, List, [], ◌∷◌, Some, None, refl}
-use Rattle.std.specs.List.{list_any, list_all}
-use Rattle.std.proofs.Common.{◌∙◌, ap}
-use Rattle.mm_lex.specs.Alphabet.{Name, has_name}
-use Rattle.mm_read.specs.declared.stmt.Stmt.{Stmt}
-use Rattle.mm_read.specs.declared.stmt.Stmt.TheVariants.{Open, Close, Const, Var, Disj, Float, Ess, Axiom, Prove}
-use Rattle.mm_read.specs.Statements.{Database, Expr}
-use Rattle.scope.specs.Active.{bare, bares, count, stays_open, active_from, is_open, is_close, constants, variables, label_of, has_label, is_float_of, is_variable, is_constant, was_symbol, was_label, has_float}
-use Rattle.scope.specs.Legal.{IsLegal, broken_rule, end_rule, all_different}
-use Rattle.scope.specs.Kinds.{Declared}
-use Rattle.scope.specs.Symbols.{symbols_by}
-use Rattle.scope.specs.Declares.{declared_with}
-use Rattle.scope.specs.declared.rule.Rule.TheVariants.{G1, G2, G3, G4, G5, G6, G7, G8, G9, G10}
+use Rattle.scope.proofs.Words.{◌≡◌, ℕ, zero, suc, ◌+◌, ◌==◌, Bool, true, false, not, cond, ◌||◌, ◌&&◌, nat_lt, List, [], ◌∷◌, Some, None, refl, list_any, list_all, ◌∙◌, ap, Name, has_name, Stmt, Open, Close, Const, Var, Disj, Float, Ess, Axiom, Prove, Database, Expr, bare, bares, count, stays_open, active_from, is_open, is_close, constants, variables, label_of, has_label, is_float_of, is_variable, is_constant, was_symbol, was_label, has_float, IsLegal, broken_rule, end_rule, all_different, Declared, symbols_by, declared_with, G1, G2, G3, G4, G5, G6, G7, G8, G9, G10}
 
 -- a property that ignores proofs is that of the statement without one
 pub bare-same : {A : Type 0} (f : Stmt → A) → ((label : Name) (expr : Expr) (proof : List Name) → f (Prove label expr []) ≡ f (Prove label expr proof)) → (s : Stmt) → f (bare s) ≡ f s

@@ -1,15 +1,5 @@
 -- The open blocks, and how high the stacks stood before them.
-use Rattle.std.specs.Prelude.{◌≡◌, ℕ, suc, ◌+◌, ◌==◌, Bool, true, false, not, cond, ◌||◌, nat_lt, List, [], ◌∷◌, ◌++◌, length, refl}
-use Rattle.std.proofs.Common.{◌∙◌, ap, sym, arith, append_assoc}
-use Rattle.std.proofs.lemmas.List.{append-nil}
-use Rattle.std.proofs.lemmas.Bool.Decides.{nat_tests}
-use Rattle.mm_read.specs.declared.stmt.Stmt.{Stmt}
-use Rattle.mm_read.specs.declared.stmt.Stmt.TheVariants.{Open}
-use Rattle.mm_read.specs.Statements.{Database}
-use Rattle.scope.specs.Active.{count, stays_open, active_from, is_open, is_close, is_closed}
-use Rattle.scope.specs.Stored.Stacks.{sizes_of, blocks_from}
-use Rattle.scope.specs.declared.stack_heights.StackHeights.{StackHeights}
-use Rattle.scope.specs.Laws.{has_open, before_open}
+use Rattle.scope.proofs.Words.{◌≡◌, ℕ, suc, ◌+◌, ◌==◌, Bool, true, false, not, cond, ◌||◌, nat_lt, List, [], ◌∷◌, ◌++◌, length, refl, ◌∙◌, ap, sym, arith, append_assoc, append-nil, nat_tests, Stmt, Open, Database, count, stays_open, active_from, is_open, is_close, is_closed, sizes_of, blocks_from, StackHeights, has_open, before_open}
 use Rattle.scope.proofs.ActiveLemmas.{left_open, count-left_open, no_deficit}
 
 pub blocks_from-append : (pre es fs : List (ℕ × Stmt)) → blocks_from pre (es ++ fs) ≡ blocks_from pre es ++ blocks_from (pre ++ es) fs

@@ -1,24 +1,5 @@
 -- The declarations of one more statement.
-use Rattle.std.specs.Prelude.{◌≡◌, ℕ, Bool, true, false, ◌||◌, List, [], ◌∷◌, ◌++◌, Option, Some, None, refl}
-use Rattle.std.specs.List.{list_any}
-use Rattle.std.proofs.Common.{◌∙◌, ap, sym, subst, true≢false}
-use Rattle.std.proofs.Math.Bool.{or-false}
-use Rattle.std.proofs.lemmas.List.{append-nil}
-use Rattle.std.proofs.lemmas.List.Folds.{list_any-append}
-use Rattle.mm_lex.specs.Alphabet.{Name, name_eq, has_name}
-use Rattle.mm_read.specs.declared.stmt.Stmt.{Stmt}
-use Rattle.mm_read.specs.declared.stmt.Stmt.TheVariants.{Open, Close, Const, Var, Disj, Float, Ess, Axiom, Prove}
-use Rattle.mm_read.specs.Statements.{Database}
-use Rattle.scope.specs.Active.{constants, variables, label_of, has_label}
-use Rattle.scope.specs.Legal.{broken_rule}
-use Rattle.names.specs.Codes.{with_names}
-use Rattle.scope.specs.Kinds.{Declared, kind_in, MatchesKind, MatchesKinds, IsNumberingOf, with_kind, with_kinds, is_label_kind, is_constant_kind, is_variable_kind}
-use Rattle.scope.specs.Symbols.{symbols_of, symbols_by, symbols_after, symbols_in, option_list, labels_of}
-use Rattle.scope.specs.Declares.{declared_with, MayDeclare, IsRecordedBy}
-use Rattle.scope.specs.Stored.SymbolNumbers.{AreRecorded}
-use Rattle.scope.specs.declared.numbering.NameKind.{NameKind}
-use Rattle.scope.specs.declared.numbering.NameKind.TheVariants.{Label, Constant, Variable}
-use Rattle.names.proofs.CodesLemmas.{same_name}
+use Rattle.scope.proofs.Words.{◌≡◌, ℕ, Bool, true, false, ◌||◌, List, [], ◌∷◌, ◌++◌, Option, Some, None, refl, list_any, ◌∙◌, ap, sym, subst, true≢false, or-false, append-nil, list_any-append, Name, name_eq, has_name, Stmt, Open, Close, Const, Var, Disj, Float, Ess, Axiom, Prove, Database, constants, variables, label_of, has_label, broken_rule, with_names, Declared, kind_in, MatchesKind, MatchesKinds, IsNumberingOf, with_kind, with_kinds, is_label_kind, is_constant_kind, is_variable_kind, symbols_of, symbols_by, symbols_after, symbols_in, option_list, labels_of, declared_with, MayDeclare, IsRecordedBy, AreRecorded, NameKind, Label, Constant, Variable, same_name}
 use Rattle.scope.proofs.NamesLemmas.{or_kind, kind_in-with_kinds, symbols_of-append, labels_of-append}
 use Rattle.scope.proofs.SymbolNameLemmas.{declared_symbols-label, declared_symbols-with_kinds, declared_labels-label, declared_labels-with_kinds}
 use Rattle.scope.proofs.AcceptLemmas.{with_kinds-more}

@@ -1,17 +1,5 @@
 -- The entry of a name tells its kind and its number.
-use Rattle.std.specs.Prelude.{◌≡◌, ℕ, ◌-◌, ◌<◌, ◌≤◌, Bool, true, cond, List, [], ◌∷◌, ◌++◌, length, take, Some, slice_get, option_map, refl}
-use Rattle.std.proofs.Common.{◌∙◌, ap, sym, subst, arith}
-use Rattle.std.proofs.lemmas.List.{length-take-le}
-use Rattle.std.proofs.Common.{get_or}
-use Rattle.std.proofs.lemmas.Option.{slice_get-map, slice_get_read}
-use Rattle.mm_lex.specs.Alphabet.{Name}
-use Rattle.names.specs.Codes.{name_at, code_of}
-use Rattle.names.proofs.CodesLemmas.{code-name, code-first, added-name}
-use Rattle.scope.specs.Kinds.{Declared, declared_names, declared_symbols, declared_labels, names_that, names_as, kind_in, zip_kinds, is_symbol_kind, is_labelling, IsNumberOf}
-use Rattle.scope.specs.Stored.KindCounts.{kinds_of, AreCounted, places_that}
-use Rattle.scope.specs.declared.numbering.NameKind.{NameKind}
-use Rattle.scope.specs.declared.numbering.NameKind.TheVariants.{Label, Constant, Variable}
-use Rattle.scope.specs.declared.numbering.CountedKind.{CountedKind}
+use Rattle.scope.proofs.Words.{◌≡◌, ℕ, ◌-◌, ◌<◌, ◌≤◌, Bool, true, cond, List, [], ◌∷◌, ◌++◌, length, take, Some, slice_get, option_map, refl, ◌∙◌, ap, sym, subst, arith, length-take-le, get_or, slice_get-map, slice_get_read, Name, name_at, code_of, code-name, code-first, added-name, Declared, declared_names, declared_symbols, declared_labels, names_that, names_as, kind_in, zip_kinds, is_symbol_kind, is_labelling, IsNumberOf, kinds_of, AreCounted, places_that, NameKind, Label, Constant, Variable, CountedKind}
 use Rattle.scope.proofs.KindsLemmas.{names-seen, kind-at, length-seen}
 use Rattle.scope.proofs.KindCountLemmas.{kinds-length, count-at, both-counts, places-length, place-at}
 use Rattle.scope.proofs.SymbolNameLemmas.{names_that-append, number-at}

@@ -1,29 +1,7 @@
 -- Marking, and going back to the mark; what the rules say of the names to be declared.
-use Rattle.std.specs.Prelude.{◌≡◌, ℕ, ◌+◌, ◌==◌, Bool, true, false, not, ◌||◌, ◌&&◌, List, [], ◌∷◌, ◌++◌, length, take, Option, Some, None, is_some, refl}
-use Rattle.std.specs.List.{list_any, list_all, flat_map}
-use Rattle.std.proofs.Common.{◌∙◌, ap, sym, arith, true≢false}
-use Rattle.std.proofs.Math.Bool.{or-false}
-use Rattle.std.proofs.lemmas.List.{append-nil, map-append, take-map, take_at, nil_from_length}
-use Rattle.std.proofs.lemmas.Grind.{flat_map-append}
-use Rattle.std.proofs.lemmas.Bool.Decides.{nat_tests}
-use Rattle.std.proofs.lemmas.Bool.{and_parts, or_parts, not-true}
-use Rattle.mm_lex.specs.Alphabet.{Name, name_eq, has_name}
-use Rattle.mm_read.specs.declared.stmt.Stmt.{Stmt}
-use Rattle.mm_read.specs.Statements.{Database}
-use Rattle.scope.specs.Active.{stays_open, active_from, active, is_closed, variables, typed_by, was_label, was_symbol, is_constant, is_variable}
-use Rattle.scope.specs.Legal.{all_different}
-use Rattle.names.specs.Codes.{numbers_in, number_in, AreNamed}
-use Rattle.scope.specs.Symbols.{symbols_of}
-use Rattle.scope.specs.Standing.{stands_at, standing_of}
-use Rattle.scope.specs.declared.standing.Standing.{Standing}
-use Rattle.scope.specs.Kinds.{Declared, kind_in, MatchesKinds, is_label_kind, is_constant_kind}
-use Rattle.scope.specs.Stored.Stacks.{sizes_of, blocks_of, can_push, IsKept}
-use Rattle.scope.specs.declared.stack_heights.StackHeights.{StackHeights}
-use Rattle.scope.specs.declared.numbering.NameKind.{NameKind}
+use Rattle.scope.proofs.Words.{◌≡◌, ℕ, ◌+◌, ◌==◌, Bool, true, false, not, ◌||◌, ◌&&◌, List, [], ◌∷◌, ◌++◌, length, take, Option, Some, None, is_some, refl, list_any, list_all, flat_map, ◌∙◌, ap, sym, arith, true≢false, or-false, append-nil, map-append, take-map, take_at, nil_from_length, flat_map-append, nat_tests, and_parts, or_parts, not-true, Name, name_eq, has_name, Stmt, Database, stays_open, active_from, active, is_closed, variables, typed_by, was_label, was_symbol, is_constant, is_variable, all_different, numbers_in, number_in, AreNamed, symbols_of, stands_at, standing_of, Standing, Declared, kind_in, MatchesKinds, is_label_kind, is_constant_kind, sizes_of, blocks_of, can_push, IsKept, StackHeights, NameKind, numbers_in-more, has_name-append, name_same, same_name}
 use Rattle.scope.proofs.ActiveLemmas.{active_from-later, below-deficit, no_deficit, deficit, deficit-append, left_open}
 use Rattle.scope.proofs.BlocksLemmas.{length-blocks, closed-left}
-use Rattle.names.proofs.AddedNames.{numbers_in-more, has_name-append}
-use Rattle.names.proofs.CodesLemmas.{name_same, same_name}
 use Rattle.scope.proofs.NamesLemmas.{symbols_of-later, active-named}
 use Rattle.scope.proofs.SortsLemmas.{numbers-has, fresh-kind}
 

@@ -1,15 +1,5 @@
 -- The counts and the places beside the kinds.
-use Rattle.std.specs.Prelude.{◌≡◌, ℕ, zero, suc, ◌+◌, ◌<◌, ◌≤◌, Bool, true, false, cond, List, [], ◌∷◌, ◌++◌, length, take, Some, slice_get, refl}
-use Rattle.std.proofs.Common.{◌∙◌, ap, sym, arith, add-zero}
-use Rattle.std.proofs.lemmas.List.{length-map}
-use Rattle.std.proofs.lemmas.Option.{same_Some}
-use Rattle.mm_lex.specs.Alphabet.{Name}
-use Rattle.names.specs.Codes.{name_at}
-use Rattle.scope.specs.Stored.KindCounts.{kinds_of, behind, AreCounted, places_that}
-use Rattle.scope.specs.Kinds.{Declared, names_that, declared_symbols, symbols_before, zip_kinds, is_symbol_kind, is_labelling}
-use Rattle.scope.specs.declared.numbering.CountedKind.{CountedKind}
-use Rattle.scope.specs.declared.numbering.NameKind.{NameKind}
-use Rattle.scope.specs.declared.numbering.NameKind.TheVariants.{Label, Constant, Variable}
+use Rattle.scope.proofs.Words.{◌≡◌, ℕ, zero, suc, ◌+◌, ◌<◌, ◌≤◌, Bool, true, false, cond, List, [], ◌∷◌, ◌++◌, length, take, Some, slice_get, refl, ◌∙◌, ap, sym, arith, add-zero, length-map, same_Some, Name, name_at, kinds_of, behind, AreCounted, places_that, Declared, names_that, declared_symbols, symbols_before, zip_kinds, is_symbol_kind, is_labelling, CountedKind, NameKind, Label, Constant, Variable}
 
 pub kinds-length : (names : List Name) (entries : List CountedKind) → length entries ≡ length names → length (kinds_of entries) ≡ length names
 kinds-length names entries h = length-map entries (λ e. e.kind) ∙ h

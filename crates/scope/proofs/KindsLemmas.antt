@@ -1,12 +1,5 @@
 -- Names and their kinds, as two lists.
-use Rattle.std.specs.Prelude.{◌≡◌, ℕ, zero, suc, ◌<◌, Bool, true, false, ◌||◌, cond, List, [], ◌∷◌, ◌++◌, length, take, Option, Some, None, slice_get, refl}
-use Rattle.std.proofs.Common.{sym, ◌∙◌, ap, arith}
-use Rattle.std.proofs.lemmas.Bool.{or_parts, false_from_ne_true}
-use Rattle.mm_lex.specs.Alphabet.{Name, name_eq, has_name}
-use Rattle.names.specs.Codes.{name_at}
-use Rattle.scope.specs.Kinds.{declared_names, kind_in, zip_kinds}
-use Rattle.scope.specs.declared.numbering.NameKind.{NameKind}
-use Rattle.names.proofs.CodesLemmas.{name_same, same_name}
+use Rattle.scope.proofs.Words.{◌≡◌, ℕ, zero, suc, ◌<◌, Bool, true, false, ◌||◌, cond, List, [], ◌∷◌, ◌++◌, length, take, Option, Some, None, slice_get, refl, sym, ◌∙◌, ap, arith, or_parts, false_from_ne_true, Name, name_eq, has_name, name_at, declared_names, kind_in, zip_kinds, NameKind, name_same, same_name}
 
 pub names-seen : (names : List Name) (kinds : List NameKind) → length kinds ≡ length names → declared_names (zip_kinds names kinds) ≡ names
 names-seen [] kinds h = refl

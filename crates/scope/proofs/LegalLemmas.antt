@@ -1,20 +1,5 @@
 -- Properties of a legal statement.
-use Rattle.std.specs.Prelude.{◌≡◌, Bool, true, false, not, cond, ◌||◌, ◌&&◌, nat_lt, List, [], ◌∷◌, Option, Some, None, refl}
-use Rattle.std.specs.List.{list_all}
-use Rattle.std.proofs.Common.{◌∙◌, ap, sym}
-use Rattle.std.proofs.lemmas.Bool.{and_parts}
-use Rattle.std.proofs.Math.Bool.{or_comm, and-true, not-not}
-use Rattle.std.proofs.lemmas.Option.{same_Some}
-use Rattle.mm_lex.specs.Alphabet.{Name}
-use Rattle.mm_read.specs.declared.stmt.Stmt.{Stmt}
-use Rattle.mm_read.specs.declared.stmt.Stmt.TheVariants.{Open, Close, Const, Var, Disj, Float, Ess, Axiom, Prove}
-use Rattle.mm_read.specs.Statements.{Database}
-use Rattle.scope.specs.Active.{is_variable, is_constant, was_symbol, was_label, has_float, label_of, count, is_open, is_close}
-use Rattle.scope.specs.Legal.{all_different, broken_rule}
-use Rattle.scope.specs.Sorts.{IsSort, is_symbol_sort, is_constant_sort, is_untyped_sort, sorts_rule}
-use Rattle.scope.specs.declared.legal.Sort.{Sort}
-use Rattle.scope.specs.declared.rule.Rule.{Rule}
-use Rattle.scope.specs.declared.rule.Rule.TheVariants.{G4, G5, G6, G7}
+use Rattle.scope.proofs.Words.{◌≡◌, Bool, true, false, not, cond, ◌||◌, ◌&&◌, nat_lt, List, [], ◌∷◌, Option, Some, None, refl, list_all, ◌∙◌, ap, sym, and_parts, or_comm, and-true, not-not, same_Some, Name, Stmt, Open, Close, Const, Var, Disj, Float, Ess, Axiom, Prove, Database, is_variable, is_constant, was_symbol, was_label, has_float, label_of, count, is_open, is_close, all_different, broken_rule, IsSort, is_symbol_sort, is_constant_sort, is_untyped_sort, sorts_rule, Sort, Rule, G4, G5, G6, G7}
 
 -- where no rule is broken, the first is kept and so are the rest
 first_rule : (b : Bool) (r : Rule) (rest : Option Rule) → cond (not b) (Some r) rest ≡ None → (b ≡ true) × (rest ≡ None)

@@ -1,3 +1,4 @@
+pub mod Words
 pub mod Databases
 pub mod KindsLemmas
 pub mod NamesLemmas

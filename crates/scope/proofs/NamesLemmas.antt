@@ -1,21 +1,5 @@
 -- The symbols and the labels of a list of statements, and names with kinds.
-use Rattle.std.specs.Prelude.{◌≡◌, ℕ, ◌+◌, Bool, true, false, cond, ◌||◌, List, [], ◌∷◌, ◌++◌, Option, Some, None, is_some, refl}
-use Rattle.std.specs.List.{flat_map}
-use Rattle.std.proofs.Common.{sym, ◌∙◌, ap, true≢false, ◌⊎◌, inl, inr, append_assoc}
-use Rattle.std.proofs.lemmas.List.{append-nil}
-use Rattle.std.proofs.lemmas.Bool.{or_left, or_right}
-use Rattle.mm_lex.specs.Alphabet.{Name, name_eq, has_name}
-use Rattle.mm_read.specs.declared.stmt.Stmt.{Stmt}
-use Rattle.mm_read.specs.declared.stmt.Stmt.TheVariants.{Open, Close, Const, Var, Disj, Float, Ess, Axiom, Prove}
-use Rattle.mm_read.specs.Statements.{Database}
-use Rattle.scope.specs.Active.{label_of, variables, was_variable, active_from, active_variables, stays_open}
-use Rattle.names.specs.Codes.{with_names, AreNamed, AreDistinct}
-use Rattle.names.proofs.DistinctLemmas.{distinct-with_names}
-use Rattle.scope.specs.Symbols.{symbols_by, symbols_from, symbols_of, option_list, labels_of}
-use Rattle.scope.specs.Kinds.{Declared, declared_names, kind_in, with_kind, with_kinds}
-use Rattle.scope.specs.declared.numbering.NameKind.{NameKind}
-use Rattle.names.proofs.CodesLemmas.{same_name}
-use Rattle.names.proofs.AddedNames.{or_cases, has_name-append, with_names-more, has-more, has-with_names}
+use Rattle.scope.proofs.Words.{◌≡◌, ℕ, ◌+◌, Bool, true, false, cond, ◌||◌, List, [], ◌∷◌, ◌++◌, Option, Some, None, is_some, refl, flat_map, sym, ◌∙◌, ap, true≢false, ◌⊎◌, inl, inr, append_assoc, append-nil, or_left, or_right, Name, name_eq, has_name, Stmt, Open, Close, Const, Var, Disj, Float, Ess, Axiom, Prove, Database, label_of, variables, was_variable, active_from, active_variables, stays_open, with_names, AreNamed, AreDistinct, distinct-with_names, symbols_by, symbols_from, symbols_of, option_list, labels_of, Declared, declared_names, kind_in, with_kind, with_kinds, NameKind, same_name, or_cases, has_name-append, with_names-more, has-more, has-with_names}
 
 -- ---- symbols are only added at the end
 

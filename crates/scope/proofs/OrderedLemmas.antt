@@ -1,16 +1,7 @@
 -- Words in order: one that stands twice is next to itself, so that they all differ where each two neighbours do.
-use Rattle.std.proofs.Common.{◌≡◌, ◌∙◌, refl, sym, ap, subst, arith, Bool, ℕ, ◌+◌, ◌-◌, ◌<◌, ◌≤◌, true, false, not, ◌&&◌, ◌||◌, true≢false, List, [], ◌∷◌, length, get_or, map, Bor, IsPermutation, IsSorted, Ordering, Less, Equal, Greater, is_lt, is_eq, nat_cmp}
-use Rattle.std.specs.Cmp.Lexicographic.{slice_cmp, on_texts}
-use Rattle.std.specs.List.{AllByRecursion, IsDistinct}
+use Rattle.scope.proofs.Words.{◌≡◌, ◌∙◌, refl, sym, ap, subst, arith, Bool, ℕ, ◌+◌, ◌-◌, ◌<◌, ◌≤◌, true, false, not, ◌&&◌, ◌||◌, true≢false, List, [], ◌∷◌, length, get_or, map, Bor, IsPermutation, IsSorted, Ordering, Less, Equal, Greater, is_lt, is_eq, nat_cmp, slice_cmp, on_texts, AllByRecursion, eq_by_cmp, ordering_reverse, IsPermutation-sym, IsDistinct-IsPermutation, IsDistinct-from_sorted, apart_from_distinct, sorted_from_all_adjacent, is_eq-slice_cmp, Name, name_eq, has_name, name_eq-comm, all_different, DifferNext, IsTwice}
+use Rattle.std.specs.List.{IsDistinct}
 use Rattle.std.specs.List.Sorted.{IsStrictlySortedBy}
-use Rattle.std.specs.Ordering.{eq_by_cmp, ordering_reverse}
-use Rattle.std.proofs.lemmas.List.Sorted.{IsPermutation-sym}
-use Rattle.std.proofs.lemmas.Map.Keys.{IsDistinct-IsPermutation, IsDistinct-from_sorted, apart_from_distinct, sorted_from_all_adjacent}
-use Rattle.std.proofs.lemmas.Map.Text.{is_eq-slice_cmp}
-use Rattle.mm_lex.specs.Alphabet.{Name, name_eq, has_name}
-use Rattle.names.proofs.CodesLemmas.{name_eq-comm}
-use Rattle.scope.specs.Legal.{all_different}
-use Rattle.scope.specs.Stored.Ordered.{DifferNext, IsTwice}
 
 -- the order of words
 abbrev pub order : Bor Name → Bor Name → Ordering

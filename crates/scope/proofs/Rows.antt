@@ -1,8 +1,5 @@
 -- The rules, worked out.
-use Rattle.std.specs.Prelude.{◌≡◌, [], ◌∷◌, ◌++◌, codes, refl, Some}
-use Rattle.mm_read.specs.declared.stmt.Stmt.TheVariants.{Open, Close, Const, Var, Float, Axiom}
-use Rattle.scope.specs.declared.rule.Rule.TheVariants.{G1, G2, G3, G4, G10}
-use Rattle.scope.specs.Legal.{first_broken, AllLegal}
+use Rattle.scope.proofs.Words.{◌≡◌, [], ◌∷◌, ◌++◌, codes, refl, Some, Open, Close, Const, Var, Float, Axiom, G1, G2, G3, G4, G10, first_broken, AllLegal}
 use Rattle.scope.proofs.Databases.{w, demo, row_seven, row_th}
 
 -- D breaks no rule

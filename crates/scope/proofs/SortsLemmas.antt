@@ -1,24 +1,6 @@
 -- The result of a look-up of a symbol.
-use Rattle.std.specs.Prelude.{◌≡◌, ℕ, ◌+◌, ◌==◌, Bool, true, false, not, ◌||◌, ◌&&◌, List, [], ◌∷◌, ◌++◌, length, Option, Some, None, is_some, refl, option_map}
-use Rattle.std.specs.List.{list_any, flat_map}
-use Rattle.std.proofs.Common.{sym, ◌∙◌, ap, arith, true≢false, take, ◌<◌, append_assoc, length-append}
-use Rattle.std.proofs.lemmas.List.{take_at, length_push}
-use Rattle.std.proofs.lemmas.Bool.{eqb-true, eq-eqb, false_from_ne_true}
-use Rattle.std.proofs.Math.Bool.{or-false, and-false}
-use Rattle.mm_lex.specs.Alphabet.{Name, name_eq, has_name}
-use Rattle.mm_read.specs.declared.stmt.Stmt.{Stmt}
-use Rattle.mm_read.specs.declared.stmt.Stmt.TheVariants.{Open, Close, Const, Var, Disj, Float, Ess, Axiom, Prove}
-use Rattle.mm_read.specs.Statements.{Database}
-use Rattle.scope.specs.Active.{variables, constants, active, is_float_of, typed_by, is_variable, is_constant, has_float, was_symbol, was_label, was_variable, active_variables, typed_variables}
-use Rattle.scope.specs.Legal.{all_different}
-use Rattle.names.specs.Codes.{number_in, numbers_in}
-use Rattle.scope.specs.Kinds.{MatchesKind}
-use Rattle.scope.specs.Sorts.{IsSort, sort_by}
-use Rattle.scope.specs.declared.numbering.NameKind.{NameKind}
-use Rattle.scope.specs.declared.numbering.NameKind.TheVariants.{Label, Constant, Variable}
+use Rattle.scope.proofs.Words.{◌≡◌, ℕ, ◌+◌, ◌==◌, Bool, true, false, not, ◌||◌, ◌&&◌, List, [], ◌∷◌, ◌++◌, length, Option, Some, None, is_some, refl, option_map, list_any, flat_map, sym, ◌∙◌, ap, arith, true≢false, take, ◌<◌, append_assoc, length-append, take_at, length_push, eqb-true, eq-eqb, false_from_ne_true, or-false, and-false, Name, name_eq, has_name, Stmt, Open, Close, Const, Var, Disj, Float, Ess, Axiom, Prove, Database, variables, constants, active, is_float_of, typed_by, is_variable, is_constant, has_float, was_symbol, was_label, was_variable, active_variables, typed_variables, all_different, number_in, numbers_in, MatchesKind, IsSort, sort_by, NameKind, Label, Constant, Variable, has_name-append, number_in-same, same_name, name_eq-comm}
 use Rattle.scope.specs.declared.legal.Sort.TheVariants as sort
-use Rattle.names.proofs.AddedNames.{has_name-append, number_in-same}
-use Rattle.names.proofs.CodesLemmas.{same_name, name_eq-comm}
 use Rattle.scope.proofs.NamesLemmas.{active-was}
 
 -- ---- the active symbols, as lists of names

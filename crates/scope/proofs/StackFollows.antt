@@ -1,25 +1,7 @@
 -- How the stacks of a scope follow a statement that opens or closes no block, a `${` and a `$}`.
-use Rattle.std.specs.Prelude.{◌≡◌, ℕ, zero, suc, ◌+◌, ◌≤◌, Bool, true, false, cond, ◌||◌, nat_lt, List, [], ◌∷◌, ◌++◌, length, take, refl}
-use Rattle.std.specs.List.{flat_map}
-use Rattle.std.proofs.Common.{◌∙◌, ap, sym, arith, append_assoc, true≢false, length-append}
-use Rattle.std.proofs.lemmas.List.{append-nil, map-append, take-map, same_from_push}
-use Rattle.std.proofs.lemmas.Grind.{flat_map-append}
-use Rattle.std.proofs.lemmas.Bool.Decides.{nat_tests}
-use Rattle.std.proofs.lemmas.Bool.{eqb-true}
-use Rattle.mm_lex.specs.Alphabet.{Name, has_name}
-use Rattle.mm_read.specs.declared.stmt.Stmt.{Stmt}
-use Rattle.mm_read.specs.declared.stmt.Stmt.TheVariants.{Open, Close}
-use Rattle.mm_read.specs.Statements.{Database}
-use Rattle.scope.specs.Active.{stays_open, active_from, active, is_open, is_close, is_closed, count, variables, typed_by}
-use Rattle.names.specs.Codes.{numbers_in, number_in, AreNamed}
-use Rattle.scope.specs.Standing.{stands_at, standing_of}
-use Rattle.scope.specs.Symbols.{symbols_of}
-use Rattle.scope.specs.Stored.Stacks.{sizes_of, blocks_from, blocks_of, IsKept, IsMarked}
-use Rattle.scope.specs.declared.stack_heights.StackHeights.{StackHeights}
-use Rattle.scope.specs.Laws.{has_open, before_open}
+use Rattle.scope.proofs.Words.{◌≡◌, ℕ, zero, suc, ◌+◌, ◌≤◌, Bool, true, false, cond, ◌||◌, nat_lt, List, [], ◌∷◌, ◌++◌, length, take, refl, flat_map, ◌∙◌, ap, sym, arith, append_assoc, true≢false, length-append, append-nil, map-append, take-map, same_from_push, flat_map-append, nat_tests, eqb-true, Name, has_name, Stmt, Open, Close, Database, stays_open, active_from, active, is_open, is_close, is_closed, count, variables, typed_by, numbers_in, number_in, AreNamed, stands_at, standing_of, symbols_of, sizes_of, blocks_from, blocks_of, IsKept, IsMarked, StackHeights, has_open, before_open, numbers_in-more, has-more, has_name-append}
 use Rattle.scope.proofs.ActiveLemmas.{active_from-append, active_from-close, stays_open-append, flat_map-taken, from_open, split_open, below-deficit, no_deficit, deficit-close, left_open, count-left_open, count-append, none-left}
 use Rattle.scope.proofs.BlocksLemmas.{blocks_from-append, blocks-close}
-use Rattle.names.proofs.AddedNames.{numbers_in-more, has-more, has_name-append}
 use Rattle.scope.proofs.NamesLemmas.{symbols_of-later, symbols_of-append, active-named}
 
 -- ---- a statement that is no bracket

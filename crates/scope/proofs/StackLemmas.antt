@@ -1,9 +1,5 @@
 -- Where a number stands in a stack.
-use Rattle.std.specs.Prelude.{◌≡◌, ℕ, zero, suc, Bool, true, false, ◌||◌, ◌==◌, List, [], ◌∷◌, ◌++◌, length, Some, slice_get, refl}
-use Rattle.std.specs.List.{list_any}
-use Rattle.std.proofs.Common.{sym, ◌∙◌, ap, arith, ◌⊎◌, inl, inr, true≢false}
-use Rattle.std.proofs.lemmas.Bool.Decides.{nat_tests}
-use Rattle.std.proofs.lemmas.Bool.{or_right, eqb-true}
+use Rattle.scope.proofs.Words.{◌≡◌, ℕ, zero, suc, Bool, true, false, ◌||◌, ◌==◌, List, [], ◌∷◌, ◌++◌, length, Some, slice_get, refl, list_any, sym, ◌∙◌, ap, arith, ◌⊎◌, inl, inr, true≢false, nat_tests, or_right, eqb-true}
 
 -- it stands there, so it is among them
 pub member : (xs : List ℕ) (k n : ℕ) → slice_get xs k ≡ Some n → list_any (λ m. m == n) xs ≡ true

@@ -1,16 +1,5 @@
 -- The active `$f`, `$e` and `$d` follow the statements.
-use Rattle.std.specs.Prelude.{◌≡◌, ℕ, suc, ◌+◌, ◌≤◌, Bool, true, false, cond, List, [], ◌∷◌, ◌++◌, length, take, refl}
-use Rattle.std.specs.List.{flat_map}
-use Rattle.std.proofs.Common.{◌∙◌, ap, sym, arith, subst, length-append}
-use Rattle.std.proofs.lemmas.List.{append-nil, take_all}
-use Rattle.std.proofs.lemmas.Grind.{flat_map-append}
-use Rattle.mm_read.specs.declared.stmt.Stmt.{Stmt}
-use Rattle.mm_read.specs.declared.stmt.Stmt.TheVariants.{Open, Close, Const, Var, Disj, Float, Ess, Axiom, Prove}
-use Rattle.mm_read.specs.Statements.{Database}
-use Rattle.scope.specs.Active.{active, active_from, bare, is_close, stays_open}
-use Rattle.scope.specs.Laws.{before_open}
-use Rattle.scope.specs.Standing.{stands_at, standing_of}
-use Rattle.scope.specs.declared.standing.Standing.{Standing}
+use Rattle.scope.proofs.Words.{◌≡◌, ℕ, suc, ◌+◌, ◌≤◌, Bool, true, false, cond, List, [], ◌∷◌, ◌++◌, length, take, refl, flat_map, ◌∙◌, ap, sym, arith, subst, length-append, append-nil, take_all, flat_map-append, Stmt, Open, Close, Const, Var, Disj, Float, Ess, Axiom, Prove, Database, active, active_from, bare, is_close, stays_open, before_open, stands_at, standing_of, Standing}
 use Rattle.scope.proofs.ActiveLemmas.{flat_map-taken}
 use Rattle.scope.proofs.BareLemmas.{bare-same}
 use Rattle.scope.proofs.StackFollows.{flat_map-close, standing-more}

@@ -1,10 +1,5 @@
 -- Where the statements of a database stand.
-use Rattle.std.specs.Prelude.{◌≡◌, ℕ, zero, suc, ◌≤◌, length, Some, option_map, refl}
-use Rattle.std.proofs.Common.{arith}
-use Rattle.std.proofs.lemmas.Option.{slice_get-map, slice_get_within}
-use Rattle.mm_read.specs.declared.stmt.Stmt.{Stmt}
-use Rattle.mm_read.specs.Statements.{Database}
-use Rattle.scope.specs.Active.{bare, bares, stmt_at}
+use Rattle.scope.proofs.Words.{◌≡◌, ℕ, zero, suc, ◌≤◌, length, Some, option_map, refl, arith, slice_get-map, slice_get_within, Stmt, Database, bare, bares, stmt_at}
 
 -- a position at which a statement stands is one of the database
 pub stands-within : (S : Database) (i : ℕ) (s : Stmt) → stmt_at S i ≡ Some s → (1 ≤ i) × (i ≤ length S)

@@ -1,20 +1,5 @@
 -- The names that are no labels are the declared symbols.
-use Rattle.std.specs.Prelude.{◌≡◌, ℕ, zero, suc, ◌<◌, Bool, true, false, cond, ◌||◌, ◌&&◌, nat_lt, List, [], ◌∷◌, ◌++◌, length, take, Option, Some, None, is_some, refl}
-use Rattle.std.specs.List.{list_all}
-use Rattle.std.proofs.Common.{◌∙◌, ap, sym, arith, true≢false, length-append}
-use Rattle.std.proofs.lemmas.List.{append-nil, map-append}
-use Rattle.std.proofs.lemmas.List.Folds.{list_all-append}
-use Rattle.std.proofs.lemmas.Bool.{or_right, lt-ltb, ltb-true, and_parts}
-use Rattle.std.proofs.lemmas.Option.{same_Some}
-use Rattle.mm_lex.specs.Alphabet.{Name, name_eq, has_name}
-use Rattle.mm_read.specs.Statements.{Expr}
-use Rattle.names.specs.Codes.{name_at, decode, with_name, with_names, AreCodes}
-use Rattle.scope.specs.Kinds.{Declared, declared_names, names_that, declared_symbols, declared_labels, kind_in, with_kind, with_kinds, is_label_kind, is_symbol_kind, is_labelling, IsNumberOf}
-use Rattle.scope.specs.Stored.SymbolNumbers.{AreRecorded, IsAppended}
-use Rattle.scope.specs.declared.numbering.NameKind.{NameKind}
-use Rattle.scope.specs.declared.numbering.NameKind.TheVariants.{Label, Constant, Variable}
-use Rattle.names.proofs.CodesLemmas.{name_same, same_name}
-use Rattle.names.proofs.DistinctLemmas.{name_at-more}
+use Rattle.scope.proofs.Words.{◌≡◌, ℕ, zero, suc, ◌<◌, Bool, true, false, cond, ◌||◌, ◌&&◌, nat_lt, List, [], ◌∷◌, ◌++◌, length, take, Option, Some, None, is_some, refl, list_all, ◌∙◌, ap, sym, arith, true≢false, length-append, append-nil, map-append, list_all-append, or_right, lt-ltb, ltb-true, and_parts, same_Some, Name, name_eq, has_name, Expr, name_at, decode, with_name, with_names, AreCodes, Declared, declared_names, names_that, declared_symbols, declared_labels, kind_in, with_kind, with_kinds, is_label_kind, is_symbol_kind, is_labelling, IsNumberOf, AreRecorded, IsAppended, NameKind, Label, Constant, Variable, name_same, same_name, name_at-more}
 use Rattle.scope.proofs.NamesLemmas.{or_kind, kind_in-with_kinds}
 
 -- ---- the names that are no labels, and the labels

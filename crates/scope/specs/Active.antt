@@ -2,12 +2,7 @@
 -- Source: Metamath, 4.2.8 (scoping statements) and 4.2.
 -- The code keeps stacks and the places where blocks start; the model counts brackets in what follows a statement.
 use Rattle.std.specs.Prelude.{ℕ, zero, suc, ◌+◌, ◌-◌, Bool, true, false, ◌&&◌, ◌||◌, ◌==◌, nat_le, nat_lt, if◌then◌else◌, List, [], ◌∷◌, take, drop, map, Option, Some, None, slice_get}
-use Rattle.std.specs.List.{list_any, flat_map}
-use Rattle.mm_lex.specs.Alphabet.{Name, name_eq}
-use Rattle.mm_lex.specs.Alphabet.{has_name}
-use Rattle.mm_read.specs.declared.stmt.Stmt.{Stmt}
-use Rattle.mm_read.specs.declared.stmt.Stmt.TheVariants.{Open, Close, Const, Var, Disj, Float, Ess, Axiom, Prove}
-use Rattle.mm_read.specs.Statements.{Expr, Database}
+use Rattle.scope.specs.Words.{list_any, flat_map, Name, name_eq, has_name, Stmt, Open, Close, Const, Var, Disj, Float, Ess, Axiom, Prove, Expr, Database}
 
 -- the statement at a position
 abbrev pub stmt_at : Database → ℕ → Option Stmt

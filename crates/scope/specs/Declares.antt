@@ -1,9 +1,7 @@
 -- The declarations of a statement in the numbering, by its shape.
 -- Source: this project's form; what declares a name is Metamath, 4.2.
 use Rattle.std.specs.Prelude.{◌≡◌, ℕ, true, false, List, Option, None}
-use Rattle.mm_lex.specs.Alphabet.{Name, has_name}
-use Rattle.mm_read.specs.declared.stmt.Stmt.{Stmt}
-use Rattle.mm_read.specs.declared.stmt.Stmt.TheVariants.{Const, Var, Float, Ess, Axiom, Prove}
+use Rattle.scope.specs.Words.{Name, has_name, Stmt, Const, Var, Float, Ess, Axiom, Prove}
 use Rattle.scope.specs.Kinds.{Declared, declared_symbols, kind_in, is_label_kind, with_kind, with_kinds}
 use Rattle.scope.specs.Stored.SymbolNumbers.{AreRecorded}
 use Rattle.scope.specs.declared.numbering.NameKind.TheVariants.{Label, Constant, Variable}

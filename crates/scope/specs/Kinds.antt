@@ -2,10 +2,8 @@
 -- Source: Metamath, 4.2.
 -- The code keeps a name's kind beside its number; the model looks through the statements.
 use Rattle.std.specs.Prelude.{◌≡◌, ◌<◌, Bool, true, false, List, [], ◌∷◌, ◌++◌, map, length, take, ℕ, Option, Some, None, is_some, if◌then◌else◌}
-use Rattle.mm_lex.specs.Alphabet.{Name, name_eq}
-use Rattle.mm_read.specs.Statements.{Database}
+use Rattle.scope.specs.Words.{Name, name_eq, Database, name_at}
 use Rattle.scope.specs.Active.{is_constant, was_variable, was_label}
-use Rattle.names.specs.Codes.{name_at}
 use Rattle.scope.specs.Symbols.{symbols_of, labels_of}
 use Rattle.scope.specs.declared.numbering.NameKind.{NameKind}
 use Rattle.scope.specs.declared.numbering.NameKind.TheVariants.{Label, Constant, Variable}

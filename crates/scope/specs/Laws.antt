@@ -2,10 +2,7 @@
 -- Source: Metamath, 4.2.8 (scoping statements) and 4.2.
 -- The test of what is active recurses on the statements; the sentence counts brackets in each beginning of them.
 use Rattle.std.specs.Prelude.{◌≡◌, ℕ, ◌+◌, ◌-◌, ◌≤◌, ◌<◌, ◌↔◌, Bool, false, IsTrue, if◌then◌else◌, List, [], ◌∷◌, ◌++◌, length, take, drop}
-use Rattle.std.specs.List.{list_any}
-use Rattle.mm_read.specs.declared.stmt.Stmt.{Stmt}
-use Rattle.mm_read.specs.declared.stmt.Stmt.TheVariants.{Close}
-use Rattle.mm_read.specs.Statements.{Database}
+use Rattle.scope.specs.Words.{list_any, Stmt, Close, Database}
 use Rattle.scope.specs.Active.{count, is_open, is_close, is_active, active, active_from, bare, bares}
 use Rattle.scope.specs.Legal.{broken_rule, end_rule}
 

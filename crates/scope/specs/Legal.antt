@@ -2,12 +2,7 @@
 -- Source: Metamath, 4.2 (declarations, hypotheses, assertions, scoping) and appendix E; the numbering is this project's.
 -- The code looks each name up once and stops at the least rule broken; the model tests rule by rule.
 use Rattle.std.specs.Prelude.{◌≡◌, ℕ, ◌+◌, Bool, true, not, ◌&&◌, ◌||◌, nat_lt, if◌then◌else◌, List, [], ◌∷◌, ◌++◌, find, Option, Some, None}
-use Rattle.std.specs.List.{list_all}
-use Rattle.mm_lex.specs.Alphabet.{Name}
-use Rattle.mm_lex.specs.Alphabet.{has_name}
-use Rattle.mm_read.specs.declared.stmt.Stmt.{Stmt}
-use Rattle.mm_read.specs.declared.stmt.Stmt.TheVariants.{Close, Const, Disj, Float, Ess, Axiom, Prove}
-use Rattle.mm_read.specs.Statements.{Expr, Database}
+use Rattle.scope.specs.Words.{list_all, Name, has_name, Stmt, Close, Const, Disj, Float, Ess, Axiom, Prove, Expr, Database}
 use Rattle.scope.specs.declared.rule.Rule.{Rule}
 use Rattle.scope.specs.declared.rule.Rule.TheVariants.{G1, G2, G3, G4, G5, G6, G7, G8, G9, G10}
 use Rattle.scope.specs.Active.{constants, variables, label_of, expr_of, count, is_open, is_close, is_closed, is_variable, is_constant, was_symbol, was_label, has_float}

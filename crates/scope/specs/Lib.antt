@@ -1,3 +1,4 @@
+pub mod Words
 pub mod Active
 pub mod Legal
 pub mod Accepted

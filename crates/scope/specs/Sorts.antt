@@ -3,8 +3,7 @@
 -- Source: Metamath, 4.2.
 -- The code looks a name up once; each rule on expressions is said by what it is.
 use Rattle.std.specs.Prelude.{◌≡◌, Bool, true, false, not, ◌||◌, ◌&&◌, Option, Some, None, if◌then◌else◌}
-use Rattle.mm_lex.specs.Alphabet.{Name}
-use Rattle.mm_read.specs.Statements.{Database}
+use Rattle.scope.specs.Words.{Name, Database}
 use Rattle.scope.specs.Active.{is_constant, is_variable, was_label, has_float}
 use Rattle.scope.specs.declared.rule.Rule.{Rule}
 use Rattle.scope.specs.declared.rule.Rule.TheVariants.{G5, G6, G7}

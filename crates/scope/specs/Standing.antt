@@ -2,10 +2,7 @@
 -- Source: Metamath, 4.2.8: what is active, hypothesis by hypothesis.
 -- The code keeps them on a stack; the model filters what is active.
 use Rattle.std.specs.Prelude.{ℕ, List, [], ◌∷◌}
-use Rattle.std.specs.List.{flat_map}
-use Rattle.mm_read.specs.declared.stmt.Stmt.{Stmt}
-use Rattle.mm_read.specs.declared.stmt.Stmt.TheVariants.{Disj, Float, Ess}
-use Rattle.mm_read.specs.Statements.{Database}
+use Rattle.scope.specs.Words.{flat_map, Stmt, Disj, Float, Ess, Database}
 use Rattle.scope.specs.Active.{active}
 use Rattle.scope.specs.declared.standing.Standing.{Standing}
 

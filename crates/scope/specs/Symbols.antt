@@ -1,12 +1,8 @@
 -- Symbols as numbers: each declared symbol has the place of its first declaration among all symbols, from 0.
 -- Source: this project's form of keeping symbols; what declares a symbol is Metamath, 4.2.1.
 use Rattle.std.specs.Prelude.{◌≡◌, ℕ, List, [], ◌∷◌, Option, Some, None}
-use Rattle.mm_lex.specs.Alphabet.{Name}
-use Rattle.mm_read.specs.declared.stmt.Stmt.{Stmt}
-use Rattle.mm_read.specs.declared.stmt.Stmt.TheVariants.{Const, Var, Disj, Float, Ess, Axiom, Prove}
-use Rattle.mm_read.specs.Statements.{Expr, Database}
+use Rattle.scope.specs.Words.{Name, Stmt, Const, Var, Disj, Float, Ess, Axiom, Prove, Expr, Database, decode, with_names, AreCodes}
 use Rattle.scope.specs.Active.{label_of}
-use Rattle.names.specs.Codes.{decode, with_names, AreCodes}
 
 -- the symbols that a statement declares
 abbrev pub symbols_by : Stmt → List Name

@@ -1,15 +1,5 @@
 -- Files that are written one after another.
-use Rattle.std.specs.Prelude.{◌≡◌, ℕ, suc, ◌+◌, ◌<◌, ◌≤◌, List, [], ◌∷◌, ◌++◌, length, take, get_or, slice_get, Some, option_map, Result, Ok, Err, OnOk}
-use Rattle.std.proofs.Common.{sym, ◌∙◌, ap, subst, refl, arith, append_assoc, append-nil}
-use Rattle.std.proofs.lemmas.List.{take_more, length-take-le}
-use Rattle.frame.specs.FrameOf.{HasAssertion}
-use Rattle.mm_read.specs.Statements.{Database}
-use Rattle.mm_read.specs.declared.stmt.Stmt.{Stmt}
-use Rattle.mm_read.specs.declared.stmt.Stmt.TheVariants.{Axiom, Open}
-use Rattle.mm_lex.specs.Alphabet.{Name}
-use Rattle.scope.specs.Active.{bare, bares, stmt_at}
-use Rattle.scope.proofs.StatementPlaces.{stmt_at-bares}
-use Rattle.sites.specs.SiteFiles.{WritesNamed, page_name, page_names}
+use Rattle.sites.proofs.Words.{◌≡◌, ℕ, suc, ◌+◌, ◌<◌, ◌≤◌, List, [], ◌∷◌, ◌++◌, length, take, get_or, slice_get, Some, option_map, Result, Ok, Err, OnOk, sym, ◌∙◌, ap, subst, refl, arith, append_assoc, append-nil, take_more, length-take-le, HasAssertion, Database, Stmt, Axiom, Open, Name, bare, bares, stmt_at, stmt_at-bares, WritesNamed, page_name, page_names}
 
 -- ---- one after another
 

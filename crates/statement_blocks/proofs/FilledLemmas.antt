@@ -1,10 +1,5 @@
 -- Words filled into lines, one after another.
-use Rattle.std.proofs.Common.{◌≡◌, ℕ, List, [], ◌∷◌, ◌++◌, map, sym, ◌∙◌, ap, append_assoc}
-use Rattle.std.proofs.lemmas.List.{append-nil}
-use Rattle.mm_lex.specs.declared.span.Span.{Span}
-use Rattle.mm_lex.specs.Alphabet.{Name, runs, word}
-use Rattle.mm_lex.specs.Comments.{runs_behind}
-use Rattle.statement_blocks.specs.Filled.{gap, column_after, filled_from, filled}
+use Rattle.statement_blocks.proofs.Words.{◌≡◌, ℕ, List, [], ◌∷◌, ◌++◌, map, sym, ◌∙◌, ap, append_assoc, append-nil, Span, Name, runs, word, runs_behind, gap, column_after, filled_from, filled}
 
 -- what is written, and what the rest would add, is the whole
 abbrev pub IsFilled : List ℕ → ℕ → ℕ → List ℕ → List ℕ → Type 0

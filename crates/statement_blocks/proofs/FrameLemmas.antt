@@ -1,16 +1,5 @@
 -- The frame of an assertion by its statement without its proof.
-use Rattle.std.proofs.Common.{◌≡◌, ℕ, zero, suc, ◌+◌, ◌≤◌, List, [], ◌∷◌, ◌++◌, length, take, map, codes, refl, ap, sym, ◌∙◌, append_assoc, arith, Option, Some, None, slice_get, true}
-use Rattle.std.specs.Prelude.{flat_map, option_map, Result, Ok, Err, OnOk}
-use Rattle.std.proofs.lemmas.List.{append-nil, take_all}
-use Rattle.mm_lex.specs.Alphabet.{Name}
-use Rattle.mm_read.specs.declared.stmt.Stmt.{Stmt}
-use Rattle.mm_read.specs.declared.stmt.Stmt.TheVariants.{Prove}
-use Rattle.mm_read.specs.Statements.{Database}
-use Rattle.names.specs.Codes.{decode}
-use Rattle.scope.specs.Active.{bare, bares, before, stmt_at, is_assertion}
-use Rattle.scope.proofs.StatementPlaces.{stmt_at-bares}
-use Rattle.frame.specs.FrameOf.{hypotheses, mandatory_groups, HasAssertion}
-use Rattle.statement_blocks.specs.Lines.{line_at, after_space, group_line, number_text, numbers_line, frame_lines}
+use Rattle.statement_blocks.proofs.Words.{◌≡◌, ℕ, zero, suc, ◌+◌, ◌≤◌, List, [], ◌∷◌, ◌++◌, length, take, map, codes, refl, ap, sym, ◌∙◌, append_assoc, arith, Option, Some, None, slice_get, true, flat_map, option_map, Result, Ok, Err, OnOk, append-nil, take_all, Name, Stmt, Prove, Database, decode, bare, bares, before, stmt_at, is_assertion, stmt_at-bares, hypotheses, mandatory_groups, HasAssertion, line_at, after_space, group_line, number_text, numbers_line, frame_lines}
 
 -- a frame looks at no proof
 pub hypotheses-bare : (S : Database) (s : Stmt) → hypotheses S (bare s) ≡ hypotheses S s

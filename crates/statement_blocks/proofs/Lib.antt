@@ -1,3 +1,4 @@
+pub mod Words
 pub mod FilledLemmas
 pub mod FrameLemmas
 mod Rows

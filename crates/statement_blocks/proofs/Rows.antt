@@ -1,11 +1,5 @@
 -- Blocks of small statements.
-use Rattle.std.proofs.Common.{◌≡◌, List, [], ◌∷◌, codes, refl, arith, Some, None}
-use Rattle.std.specs.Prelude.{decimal}
-use Rattle.std.proofs.lemmas.Fmt.{decimal_digit}
-use Rattle.mm_read.specs.declared.stmt.Stmt.TheVariants.{Const, Var, Disj, Float, Ess, Axiom, Prove, Open, Close}
-use Rattle.mm_read.specs.Statements.{Database}
-use Rattle.statement_blocks.specs.Filled.{filled}
-use Rattle.statement_blocks.specs.Blocks.{block_text}
+use Rattle.statement_blocks.proofs.Words.{◌≡◌, List, [], ◌∷◌, codes, refl, arith, Some, None, decimal, decimal_digit, Const, Var, Disj, Float, Ess, Axiom, Prove, Open, Close, Database, filled, block_text}
 
 -- the digits of small numbers
 one : decimal 1 ≡ codes "1"

@@ -1,44 +1,10 @@
 -- The step that a citation adds to a table, where a run takes the same step.
-use Rattle.std.specs.Prelude.{◌≡◌, ℕ, zero, suc, ◌-◌, ◌<◌, ◌≤◌, List, [], ◌∷◌, ◌++◌, length, map, drop, get_or, slice_get, Some, refl}
-use Rattle.std.proofs.Common.{sym, ◌∙◌, ap, subst, arith, inl, inr}
-use Rattle.std.proofs.lemmas.List.{length-map, map-append}
-use Rattle.std.proofs.lemmas.Option.{get_or_from_slice_get}
-use Rattle.mm_lex.specs.Alphabet.{Name}
-use Rattle.mm_read.specs.declared.stmt.Stmt.{Stmt}
-use Rattle.mm_read.specs.Statements.{Expr, Database}
-use Rattle.scope.specs.Active.{stmt_at, before, expr_of, is_assertion}
-use Rattle.names.specs.Codes.{decode}
-use Rattle.entries.specs.declared.assertion_view.Hypothesis.TheVariants.{Float}
-use Rattle.entries.specs.declared.assertion_view.AssertionView.{AssertionView}
-use Rattle.frame.specs.Below.{AreBelow, AllBelow}
-use Rattle.frame.specs.Bound.{IsBound}
-use Rattle.frame.specs.AssertionView.{IsViewOf}
-use Rattle.frame.specs.FrameOf.{HasAssertion, hypotheses}
-use Rattle.frame.specs.Citations.{Carries, IsHypothesis, IsInstance, premises}
-use Rattle.frame.specs.AtPosition.{AreLegal}
+use Rattle.steps.proofs.Words.{◌≡◌, ℕ, zero, suc, ◌-◌, ◌<◌, ◌≤◌, List, [], ◌∷◌, ◌++◌, length, map, drop, get_or, slice_get, Some, refl, sym, ◌∙◌, ap, subst, arith, inl, inr, length-map, map-append, get_or_from_slice_get, Name, Stmt, Expr, Database, stmt_at, before, expr_of, is_assertion, decode, Float, AssertionView, AreBelow, AllBelow, IsBound, IsViewOf, HasAssertion, hypotheses, Carries, IsHypothesis, IsInstance, premises, AreLegal, Cite, below-drop, IsTyped, AreRead, AreDifferent, AreNamed, Results, State, Cites, Steps, with_result, below, top, required-lengths, required-different, Meets, meets-step, read-over, cited-plain, append_cut, length-premises, not_both, apply-below, halves, length-top, map-drop, Row, no_row, expr_in, Follows, from_hypothesis, from_assertion, AreRows, row_of, rows_of, codes_in, progress_of, IsDraft, IsTied, GivesHypothesis, GivesAssertion, TableDraft, some-same, below-take}
 use Rattle.frame.specs.Substitution.{Images, CodeImages, apply as applied, code_apply}
-use Rattle.proof_code.specs.declared.item.Item.TheVariants.{Cite}
-use Rattle.subst.proofs.GroupLemmas.{below-drop}
-use Rattle.verify.specs.Fits.{IsTyped, AreRead, AreDifferent}
-use Rattle.verify.specs.StepsByNumber.{AreNamed}
-use Rattle.verify.specs.Machine.{Results, State, Cites, of_hypothesis, of_assertion, Steps, with_result}
-use Rattle.verify.specs.ResultPlaces.{below, top}
-use Rattle.verify.proofs.RequiredHypotheses.{required-lengths, required-different}
-use Rattle.verify.proofs.CitationLemmas.{Meets, meets-step}
-use Rattle.verify.proofs.CitingLemmas.{read-over}
-use Rattle.verify.proofs.KeptListsLemmas.{cited-plain}
-use Rattle.verify.proofs.Decide.{append_cut, length-premises, not_both}
-use Rattle.verify.proofs.ImageLemmas.{apply-below}
-use Rattle.verify.proofs.Named.{halves, length-top}
-use Rattle.verify.proofs.ResultPlaceLemmas.{map-drop}
+use Rattle.verify.specs.Machine.{of_hypothesis, of_assertion}
 use Rattle.steps.specs.StepTable.{Step, stands, of_hypothesis as makes_hypothesis, of_assertion as makes_assertion, RecordsItem}
-use Rattle.steps.specs.Rows.{Row, no_row, expr_in, Follows, from_hypothesis, from_assertion, AreRows}
 use Rattle.steps.specs.StepTable as table
-use Rattle.steps.specs.Stored.Drafted.{row_of, rows_of, codes_in, progress_of, IsDraft, IsTied, GivesHypothesis, GivesAssertion}
-use Rattle.steps.specs.declared.table_draft.TableDraft.{TableDraft}
 use Rattle.steps.proofs.PlacingLemmas.{found-draft, found-placed, found-tied, made-draft, made-placed, made-tied}
-use Rattle.frame.proofs.FoundByNumber.{some-same}
-use Rattle.frame.proofs.SymbolNumberLemmas.{below-take}
 
 top-map : {A B : Type 0} (f : A → B) (n : ℕ) (xs : List A) → top n (map f xs) ≡ map f (top n xs)
 top-map f n xs = ap (λ l. drop (l - n) (map f xs)) (length-map xs f) ∙ sym (map-drop f (length xs - n) xs)

@@ -1,21 +1,5 @@
 -- Images are read off results that begin with the typecodes of their hypotheses.
-use Rattle.std.specs.Prelude.{◌≡◌, ℕ, Bool, true, false, List, [], length, map, get_or, slice_get, IfSome, None, Option, Some}
-use Rattle.std.specs.Borrow.{Bor}
-use Rattle.std.proofs.Common.{subst, sym, ◌∙◌}
-use Rattle.mm_lex.specs.Alphabet.{Name}
-use Rattle.mm_read.specs.Statements.{Expr}
-use Rattle.names.specs.Codes.{AreDistinct, decode}
-use Rattle.entries.specs.SymbolPlaces.{ArePlacesOf}
-use Rattle.frame.proofs.FoundByNumber.{decode-injective}
-use Rattle.frame.specs.Below.{AreBelow}
-use Rattle.frame.specs.ExprPlaces.{AreExprPlaces}
-use Rattle.subst.specs.declared.symbol_range.SymbolRange.{SymbolRange}
-use Rattle.subst.specs.SymbolRanges.{seen_at, images_at, AreWithin}
-use Rattle.entries.specs.declared.assertion_view.Hypothesis.{Hypothesis}
-use Rattle.entries.specs.declared.assertion_view.Hypothesis.TheVariants.{Float}
-use Rattle.verify.specs.Fits.{IsTyped, AreRead, Reads}
-use Rattle.verify.specs.ReadPlaces.{ReadsAll}
-use Rattle.verify.proofs.ReadImageLemmas.{reads-seen}
+use Rattle.steps.proofs.Words.{◌≡◌, ℕ, Bool, true, false, List, [], length, map, get_or, slice_get, IfSome, None, Option, Some, Bor, subst, sym, ◌∙◌, Name, Expr, AreDistinct, decode, ArePlacesOf, decode-injective, AreBelow, AreExprPlaces, SymbolRange, seen_at, images_at, AreWithin, Hypothesis, Float, IsTyped, AreRead, Reads, ReadsAll, reads-seen}
 
 module _ (xs ys typecodes : List ℕ) (hs : List Hypothesis) (places : List SymbolRange) (images : List (ℕ × SymbolRange)) (same : ys ≡ xs) (count : length places ≡ length hs) (within : AreWithin (length xs) places) where
   -- the images read by places are those read off the results that stand there

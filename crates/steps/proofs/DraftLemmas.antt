@@ -1,11 +1,5 @@
 -- Rows in one buffer, one place at a time.
-use Rattle.std.specs.Prelude.{◌≡◌, ℕ, zero, suc, ◌+◌, ◌<◌, ◌≤◌, List, [], ◌∷◌, ◌++◌, length, map, take, get_or, refl}
-use Rattle.std.proofs.Common.{sym, ◌∙◌, ap, subst, arith}
-use Rattle.frame.specs.Below.{AreBelow}
-use Rattle.subst.specs.SymbolRanges.{seen_at, AreWithin}
-use Rattle.steps.specs.declared.table_draft.PlacedStep.{PlacedStep}
-use Rattle.steps.specs.Rows.{no_row}
-use Rattle.steps.specs.Stored.Drafted.{row_of, place_in, AreInBuffer}
+use Rattle.steps.proofs.Words.{◌≡◌, ℕ, zero, suc, ◌+◌, ◌<◌, ◌≤◌, List, [], ◌∷◌, ◌++◌, length, map, take, get_or, refl, sym, ◌∙◌, ap, subst, arith, AreBelow, seen_at, AreWithin, PlacedStep, no_row, row_of, place_in, AreInBuffer}
 
 pub place-get : (ps : List PlacedStep) (k : ℕ) (d : PlacedStep) → k < length ps → (get_or ps k d).place ≡ place_in ps k
 place-get [] k d h = absurd (omega (arith, h))

@@ -1,25 +1,5 @@
 -- A row more: what stood before stands.
-use Rattle.std.specs.Prelude.{◌≡◌, ◌≢◌, ℕ, zero, suc, ◌≤◌, ◌⊎◌, List, [], ◌∷◌, ◌++◌, length, map, slice_get, Some, None, refl}
-use Rattle.std.proofs.Common.{sym, ◌∙◌, ap, subst, arith, inl, inr, true≢false, true, false, Bool}
-use Rattle.std.specs.BTreeMap.{BTreeMap}
-use Rattle.std.specs.Str.{bytes_eq}
-use Rattle.std.specs.declared.vec.Vec.{Vec}
-use Rattle.std.specs.declared.alloc.Global.{Global}
-use Rattle.std.proofs.lemmas.Slice.Eq.{bytes_eq-Decides}
-use Rattle.std.proofs.lemmas.Option.{slice_get_within}
-use Rattle.std.proofs.lemmas.List.{map_push}
-use Rattle.mm_lex.specs.Alphabet.{Name}
-use Rattle.mm_read.specs.Statements.{Database}
-use Rattle.names.specs.Codes.{decode}
-use Rattle.frame.specs.Below.{AreBelow}
-use Rattle.subst.proofs.SymbolRangeLemmas.{seen-more, seen-last}
-use Rattle.frame.proofs.PositionLemmas.{get-front}
-use Rattle.steps.specs.declared.table_draft.PlacedStep.{PlacedStep}
-use Rattle.steps.specs.StepTable.{Step}
-use Rattle.steps.specs.Rows.{Row, row, no_row, steps_of, expr_in, Follows, from_hypothesis, from_assertion, IsRow, AreRows}
-use Rattle.steps.specs.Stored.Drafted.{row_of, key_of, place_of, AreKnown, AreInBuffer}
-use Rattle.frame.proofs.SymbolNumberLemmas.{below-more}
-use Rattle.entries.proofs.StatementRecordLemmas.{get-last}
+use Rattle.steps.proofs.Words.{◌≡◌, ◌≢◌, ℕ, zero, suc, ◌≤◌, ◌⊎◌, List, [], ◌∷◌, ◌++◌, length, map, slice_get, Some, None, refl, sym, ◌∙◌, ap, subst, arith, inl, inr, true≢false, true, false, Bool, BTreeMap, bytes_eq, Vec, Global, bytes_eq-Decides, slice_get_within, map_push, Name, Database, decode, AreBelow, seen-more, seen-last, get-front, PlacedStep, Step, Row, row, no_row, steps_of, expr_in, Follows, from_hypothesis, from_assertion, IsRow, AreRows, row_of, key_of, place_of, AreKnown, AreInBuffer, below-more, get-last}
 
 -- ---- one buffer
 

@@ -1,26 +1,6 @@
 -- The effect of one item on a draft.
-use Rattle.std.specs.Prelude.{◌≡◌, ℕ, zero, suc, ◌-◌, ◌<◌, List, [], ◌∷◌, ◌++◌, length, map, get_or, slice_get, Option, Some, None, refl}
-use Rattle.std.proofs.Common.{sym, ◌∙◌, ap, subst, arith, length-append}
-use Rattle.std.proofs.lemmas.List.{length-map, map_push}
-use Rattle.std.proofs.lemmas.Option.{slice_get-get_or}
-use Rattle.mm_lex.specs.Alphabet.{Name}
-use Rattle.mm_read.specs.declared.stmt.Stmt.{Stmt}
-use Rattle.mm_read.specs.Statements.{Expr, Database}
-use Rattle.scope.specs.Active.{stmt_at}
-use Rattle.frame.specs.Below.{AreBelow}
-use Rattle.frame.specs.Citations.{Carries, IsHypothesis}
-use Rattle.frame.specs.AtPosition.{IsMeaning, IsPosition, ArePositions, AreLegal}
-use Rattle.frame.specs.declared.meaning.Meaning.TheVariants.{Nothing}
-use Rattle.proof_code.specs.declared.item.Item.TheVariants.{Recall, Mark}
-use Rattle.verify.specs.Machine.{State, Cites, of_hypothesis, of_assertion, with_result, with_mark}
-use Rattle.verify.proofs.Decide.{append_cut}
-use Rattle.verify.proofs.ResultPlaceLemmas.{get-map}
-use Rattle.steps.specs.StepTable.{Progress}
-use Rattle.steps.specs.Rows.{steps_of, expr_in, AreRows}
-use Rattle.steps.specs.Stored.Drafted.{row_of, rows_of, AreInBuffer, AreKnown, IsDraft, IsTied, CanDo, IsDone}
-use Rattle.steps.specs.declared.table_draft.TableDraft.{TableDraft}
-use Rattle.frame.proofs.SymbolNumberLemmas.{below-push}
-use Rattle.frame.proofs.ActiveDisjointLemmas.{below-at}
+use Rattle.steps.proofs.Words.{◌≡◌, ℕ, zero, suc, ◌-◌, ◌<◌, List, [], ◌∷◌, ◌++◌, length, map, get_or, slice_get, Option, Some, None, refl, sym, ◌∙◌, ap, subst, arith, length-append, length-map, map_push, slice_get-get_or, Name, Stmt, Expr, Database, stmt_at, AreBelow, Carries, IsHypothesis, IsMeaning, IsPosition, ArePositions, AreLegal, Nothing, Recall, Mark, State, Cites, with_result, with_mark, append_cut, get-map, Progress, steps_of, expr_in, AreRows, row_of, rows_of, AreInBuffer, AreKnown, IsDraft, IsTied, CanDo, IsDone, TableDraft, below-push, below-at}
+use Rattle.verify.specs.Machine.{of_hypothesis, of_assertion}
 
 -- the last of a list
 front-last : (xs : List ℕ) (d : ℕ) → 0 < length xs → (b : List ℕ) × (xs ≡ b ++ get_or xs (length xs - 1) d ∷ [])

@@ -1,15 +1,5 @@
 -- The marks of the essential steps, from the last step to the first.
-use Rattle.std.specs.Prelude.{◌≡◌, ◌⊎◌, ℕ, zero, suc, ◌-◌, ◌<◌, ◌≤◌, Bool, true, false, List, [], ◌∷◌, length, replicate, get_or, slice_get, slice_set, Some, refl}
-use Rattle.std.proofs.Common.{sym, ◌∙◌, ap, subst, arith, inl, inr}
-use Rattle.std.proofs.lemmas.List.{length-set, length-replicate, get_or-set_same}
-use Rattle.std.proofs.lemmas.Option.{slice_get_within}
-use Rattle.mm_read.specs.Statements.{Database}
-use Rattle.frame.specs.Below.{AreBelow}
-use Rattle.verify.proofs.MarkLemmas.{no-mark, set_true}
-use Rattle.steps.specs.StepTable.{Step}
-use Rattle.steps.specs.Essential.{essential_of, IsIn, IsEssential, is_last, is_taken}
-use Rattle.steps.specs.Stored.Marked.{HasMark, mark_last, mark_each, MarksMore, AreMarkedFrom, AreMarks}
-use Rattle.verify.proofs.PlanLemmas.{below-get}
+use Rattle.steps.proofs.Words.{◌≡◌, ◌⊎◌, ℕ, zero, suc, ◌-◌, ◌<◌, ◌≤◌, Bool, true, false, List, [], ◌∷◌, length, replicate, get_or, slice_get, slice_set, Some, refl, sym, ◌∙◌, ap, subst, arith, inl, inr, length-set, length-replicate, get_or-set_same, slice_get_within, Database, AreBelow, no-mark, set_true, Step, essential_of, IsIn, IsEssential, is_last, is_taken, HasMark, mark_last, mark_each, MarksMore, AreMarkedFrom, AreMarks, below-get}
 
 pub from-or-at : (p j : ℕ) → p ≤ j → (j ≡ p) ⊎ (suc p ≤ j)
 from-or-at zero zero h = inl refl

@@ -1,13 +1,5 @@
 -- A map from lists of numbers has for each list but the one that was set what it had before.
-use Rattle.std.specs.Prelude.{◌≡◌, ◌≢◌, List, ℕ, Option}
-use Rattle.std.specs.declared.vec.Vec.{Vec}
-use Rattle.std.specs.declared.alloc.Global.{Global}
-use Rattle.std.specs.BTreeMap.{BTreeMap, UpdatesBy}
-use Rattle.std.specs.Cmp.{eq_by_cmp_equiv}
-use Rattle.std.specs.Cmp.Lexicographic.{slice_cmp, nat_list_cmp_total}
-use Rattle.std.specs.Ordering.{nat_cmp, is_eq}
-use Rattle.steps.specs.Stored.Drafted.{place_of}
-use Rattle.names.proofs.OverflowLemmas.{apart, keeps}
+use Rattle.steps.proofs.Words.{◌≡◌, ◌≢◌, List, ℕ, Option, Vec, Global, BTreeMap, UpdatesBy, eq_by_cmp_equiv, slice_cmp, nat_list_cmp_total, nat_cmp, is_eq, place_of, apart, keeps}
 
 pub others-same : (xs : List ℕ) (m n : BTreeMap (Vec ℕ Global) ℕ) (w : Option ℕ) → UpdatesBy (λ a b. slice_cmp nat_cmp a.items b.items) (λ k. slice_cmp nat_cmp xs k.items) m n w
     → (ys : List ℕ) → ys ≢ xs → place_of n ys ≡ place_of m ys

@@ -1,3 +1,4 @@
+pub mod Words
 pub mod KnownMapLemmas
 pub mod ConcludingLemmas
 pub mod DraftLemmas

@@ -1,17 +1,5 @@
 -- The lists that a table keeps are those of their assertions.
-use Rattle.std.specs.Prelude.{◌≡◌, ℕ, zero, suc, ◌<◌, List, [], ◌∷◌, ◌++◌, length, map, slice_get, Some, refl}
-use Rattle.std.proofs.Common.{sym, ◌∙◌, ap, subst, arith, length-append}
-use Rattle.mm_lex.specs.Alphabet.{Name}
-use Rattle.mm_read.specs.declared.stmt.Stmt.{Stmt}
-use Rattle.mm_read.specs.Statements.{Database}
-use Rattle.scope.specs.Active.{stmt_at, before, expr_of}
-use Rattle.names.specs.Codes.{decode}
-use Rattle.entries.specs.declared.assertion_view.AssertionView.{AssertionView}
-use Rattle.frame.specs.AssertionView.{IsViewOf}
-use Rattle.frame.specs.Below.{AreBelow}
-use Rattle.frame.specs.FrameOf.{mandatory_groups}
-use Rattle.verify.proofs.Words.{same_Some}
-use Rattle.steps.specs.Stored.LongLists.{HasPartsOf, Listed, AreMadeOf, AreListsOf, AreKept, IsAt}
+use Rattle.steps.proofs.Words.{◌≡◌, ℕ, zero, suc, ◌<◌, List, [], ◌∷◌, ◌++◌, length, map, slice_get, Some, refl, sym, ◌∙◌, ap, subst, arith, length-append, Name, Stmt, Database, stmt_at, before, expr_of, decode, AssertionView, IsViewOf, AreBelow, mandatory_groups, same_Some, HasPartsOf, Listed, AreMadeOf, AreListsOf, AreKept, IsAt}
 
 pub kept-push : (S : Database) (names : List Name) (ls : List Listed) (l : Listed) → AreKept S names ls → ((s : Stmt) → stmt_at S l.position ≡ Some s → AreListsOf S names l s) → AreKept S names (ls ++ l ∷ [])
 kept-push S names [] l h k = (k, tt)

@@ -1,18 +1,7 @@
 -- The marked places in order, and their numbers.
-use Rattle.std.specs.Prelude.{◌≡◌, ◌⊎◌, ℕ, zero, suc, ◌+◌, ◌<◌, ◌≤◌, Bool, true, false, if◌then◌else◌, List, [], ◌∷◌, ◌++◌, length, map, get_or, slice_get, Some, refl}
-use Rattle.std.proofs.Common.{sym, ◌∙◌, ap, subst, arith, length-append, inl, inr}
-use Rattle.std.proofs.lemmas.List.{length-map, map_push}
-use Rattle.std.specs.List.Sorted.{IsStrictlyIncreasing}
-use Rattle.std.proofs.lemmas.Option.{slice_get-get_or, get_or_from_slice_get}
-use Rattle.std.proofs.lemmas.Bool.{cases_Bool, cases_lt}
-use Rattle.mm_read.specs.Statements.{Database}
-use Rattle.steps.specs.Rows.{Row, no_row, steps_of}
-use Rattle.steps.specs.Essential.{essential_of, IsEssential, is_taken, IsRenumbered, AreEssential}
-use Rattle.steps.specs.Stored.Marked.{HasMark, AreMarks, marked_before, number_of, AreNumbers, kept_row}
+use Rattle.steps.proofs.Words.{◌≡◌, ◌⊎◌, ℕ, zero, suc, ◌+◌, ◌<◌, ◌≤◌, Bool, true, false, if◌then◌else◌, List, [], ◌∷◌, ◌++◌, length, map, get_or, slice_get, Some, refl, sym, ◌∙◌, ap, subst, arith, length-append, inl, inr, length-map, map_push, IsStrictlyIncreasing, slice_get-get_or, get_or_from_slice_get, cases_Bool, cases_lt, Database, Row, no_row, steps_of, essential_of, IsEssential, is_taken, IsRenumbered, AreEssential, HasMark, AreMarks, marked_before, number_of, AreNumbers, kept_row, map-at, get-last}
 use Rattle.steps.proofs.DraftRowLemmas.{some-front, some-more, step-at}
 use Rattle.steps.proofs.EssentialMarkLemmas.{from-or-at}
-use Rattle.frame.proofs.FoundByNumber.{map-at}
-use Rattle.entries.proofs.StatementRecordLemmas.{get-last}
 
 module _ (marks : List Bool) where
   abbrev next : ℕ → Bool → List ℕ

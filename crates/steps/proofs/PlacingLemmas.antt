@@ -1,22 +1,8 @@
 -- A step that stood already, or that is new, in a table while it is made.
-use Rattle.std.specs.Prelude.{◌≡◌, ℕ, ◌+◌, ◌<◌, ◌≤◌, List, [], ◌∷◌, ◌++◌, length, map, slice_get, Some}
-use Rattle.std.proofs.Common.{sym, ◌∙◌, ap, subst, arith, length-append}
-use Rattle.std.proofs.lemmas.List.{length-map, map_push}
-use Rattle.std.proofs.lemmas.Option.{get_or_from_slice_get, slice_get_within}
-use Rattle.mm_lex.specs.Alphabet.{Name}
-use Rattle.mm_read.specs.Statements.{Expr, Database}
-use Rattle.names.specs.Codes.{decode}
-use Rattle.frame.specs.Below.{AreBelow}
-use Rattle.frame.specs.AtPosition.{AreLegal}
-use Rattle.verify.specs.Machine.{State, with_result}
+use Rattle.steps.proofs.Words.{◌≡◌, ℕ, ◌+◌, ◌<◌, ◌≤◌, List, [], ◌∷◌, ◌++◌, length, map, slice_get, Some, sym, ◌∙◌, ap, subst, arith, length-append, length-map, map_push, get_or_from_slice_get, slice_get_within, Name, Expr, Database, decode, AreBelow, AreLegal, State, with_result, Step, IsPlaced, stands, comes_last, Row, no_row, steps_of, expr_in, Follows, AreRows, row_of, rows_of, IsDraft, IsTied, Finds, TableDraft, below-push, below-more}
 use Rattle.frame.proofs.PositionLemmas.{get-last}
-use Rattle.steps.specs.StepTable.{Step, IsPlaced, stands, comes_last}
-use Rattle.steps.specs.Rows.{Row, no_row, steps_of, expr_in, Follows, AreRows}
 use Rattle.steps.specs.Stored.Drafted as drafted
-use Rattle.steps.specs.Stored.Drafted.{row_of, rows_of, IsDraft, IsTied, Finds}
-use Rattle.steps.specs.declared.table_draft.TableDraft.{TableDraft}
 use Rattle.steps.proofs.DraftRowLemmas.{rows-more, buffer-snoc, row-at, exprs-front, rows-snoc, known-snoc}
-use Rattle.frame.proofs.SymbolNumberLemmas.{below-push, below-more}
 
 module _ (S : Database) (at : ℕ) (names : List Name) (legal : AreLegal S names) (d new : TableDraft) (is : IsDraft S at names d) where
   abbrev rows : List Row

@@ -1,25 +1,6 @@
 -- The places that a step takes for a `$e`, by its assertion's hypotheses.
-use Rattle.std.specs.Prelude.{◌≡◌, ℕ, zero, suc, ◌+◌, ◌<◌, Bool, true, false, if◌then◌else◌, List, [], ◌∷◌, ◌++◌, length, drop, get_or, Some, refl}
-use Rattle.std.proofs.Common.{sym, ◌∙◌, ap, subst, arith, append_assoc}
-use Rattle.std.proofs.lemmas.List.{length-map}
-use Rattle.std.proofs.lemmas.Option.{slice_get-get_or}
-use Rattle.mm_lex.specs.Alphabet.{Name}
-use Rattle.mm_read.specs.declared.stmt.Stmt.{Stmt}
+use Rattle.steps.proofs.Words.{◌≡◌, ℕ, zero, suc, ◌+◌, ◌<◌, Bool, true, false, if◌then◌else◌, List, [], ◌∷◌, ◌++◌, length, drop, get_or, Some, refl, sym, ◌∙◌, ap, subst, arith, append_assoc, length-map, slice_get-get_or, Name, Stmt, Database, stmt_at, before, is_assertion, Hypothesis, Float, Essential, AreBelow, IsOf, AreRequired, HasAssertion, hypotheses, IsHypothesis, required-lengths, length-premises, not_both, Row, no_row, expr_in, Follows, from_hypothesis, from_assertion, AreRows, is_premise, for_premises, mandatory, essential_of, taken_by, some-same}
 use Rattle.mm_read.specs.declared.stmt.Stmt.TheVariants as stmt
-use Rattle.mm_read.specs.Statements.{Database}
-use Rattle.scope.specs.Active.{stmt_at, before, is_assertion}
-use Rattle.entries.specs.declared.assertion_view.Hypothesis.{Hypothesis}
-use Rattle.entries.specs.declared.assertion_view.Hypothesis.TheVariants.{Float, Essential}
-use Rattle.frame.specs.Below.{AreBelow}
-use Rattle.frame.specs.AssertionView.{IsOf, AreRequired}
-use Rattle.frame.specs.FrameOf.{HasAssertion, hypotheses}
-use Rattle.frame.specs.Citations.{IsHypothesis}
-use Rattle.verify.proofs.RequiredHypotheses.{required-lengths}
-use Rattle.verify.proofs.Decide.{length-premises, not_both}
-use Rattle.steps.specs.Rows.{Row, no_row, expr_in, Follows, from_hypothesis, from_assertion, AreRows}
-use Rattle.steps.specs.Essential.{is_premise, for_premises, mandatory, essential_of}
-use Rattle.steps.specs.Stored.Marked.{taken_by}
-use Rattle.frame.proofs.FoundByNumber.{some-same}
 
 -- the parts of the assertion tell which hypotheses are `$e`
 pub premises-by : (S : Database) (names : List Name) (ps typecodes : List ℕ) (hs : List Hypothesis) (taken : List ℕ) → AreRequired S names ps typecodes hs → for_premises S ps taken ≡ taken_by hs taken

@@ -1,25 +1,6 @@
 -- How far the items were recorded, and that the rest of them runs through.
-use Rattle.std.specs.Prelude.{◌≡◌, ℕ, zero, suc, ◌-◌, ◌+◌, ◌<◌, ◌≤◌, List, [], ◌∷◌, length, map, take, drop, get_or, Some, refl}
-use Rattle.std.proofs.Common.{sym, ◌∙◌, ap, subst, arith}
-use Rattle.std.proofs.lemmas.List.{length-map, drop_all}
-use Rattle.mm_lex.specs.Alphabet.{Name}
-use Rattle.mm_read.specs.declared.stmt.Stmt.{Stmt}
-use Rattle.mm_read.specs.Statements.{Expr, Database}
-use Rattle.scope.specs.Active.{stmt_at, expr_of}
-use Rattle.frame.specs.AtPosition.{AreLegal}
-use Rattle.proof_code.specs.declared.item.Item.{Item}
-use Rattle.proof_code.specs.ItemNumbers.{item_of, items_of}
-use Rattle.verify.specs.Machine.{State, start, Steps, Runs}
-use Rattle.verify.specs.Right.{IsRight}
-use Rattle.verify.proofs.Complete.{conclude_same}
-use Rattle.verify.proofs.LawsHold.{spellings_run}
-use Rattle.verify.proofs.StepLemmas.{items-more, all-taken}
-use Rattle.steps.specs.StepTable.{progress, RecordsItems, AreSteps}
-use Rattle.steps.specs.Rows.{steps_of, expr_in}
-use Rattle.steps.specs.Stored.Drafted.{row_of, rows_of, progress_of, IsTied, CanDo, IsDone}
-use Rattle.steps.specs.declared.table_draft.TableDraft.{TableDraft}
+use Rattle.steps.proofs.Words.{◌≡◌, ℕ, zero, suc, ◌-◌, ◌+◌, ◌<◌, ◌≤◌, List, [], ◌∷◌, length, map, take, drop, get_or, Some, refl, sym, ◌∙◌, ap, subst, arith, length-map, drop_all, Name, Stmt, Expr, Database, stmt_at, expr_of, AreLegal, Item, item_of, items_of, State, start, Steps, Runs, IsRight, conclude_same, spellings_run, items-more, all-taken, progress, RecordsItems, AreSteps, steps_of, expr_in, row_of, rows_of, progress_of, IsTied, CanDo, IsDone, TableDraft, some-same}
 use Rattle.steps.proofs.SoundLemmas.{records-sound, records-snoc, nothing-sound, root-last}
-use Rattle.frame.proofs.FoundByNumber.{some-same}
 
 drop-more : (labels : List Name) (xs : List ℕ) (i : ℕ) → i < length xs → map (item_of labels) (drop i xs) ≡ item_of labels (get_or xs i 0) ∷ map (item_of labels) (drop (i + 1) xs)
 drop-more labels [] i h = absurd (omega (arith, h))

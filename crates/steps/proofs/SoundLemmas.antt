@@ -1,17 +1,6 @@
 -- Properties of the steps of items, whatever the items are.
-use Rattle.std.specs.Prelude.{◌≡◌, ℕ, zero, suc, ◌-◌, ◌<◌, ◌⊎◌, List, [], ◌∷◌, ◌++◌, length, slice_get, Some, refl}
-use Rattle.std.proofs.Common.{sym, ◌∙◌, ap, subst, arith, length-append, inl, inr}
-use Rattle.std.proofs.lemmas.Option.{slice_get_within}
-use Rattle.mm_lex.specs.Alphabet.{Name}
-use Rattle.mm_read.specs.Statements.{Database}
-use Rattle.frame.specs.Below.{AreBelow}
-use Rattle.proof_code.specs.declared.item.Item.{Item}
-use Rattle.proof_code.specs.declared.item.Item.TheVariants.{Cite, Recall, Mark}
-use Rattle.verify.proofs.PlanLemmas.{below-get}
-use Rattle.steps.specs.StepTable.{Step, Progress, progress, IsPlaced, stands, comes_last, Makes, of_hypothesis, of_assertion, RecordsItem, RecordsItems, AreSteps}
+use Rattle.steps.proofs.Words.{◌≡◌, ℕ, zero, suc, ◌-◌, ◌<◌, ◌⊎◌, List, [], ◌∷◌, ◌++◌, length, slice_get, Some, refl, sym, ◌∙◌, ap, subst, arith, length-append, inl, inr, slice_get_within, Name, Database, AreBelow, Item, Cite, Recall, Mark, below-get, Step, Progress, progress, IsPlaced, stands, comes_last, Makes, of_hypothesis, of_assertion, RecordsItem, RecordsItems, AreSteps, below-push, below-more, get-last}
 use Rattle.steps.proofs.DraftRowLemmas.{some-front, some-more}
-use Rattle.frame.proofs.SymbolNumberLemmas.{below-push, below-more}
-use Rattle.entries.proofs.StatementRecordLemmas.{get-last}
 
 pub record IsSound (p : Progress) : Type 0 where
   pub stack_below : AreBelow (length p.steps) p.stack

@@ -1,27 +1,6 @@
 -- The steps of items last_unfolded to the derivation that the items spell.
-use Rattle.std.specs.Prelude.{◌≡◌, ℕ, zero, suc, ◌+◌, ◌-◌, ◌<◌, Bool, true, false, if◌then◌else◌, List, [], ◌∷◌, ◌++◌, length, map, slice_get, Some, refl}
-use Rattle.std.proofs.Common.{sym, ◌∙◌, ap, subst, arith, length-append}
-use Rattle.std.proofs.lemmas.List.{length-map, map_push, map-append}
-use Rattle.frame.proofs.FoundByNumber.{map-at}
-use Rattle.mm_lex.specs.Alphabet.{Name}
-use Rattle.mm_read.specs.declared.stmt.Stmt.{Stmt}
-use Rattle.mm_read.specs.Statements.{Database}
-use Rattle.scope.specs.Active.{stmt_at, is_assertion}
-use Rattle.frame.specs.Below.{AreBelow}
-use Rattle.frame.specs.Citations.{IsHypothesis}
-use Rattle.frame.specs.AtPosition.{HasLabelsOnce}
-use Rattle.proof_code.specs.declared.item.Item.{Item}
-use Rattle.proof_code.specs.declared.item.Item.TheVariants.{Cite, Recall, Mark}
-use Rattle.verify.specs.Derivations.{Derivation, hyp, apply, from_list}
-use Rattle.verify.specs.Growth.{Trees, trees, a_hypothesis, an_assertion, Grows, GrowsBy}
-use Rattle.verify.specs.Plan.{pick}
-use Rattle.verify.specs.Right.{IsRight, Derives}
-use Rattle.verify.proofs.Decide.{not_both}
-use Rattle.verify.proofs.GrowthLemmas.{leaves}
-use Rattle.verify.proofs.PlanLemmas.{map-pick, trees-same}
-use Rattle.frame.proofs.PositionLemmas.{get-front, get-last}
-use Rattle.steps.specs.StepTable.{Step, Progress, progress, IsPlaced, stands, comes_last, Makes, of_hypothesis, of_assertion, RecordsItem, RecordsItems, AreSteps}
-use Rattle.steps.specs.Unfolded.{has_assertion, citation_over, unfolded_behind, unfolded, last_unfolded}
+use Rattle.steps.proofs.Words.{◌≡◌, ℕ, zero, suc, ◌+◌, ◌-◌, ◌<◌, Bool, true, false, if◌then◌else◌, List, [], ◌∷◌, ◌++◌, length, map, slice_get, Some, refl, sym, ◌∙◌, ap, subst, arith, length-append, length-map, map_push, map-append, map-at, Name, Stmt, Database, stmt_at, is_assertion, AreBelow, IsHypothesis, HasLabelsOnce, Item, Cite, Recall, Mark, Derivation, hyp, apply, from_list, Trees, trees, a_hypothesis, an_assertion, Grows, GrowsBy, pick, IsRight, Derives, not_both, leaves, map-pick, trees-same, get-front, Step, Progress, progress, IsPlaced, stands, comes_last, Makes, of_hypothesis, of_assertion, RecordsItem, RecordsItems, AreSteps, has_assertion, citation_over, unfolded_behind, unfolded, last_unfolded}
+use Rattle.frame.proofs.PositionLemmas.{get-last}
 use Rattle.steps.proofs.SoundLemmas.{IsSound, record_item-sound, nothing-sound, below-split}
 
 module _ (S : Database) where

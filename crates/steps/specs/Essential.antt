@@ -2,11 +2,7 @@
 -- Metamath, 4.2.6: of the hypotheses of an assertion, a `$f` gives the type of a variable, and a `$e` is a premise.
 -- The code marks the steps from the last to the first, and lists the marked ones from the first to the last.
 use Rattle.std.specs.Prelude.{◌≡◌, ◌↔◌, ℕ, suc, Bool, false, if◌then◌else◌, List, [], ◌∷◌, length, map, get_or, Option, Some, None, slice_get}
-use Rattle.std.specs.List.Sorted.{IsStrictlyIncreasing}
-use Rattle.mm_read.specs.declared.stmt.Stmt.{Stmt}
-use Rattle.mm_read.specs.Statements.{Database}
-use Rattle.scope.specs.Active.{stmt_at, before, is_essential}
-use Rattle.frame.specs.FrameOf.{hypotheses}
+use Rattle.steps.specs.Words.{IsStrictlyIncreasing, Stmt, Database, stmt_at, before, is_essential, hypotheses}
 use Rattle.steps.specs.StepTable.{Step}
 use Rattle.steps.specs.Rows.{Row, no_row, steps_of}
 

@@ -2,9 +2,7 @@
 -- Metamath, 4.2.6: a result follows from earlier ones.
 -- The code finds steps again; here that no two are one.
 use Rattle.std.specs.Prelude.{◌≡◌, ℕ, List, Some, slice_get}
-use Rattle.mm_read.specs.Statements.{Database}
-use Rattle.frame.specs.Below.{AreBelow}
-use Rattle.proof_code.specs.declared.item.Item.{Item}
+use Rattle.steps.specs.Words.{Database, AreBelow, Item}
 use Rattle.steps.specs.StepTable.{Step, AreSteps}
 
 -- each step takes earlier ones

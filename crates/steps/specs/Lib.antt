@@ -1,3 +1,4 @@
+pub mod Words
 pub mod StepTable
 pub mod Rows
 pub mod Essential

@@ -2,14 +2,8 @@
 -- Metamath, 4.2.6: a result is a hypothesis, or follows from earlier results by one substitution in an assertion.
 -- The code reads the substitution off the rows that a step takes.
 use Rattle.std.specs.Prelude.{◌≡◌, ℕ, List, [], length, map, get_or, Some, slice_get}
-use Rattle.mm_lex.specs.Alphabet.{Name}
-use Rattle.mm_read.specs.declared.stmt.Stmt.{Stmt}
-use Rattle.mm_read.specs.Statements.{Expr, Database}
-use Rattle.scope.specs.Active.{expr_of}
-use Rattle.names.specs.Codes.{decode}
-use Rattle.frame.specs.Below.{AreBelow}
+use Rattle.steps.specs.Words.{Name, Stmt, Expr, Database, expr_of, decode, AreBelow, IsHypothesis, IsInstance, premises}
 use Rattle.frame.specs.Substitution.{Images, apply as applied}
-use Rattle.frame.specs.Citations.{IsHypothesis, IsInstance, premises}
 use Rattle.steps.specs.StepTable.{Step}
 
 -- a step, and the numbers of the symbols of its expression

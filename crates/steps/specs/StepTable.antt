@@ -2,15 +2,7 @@
 -- Metamath, 4.2.6 and appendix B: a citation gives a result of those that it takes; a result that stands already is not given again.
 -- The code finds a step again in an ordered map; here it stands in the list, or it does not.
 use Rattle.std.specs.Prelude.{◌≡◌, ℕ, zero, suc, List, [], ◌∷◌, ◌++◌, length, Some, slice_get}
-use Rattle.mm_lex.specs.Alphabet.{Name}
-use Rattle.mm_read.specs.declared.stmt.Stmt.{Stmt}
-use Rattle.mm_read.specs.Statements.{Database}
-use Rattle.scope.specs.Active.{before}
-use Rattle.frame.specs.FrameOf.{hypotheses}
-use Rattle.frame.specs.Citations.{Carries, IsHypothesis}
-use Rattle.proof_code.specs.declared.item.Item.{Item}
-use Rattle.proof_code.specs.declared.item.Item.TheVariants.{Cite, Recall, Mark}
-use Rattle.verify.specs.Spells.{IsCitable}
+use Rattle.steps.specs.Words.{Name, Stmt, Database, before, hypotheses, Carries, IsHypothesis, Item, Cite, Recall, Mark, IsCitable}
 
 -- the position that is cited, and the steps whose results it takes, by their places in the table from 0
 pub record Step : Type 0 where

@@ -2,11 +2,7 @@
 -- Metamath, 4.2.6: a proof is a tree of citations; a table has each of its parts once.
 -- The code never unfolds a table, since a tree may be as large as two to the number of its steps.
 use Rattle.std.specs.Prelude.{Bool, false, if◌then◌else◌, List, [], ◌∷◌, ◌++◌, length, map, Option, Some, None, ◌-◌}
-use Rattle.mm_read.specs.declared.stmt.Stmt.{Stmt}
-use Rattle.mm_read.specs.Statements.{Database}
-use Rattle.scope.specs.Active.{stmt_at, is_assertion}
-use Rattle.verify.specs.Derivations.{Derivation, hyp, apply, from_list}
-use Rattle.verify.specs.Plan.{pick}
+use Rattle.steps.specs.Words.{Stmt, Database, stmt_at, is_assertion, Derivation, hyp, apply, from_list, pick}
 use Rattle.steps.specs.StepTable.{Step}
 
 abbrev pub has_assertion : Option Stmt → Bool

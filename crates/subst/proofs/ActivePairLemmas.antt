@@ -1,6 +1,5 @@
 -- Variables of one active `$d`: each two of them are disjoint.
-use Rattle.subst.proofs.Words.{◌≡◌, ℕ, ◌+◌, ◌<◌, ◌&&◌, ◌||◌, ◌==◌, true, false, not, true≢false, List, length, take, get_or, list_any, bit_at, bit_or, Option, Some, refl, sym, ◌∙◌, ap, subst, arith, inl, inr, and_from, or_left, or_right, eq-eqb, list_any_at, get_or-take, length-take, below-at, name_at, is_pair, AreBelow, Numbered}
-use Rattle.subst.proofs.Words.{Places, IsAt, IsPlace, Grows, IsAmong, AreBitsOf, PlaceWord, RowWord, IsFact, AreFacts, ArePairs, RecordsWord}
+use Rattle.subst.proofs.Words.{◌≡◌, ℕ, ◌+◌, ◌<◌, ◌&&◌, ◌||◌, ◌==◌, true, false, not, true≢false, List, length, take, get_or, list_any, bit_at, bit_or, Option, Some, refl, sym, ◌∙◌, ap, subst, arith, inl, inr, and_from, or_left, or_right, eq-eqb, list_any_at, get_or-take, length-take, below-at, name_at, is_pair, AreBelow, Numbered, Places, IsAt, IsPlace, Grows, IsAmong, AreBitsOf, PlaceWord, RowWord, IsFact, AreFacts, ArePairs, RecordsWord}
 use Rattle.subst.proofs.BitsLemmas.{differ, zero-none, or-either}
 use Rattle.subst.proofs.VariablePlaceLemmas.{among-before, among-last}
 use Rattle.subst.proofs.DisjointRowLemmas.{facts-recorded}

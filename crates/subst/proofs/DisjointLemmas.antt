@@ -1,7 +1,5 @@
 -- The test of the disjoint variable condition holds exactly where its two sentences do.
-use Rattle.subst.proofs.Words.{◌≡◌, Bool, true, false, not, ◌&&◌, ◌||◌, List, [], ◌∷◌, refl, list_all, list_any, sym, ◌∙◌, ap, true≢false, inl, inr, and_parts, and_from, not-true, or_left, or_right, or_cases, cases_Bool, not_from_false, false_from_ne_true}
-use Rattle.subst.proofs.Words.{Name, name_eq, has_name, Expr, Database, is_variable, name_same, same_name, groups, is_pair, together, Images, image, are_disjoint, is_group_disjoint, are_groups_disjoint, all-from, pair_at, disjoint-from, PairClause, AreImagesDisjoint}
-use Rattle.scope.proofs.GoingBackLemmas.{all-has}
+use Rattle.subst.proofs.Words.{◌≡◌, Bool, true, false, not, ◌&&◌, ◌||◌, List, [], ◌∷◌, refl, list_all, list_any, sym, ◌∙◌, ap, true≢false, inl, inr, and_parts, and_from, not-true, or_left, or_right, or_cases, cases_Bool, not_from_false, false_from_ne_true, Name, name_eq, has_name, Expr, Database, is_variable, name_same, same_name, groups, is_pair, together, Images, image, are_disjoint, is_group_disjoint, are_groups_disjoint, all-from, pair_at, disjoint-from, PairClause, AreImagesDisjoint, all-has}
 
 -- ---- two images
 

@@ -1,6 +1,5 @@
 -- Variables that were found to be disjoint.
-use Rattle.subst.proofs.Words.{◌≡◌, ℕ, ◌+◌, ◌*◌, ◌^◌, ◌<◌, ◌≤◌, ◌⊎◌, true, List, [], ◌∷◌, ◌++◌, length, get_or, slice_set, bit_at, bit_and, bit_not, bit_or, w64, sym, ◌∙◌, ap, subst, arith, inl, inr, cases_eq, cases_lt, get_or_append_left, get_or_push, get_or-set_same, get_or-set_other, length-set, length_push, Numbered}
-use Rattle.subst.proofs.Words.{PlaceWord, HasAmong, HasBit, HasPlace, near_word, no_word, RowWord, no_row, IsRowAt, HasFact, IsFact, AreFacts, RecordsWord, TellsWord, TellsAll, TellsBits, TellsEach, Places, is_kept, Grows}
+use Rattle.subst.proofs.Words.{◌≡◌, ℕ, ◌+◌, ◌*◌, ◌^◌, ◌<◌, ◌≤◌, ◌⊎◌, true, List, [], ◌∷◌, ◌++◌, length, get_or, slice_set, bit_at, bit_and, bit_not, bit_or, w64, sym, ◌∙◌, ap, subst, arith, inl, inr, cases_eq, cases_lt, get_or_append_left, get_or_push, get_or-set_same, get_or-set_other, length-set, length_push, Numbered, PlaceWord, HasAmong, HasBit, HasPlace, near_word, no_word, RowWord, no_row, IsRowAt, HasFact, IsFact, AreFacts, RecordsWord, TellsWord, TellsAll, TellsBits, TellsEach, Places, is_kept, Grows}
 use Rattle.subst.proofs.BitsLemmas.{zero-none, or-either, and-left, and-rest, IsTaken}
 use Rattle.subst.proofs.VariablePlaceLemmas.{kept-grown, place-grown}
 use Rattle.subst.proofs.PlaceSetLemmas.{word-alone, word-more}

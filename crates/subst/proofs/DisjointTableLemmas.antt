@@ -1,7 +1,5 @@
 -- The tables of a cache, as images are listed in them.
-use Rattle.subst.proofs.Words.{◌≡◌, ℕ, zero, suc, ◌+◌, ◌-◌, ◌<◌, ◌≤◌, ◌==◌, false, List, [], ◌∷◌, ◌++◌, length, take, take_all, drop, get_or, sym, ap, subst, arith, Numbered, SymbolRange, seen_at, CodeImages, code_apply, code_image}
-use Rattle.subst.proofs.Words.{PlaceWord, Places, ArePlaced, Grows, IsAmong, AreImagesRecorded, RecordedImages, KeepsRest, AddsSymbols, HasPlace, RecordsImage, AreTables}
-use Rattle.subst.specs.declared.disjoint_tables.DisjointTables.{DisjointTables}
+use Rattle.subst.proofs.Words.{◌≡◌, ℕ, zero, suc, ◌+◌, ◌-◌, ◌<◌, ◌≤◌, ◌==◌, false, List, [], ◌∷◌, ◌++◌, length, take, take_all, drop, get_or, sym, ap, subst, arith, Numbered, SymbolRange, seen_at, CodeImages, code_apply, code_image, PlaceWord, Places, ArePlaced, Grows, IsAmong, AreImagesRecorded, RecordedImages, KeepsRest, AddsSymbols, HasPlace, RecordsImage, AreTables, DisjointTables}
 use Rattle.subst.proofs.SymbolRangeLemmas.{length-seen}
 use Rattle.subst.proofs.PlaceSetLemmas.{among-left, among-right, symbols-again}
 use Rattle.subst.proofs.WrittenImages.{apply-take}

@@ -1,10 +1,5 @@
 -- The images of each two numbers of a group, each held against those before it.
-use Rattle.subst.proofs.Words.{◌≡◌, ℕ, zero, suc, ◌+◌, ◌<◌, ◌≤◌, Bool, true, false, not, ◌||◌, ◌&&◌, ◌==◌, List, [], ◌∷◌, length, map, take, drop, get_or, slice_get, slice_range, Some, refl, list_all, list_any, position_or_len, sym, ◌∙◌, ap, subst, arith, inl, inr, true≢false, lt-ltb, and_from, and_parts, or_right, cases_eq, or_cases, or_left, cases_Bool, false_from_ne_true, list_all-map, list_all_at, list_all_more, list_any_at, get_or-take, get_or_default, length-take, take_all, eqb-true, last_part}
-use Rattle.subst.proofs.Words.{Name, name_eq, has_name, Expr, Database, name_at, decode, AreDistinct, name_same, same_name, name_eq-comm, is_pair, groups, Numbered, CodeImages, code_image, image, images_of_names, are_disjoint, is_group_disjoint, are_groups_disjoint, AreBelow, AllBelow, image_named, are_two_disjoint, is_number_disjoint, are_numbers_disjoint, pair_at, disjoint-from}
-use Rattle.subst.proofs.Words.{Places, ArePlaced, ArePlacesOf, HasVariable, IsAmong, HasPlace, PlaceWord, WordRange, IsIn, IsRangeOf, AddsWords, TellsEach}
-use Rattle.std.proofs.lemmas.Option.{get_or_from_slice_get, slice_get-get_or, slice_get_within}
-use Rattle.std.proofs.lemmas.List.Folds.{Any-from_list_any}
-use Rattle.std.proofs.Math.Bool.{and_comm}
+use Rattle.subst.proofs.Words.{◌≡◌, ℕ, zero, suc, ◌+◌, ◌<◌, ◌≤◌, Bool, true, false, not, ◌||◌, ◌&&◌, ◌==◌, List, [], ◌∷◌, length, map, take, drop, get_or, slice_get, slice_range, Some, refl, list_all, list_any, position_or_len, sym, ◌∙◌, ap, subst, arith, inl, inr, true≢false, lt-ltb, and_from, and_parts, or_right, cases_eq, or_cases, or_left, cases_Bool, false_from_ne_true, list_all-map, list_all_at, list_all_more, list_any_at, get_or-take, get_or_default, length-take, take_all, eqb-true, last_part, Name, name_eq, has_name, Expr, Database, name_at, decode, AreDistinct, name_same, same_name, name_eq-comm, is_pair, groups, Numbered, CodeImages, code_image, image, images_of_names, are_disjoint, is_group_disjoint, are_groups_disjoint, AreBelow, AllBelow, image_named, are_two_disjoint, is_number_disjoint, are_numbers_disjoint, pair_at, disjoint-from, Places, ArePlaced, ArePlacesOf, HasVariable, IsAmong, HasPlace, PlaceWord, WordRange, IsIn, IsRangeOf, AddsWords, TellsEach, get_or_from_slice_get, slice_get-get_or, slice_get_within, Any-from_list_any, and_comm}
 use Rattle.subst.proofs.BitsLemmas.{differ}
 use Rattle.subst.proofs.VariablePlaceLemmas.{grows-own, has-more, places-same, at-variable}
 use Rattle.subst.proofs.ImageVariableLemmas.{in-listed, listed-in}

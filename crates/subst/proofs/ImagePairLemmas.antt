@@ -1,10 +1,7 @@
 -- Pairs of images that were found to be disjoint.
-use Rattle.subst.proofs.Words.{◌≡◌, ℕ, true, List, [], ◌∷◌, ◌++◌, length, refl, sym, ◌∙◌, arith, inl, inr, length-append, decode, are_disjoint, Numbered, SymbolRange, seen_at, AreInside, Some, nat_eq, lookup}
-use Rattle.subst.proofs.Words.{ImagePair, IsInside, IsDisjointPair, AreDisjointPairs, NotesPair, are_named_disjoint}
+use Rattle.subst.proofs.Words.{◌≡◌, ℕ, true, List, [], ◌∷◌, ◌++◌, length, refl, sym, ◌∙◌, arith, inl, inr, length-append, decode, are_disjoint, Numbered, SymbolRange, seen_at, AreInside, Some, nat_eq, lookup, ImagePair, IsInside, IsDisjointPair, AreDisjointPairs, NotesPair, are_named_disjoint, Contains, All-nil, All-push, All-weaker, All-contains}
 use Rattle.subst.proofs.SymbolRangeLemmas.{seen-more}
 use Rattle.subst.proofs.ImageRangesLemmas.{image-some}
-use Rattle.std.specs.List.{Contains}
-use Rattle.std.proofs.lemmas.List.Elements.{All-nil, All-push, All-weaker, All-contains}
 
 pub pairs-none : (v : Numbered) (symbols : List ℕ) → AreDisjointPairs v symbols []
 pairs-none v symbols = record { each = All-nil (IsDisjointPair v symbols) }

@@ -1,10 +1,8 @@
 -- The words of the variables of images, and where they lie.
-use Rattle.subst.proofs.Words.{◌≡◌, ℕ, ◌+◌, ◌-◌, ◌<◌, ◌≤◌, List, [], ◌∷◌, ◌++◌, length, take, drop, get_or, slice_range, refl, sym, ◌∙◌, ap, subst, arith, inl, inr, append-nil, get_or_append_left, get_or-append_right, get_or-append-add, get_or-drop, get_or-take, drop-drop, drop-take, length-append, length-take, length-drop, Numbered, code_image, SymbolRange, seen_at, images_at}
-use Rattle.subst.proofs.Words.{Places, Grows, GrowsWords, IsAmong, PlaceWord, ArePlacesBelow, HasBit, HasPlace, near_word, no_word, AddsSymbols, AddsWords, RecordedImages, WordRange, ReadImage, LongImage, IsIn, IsRangeOf, IsLong, AreImagesRecorded, AreRead, Appends, AppendsWord, KeepsMost, KeepsRest, KeepsImage, RecordsImage}
+use Rattle.subst.proofs.Words.{◌≡◌, ℕ, ◌+◌, ◌-◌, ◌<◌, ◌≤◌, List, [], ◌∷◌, ◌++◌, length, take, drop, get_or, slice_range, refl, sym, ◌∙◌, ap, subst, arith, inl, inr, append-nil, get_or_append_left, get_or-append_right, get_or-append-add, get_or-drop, get_or-take, drop-drop, drop-take, length-append, length-take, length-drop, Numbered, code_image, SymbolRange, seen_at, images_at, Places, Grows, GrowsWords, IsAmong, PlaceWord, ArePlacesBelow, HasBit, HasPlace, near_word, no_word, AddsSymbols, AddsWords, RecordedImages, WordRange, ReadImage, LongImage, IsIn, IsRangeOf, IsLong, AreImagesRecorded, AreRead, Appends, AppendsWord, KeepsMost, KeepsRest, KeepsImage, RecordsImage, All-nil, All-push, All-weaker, All-contains}
 use Rattle.subst.proofs.VariablePlaceLemmas.{grows-own, has-more, places-below, places-same}
 use Rattle.subst.proofs.PlaceSetLemmas.{place-none}
 use Rattle.subst.proofs.SymbolRangeLemmas.{seen-more}
-use Rattle.std.proofs.lemmas.List.Elements.{All-nil, All-push, All-weaker, All-contains}
 
 -- ---- ranges in a list that grows
 

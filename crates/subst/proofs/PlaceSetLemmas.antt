@@ -1,6 +1,5 @@
 -- Places as words of bits.
-use Rattle.subst.proofs.Words.{◌≡◌, ℕ, ◌+◌, ◌-◌, ◌*◌, ◌%◌, ◌^◌, ◌<◌, ◌⊎◌, false, List, [], ◌∷◌, ◌++◌, length, get_or, slice_set, refl, bit_at, bit_or, sym, ◌∙◌, ap, subst, arith, inl, inr, cases_eq, cases_lt, get_or_append_left, get_or_push, get_or-set_same, get_or-set_other, length-set, length_push, length-append, get_or-append_right, get_or-append-add, Numbered, is_variable, name_at}
-use Rattle.subst.proofs.Words.{PlaceWord, near_word, HasBit, HasAmong, HasPlace, HasEither, no_word, AddsFirst, AddsWord, AddsWords, TakesPlace, AddsSymbols, Places, IsAt, Grows, IsAmong}
+use Rattle.subst.proofs.Words.{◌≡◌, ℕ, ◌+◌, ◌-◌, ◌*◌, ◌%◌, ◌^◌, ◌<◌, ◌⊎◌, false, List, [], ◌∷◌, ◌++◌, length, get_or, slice_set, refl, bit_at, bit_or, sym, ◌∙◌, ap, subst, arith, inl, inr, cases_eq, cases_lt, get_or_append_left, get_or_push, get_or-set_same, get_or-set_other, length-set, length_push, length-append, get_or-append_right, get_or-append-add, Numbered, is_variable, name_at, PlaceWord, near_word, HasBit, HasAmong, HasPlace, HasEither, no_word, AddsFirst, AddsWord, AddsWords, TakesPlace, AddsSymbols, Places, IsAt, Grows, IsAmong}
 use Rattle.subst.proofs.BitsLemmas.{one-own, one-only, or-left, or-right, or-either, zero-none}
 use Rattle.subst.proofs.VariablePlaceLemmas.{grows-own, has-more, among-none, among-more, among-before, among-last}
 

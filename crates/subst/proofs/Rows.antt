@@ -1,6 +1,5 @@
 -- Substitution and the disjoint variable condition, worked out.
-use Rattle.subst.proofs.Words.{◌≡◌, [], ◌∷◌, codes, refl, true, false, before, apply, code_apply, are_disjoint, are_groups_disjoint}
-use Rattle.scope.proofs.Databases.{w, row_seven}
+use Rattle.subst.proofs.Words.{◌≡◌, [], ◌∷◌, codes, refl, true, false, before, apply, code_apply, are_disjoint, are_groups_disjoint, w, row_seven}
 
 -- x and y in one another's place, put in at once
 swapped : apply ((codes "x", w (codes "y")) ∷ (codes "y", w (codes "x")) ∷ []) (w (codes "|- x R y")) ≡ w (codes "|- y R x")

@@ -1,6 +1,5 @@
 -- What the table of images says of a symbol.
-use Rattle.subst.proofs.Words.{◌≡◌, ℕ, zero, suc, ◌+◌, ◌<◌, ◌≤◌, ◌==◌, true, false, cond, nat_eq, List, [], ◌∷◌, ◌++◌, length, get_or, replicate, slice_set, Option, Some, None, refl, lookup, sym, ◌∙◌, ap, arith, inl, inr, cases_Bool, SymbolRange, Slot, placed, AreUpTo}
-use Rattle.std.proofs.lemmas.Bool.Decides.{nat_tests}
+use Rattle.subst.proofs.Words.{◌≡◌, ℕ, zero, suc, ◌+◌, ◌<◌, ◌≤◌, ◌==◌, true, false, cond, nat_eq, List, [], ◌∷◌, ◌++◌, length, get_or, replicate, slice_set, Option, Some, None, refl, lookup, sym, ◌∙◌, ap, arith, inl, inr, cases_Bool, SymbolRange, Slot, placed, AreUpTo, nat_tests}
 
 abbrev pub slot_of : ℕ → List Slot → ℕ → Option SymbolRange
 slot_of round [] x = None

@@ -1,16 +1,6 @@
 -- What is left of an expression without the symbols whose images are empty has the same result: such images add nothing.
-use Rattle.subst.proofs.Words.{append-nil, ◌≡◌, ℕ, suc, ◌+◌, ◌-◌, ◌<◌, ◌≤◌, Bool, true, false, true≢false, inl, inr, cond, nat_eq, List, [], ◌∷◌, ◌++◌, length, take, drop, slice_get, Option, Some, None, refl, lookup, sym, ◌∙◌, ap, subst, arith, code_image, code_apply, SymbolRange, images_at}
-use Rattle.std.proofs.Common.{⊎_elim, get_or}
-use Rattle.std.proofs.lemmas.Bool.{cases_lt, ltb-false}
-use Rattle.std.specs.List.{Contains, cons_option, filter, filter_map, flat_map}
-use Rattle.std.proofs.lemmas.List.Elements.{All-contains, Contains-append_cases, Contains-append_left, Contains-append_right, filter_map-append}
-use Rattle.std.proofs.lemmas.List.{flat_map_more, take_more}
-use Rattle.std.proofs.lemmas.Option.{get_or_from_slice_get, slice_get_within}
-use Rattle.entries.specs.SymbolPlaces.{IsGroupOf, AreGroupsFrom, IsGrouped, ArePlacesOf}
-use Rattle.entries.specs.PositionSets.{AreAbove, Ascends}
-use Rattle.frame.specs.Stored.Hypotheses.{In, AreThose}
-use Rattle.frame.proofs.CollectLemmas.{contains-in, in-contains}
-use Rattle.subst.specs.Vanishing.{is_left, is_place_left, is_symbol_left, is_group_left, group_left, remaining}
+use Rattle.subst.proofs.Words.{append-nil, ◌≡◌, ℕ, suc, ◌+◌, ◌-◌, ◌<◌, ◌≤◌, Bool, true, false, true≢false, inl, inr, cond, nat_eq, List, [], ◌∷◌, ◌++◌, length, take, drop, slice_get, Option, Some, None, refl, lookup, sym, ◌∙◌, ap, subst, arith, code_image, code_apply, SymbolRange, images_at, ⊎_elim, get_or, cases_lt, ltb-false, Contains, cons_option, filter, filter_map, flat_map, All-contains, Contains-append_cases, Contains-append_left, Contains-append_right, filter_map-append, flat_map_more, take_more, get_or_from_slice_get, slice_get_within, IsGroupOf, AreGroupsFrom, IsGrouped, AreAbove, Ascends, In, AreThose, contains-in, in-contains, is_left, is_place_left, is_symbol_left, is_group_left, group_left, remaining}
+use Rattle.entries.specs.SymbolPlaces.{ArePlacesOf}
 use Rattle.subst.proofs.ImageRangesLemmas.{image-some}
 
 -- ---- an image that is empty

@@ -1,7 +1,5 @@
 -- The places of variables, and how more of them are given.
-use Rattle.subst.proofs.Words.{◌≡◌, ℕ, ◌+◌, ◌<◌, ◌⊎◌, false, List, [], ◌∷◌, ◌++◌, length, get_or, Option, Some, None, Result, Ok, Err, OnOk, is_ok, is_err, if◌then◌else◌, refl, sym, ◌∙◌, ap, subst, arith, inl, inr, cases_eq, get_or_append_left, get_or_push, length_push, Numbered}
-use Rattle.subst.proofs.Words.{MetSymbol, Places, is_kept, IsAt, Grows, IsPlace, IsListed, IsVariable, ArePlaced, HasVariable, ArePlacesOf, IsAmong}
-use Rattle.std.proofs.lemmas.List.Elements.{All-nil, All-same, All-push, All-weaker, All-contains}
+use Rattle.subst.proofs.Words.{◌≡◌, ℕ, ◌+◌, ◌<◌, ◌⊎◌, false, List, [], ◌∷◌, ◌++◌, length, get_or, Option, Some, None, Result, Ok, Err, OnOk, is_ok, is_err, if◌then◌else◌, refl, sym, ◌∙◌, ap, subst, arith, inl, inr, cases_eq, get_or_append_left, get_or_push, length_push, Numbered, MetSymbol, Places, is_kept, IsAt, Grows, IsPlace, IsListed, IsVariable, ArePlaced, HasVariable, ArePlacesOf, IsAmong, All-nil, All-same, All-push, All-weaker, All-contains}
 
 pub grows-own : (f : Places) → Grows f f
 grows-own f = record { each = λ j x at. at }

@@ -2,8 +2,7 @@
 -- Metamath, 4.2.6: no variable stands in two images of variables that a `$d` makes disjoint, and each pair of one variable from each has its own `$d`.
 -- The code goes by numbers; `are_groups_disjoint`, one number and one group at a time.
 use Rattle.std.specs.Prelude.{ℕ, Bool, ◌||◌, ◌==◌, List}
-use Rattle.std.specs.List.{list_all}
-use Rattle.subst.specs.Words.{Name, Expr, Database, decode, CodeImages, code_image, are_disjoint}
+use Rattle.subst.specs.Words.{list_all, Name, Expr, Database, decode, CodeImages, code_image, are_disjoint}
 
 -- the image of a number, by names
 abbrev pub image_named : List Name → CodeImages → ℕ → Expr

@@ -2,9 +2,7 @@
 -- Source: this project's form of keeping names; images of variables are Metamath, 4.2.6.
 -- The code goes through the lists of a frame one variable at a time.
 use Rattle.std.specs.Prelude.{ℕ, ◌<◌, Bool, ◌||◌, List, length}
-use Rattle.std.specs.List.{list_all}
-use Rattle.subst.specs.Words.{Name, name_eq, Expr, Database, CodeImages, Images, code_image, image, are_disjoint}
-use Rattle.frame.specs.Below.{AreBelow}
+use Rattle.subst.specs.Words.{list_all, Name, name_eq, Expr, Database, CodeImages, Images, code_image, image, are_disjoint, AreBelow}
 
 -- the image of each number that stands for a name has such numbers alone
 abbrev pub AreOver : List Name → CodeImages → Type 0

@@ -2,8 +2,7 @@
 -- Source: Metamath, 4.1 (substitution, and the two conditions on the images of disjoint variables).
 -- The code substitutes over numbers, and tests all symbols of two images against each other at once.
 use Rattle.std.specs.Prelude.{◌≡◌, ℕ, ◌↔◌, ◌&&◌, List, IsTrue}
-use Rattle.std.specs.List.{list_any}
-use Rattle.subst.specs.Words.{Name, has_name, Expr, Database, is_variable, decode, AreCodes, AreDistinct, groups, together, CodeImages, Images, image, apply, code_apply, images_of_names, are_groups_disjoint}
+use Rattle.subst.specs.Words.{list_any, Name, has_name, Expr, Database, is_variable, decode, AreCodes, AreDistinct, groups, together, CodeImages, Images, image, apply, code_apply, images_of_names, are_groups_disjoint}
 
 -- where no two numbers stand for one name, to substitute and then to read names is to read names and then to substitute
 abbrev pub SubstitutionOverNames : Type 0

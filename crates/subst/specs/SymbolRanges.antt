@@ -2,8 +2,7 @@
 -- Source: this project's form of keeping results; images of variables are Metamath, 4.2.6.
 -- The code keeps of an image where it begins and ends.
 use Rattle.std.specs.Prelude.{◌≡◌, ℕ, ◌≤◌, nat_eq, List, [], ◌∷◌, map, Some, slice_range}
-use Rattle.std.specs.Map.{lookup}
-use Rattle.frame.specs.Substitution.{CodeImages}
+use Rattle.subst.specs.Words.{lookup, CodeImages}
 use Rattle.subst.specs.declared.symbol_range.SymbolRange.{SymbolRange}
 
 abbrev pub seen_at : List ℕ → SymbolRange → List ℕ

@@ -2,9 +2,7 @@
 -- Metamath, 4.2.6: an image may be the empty sequence of symbols, and then nothing stands for the variable.
 -- The code goes over the symbols of an expression by groups, and skips those with an empty image.
 use Rattle.std.specs.Prelude.{◌≡◌, ℕ, Bool, true, false, nat_eq, nat_lt, List, [], Option, Some, None, slice_get, option_and_then, if◌then◌else◌}
-use Rattle.std.specs.List.{filter}
-use Rattle.std.specs.Map.{lookup}
-use Rattle.frame.specs.Substitution.{code_apply}
+use Rattle.subst.specs.Words.{filter, lookup, code_apply}
 use Rattle.subst.specs.SymbolRanges.{images_at}
 use Rattle.subst.specs.declared.symbol_range.SymbolRange.{SymbolRange}
 

@@ -1,8 +1,13 @@
 -- The words of the layers below in which this crate is specified, passed on from one place.
+pub use Rattle.frame.specs.Below.{AreBelow}
 pub use Rattle.frame.specs.Disjoint.{are_disjoint, are_groups_disjoint}
 pub use Rattle.frame.specs.FrameOf.{groups, is_pair, together}
+pub use Rattle.frame.specs.Parts.{Numbered}
 pub use Rattle.frame.specs.Substitution.{CodeImages, Images, apply, code_apply, code_image, image, images_of_names}
 pub use Rattle.mm_lex.specs.Alphabet.{Name, has_name, name_eq}
 pub use Rattle.mm_read.specs.Statements.{Database, Expr}
 pub use Rattle.names.specs.Codes.{AreCodes, AreDistinct, decode, name_at}
 pub use Rattle.scope.specs.Active.{is_variable}
+pub use Rattle.std.specs.Int.{bit_at}
+pub use Rattle.std.specs.List.{All, Contains, filter, list_all, list_any}
+pub use Rattle.std.specs.Map.{lookup}

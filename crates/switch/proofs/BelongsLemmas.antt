@@ -1,7 +1,5 @@
 -- A prefix of a node's log stays one, whatever event comes, but for a restart of that node.
-use Rattle.switch.proofs.Words.{◌≡◌, ◌≢◌, ℕ, ◌<◌, ◌==◌, Bool, true, false, List, [], ◌∷◌, ◌++◌, length, slice_get, inl, inr, Option, Some, None, Result, Ok, Err, refl, ap, sym, ◌∙◌, subst, arith, nat_lt, ◌+◌, IsSome, OnErr, option_map, nat_tests, length-set}
-use Rattle.switch.proofs.Words.{Packet, Change, Refusal, Node, Stepped, offered, begun, on_packet, restarted, MOST_EVENTS, Event, Offer, Begin, Deliver, Restart, StepFault, World, at_node, delivered, happens_at, happens, log, log_after, all_happen, start, IsAfter, IsBeginningOf, node_of, change_of, IfTaken, if_taken, spent_or, all_happen-append, after-push, log_grows, then_begins, Standing, up, down, StoreView, SwitchView, world_of, with_store, IsViewOf, AreStores, is_down, is_down_view, is_down_at, due, change_due, events_due, FailsAt, TakesAt, ActsUp, RevivesAt, Revives, ActsDown, Acts, BeginsLog, StaysBelonging, KeepsLogs}
-use Rattle.std.proofs.Common.{append-nil}
+use Rattle.switch.proofs.Words.{◌≡◌, ◌≢◌, ℕ, ◌<◌, ◌==◌, Bool, true, false, List, [], ◌∷◌, ◌++◌, length, slice_get, inl, inr, Option, Some, None, Result, Ok, Err, refl, ap, sym, ◌∙◌, subst, arith, nat_lt, ◌+◌, IsSome, OnErr, option_map, nat_tests, length-set, Packet, Change, Refusal, Node, Stepped, offered, begun, on_packet, restarted, MOST_EVENTS, Event, Offer, Begin, Deliver, Restart, StepFault, World, at_node, delivered, happens_at, happens, log, log_after, all_happen, start, IsAfter, IsBeginningOf, node_of, change_of, IfTaken, if_taken, spent_or, all_happen-append, after-push, log_grows, then_begins, Standing, up, down, StoreView, SwitchView, world_of, with_store, IsViewOf, AreStores, is_down, is_down_view, is_down_at, due, change_due, events_due, FailsAt, TakesAt, ActsUp, RevivesAt, Revives, ActsDown, Acts, BeginsLog, StaysBelonging, KeepsLogs, append-nil}
 use Rattle.switch.specs.Switch.{with_event}
 
 -- The node of an event that is taken is there.

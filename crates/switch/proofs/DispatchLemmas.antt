@@ -1,6 +1,5 @@
 -- How many nodes there are, the dispatch of an event by its node, and a call as its function has it.
-use Rattle.switch.proofs.Words.{◌≡◌, ℕ, ◌<◌, Bool, true, false, List, length, get_or, set, slice_get, Option, Some, Result, Ok, Err, refl, ap, sym, ◌∙◌, subst, arith, ForOk, slice_get_within, slice_get_read}
-use Rattle.switch.proofs.Words.{Change, changed_by, kept_of, MOST_EVENTS, Event, Offer, Begin, Deliver, Restart, StepFault, Device, Down, World, packets_after, Taken, world_of_taken, node_of, StagedEvent, NetView, IsStaged, IsStill, IsTaken, change_in, count_shown, up, down, StoreState, Fails, change_owed, SwitchView, event_owed, IsOwing, IsSwitch, world_of, is_down_at, due, ActsUp, ActsDown, Acts}
+use Rattle.switch.proofs.Words.{◌≡◌, ℕ, ◌<◌, Bool, true, false, List, length, get_or, set, slice_get, Option, Some, Result, Ok, Err, refl, ap, sym, ◌∙◌, subst, arith, ForOk, slice_get_within, slice_get_read, Change, changed_by, kept_of, MOST_EVENTS, Event, Offer, Begin, Deliver, Restart, StepFault, Device, Down, World, packets_after, Taken, world_of_taken, node_of, StagedEvent, NetView, IsStaged, IsStill, IsTaken, change_in, count_shown, up, down, StoreState, Fails, change_owed, SwitchView, event_owed, IsOwing, IsSwitch, world_of, is_down_at, due, ActsUp, ActsDown, Acts}
 use Rattle.switch.proofs.StoresLemmas.{count_views}
 use Rattle.switch.proofs.SwitchLemmas.{switch_view, still_switch}
 use Rattle.switch.proofs.CallLemmas.{still_view, after_is, is_up_at, kept_up, failed, failed_acts, played, played_acts}

@@ -1,6 +1,5 @@
 -- A record with or without a change.
-use Rattle.switch.proofs.Words.{◌≡◌, ℕ, zero, suc, List, [], ◌∷◌, Option, Some, None, refl, ap, ◌∙◌, subst, inl, inr}
-use Rattle.switch.proofs.Words.{put_at, Change, Round, Promise, Entry, Held, Kept, changed_by, IsWithOrWithout}
+use Rattle.switch.proofs.Words.{◌≡◌, ℕ, zero, suc, List, [], ◌∷◌, Option, Some, None, refl, ap, ◌∙◌, subst, inl, inr, put_at, Change, Round, Promise, Entry, Held, Kept, changed_by, IsWithOrWithout}
 
 -- an entry that is put twice at one slot
 put_twice : {T : Type 0} (xs : List (Option T)) (s : ℕ) (v : T) → put_at (put_at xs s v) s v ≡ put_at xs s v

@@ -1,6 +1,5 @@
 -- A restart that starts from a loaded record.
-use Rattle.switch.proofs.Words.{◌≡◌, ℕ, List, length, Some, None, Ok, refl, ap, sym, subst, AllByRecursion}
-use Rattle.switch.proofs.Words.{Packet, Kept, Node, Stepped, kept_of, Restart, StagedWork, steps, restarts, StagedEvent, NetView, IsStaged, IsReadyAt, IsOfEvent, ComesTo, change_in, posts_of, step_of, loads, with_record, Core, IsPost, reloaded}
+use Rattle.switch.proofs.Words.{◌≡◌, ℕ, List, length, Some, None, Ok, refl, ap, sym, subst, AllByRecursion, Packet, Kept, Node, Stepped, kept_of, Restart, StagedWork, steps, restarts, StagedEvent, NetView, IsStaged, IsReadyAt, IsOfEvent, ComesTo, change_in, posts_of, step_of, loads, with_record, Core, IsPost, reloaded}
 
 -- a restart makes no change of the kept part
 pub load_change : {V : Type 0} (j : ℕ) (work : StagedWork V) → IsOfEvent (Restart j) work → change_in work ≡ None

@@ -1,7 +1,5 @@
 -- A restart of a node that is down and finds no room in the history, or no memory.
-use Rattle.switch.proofs.Words.{◌≡◌, ℕ, ◌+◌, ◌<◌, ◌≤◌, true, false, List, length, slice_get, inl, Option, Some, None, Result, Ok, Err, refl, ap, sym, ◌∙◌, subst, arith, ForOk, OnOk, IsOkUnless}
-use Rattle.switch.proofs.Words.{Node, restarted, MOST_EVENTS, Event, Restart, StepFault, Memory, EventsSpent, World, stepped, at_node, world_of_taken, StagedEvent, NetView, set_same, next_is, down, StoreState, StoreView, SwitchView, views_of, IsSwitch, world_of, is_down_at, is_down_view, with_store, Revives}
-use Rattle.net.specs.Taken.{with_event}
+use Rattle.switch.proofs.Words.{◌≡◌, ℕ, ◌+◌, ◌<◌, ◌≤◌, true, false, List, length, slice_get, inl, Option, Some, None, Result, Ok, Err, refl, ap, sym, ◌∙◌, subst, arith, ForOk, OnOk, IsOkUnless, Node, restarted, MOST_EVENTS, Event, Restart, StepFault, Memory, EventsSpent, World, stepped, at_node, world_of_taken, StagedEvent, NetView, set_same, next_is, down, StoreState, StoreView, SwitchView, views_of, IsSwitch, world_of, is_down_at, is_down_view, with_store, Revives, with_event}
 use Rattle.switch.proofs.StoresLemmas.{view_past}
 use Rattle.switch.proofs.SwitchLemmas.{switch_view}
 use Rattle.switch.proofs.CallLemmas.{of_world, node_there}

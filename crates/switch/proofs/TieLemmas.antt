@@ -1,6 +1,5 @@
 -- A call as a whole: its answer in the world after the history, and the logs after it.
-use Rattle.switch.proofs.Words.{◌≡◌, ℕ, true, false, List, Option, Some, None, Result, Ok, Err, refl, ap, sym, ◌∙◌, subst, slice_get, IsErrAnd, ForOk}
-use Rattle.switch.proofs.Words.{Event, StepFault, Memory, World, addressed, node_of, StagedEvent, NetView, Standing, up, down, StoreState, StoreView, SwitchView, standing_seen, view_of, views_of, IsOwing, IsSwitch, is_down_at, world_of, ActsUp, ActsDown, Revives, Acts, Plays, KeepsLogs}
+use Rattle.switch.proofs.Words.{◌≡◌, ℕ, true, false, List, Option, Some, None, Result, Ok, Err, refl, ap, sym, ◌∙◌, subst, slice_get, IsErrAnd, ForOk, Event, StepFault, Memory, World, addressed, node_of, StagedEvent, NetView, Standing, up, down, StoreState, StoreView, SwitchView, standing_seen, view_of, views_of, IsOwing, IsSwitch, is_down_at, world_of, ActsUp, ActsDown, Revives, Acts, Plays, KeepsLogs}
 use Rattle.switch.proofs.StoresLemmas.{view_at, view_past}
 use Rattle.switch.proofs.SwitchLemmas.{switch_view, at}
 use Rattle.switch.proofs.CallLemmas.{stores_are, after_is, node_there, node_seen}

@@ -1,19 +1,19 @@
 -- The words in which this crate is proved, and the lemmas of std and of the layers below, passed on from one place.
 pub use Rattle.net.proofs.Beginnings.{then_begins}
-pub use Rattle.net.proofs.StagedTaken.{posts_same}
 pub use Rattle.net.proofs.EventsStaged.{comes_restart, due_still, nodes_found, nodes_still}
 pub use Rattle.net.proofs.EveryEvent.{IfTaken, holds_after, if_taken, node_at, spent_or}
 pub use Rattle.net.proofs.GrowingLists.{at_set, at_set_other, set_twice}
 pub use Rattle.net.proofs.HistoryLemmas.{taken_front}
 pub use Rattle.net.proofs.KeptPartLemmas.{Happens, event_moves}
 pub use Rattle.net.proofs.LogsGrow.{log_grows}
+pub use Rattle.net.proofs.StagedTaken.{posts_same}
 pub use Rattle.net.proofs.StepsStaged.{still_more}
 pub use Rattle.net.proofs.TakenLemmas.{after-push, count_shown, happens-not_spent, length-nodes_of, makes, next_is, nodes_of-set, rooms_stay, set_same, taken_count}
 pub use Rattle.net.proofs.TwoMoments.{all_happen-append, world_lasts}
 pub use Rattle.net.specs.Agree.{IsAfter, IsBeginningOf}
-pub use Rattle.net.specs.Staged.{AreStill, ComesTo, StagedEvent, HasRoom, IsStaged, IsEventAt, IsOfEvent, IsReadyAt, IsStill, IsTaken, NetView, StagedWork, change_in, loads, with_record, posts_of, restarts, step_of, steps}
 pub use Rattle.net.specs.KeptPart.{addressed, change_of, kept_part, node_of}
-pub use Rattle.net.specs.Taken.{AreOfWorld, Taken, nodes_of, world_of as world_of_taken}
+pub use Rattle.net.specs.Staged.{AreStill, ComesTo, HasRoom, IsEventAt, IsOfEvent, IsReadyAt, IsStaged, IsStill, IsTaken, NetView, StagedEvent, StagedWork, change_in, loads, posts_of, restarts, step_of, steps, with_record}
+pub use Rattle.net.specs.Taken.{AreOfWorld, Taken, nodes_of, with_event, world_of as world_of_taken}
 pub use Rattle.net.specs.World.{World, after, all_happen, at_node, delivered, happens, happens_at, log, log_after, nodes_from, offers_of, packets_after, start, stepped}
 pub use Rattle.net.specs.declared.event.Event.{Event}
 pub use Rattle.net.specs.declared.event.Event.TheVariants.{Begin, Deliver, Offer, Restart}
@@ -21,7 +21,7 @@ pub use Rattle.net.specs.declared.event.TheConstants.{MOST_EVENTS}
 pub use Rattle.net.specs.declared.fault.StepFault.{StepFault}
 pub use Rattle.net.specs.declared.fault.StepFault.TheVariants.{Device, Down, EventsSpent, Memory}
 pub use Rattle.slots.specs.FiniteMap.{put_at}
-pub use Rattle.std.proofs.Common.{Bool, Err, List, None, Ok, Option, Result, Some, [], ap, append_assoc, arith, false, get_or, inl, inr, le_of_suc-le-suc, length, length-append, nat_lt, refl, set, slice_get, subst, suc, sym, true, zero, ℕ, ◌++◌, ◌+◌, ◌<◌, ◌==◌, ◌∙◌, ◌∷◌, ◌≡◌, ◌≢◌, ◌≤◌}
+pub use Rattle.std.proofs.Common.{Bool, Err, List, None, Ok, Option, Result, Some, [], ap, append-nil, append_assoc, arith, false, get_or, inl, inr, le_of_suc-le-suc, length, length-append, nat_lt, refl, set, slice_get, subst, suc, sym, true, zero, ℕ, ◌++◌, ◌+◌, ◌<◌, ◌==◌, ◌∙◌, ◌∷◌, ◌≡◌, ◌≢◌, ◌≤◌}
 pub use Rattle.std.proofs.lemmas.Bool.Decides.{nat_tests}
 pub use Rattle.std.proofs.lemmas.List.{length-set, nil_from_length}
 pub use Rattle.std.proofs.lemmas.Option.{slice_get_past, slice_get_read, slice_get_within}

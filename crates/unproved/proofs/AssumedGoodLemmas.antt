@@ -1,16 +1,6 @@
 -- Legal statements with exactly their unproved `$p` taken as `$a` are good.
-use Rattle.std.specs.Prelude.{◌≡◌, ℕ, zero, suc, ◌+◌, ◌-◌, ◌<◌, ◌≤◌, IsTrue, List, [], ◌∷◌, ◌++◌, length, get_or, slice_get, slice_set, Some, refl}
-use Rattle.std.proofs.Common.{◌∙◌, ap, sym, subst, arith, inl, inr}
-use Rattle.std.proofs.lemmas.Bool.{cases_lt}
-use Rattle.library.proofs.Words.{map-append, stands-within}
-use Rattle.library.specs.Good.{Good, IsProved}
-use Rattle.library.specs.Judging.{StandsProved}
-use Rattle.library.specs.Words.{AllLegal, Database, IsProvable, Stmt, Writes, bares, first_broken, is_provable, mandatory_labels, proof_of}
-use Rattle.mm_read.specs.declared.stmt.Stmt.TheVariants.{Open, Close, Const, Var, Disj, Float, Ess, Axiom, Prove}
-use Rattle.scope.specs.Active.{bare}
-use Rattle.scope.specs.Legal.{broken_rule, numbered, or_later}
-use Rattle.verify.proofs.Words.{some-same}
-use Rattle.unproved.specs.Unproved.{AreUnproved, as_axiom, assumed}
+use Rattle.unproved.proofs.Words.{◌≡◌, ℕ, zero, suc, ◌+◌, ◌-◌, ◌<◌, ◌≤◌, IsTrue, List, [], ◌∷◌, ◌++◌, length, get_or, slice_get, slice_set, Some, refl, ◌∙◌, ap, sym, subst, arith, inl, inr, cases_lt, map-append, stands-within, Good, IsProved, StandsProved, AllLegal, Database, IsProvable, Stmt, Writes, bares, is_provable, mandatory_labels, proof_of, Open, Close, Const, Var, Disj, Float, Ess, Axiom, Prove, bare, broken_rule, numbered, or_later, some-same, AreUnproved, as_axiom, assumed}
+use Rattle.library.specs.Words.{first_broken}
 use Rattle.unproved.proofs.PlainLemmas.{broken_rule-plains, end_rule-plains, plains}
 use Rattle.unproved.proofs.PlainRightLemmas.{labels-same, right-same}
 

@@ -1,12 +1,6 @@
 -- Statements whose unproved `$p` are taken as `$a`.
-use Rattle.std.proofs.Common.{◌≡◌, ℕ, zero, suc, ◌+◌, ◌-◌, ◌<◌, List, [], ◌∷◌, ◌∙◌, length, drop, get_or, slice_set, ap, sym, arith, true}
-use Rattle.std.proofs.lemmas.Bool.{and_parts}
-use Rattle.std.proofs.lemmas.List.{drop_more, get_or_default}
-use Rattle.std.specs.List.{list_all}
-use Rattle.library.specs.Words.{AreShaped, Database, Prove, Stmt}
-use Rattle.mm_read.specs.Statements.{is_shaped}
-use Rattle.mm_read.specs.declared.stmt.Stmt.TheVariants.{Open}
-use Rattle.unproved.specs.Unproved.{as_axiom, assumed}
+use Rattle.unproved.proofs.Words.{◌≡◌, ℕ, zero, suc, ◌+◌, ◌-◌, ◌<◌, List, [], ◌∷◌, ◌∙◌, length, drop, get_or, slice_set, ap, sym, arith, true, and_parts, drop_more, get_or_default, list_all, AreShaped, Database, Stmt, is_shaped, Open, as_axiom, assumed}
+use Rattle.library.specs.Words.{Prove}
 
 -- a `$a` in place of a `$p` is well shaped
 pub shaped-axiom : (s : Stmt) → is_shaped s ≡ true → is_shaped (as_axiom s) ≡ true

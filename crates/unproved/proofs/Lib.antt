@@ -1,3 +1,4 @@
+pub mod Words
 pub mod UnprovedLemmas
 pub mod AssumedLemmas
 pub mod PlainLemmas

@@ -1,19 +1,7 @@
 -- No rule and no frame asks whether an assertion is a `$a` or a `$p`.
-use Rattle.std.specs.Prelude.{◌≡◌, ℕ, zero, suc, ◌+◌, ◌-◌, ◌==◌, Bool, true, false, not, cond, ◌||◌, ◌&&◌, nat_le, nat_lt, List, [], ◌∷◌, map, filter, take, drop, Some, None, option_map, refl}
-use Rattle.std.specs.List.{list_any, list_all, drop-map, take-map}
-use Rattle.std.proofs.Common.{◌∙◌, ap}
-use Rattle.std.proofs.lemmas.Option.{slice_get-map}
-use Rattle.mm_lex.specs.Alphabet.{Name, has_name, name_eq}
+use Rattle.unproved.proofs.Words.{◌≡◌, ℕ, zero, suc, ◌+◌, ◌-◌, ◌==◌, Bool, true, false, not, cond, ◌||◌, ◌&&◌, nat_le, nat_lt, List, [], ◌∷◌, map, filter, take, drop, Some, None, option_map, refl, list_any, list_all, drop-map, take-map, ◌∙◌, ap, slice_get-map, Name, has_name, name_eq, Open, Close, Const, Var, Disj, Float, Ess, Axiom, Prove, Expr, active, active_from, before, count, expr_of, has_float, has_label, is_active, is_close, is_constant, is_essential, is_float_of, is_open, is_variable, label_of, constants, separated, stays_open, stmt_at, variables, was_label, was_symbol, all_different, broken_rule, end_rule, G1, G2, G3, G4, G5, G6, G7, G8, G9, G10, groups, hypotheses, is_hypothesis, is_mandatory, is_pair, is_used, mandatory_groups, separates, together, Images, image, are_groups_disjoint, as_axiom}
 use Rattle.mm_read.specs.declared.stmt.Stmt.{Stmt}
-use Rattle.mm_read.specs.declared.stmt.Stmt.TheVariants.{Open, Close, Const, Var, Disj, Float, Ess, Axiom, Prove}
-use Rattle.mm_read.specs.Statements.{Database, Expr}
-use Rattle.scope.specs.Active.{active, active_from, before, count, expr_of, has_float, has_label, is_active, is_close, is_constant, is_essential, is_float_of, is_open, is_variable, label_of, constants, separated, stays_open, stmt_at, variables, was_label, was_symbol}
-use Rattle.scope.specs.Legal.{all_different, broken_rule, end_rule}
-use Rattle.scope.specs.declared.rule.Rule.TheVariants.{G1, G2, G3, G4, G5, G6, G7, G8, G9, G10}
-use Rattle.frame.specs.FrameOf.{groups, hypotheses, is_hypothesis, is_mandatory, is_pair, is_used, mandatory_groups, separates, together}
-use Rattle.frame.specs.Substitution.{Images, image}
-use Rattle.frame.specs.Disjoint.{are_groups_disjoint}
-use Rattle.unproved.specs.Unproved.{as_axiom}
+use Rattle.mm_read.specs.Statements.{Database}
 
 -- the statements, each `$p` taken as a `$a`
 abbrev pub plains : Database → Database

@@ -1,23 +1,9 @@
 -- A derivation among statements is one among those that differ only in which assertions are `$a` and which `$p`.
-use Rattle.std.specs.Prelude.{◌≡◌, ℕ, IsTrue, List, [], ◌∷◌, map, Option, Some, None, option_map, unwrap_or, refl}
-use Rattle.std.specs.List.{list_all}
-use Rattle.std.proofs.Common.{◌∙◌, ap, sym, subst}
-use Rattle.mm_lex.specs.Alphabet.{Name}
+use Rattle.unproved.proofs.Words.{◌≡◌, ℕ, IsTrue, List, [], ◌∷◌, map, Option, Some, None, option_map, unwrap_or, refl, list_all, ◌∙◌, ap, sym, subst, Name, Expr, before, expr_of, is_active, is_assertion, is_variable, label_of, stmt_at, Carries, IsHypothesis, IsInstance, expr_at, is_hypothesis_kind, option_expr, premises, are_groups_disjoint, hypotheses, mandatory_groups, Item, Concludes, ConcludeAll, Derivation, Derivations, hyp, apply, more, label_or_none, IsRight, Spells, SpellsAll, cites_hypothesis, cites_assertion, recalls, marks, spells_none, spells_more, some-same, as_axiom}
 use Rattle.mm_read.specs.declared.stmt.Stmt.{Stmt}
-use Rattle.mm_read.specs.Statements.{Database, Expr}
-use Rattle.scope.specs.Active.{before, expr_of, is_active, is_assertion, is_variable, label_of, stmt_at}
-use Rattle.frame.specs.Citations.{Carries, IsHypothesis, IsInstance, expr_at, is_hypothesis_kind, option_expr, premises}
-use Rattle.frame.specs.Disjoint.{are_groups_disjoint}
-use Rattle.frame.specs.FrameOf.{hypotheses, mandatory_groups}
+use Rattle.mm_read.specs.Statements.{Database}
 use Rattle.frame.specs.Substitution.{Images, apply as applied}
-use Rattle.proof_code.specs.declared.item.Item.{Item}
-use Rattle.verify.specs.Concludes.{Concludes, ConcludeAll}
-use Rattle.verify.specs.Derivations.{Derivation, Derivations, hyp, apply, more}
-use Rattle.verify.specs.Proves.{label_or_none, mandatory_labels}
-use Rattle.verify.specs.Right.{IsRight}
-use Rattle.verify.specs.Spells.{Spells, SpellsAll, cites_hypothesis, cites_assertion, recalls, marks, spells_none, spells_more}
-use Rattle.verify.proofs.Words.{some-same}
-use Rattle.unproved.specs.Unproved.{as_axiom}
+use Rattle.verify.specs.Proves.{mandatory_labels}
 use Rattle.unproved.proofs.PlainLemmas.{active_at-plains, are_variables, before-plains, disjoint-plains, hypotheses-plains, mandatory-plains, plain-same, plains, stmt_at-plains}
 
 -- a statement that is there, and the same but for its kind

@@ -1,14 +1,5 @@
 -- Lists of positions of unproved `$p`, with one more position or more statements.
-use Rattle.std.specs.Prelude.{Result, Ok, Err, IfOk, Vec}
-use Rattle.std.specs.List.{All}
-use Rattle.std.specs.declared.alloc.Global.{Global}
-use Rattle.std.proofs.lemmas.List.Elements.{All-nil, All-cons}
-use Rattle.std.proofs.Common.{◌≡◌, ℕ, ◌+◌, ◌-◌, ◌<◌, ◌≤◌, List, [], ◌∷◌, ◌++◌, Option, Some, None, inl, inr, refl, subst, arith}
-use Rattle.std.proofs.lemmas.Bool.{cases_lt}
-use Rattle.library.specs.Words.{Database}
-use Rattle.library.specs.Judging.{StandsProved}
-use Rattle.unproved.specs.Stretches.{IsLeastIn}
-use Rattle.unproved.specs.Unproved.{AreUnproved, IsWithin}
+use Rattle.unproved.proofs.Words.{Result, Ok, Err, IfOk, Vec, All, Global, All-nil, All-cons, ◌≡◌, ℕ, ◌+◌, ◌-◌, ◌<◌, ◌≤◌, List, [], ◌∷◌, ◌++◌, Option, Some, None, inl, inr, refl, subst, arith, cases_lt, Database, StandsProved, IsLeastIn, AreUnproved, IsWithin}
 
 module _ (S : Database) where
   -- each `$p` above the one position, up to the other, is proved

@@ -1,7 +1,6 @@
 -- The results that an assertion takes are what some images make of its hypotheses, exactly where the first symbols agree
 -- and each `$e` is its result under the images that are read off the others.
-use Rattle.verify.proofs.Words.{◌≡◌, ℕ, zero, suc, ◌<◌, Bool, true, false, cond, List, [], ◌∷◌, ◌++◌, length, map, drop, get_or, slice_get, Option, Some, None, option_map, ◌⊎◌, refl, sym, ◌∙◌, ap, subst, arith, inl, inr, true≢false, append-nil, lt-ltb, length-map, ext_get_or, get_or_from_slice_get, slice_get_within, slice_get-map}
-use Rattle.verify.proofs.Words.{Name, Stmt, Expr, Database, stmt_at, before, expr_of, is_variable, name_at, decode, code_of, AreDistinct, code-name, hypotheses, mandatory_groups, Images, image, applied, CodeImages, code_image, images_of_names, OfVariables, premises, expr_at, option_expr, are_groups_disjoint, AreBelow, AllBelow, AreOver, image-named, image-unnamed, image-decode, Hypothesis, Float, Essential, IsBound, HasFloat, IsFirstFixed, typecode_of, IsTypecode, IsRequired, AreRequired, IsTyped, AreRead, FitsOne, DoFit, some-same, name_at-injective}
+use Rattle.verify.proofs.Words.{◌≡◌, ℕ, zero, suc, ◌<◌, Bool, true, false, cond, List, [], ◌∷◌, ◌++◌, length, map, drop, get_or, slice_get, Option, Some, None, option_map, ◌⊎◌, refl, sym, ◌∙◌, ap, subst, arith, inl, inr, true≢false, append-nil, lt-ltb, length-map, ext_get_or, get_or_from_slice_get, slice_get_within, slice_get-map, Name, Stmt, Expr, Database, stmt_at, before, expr_of, is_variable, name_at, decode, code_of, AreDistinct, code-name, hypotheses, mandatory_groups, Images, image, applied, CodeImages, code_image, images_of_names, OfVariables, premises, expr_at, option_expr, are_groups_disjoint, AreBelow, AllBelow, AreOver, image-named, image-unnamed, image-decode, Hypothesis, Float, Essential, IsBound, HasFloat, IsFirstFixed, typecode_of, IsTypecode, IsRequired, AreRequired, IsTyped, AreRead, FitsOne, DoFit, some-same, name_at-injective}
 use Rattle.mm_read.specs.declared.stmt.Stmt.TheVariants as stmt
 use Rattle.verify.proofs.Named.{all-at}
 use Rattle.verify.proofs.RequiredHypotheses.{At, required-lengths, required-at, float-at, essential-at, float-number, float-find}

@@ -1,6 +1,5 @@
 -- Proofs found by computation: the machine runs over their items, and each step has its proof.
-use Rattle.verify.proofs.Words.{◌≡◌, ℕ, zero, suc, ◌-◌, ◌<◌, ◌≤◌, Bool, true, false, nat_lt, nat_le, List, [], ◌∷◌, ◌++◌, length, Option, Some, None, slice_get, refl, is_some, list_all, sym, ◌∙◌, ap, true≢false, bytes_eq-Decides, ltb-true, leb-true}
-use Rattle.verify.proofs.Words.{Name, name_eq, Stmt, Expr, Database, stmt_at, before, is_active, is_variable, is_assertion, label_of, expr_of, hypotheses, mandatory_groups, Images, applied, are_groups_disjoint, Item, Cite, Recall, Mark, is_hypothesis_kind, IsInstance, premises, Carries, State, start, of_hypothesis, of_assertion, with_result, with_mark, Steps, Runs, below, top, IsRight, weight_limit}
+use Rattle.verify.proofs.Words.{◌≡◌, ℕ, zero, suc, ◌-◌, ◌<◌, ◌≤◌, Bool, true, false, nat_lt, nat_le, List, [], ◌∷◌, ◌++◌, length, Option, Some, None, slice_get, refl, is_some, list_all, sym, ◌∙◌, ap, true≢false, bytes_eq-Decides, ltb-true, leb-true, Name, name_eq, Stmt, Expr, Database, stmt_at, before, is_active, is_variable, is_assertion, label_of, expr_of, hypotheses, mandatory_groups, Images, applied, are_groups_disjoint, Item, Cite, Recall, Mark, is_hypothesis_kind, IsInstance, premises, Carries, State, start, of_hypothesis, of_assertion, with_result, with_mark, Steps, Runs, below, top, IsRight, weight_limit}
 use Rattle.mm_read.specs.declared.stmt.Stmt.TheVariants.{Float}
 use Rattle.verify.proofs.Sound.{sound}
 

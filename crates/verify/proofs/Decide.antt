@@ -1,6 +1,5 @@
 -- The machine has one way to go, so that a run that cannot go on refutes the proof.
-use Rattle.verify.proofs.Words.{◌≡◌, ℕ, zero, suc, ◌+◌, ◌<◌, ◌≤◌, true, List, [], ◌∷◌, ◌++◌, length, Some, refl, sym, ◌∙◌, ap, subst, arith, append-nil, length-append, length-map, same_from_push}
-use Rattle.verify.proofs.Words.{Name, Stmt, Ess, Expr, Database, stmt_at, before, expr_of, is_assertion, hypotheses, Images, applied, Item, Cite, Recall, Mark, IsHypothesis, IsInstance, premises, is_hypothesis_kind, expr_at, Carries, State, start, Cites, of_hypothesis, of_assertion, IsSaved, with_result, with_mark, Steps, Runs, IsRight, weight_limit, IsSingle, HasLabelsOnce, some-same}
+use Rattle.verify.proofs.Words.{◌≡◌, ℕ, zero, suc, ◌+◌, ◌<◌, ◌≤◌, true, List, [], ◌∷◌, ◌++◌, length, Some, refl, sym, ◌∙◌, ap, subst, arith, append-nil, length-append, length-map, same_from_push, Name, Stmt, Ess, Expr, Database, stmt_at, before, expr_of, is_assertion, hypotheses, Images, applied, Item, Cite, Recall, Mark, IsHypothesis, IsInstance, premises, is_hypothesis_kind, expr_at, Carries, State, start, Cites, of_hypothesis, of_assertion, IsSaved, with_result, with_mark, Steps, Runs, IsRight, weight_limit, IsSingle, HasLabelsOnce, some-same}
 use Rattle.mm_read.specs.declared.stmt.Stmt.TheVariants.{Float}
 use Rattle.verify.proofs.Sound.{Spelled, sound}
 use Rattle.verify.proofs.Complete.{state, Result, complete, conclude_instance, conclude_same}

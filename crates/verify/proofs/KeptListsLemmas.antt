@@ -1,15 +1,5 @@
 -- The lists that a proof keeps say what the assertions' own do.
-use Rattle.verify.proofs.Words.{◌≡◌, ℕ, zero, suc, ◌+◌, ◌<◌, ◌≤◌, Bool, true, false, ◌&&◌, ◌||◌, ◌==◌, List, [], ◌∷◌, ◌++◌, length, length-append, map, take, take_all, take_more, map-append, Hypothesis, get_or, slice_get, Some, refl, sym, ap, subst, ◌∙◌, arith, and_from, list_all, list_any, same_Some, get_or_from_slice_get, slice_get_within, inl, inr}
-use Rattle.verify.proofs.Words.{Name, Stmt, Database, stmt_at, before, expr_of, name_at, decode, name_eq, name_same, mandatory_groups, Images, image, AllBelow, AreBelow, IsViewOf, are_disjoint, is_group_disjoint, are_groups_disjoint}
-use Rattle.std.proofs.lemmas.List.Folds.{list_all-append, list_all-map, list_all_more, list_any_at}
-use Rattle.std.proofs.lemmas.Bool.{and_parts, eqb-true, or_cases}
-use Rattle.std.specs.Prelude.{slice_range}
-use Rattle.entries.proofs.SpanLemmas.{cut-more, cut-push, extends-refl, range-behind, spans-push}
-use Rattle.entries.specs.Hypotheses.{told}
-use Rattle.entries.specs.Stored.Spans.{AreSpansIn, cut}
-use Rattle.entries.specs.declared.buffer_part.BufferPart.{BufferPart}
-use Rattle.entries.specs.declared.assertion_view.AssertionView.{AssertionView}
-use Rattle.verify.specs.KeptLists.{has_both, is_paired, are_covered, SaySame, IsCitedBy, Lists, AreMadeOf, AreListsOf, AreKeptLists, IsAt}
+use Rattle.verify.proofs.Words.{◌≡◌, ℕ, zero, suc, ◌+◌, ◌<◌, ◌≤◌, Bool, true, false, ◌&&◌, ◌||◌, ◌==◌, List, [], ◌∷◌, ◌++◌, length, length-append, map, take, take_all, take_more, map-append, Hypothesis, get_or, slice_get, Some, refl, sym, ap, subst, ◌∙◌, arith, and_from, list_all, list_any, same_Some, get_or_from_slice_get, slice_get_within, inl, inr, Name, Stmt, Database, stmt_at, before, expr_of, name_at, decode, name_eq, name_same, mandatory_groups, Images, image, AllBelow, AreBelow, IsViewOf, are_disjoint, is_group_disjoint, are_groups_disjoint, list_all-append, list_all-map, list_all_more, list_any_at, and_parts, eqb-true, or_cases, slice_range, cut-more, cut-push, extends-refl, range-behind, spans-push, told, AreSpansIn, cut, BufferPart, AssertionView, has_both, is_paired, are_covered, SaySame, IsCitedBy, Lists, AreMadeOf, AreListsOf, AreKeptLists, IsAt}
 
 -- ---- the pairs of lists
 

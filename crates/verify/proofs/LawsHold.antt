@@ -1,7 +1,5 @@
 -- The laws, from the lemmas on runs and spellings.
-use Rattle.verify.proofs.Words.{◌+◌, [], ◌∷◌, refl, arith}
-use Rattle.frame.proofs.LegalLabels.{legal-labels}
-use Rattle.verify.specs.Laws.{RunsSpell, SpellingsRun, SpelledOnce}
+use Rattle.verify.proofs.Words.{◌+◌, [], ◌∷◌, refl, arith, legal-labels, RunsSpell, SpellingsRun, SpelledOnce}
 use Rattle.verify.proofs.Sound.{Spelled, sound}
 use Rattle.verify.proofs.Complete.{Result, complete, state}
 use Rattle.verify.proofs.GrowthLemmas.{spelled_once}

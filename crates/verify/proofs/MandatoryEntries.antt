@@ -1,10 +1,7 @@
 -- The mandatory hypotheses of a statement, as entries of a table.
-use Rattle.verify.proofs.Words.{◌≡◌, ℕ, zero, suc, ◌+◌, ◌-◌, ◌<◌, ◌≤◌, Bool, true, ◌&&◌, nat_le, nat_lt, List, [], ◌∷◌, ◌++◌, length, map, take, drop, get_or, slice_get, Some, unwrap_or, refl, sym, ◌∙◌, ap, subst, arith, append_assoc, length-append, nat_tests, take-append-drop, take_at, drop_at, length-take-le, length-map, length_push}
-use Rattle.verify.proofs.Words.{Name, Stmt, Ess, Database, before, label_of, stays_open, stmt_at, stands-within, Carries, IsHypothesis, is_hypothesis_kind, hypotheses, LabelEntry, Nothing, label_or_none, mandatory_labels, IsProvable, IsEntry, AreEntries}
+use Rattle.verify.proofs.Words.{◌≡◌, ℕ, zero, suc, ◌+◌, ◌-◌, ◌<◌, ◌≤◌, Bool, true, ◌&&◌, nat_le, nat_lt, List, [], ◌∷◌, ◌++◌, length, map, take, drop, get_or, slice_get, Some, unwrap_or, refl, sym, ◌∙◌, ap, subst, arith, append_assoc, length-append, nat_tests, take-append-drop, take_at, drop_at, length-take-le, length-map, length_push, Name, Stmt, Ess, Database, before, label_of, stays_open, stmt_at, stands-within, Carries, IsHypothesis, is_hypothesis_kind, hypotheses, LabelEntry, Nothing, label_or_none, mandatory_labels, IsProvable, IsEntry, AreEntries, IsHyp, AreHyps, hyps, hypothesis-kinds}
 use Rattle.mm_read.specs.declared.stmt.Stmt.TheVariants.{Float}
-use Rattle.frame.proofs.PlacedHypotheses.{IsHyp, AreHyps, hyps}
 use Rattle.verify.specs.declared.label_table.LabelEntry.TheVariants.{Hypothesis}
-use Rattle.frame.proofs.AssertionLemmas.{hypothesis-kinds}
 
 -- ---- one hypothesis
 

@@ -1,6 +1,5 @@
 -- Steps over codes are steps over the names that they stand for.
-use Rattle.verify.proofs.Words.{◌≡◌, ℕ, zero, suc, ◌+◌, ◌-◌, ◌≤◌, Bool, true, false, IsTrue, List, [], ◌∷◌, ◌++◌, length, drop, get_or, replicate, slice_get, slice_set, refl, map, take, Some, option_map, sym, ◌∙◌, ap, arith, true≢false, subst, length-append, length-drop, length-map, take-append-drop, map_push, slice_get-map}
-use Rattle.verify.proofs.Words.{AreBelow, AllBelow, Results, IsSaved, with_result, with_mark, Adds, below, top, Marks, Recalls, below-group, Name, Expr, Database, name_at, decode, Recall, Mark, named, AreNamed, StepsByNumber}
+use Rattle.verify.proofs.Words.{◌≡◌, ℕ, zero, suc, ◌+◌, ◌-◌, ◌≤◌, Bool, true, false, IsTrue, List, [], ◌∷◌, ◌++◌, length, drop, get_or, replicate, slice_get, slice_set, refl, map, take, Some, option_map, sym, ◌∙◌, ap, arith, true≢false, subst, length-append, length-drop, length-map, take-append-drop, map_push, slice_get-map, AreBelow, AllBelow, Results, IsSaved, with_result, with_mark, Adds, below, top, Marks, Recalls, below-group, Name, Expr, Database, name_at, decode, Recall, Mark, named, AreNamed, StepsByNumber}
 use Rattle.verify.proofs.ResultPlaceLemmas.{results-same}
 
 -- ---- lists

@@ -1,8 +1,6 @@
 -- Plans grow as trees do; how large their derivations are, and what a node stands for.
-use Rattle.verify.proofs.Words.{◌≡◌, ℕ, zero, suc, ◌+◌, ◌-◌, ◌<◌, ◌≤◌, true, false, List, [], ◌∷◌, ◌++◌, length, map, take, drop, get_or, slice_get, Some, refl, min, max, Vec, sym, ◌∙◌, ap, subst, arith, length-append, append_assoc, length-map, take-map, map_push, take_more, take_all, take-append-drop, length-take-le, slice_get_within, Global}
-use Rattle.verify.proofs.Words.{Database, AreBelow, Recall, Node, TreePlan, Derivation, hyp, from_list, node_count, nodes_in, depth, depth_in, apply, Trees, trees, with_tree, Grew, below, top, pick, derive, built_from, built, IsAfter, AreOrdered, trees_of, IsPlan, get-front, get-last, below-more, below-push, below-at, Extent, extent_of}
+use Rattle.verify.proofs.Words.{◌≡◌, ℕ, zero, suc, ◌+◌, ◌-◌, ◌<◌, ◌≤◌, true, false, List, [], ◌∷◌, ◌++◌, length, map, take, drop, get_or, slice_get, Some, refl, min, max, Vec, sym, ◌∙◌, ap, subst, arith, length-append, append_assoc, length-map, take-map, map_push, take_more, take_all, take-append-drop, length-take-le, slice_get_within, Global, Database, AreBelow, Recall, Node, TreePlan, Derivation, hyp, from_list, node_count, nodes_in, depth, depth_in, apply, Trees, trees, with_tree, Grew, below, top, pick, derive, built_from, built, IsAfter, AreOrdered, trees_of, IsPlan, get-front, get-last, below-more, below-push, below-at, Extent, extent_of, Hyp, Apply}
 use Rattle.verify.proofs.ResultPlaceLemmas.{map-drop, get-map-some}
-use Rattle.verify.specs.declared.plan.Node.TheVariants.{Hyp, Apply}
 
 pub built-snoc : (ts : List Derivation) (ns : List Node) (n : Node) → built_from ts (ns ++ n ∷ []) ≡ built_from ts ns ++ derive (built_from ts ns) n ∷ []
 built-snoc ts [] n = refl

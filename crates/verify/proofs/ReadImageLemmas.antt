@@ -1,8 +1,5 @@
 -- Images read off results, one hypothesis after another, and results held against `$e`, by numbers and by names.
-use Rattle.verify.proofs.Words.{◌≡◌, ℕ, zero, suc, ◌+◌, ◌-◌, ◌<◌, ◌≤◌, min, nat_eq, nat_lt, Bool, true, false, cond, List, [], ◌∷◌, length, map, take, drop, get_or, slice_get, Some, None, refl, ◌↔◌, IsTrue, sym, ◌∙◌, ap, subst, arith, true≢false, nat_tests, slice_get_within, slice_get-get_or, same_Some, drop_more, drop-take, drop-drop}
-use Rattle.verify.proofs.Words.{typecode_of, code_image, applied, CodeImages, code_apply, images_of_names, SymbolRange, seen_at, images_at, AreWithin, image-some, image-none, within-get, length-seen, Hypothesis, Float, Essential, AreDifferent, AreFloats, AreFront, IsTyped, Reads, IsStanding, AreStanding, FitsOne, tail_of, BeginsWith, IsMistyped, ReadTo, ReadsAll, some-same, decode-injective, Name, Stmt, Database, stmt_at, expr_of, decode, AreDistinct, AreBelow, AllBelow, expr_at, option_expr, AreOver, substitution_over_names}
-use Rattle.std.specs.Prelude.{◌^◌}
-use Rattle.std.specs.Map.{lookup}
+use Rattle.verify.proofs.Words.{◌≡◌, ℕ, zero, suc, ◌+◌, ◌-◌, ◌<◌, ◌≤◌, min, nat_eq, nat_lt, Bool, true, false, cond, List, [], ◌∷◌, length, map, take, drop, get_or, slice_get, Some, None, refl, ◌↔◌, IsTrue, sym, ◌∙◌, ap, subst, arith, true≢false, nat_tests, slice_get_within, slice_get-get_or, same_Some, drop_more, drop-take, drop-drop, typecode_of, code_image, applied, CodeImages, code_apply, images_of_names, SymbolRange, seen_at, images_at, AreWithin, image-some, image-none, within-get, length-seen, Hypothesis, Float, Essential, AreDifferent, AreFloats, AreFront, IsTyped, Reads, IsStanding, AreStanding, FitsOne, tail_of, BeginsWith, IsMistyped, ReadTo, ReadsAll, some-same, decode-injective, Name, Stmt, Database, stmt_at, expr_of, decode, AreDistinct, AreBelow, AllBelow, expr_at, option_expr, AreOver, substitution_over_names, ◌^◌, lookup}
 use Rattle.verify.proofs.CitingLemmas.{get-decode, get-map-of}
 use Rattle.verify.proofs.Named.{all-at}
 use Rattle.verify.proofs.ImageLemmas.{apply-below, are-codes}

@@ -1,6 +1,5 @@
 -- Results in a buffer that grows.
-use Rattle.verify.proofs.Words.{◌≡◌, ℕ, zero, suc, ◌+◌, ◌-◌, ◌<◌, ◌≤◌, List, [], ◌∷◌, ◌++◌, length, map, take, drop, get_or, replicate, slice_get, slice_set, Some, refl, option_map, sym, ◌∙◌, ap, subst, append_assoc, arith, length-append, length-drop, length-map, map-set, take-map, drop-map, map_push, take_rest, slice_get-map, slice_get-get_or, get_or_from_slice_get}
-use Rattle.verify.proofs.Words.{SymbolRange, seen_at, AreWithin, AreInside, map-seen-more, within-weaken, within-snoc, within-take, within-drop, within-get, within-at, seen-get, length-seen, seen-last, inside-more, inside-none, Results, with_result, IsSaved, seen, AreKept, Keeps, below, top, weight_limit, get-last}
+use Rattle.verify.proofs.Words.{◌≡◌, ℕ, zero, suc, ◌+◌, ◌-◌, ◌<◌, ◌≤◌, List, [], ◌∷◌, ◌++◌, length, map, take, drop, get_or, replicate, slice_get, slice_set, Some, refl, option_map, sym, ◌∙◌, ap, subst, append_assoc, arith, length-append, length-drop, length-map, map-set, take-map, drop-map, map_push, take_rest, slice_get-map, slice_get-get_or, get_or_from_slice_get, SymbolRange, seen_at, AreWithin, AreInside, map-seen-more, within-weaken, within-snoc, within-take, within-drop, within-get, within-at, seen-get, length-seen, seen-last, inside-more, inside-none, Results, with_result, IsSaved, seen, AreKept, Keeps, below, top, weight_limit, get-last}
 
 pub map-drop : {A B : Type 0} (f : A → B) (k : ℕ) (xs : List A) → map f (drop k xs) ≡ drop k (map f xs)
 map-drop f k xs = sym (drop-map f k xs)

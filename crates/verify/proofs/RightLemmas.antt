@@ -1,15 +1,8 @@
 -- What is answered of a right proof, and of a compressed proof that was read.
-use Rattle.verify.proofs.Words.{◌≡◌, ℕ, ◌≤◌, ◌<◌, ◌↔◌, min, List, [], length, map, get_or, Some, Result, Ok, Err, IfOk, refl, option_map, Bool, true, false, not, ◌∷◌, ◌++◌, take, sym, ◌∙◌, ap, subst, arith, inl, inr, true≢false, length-map, take_at, slice_get-get_or, not-false, not-true}
-use Rattle.verify.proofs.Words.{Database, Stmt, HasLabelsOnce, Item, Extent, Node, TreePlan, Derivation, node_count, depth, IsRight, Derives, IsSmall, IsProvable, Says, trees, GrowsBy, pick, built, trees_of, IsPlan, extent_of, below-at, bare, bares, stmt_at, is_provable, before, stmt_at-bares, Name, hypotheses, items_of, share_label, IsHeading, label_or_none, mandatory_labels, Proves, some-same}
+use Rattle.verify.proofs.Words.{◌≡◌, ℕ, ◌≤◌, ◌<◌, ◌↔◌, min, List, [], length, map, get_or, Some, Result, Ok, Err, IfOk, refl, option_map, Bool, true, false, not, ◌∷◌, ◌++◌, take, sym, ◌∙◌, ap, subst, arith, inl, inr, true≢false, length-map, take_at, slice_get-get_or, not-false, not-true, Database, Stmt, HasLabelsOnce, Item, Extent, Node, TreePlan, Derivation, node_count, depth, IsRight, Derives, IsSmall, IsProvable, Says, trees, GrowsBy, pick, built, trees_of, IsPlan, extent_of, below-at, bare, bares, stmt_at, is_provable, before, stmt_at-bares, Name, hypotheses, items_of, share_label, IsHeading, label_or_none, mandatory_labels, Proves, some-same, bare-same, is_compressed, finish, Writes, WritesCompressed, compressed_finished, one_list, Answer, Proved, Wrong}
 use Rattle.verify.specs.declared.answer.TreeFault.TheVariants.{Wrong}
 use Rattle.verify.proofs.GrowthLemmas.{spelled_once, leaves, only-number}
 use Rattle.verify.proofs.PlanLemmas.{length-built', child-extent}
-use Rattle.scope.proofs.BareLemmas.{bare-same}
-use Rattle.proof_code.specs.Writes.{is_compressed, finish, Writes, WritesCompressed}
-use Rattle.proof_code.proofs.AnswersLemmas.{compressed_finished}
-use Rattle.proof_code.proofs.OneList.{one_list}
-use Rattle.verify.specs.declared.answer.Answer.{Answer}
-use Rattle.verify.specs.declared.answer.Answer.TheVariants.{Proved, Wrong}
 
 -- the items spell one derivation
 pub derives-same : (S : Database) (at : ℕ) → HasLabelsOnce S → (items : List Item) (t u : Derivation) → Derives S at items t → Derives S at items u → t ≡ u

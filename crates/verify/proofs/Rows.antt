@@ -1,8 +1,6 @@
 -- The worked proofs, found by computation.
-use Rattle.verify.proofs.Words.{◌≡◌, ℕ, List, [], ◌∷◌, ◌++◌, codes, refl, true, map, is_some, is_none, Option, Some, None, Open, Const, Var, Disj, Axiom, Prove, Database, bares, before, Item, Cite, Recall, Mark, IsRight}
-use Prim.Native.String.{String}
+use Rattle.verify.proofs.Words.{◌≡◌, ℕ, List, [], ◌∷◌, ◌++◌, codes, refl, true, map, is_some, is_none, Option, Some, None, Open, Const, Var, Disj, Axiom, Prove, Database, bares, before, Item, Cite, Recall, Mark, IsRight, String, w, demo, row_seven, row_th}
 use Rattle.mm_read.specs.declared.stmt.Stmt.TheVariants.{Float}
-use Rattle.scope.proofs.Databases.{w, demo, row_seven, row_th}
 use Rattle.verify.proofs.Computed.{prove, found}
 
 abbrev cites : String → List Item

@@ -1,6 +1,5 @@
 -- A run of the machine spells derivations of its results.
-use Rattle.verify.proofs.Words.{◌≡◌, ℕ, zero, suc, ◌+◌, List, [], ◌∷◌, ◌++◌, length, Some, slice_get, refl, sym, ◌∙◌, ap, subst, append_assoc, append-nil, add_assoc, zero-add, add-zero}
-use Rattle.verify.proofs.Words.{Name, Expr, Database, Item, Cite, Recall, Mark, Derivation, Derivations, hyp, apply, none, more, Concludes, ConcludeAll, premises, Spells, SpellsAll, cites_hypothesis, cites_assertion, recalls, marks, spells_none, spells_more, State, start, Cites, of_hypothesis, of_assertion, IsSaved, with_result, with_mark, Steps, Runs}
+use Rattle.verify.proofs.Words.{◌≡◌, ℕ, zero, suc, ◌+◌, List, [], ◌∷◌, ◌++◌, length, Some, slice_get, refl, sym, ◌∙◌, ap, subst, append_assoc, append-nil, add_assoc, zero-add, add-zero, Name, Expr, Database, Item, Cite, Recall, Mark, Derivation, Derivations, hyp, apply, none, more, Concludes, ConcludeAll, premises, Spells, SpellsAll, cites_hypothesis, cites_assertion, recalls, marks, spells_none, spells_more, State, start, Cites, of_hypothesis, of_assertion, IsSaved, with_result, with_mark, Steps, Runs}
 
 module _ (S : Database) (at : ℕ) where
   abbrev pub AllConclude : List Derivation → List Expr → Type 0

@@ -1,8 +1,5 @@
 -- What the code knows at each exit of a step, as a fact of the machine.
-use Rattle.verify.proofs.Words.{◌≡◌, ℕ, suc, ◌+◌, ◌-◌, ◌<◌, ◌≤◌, Bool, true, false, List, [], ◌∷◌, ◌++◌, length, map, take, drop, get_or, Some, refl, IsTrue, nat_lt, nat_eq, replicate, slice_get, slice_set, sym, ◌∙◌, ap, subst, arith, true≢false, length-append, nat_tests, length-map, map-append, take-append-drop, take_all, take_more, same_from_push, map_push, append-nil, nil_from_length, drop_all, drop_more, map_more, drop-append-le, drop-set-lt, length-set, length-replicate, get_or-set_same, get_or-set_other, get_or-replicate, get_or_from_slice_get, get_or_default, slice_get-get_or}
-use Rattle.verify.proofs.Words.{item-cite, item-recall, Name, Stmt, Database, stmt_at, expr_of, name_at, decode, Item, Cite, Recall, Results, State, start, Cites, of_hypothesis, of_assertion, premises, Expr, Runs, with_result, Adds, Marks, Recalls, Keeps, AreBelow, AllBelow, named, AreNamed, StepsByNumber, behind, HasCited, IsCached, AreCached, AreKnown, StepsWithTable, AreLegal, item_of, IsRight, weight_limit, decode-injective, below-group, LabelEntry, Nothing, IsEntry, AreEntries, get-front}
-use Rattle.std.proofs.Common.{length-drop}
-use Rattle.std.proofs.lemmas.List.{get_or-append_right, get_or-drop}
+use Rattle.verify.proofs.Words.{◌≡◌, ℕ, suc, ◌+◌, ◌-◌, ◌<◌, ◌≤◌, Bool, true, false, List, [], ◌∷◌, ◌++◌, length, map, take, drop, get_or, Some, refl, IsTrue, nat_lt, nat_eq, replicate, slice_get, slice_set, sym, ◌∙◌, ap, subst, arith, true≢false, length-append, nat_tests, length-map, map-append, take-append-drop, take_all, take_more, same_from_push, map_push, append-nil, nil_from_length, drop_all, drop_more, map_more, drop-append-le, drop-set-lt, length-set, length-replicate, get_or-set_same, get_or-set_other, get_or-replicate, get_or_from_slice_get, get_or_default, slice_get-get_or, item-cite, item-recall, Name, Stmt, Database, stmt_at, expr_of, name_at, decode, Item, Cite, Recall, Results, State, start, Cites, of_hypothesis, of_assertion, premises, Expr, Runs, with_result, Adds, Marks, Recalls, Keeps, AreBelow, AllBelow, named, AreNamed, StepsByNumber, behind, HasCited, IsCached, AreCached, AreKnown, StepsWithTable, AreLegal, item_of, IsRight, weight_limit, decode-injective, below-group, LabelEntry, Nothing, IsEntry, AreEntries, get-front, length-drop, get_or-append_right, get_or-drop}
 use Rattle.verify.proofs.Named.{goes-recall, goes-mark, named-result, result-named, all-drop, all-set, all-snoc, all-none, all-at, get-drop}
 use Rattle.verify.proofs.Decide.{cites_same, refuted_at_end, refuted_at_step, accepts_right}
 use Rattle.verify.proofs.Complete.{runs_append}

@@ -1,6 +1,5 @@
 -- A run that stops, and whether its items are right.
-use Rattle.verify.proofs.Words.{◌≡◌, ℕ, ◌+◌, ◌<◌, ◌≤◌, false, List, [], ◌∷◌, ◌++◌, length, map, take, drop, get_or, Some, slice_get, sym, ◌∙◌, ap, subst, arith, length-map, take-append-drop, take-map, take_all, drop_more, slice_get-map, slice_get-get_or, slice_get_within, some-same, option_map}
-use Rattle.verify.proofs.Words.{Name, Stmt, Database, stmt_at, expr_of, decode, Item, Mark, Results, start, Runs, Steps, AreBelow, named, StepsByNumber, AreLegal, item_of, items_of, IsRight, weight_limit, StopsAt, LabelEntry, AreEntries, behind}
+use Rattle.verify.proofs.Words.{◌≡◌, ℕ, ◌+◌, ◌<◌, ◌≤◌, false, List, [], ◌∷◌, ◌++◌, length, map, take, drop, get_or, Some, slice_get, sym, ◌∙◌, ap, subst, arith, length-map, take-append-drop, take-map, take_all, drop_more, slice_get-map, slice_get-get_or, slice_get_within, some-same, option_map, Name, Stmt, Database, stmt_at, expr_of, decode, Item, Mark, Results, start, Runs, Steps, AreBelow, named, StepsByNumber, AreLegal, item_of, items_of, IsRight, weight_limit, StopsAt, LabelEntry, AreEntries, behind}
 use Rattle.verify.proofs.Decide.{refuted_at_step, accepts_right}
 use Rattle.verify.proofs.StepLemmas.{Reached, right-end, wrong-end}
 

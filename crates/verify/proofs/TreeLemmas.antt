@@ -1,7 +1,6 @@
 -- The equations of the derivation of a tree.
-use Rattle.verify.proofs.Words.{◌≡◌, ℕ, map, Vec, Global, sym, ◌∙◌, ap, Tree, Derivation, derivation_of, derivation_step, hyp, apply, from_list}
-use Rattle.verify.specs.declared.tree.Tree.TheVariants.{Hyp, Apply, rolls-Hyp, rolls-Apply}
-use Rattle.verify.specs.declared.tree.Tree.TheFolds.{fold-roll-Tree}
+use Rattle.verify.proofs.Words.{◌≡◌, ℕ, map, Vec, Global, sym, ◌∙◌, ap, Tree, Derivation, derivation_of, derivation_step, hyp, apply, from_list, rolls-Hyp, rolls-Apply, fold-roll-Tree}
+use Rattle.verify.specs.declared.tree.Tree.TheVariants.{Hyp, Apply}
 
 pub derivation-hyp : (i : ℕ) → derivation_of (Hyp i) ≡ hyp i
 derivation-hyp i = ap derivation_of (sym (rolls-Hyp i)) ∙ fold-roll-Tree Derivation derivation_step _

@@ -2,9 +2,7 @@
 -- Metamath, 4.2.6: what stands behind the first symbol of the result for a `$f` is the image of its variable.
 -- The code looks at first symbols, reads the images off the results, and holds each `$e` under them against its result.
 use Rattle.std.specs.Prelude.{◌≡◌, ℕ, ◌<◌, ◌≤◌, Bool, true, false, List, [], ◌∷◌, length, drop, get_or, slice_get, Some}
-use Rattle.names.specs.Codes.{decode}
-use Rattle.verify.specs.Words.{Name, Stmt, Expr, Database, stmt_at, expr_of, Images, applied, CodeImages, code_image, expr_at, Hypothesis, Float, Essential}
-use Rattle.frame.specs.AssertionView.{typecode_of}
+use Rattle.verify.specs.Words.{decode, Name, Stmt, Expr, Database, stmt_at, expr_of, Images, applied, CodeImages, code_image, expr_at, Hypothesis, Float, Essential, typecode_of}
 
 -- the `$f` are of different variables
 pub record AreDifferent (hs : List Hypothesis) : Type 0 where

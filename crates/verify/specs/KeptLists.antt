@@ -2,14 +2,7 @@
 -- Metamath, 4.2.6: the images of each two variables that are mandatory disjoint have to be disjoint.
 -- The code keeps fewer lists of disjoint variables than the frame has; they have the same pairs.
 use Rattle.std.specs.Prelude.{◌≡◌, ℕ, ◌<◌, ◌==◌, Bool, ◌&&◌, ◌||◌, List, [], ◌∷◌, length, map, slice_get, Some}
-use Rattle.std.specs.List.{list_all, list_any}
-use Rattle.entries.specs.declared.assertion_view.AssertionView.{AssertionView}
-use Rattle.frame.specs.Below.{AllBelow, AreBelow}
-use Rattle.frame.specs.AssertionView.{AreRequired}
-use Rattle.frame.specs.Disjoint.{are_groups_disjoint}
-use Rattle.frame.specs.FrameOf.{mandatory_groups}
-use Rattle.names.specs.Codes.{decode}
-use Rattle.verify.specs.Words.{Name, Stmt, Database, Images, before, expr_of, hypotheses, stmt_at, Hypothesis}
+use Rattle.verify.specs.Words.{list_all, list_any, AssertionView, AllBelow, AreBelow, AreRequired, are_groups_disjoint, mandatory_groups, decode, Name, Stmt, Database, Images, before, expr_of, hypotheses, stmt_at, Hypothesis}
 
 -- ---- the pairs of lists
 

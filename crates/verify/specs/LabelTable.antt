@@ -2,8 +2,7 @@
 -- Metamath, 4.2.6: a proof cites active hypotheses and earlier assertions by their labels.
 -- The code looks each label up once for a proof; many mandatory hypotheses are not looked up, but found by their index.
 use Rattle.std.specs.Prelude.{◌≡◌, ◌==◌, ℕ, ◌<◌, Bool, false, List, [], length, map, get_or, Option, Some, None}
-use Rattle.std.specs.List.{list_any}
-use Rattle.verify.specs.Words.{Name, Stmt, Database, Carries, IsHypothesis}
+use Rattle.verify.specs.Words.{list_any, Name, Stmt, Database, Carries, IsHypothesis}
 use Rattle.verify.specs.declared.label_table.LabelEntry.{LabelEntry}
 use Rattle.verify.specs.declared.label_table.LabelEntry.TheVariants.{Hypothesis, Assertion, Nothing}
 use Rattle.verify.specs.declared.label_table.Mandatory.{Mandatory}

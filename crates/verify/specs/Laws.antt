@@ -2,9 +2,7 @@
 -- Metamath, 4.2.6 and appendix B: a proof is right where its stack ends with the statement's expression alone.
 -- The code only runs; that its runs spell derivations, and that it misses none, is said here over names alone.
 use Rattle.std.specs.Prelude.{◌≡◌, ℕ, List, [], ◌∷◌, Some}
-use Rattle.verify.specs.Words.{Stmt, Expr, Database, stmt_at, before, Item}
-use Rattle.scope.specs.Legal.{IsLegal}
-use Rattle.frame.specs.AtPosition.{IsSingle}
+use Rattle.verify.specs.Words.{Stmt, Expr, Database, stmt_at, before, Item, IsLegal, IsSingle}
 use Rattle.verify.specs.Derivations.{Derivation}
 use Rattle.verify.specs.Concludes.{Concludes}
 use Rattle.verify.specs.Spells.{Spells}

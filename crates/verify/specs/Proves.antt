@@ -2,8 +2,7 @@
 -- Metamath, 4.2.6 and appendix B: the mandatory hypotheses come first in the list of labels of a compressed proof.
 -- The code knows a mandatory hypothesis by its position.
 use Rattle.std.specs.Prelude.{ℕ, List, [], map, Option, Some, None, unwrap_or}
-use Rattle.verify.specs.Words.{Name, Stmt, Database, before, stmt_at, label_of, hypotheses, Item}
-use Rattle.proof_code.specs.Writes.{Writes}
+use Rattle.verify.specs.Words.{Name, Stmt, Database, before, stmt_at, label_of, hypotheses, Item, Writes}
 use Rattle.verify.specs.Right.{IsProvable, IsRight}
 
 -- the label of a statement, empty where it has none

@@ -2,8 +2,7 @@
 -- Metamath, 4.2.6: what stands behind the first symbol of the result for a `$f` is the image of its variable.
 -- The code sets one image after another; here are those set so far.
 use Rattle.std.specs.Prelude.{◌≡◌, ℕ, ◌+◌, ◌<◌, nat_eq, Bool, true, false, List, get_or, slice_get, Some, None}
-use Rattle.std.specs.Map.{lookup}
-use Rattle.verify.specs.Words.{SymbolRange, Hypothesis, Float}
+use Rattle.verify.specs.Words.{lookup, SymbolRange, Hypothesis, Float}
 
 -- what stands behind the first symbol
 abbrev pub tail_of : SymbolRange → SymbolRange

@@ -2,9 +2,7 @@
 -- Metamath, 4.2.6: the stack of a proof.
 -- The code keeps where each result lies; here they are lists of symbols.
 use Rattle.std.specs.Prelude.{◌≡◌, ℕ, ◌+◌, ◌-◌, ◌<◌, ◌≤◌, Bool, true, false, List, [], ◌∷◌, ◌++◌, length, map, drop, take, slice_set, get_or, suc, Option, Some, None}
-use Rattle.verify.specs.Words.{CodeImages, SymbolRange}
-use Rattle.subst.specs.SymbolRanges.{seen_at, images_at, AreWithin, AreInside}
-use Rattle.frame.specs.Parts.{Numbered}
+use Rattle.verify.specs.Words.{CodeImages, SymbolRange, seen_at, images_at, AreWithin, AreInside, Numbered}
 use Rattle.verify.specs.Machine.{Results, with_result, with_mark, IsSaved}
 use Rattle.verify.specs.Right.{weight_limit}
 

@@ -2,16 +2,12 @@
 -- Metamath, 4.2.6 and appendix B; `Machine` over names.
 -- The code knows numbers alone; each has a name.
 use Rattle.std.specs.Prelude.{◌≡◌, ℕ, ◌<◌, ◌≤◌, Bool, true, false, IsTrue, List, [], length, map, drop, get_or}
-use Rattle.verify.specs.Words.{Name, Stmt, Expr, Database, before, AllBelow, Item, Cite}
-use Rattle.names.specs.Codes.{decode}
+use Rattle.verify.specs.Words.{Name, Stmt, Expr, Database, before, AllBelow, Item, Cite, decode, AreLegal, HasAssertion, Numbered}
 use Rattle.verify.specs.declared.label_table.LabelEntry.{LabelEntry}
 use Rattle.verify.specs.declared.label_table.LabelEntry.TheVariants.{Nothing}
 use Rattle.verify.specs.LabelTable.{IsEntry}
 use Rattle.verify.specs.Machine.{Results, State, Cites, Steps}
 use Rattle.verify.specs.Right.{weight_limit}
-use Rattle.frame.specs.AtPosition.{AreLegal}
-use Rattle.frame.specs.FrameOf.{HasAssertion}
-use Rattle.frame.specs.Parts.{Numbered}
 use Rattle.verify.specs.declared.citation.Claim.{Claim}
 
 -- the results that the codes stand for

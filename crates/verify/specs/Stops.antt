@@ -2,8 +2,7 @@
 -- Metamath, 4.2.6 and appendix B: one item after another, from no results; the limit on the weight is this project's.
 -- The code runs over the items once, up to the first that cannot be done.
 use Rattle.std.specs.Prelude.{◌≡◌, ℕ, ◌<◌, ◌≤◌, List, [], ◌∷◌, length, map, take, slice_get, Some}
-use Rattle.verify.specs.Words.{Name, Stmt, Database, stmt_at, expr_of, Item}
-use Rattle.names.specs.Codes.{decode}
+use Rattle.verify.specs.Words.{Name, Stmt, Database, stmt_at, expr_of, Item, decode}
 use Rattle.verify.specs.StepsByNumber.{named, AreNamed, behind}
 use Rattle.verify.specs.Machine.{Results, State, start, Runs, Steps}
 use Rattle.verify.specs.Right.{weight_limit}

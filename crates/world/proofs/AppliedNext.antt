@@ -1,6 +1,5 @@
 -- The answer of a call that applies the next entry of a node's log.
-use Rattle.world.proofs.Words.{◌≡◌, ℕ, List, set, slice_get, Option, Some, None, Result, Ok, Err, refl, ap, sym, ◌∙◌, subst, IfOk, IfSome, IsSomeAnd, MatchOption, option_map, Bor}
-use Rattle.world.proofs.Words.{Entry, Verdict, Carried, StepFault, log, entry_of, entries_of, NodeLibrary, Replicas, log_entries, IsOfLog, AreReplicas, AppliesNext, next_of, next_entry, IsApplied, set_same}
+use Rattle.world.proofs.Words.{◌≡◌, ℕ, List, set, slice_get, Option, Some, None, Result, Ok, Err, refl, ap, sym, ◌∙◌, subst, IfOk, IfSome, IsSomeAnd, MatchOption, option_map, Bor, Entry, Verdict, Carried, StepFault, log, entry_of, entries_of, NodeLibrary, Replicas, log_entries, IsOfLog, AreReplicas, AppliesNext, next_of, next_entry, IsApplied, set_same}
 use Rattle.world.proofs.EntryLogs.{entries_of-get, entries_of-none}
 use Rattle.world.proofs.ReplicasLemmas.{of_log_applied, applied_are_replicas}
 

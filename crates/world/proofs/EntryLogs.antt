@@ -1,6 +1,5 @@
 -- Events and logs of entries, as those of the values that carry them.
-use Rattle.world.proofs.Words.{◌≡◌, ℕ, zero, suc, List, [], ◌∷◌, ◌++◌, slice_get, Option, Some, None, inl, inr, refl, ap, sym, ◌∙◌}
-use Rattle.world.proofs.Words.{Entry, Carried, Event, IsBeginningOf, Agree, carried, all_carried, entry_of, entries_of}
+use Rattle.world.proofs.Words.{◌≡◌, ℕ, zero, suc, List, [], ◌∷◌, ◌++◌, slice_get, Option, Some, None, inl, inr, refl, ap, sym, ◌∙◌, Entry, Carried, Event, IsBeginningOf, Agree, carried, all_carried, entry_of, entries_of}
 
 pub all_carried-append : (es ds : List (Event Entry)) → all_carried (es ++ ds) ≡ all_carried es ++ all_carried ds
 all_carried-append [] ds = refl

@@ -1,6 +1,5 @@
 -- The libraries of a world: each is that of its log, whatever event comes and whichever entry is applied.
-use Rattle.world.proofs.Words.{◌≡◌, ◌≢◌, ℕ, zero, suc, ◌+◌, ◌==◌, Bool, true, false, List, [], ◌∷◌, ◌++◌, length, take, replicate, set, slice_get, Option, Some, None, Result, Ok, Err, refl, ap, sym, ◌∙◌, subst, arith, add-one, length-append, IsOk, IfErr, nat_tests, length-set, length-replicate, take-append-le, slice_get_within}
-use Rattle.world.proofs.Words.{take_next, Entry, Verdict, Applies, IsLibraryOf, library-more, Carried, Event, Offer, Begin, Deliver, Restart, StepFault, World, start, happens, all_happen, log, log_after, IsBeginningOf, Taken, world_of, with_event, carried_size, carried, all_carried, entries_of, NodeLibrary, Replicas, new_library, new_libraries, restarts, given_up, then_event, log_entries, IsOfLog, AreReplicas, if_taken, all_happen-append, after-push, log_grows, at_set_other}
+use Rattle.world.proofs.Words.{◌≡◌, ◌≢◌, ℕ, zero, suc, ◌+◌, ◌==◌, Bool, true, false, List, [], ◌∷◌, ◌++◌, length, take, replicate, set, slice_get, Option, Some, None, Result, Ok, Err, refl, ap, sym, ◌∙◌, subst, arith, add-one, length-append, IsOk, IfErr, nat_tests, length-set, length-replicate, take-append-le, slice_get_within, take_next, Entry, Verdict, Applies, IsLibraryOf, library-more, Carried, Event, Offer, Begin, Deliver, Restart, StepFault, World, start, happens, all_happen, log, log_after, IsBeginningOf, Taken, world_of, with_event, carried_size, carried, all_carried, entries_of, NodeLibrary, Replicas, new_library, new_libraries, restarts, given_up, then_event, log_entries, IsOfLog, AreReplicas, if_taken, all_happen-append, after-push, log_grows, at_set_other}
 use Rattle.world.proofs.EntryLogs.{all_carried-append, entries_begin}
 
 -- A library and its log.

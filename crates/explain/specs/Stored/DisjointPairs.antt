@@ -2,11 +2,7 @@
 -- Source: Metamath, 4.2.6: the condition speaks of two variables, whatever their order.
 -- The code asks for a pair once, however many lists have it.
 use Rattle.std.specs.Prelude.{◌≡◌, ℕ, ◌⊎◌, List, [], ◌∷◌, Some, slice_get, true}
-use Rattle.mm_lex.specs.Alphabet.{Name}
-use Rattle.mm_read.specs.Statements.{Database}
-use Rattle.names.specs.Codes.{name_at}
-use Rattle.frame.specs.Substitution.{Images, image}
-use Rattle.frame.specs.Disjoint.{are_disjoint}
+use Rattle.explain.specs.Words.{Name, Database, name_at, Images, image, are_disjoint}
 use Rattle.explain.specs.declared.disjoint_pairs.VariablePair.{VariablePair}
 
 -- the images of two variables are disjoint

@@ -2,15 +2,7 @@
 -- Source: this project's form of keeping names; images are Metamath, 4.2.6.
 -- The code keeps a slice for each expression; the definitions of faults speak of names.
 use Rattle.std.specs.Prelude.{◌≡◌, ℕ, List, map, length, Some}
-use Rattle.std.specs.Borrow.{Bor}
-use Rattle.mm_lex.specs.Alphabet.{Name}
-use Rattle.mm_read.specs.declared.stmt.Stmt.{Stmt}
-use Rattle.mm_read.specs.Statements.{Expr, Database}
-use Rattle.scope.specs.Active.{stmt_at, before}
-use Rattle.frame.specs.FrameOf.{hypotheses}
-use Rattle.names.specs.Codes.{decode}
-use Rattle.frame.specs.Below.{AllBelow}
-use Rattle.frame.specs.Substitution.{CodeImages}
+use Rattle.explain.specs.Words.{Bor, Name, Stmt, Expr, Database, stmt_at, before, hypotheses, decode, AllBelow, CodeImages}
 use Rattle.explain.specs.declared.named_images.Image.{Image}
 
 -- the numbers of each of the expressions

@@ -1,8 +1,7 @@
 -- The hypotheses that the active `$e` up to a `$e` bring along, as a set that is kept by the `$e`. The code's own form: no public clause cites it.
 -- Metamath, 4.2.7: each active `$e` is mandatory, and so is the active `$f` of each variable in it.
 use Rattle.std.specs.Prelude.{◌≡◌, ℕ, zero, suc, ◌<◌, ◌≤◌, List, length, take, slice_get, Option, Some, None}
-use Rattle.entries.specs.PositionSets.{set_at}
-use Rattle.frame.specs.Words.{Database, Entry}
+use Rattle.frame.specs.Words.{set_at, Database, Entry}
 use Rattle.frame.specs.declared.given_sets.KeptSet.{KeptSet}
 use Rattle.frame.specs.declared.given_sets.GivenSets.{GivenSets}
 use Rattle.frame.specs.declared.storage.Storage.{Storage}

@@ -1,8 +1,6 @@
 -- How the mandatory hypotheses are found: the `$f` of the symbols of the assertion and of the active `$e`, and these. The code's own form: no public clause cites it.
 use Rattle.std.specs.Prelude.{◌≡◌, ℕ, ◌+◌, ◌-◌, ◌≤◌, ◌==◌, ◌⊎◌, Bool, true, false, List, [], ◌∷◌, length, map, slice_get, Option, Some, None}
-use Rattle.frame.specs.Words.{Database, is_active, is_essential, Kind, Float, Ess, Entry, Assertion}
-use Rattle.std.specs.List.{list_any}
-use Rattle.entries.specs.PositionSets.{Ascends}
+use Rattle.frame.specs.Words.{Database, is_active, is_essential, Kind, Float, Ess, Entry, Assertion, list_any, Ascends}
 use Rattle.frame.specs.LastActive.{actives, is_disj}
 use Rattle.frame.specs.Stored.EntryMeanings.{floats, last_where}
 use Rattle.frame.specs.Stored.AssertionParts.{symbols_at, groups_by, typecode_at, required_at}

@@ -2,9 +2,7 @@
 -- Metamath, 4.2.6: an image may be empty, and then nothing stands for its variable.
 -- The code keeps the places of the symbols of an expression with 128 symbols or more.
 use Rattle.std.specs.Prelude.{◌≡◌, ℕ, List, Some, slice_get}
-use Rattle.std.specs.List.{All}
-use Rattle.entries.specs.Entries.{Entry}
-use Rattle.entries.specs.SymbolPlaces.{ArePlacesOf}
+use Rattle.frame.specs.Words.{All, Entry, ArePlacesOf}
 
 -- a statement stands at the index, and these are the places of its symbols
 abbrev pub IsLongIn : List Entry → ℕ × List (List ℕ) → Type 0

@@ -1,8 +1,6 @@
 -- The names that statements declare, each with what it was declared as. The code's own form: no public clause cites it.
 use Rattle.std.specs.Prelude.{Bool, ◌||◌, [], ◌∷◌, Option}
-use Rattle.frame.specs.Words.{Database, Declared, is_constant_kind, is_variable_kind}
-use Rattle.scope.specs.Declares.{declared_with}
-use Rattle.scope.specs.declared.numbering.NameKind.{NameKind}
+use Rattle.frame.specs.Words.{Database, Declared, is_constant_kind, is_variable_kind, declared_with, NameKind}
 
 abbrev pub naming_from : Declared → Database → Declared
 naming_from names [] = names

@@ -1,9 +1,8 @@
 -- The frame of one assertion, as it is collected from what stands.
 -- The code's own form: no public clause cites it.
 use Rattle.std.specs.Prelude.{◌≡◌, ℕ, Bool, true, false, ◌&&◌, ◌||◌, List, map, filter}
-use Rattle.frame.specs.Words.{Name, has_name, Stmt, Expr, Database, separated, expr_of, is_essential, is_variable}
+use Rattle.frame.specs.Words.{Name, has_name, Stmt, Expr, Database, separated, expr_of, is_essential, is_variable, Standing}
 use Rattle.mm_read.specs.declared.stmt.Stmt.TheVariants.{Float, Ess}
-use Rattle.scope.specs.declared.standing.Standing.{Standing}
 use Rattle.frame.specs.FrameOf.{is_mandatory, separates}
 
 -- the variables of the expression beside the others

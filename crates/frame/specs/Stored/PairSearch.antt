@@ -2,8 +2,7 @@
 -- Metamath, 4.2.4: two variables are disjoint where they stand together in an active `$d`.
 -- The code goes through the `$d` of the one variable from the last one back.
 use Rattle.std.specs.Prelude.{◌≡◌, ℕ, ◌<◌, ◌≤◌, ◌==◌, Bool, false, List, length}
-use Rattle.std.specs.List.{list_any}
-use Rattle.frame.specs.Words.{name_at, AreDistinct, before}
+use Rattle.frame.specs.Words.{list_any, name_at, AreDistinct, before}
 use Rattle.frame.specs.declared.storage.Storage.{Storage}
 use Rattle.frame.specs.FrameOf.{is_pair}
 use Rattle.frame.specs.LastActive.{is_disj}

@@ -1,9 +1,7 @@
 -- The active `$d` and `$v` that have a symbol, kept by its number. The code's own form: no public clause cites it.
 -- Metamath, 4.2.8: after a `$}` the statements that were active before its `${` are active.
 use Rattle.std.specs.Prelude.{◌≡◌, ℕ, zero, suc, ◌+◌, ◌-◌, ◌≤◌, ◌==◌, Bool, true, if◌then◌else◌, List, [], ◌∷◌, length, take, slice_get, Some}
-use Rattle.std.specs.List.{list_any}
-use Rattle.entries.specs.Histories.{StackVersion, AreUntil, history, kept_until, stack_at}
-use Rattle.frame.specs.Words.{Stmt, Database, Entry, LastActive, Kind, Close, Disj, Var}
+use Rattle.frame.specs.Words.{list_any, StackVersion, AreUntil, history, kept_until, stack_at, Stmt, Database, Entry, LastActive, Kind, Close, Disj, Var}
 use Rattle.frame.specs.declared.stacks.NextStatement.{NextStatement}
 use Rattle.frame.specs.LastActive.{actives, is_disj, is_var}
 use Rattle.frame.specs.Stored.AssertionParts.{symbols_at}

@@ -1,7 +1,6 @@
 -- The storage of a database. The code's own form: no public clause cites it.
 use Rattle.std.specs.Prelude.{◌≡◌, ℕ, ◌<◌, ◌^◌, true, List, length, map, take, slice_get, Some}
-use Rattle.frame.specs.Words.{Name, Stmt, stays_open, symbols_of, labels_of, LastActive, Assertion, Entry, Kind}
-use Rattle.entries.specs.declared.entry_header.EntryHeader.{EntryHeader}
+use Rattle.frame.specs.Words.{Name, Stmt, stays_open, symbols_of, labels_of, LastActive, Assertion, Entry, Kind, EntryHeader, StackVersion}
 use Rattle.frame.specs.declared.storage.Symbol.{Symbol}
 use Rattle.frame.specs.declared.storage.Storage.{Storage}
 use Rattle.frame.specs.LastActive.{is_disj, is_var, last_active_of}
@@ -9,7 +8,6 @@ use Rattle.frame.specs.Stored.EntryMeanings.{stmt_of, names_in, labels_in, state
 use Rattle.frame.specs.Stored.Counts.{AreNumbered, KeepsCounts, kind_of}
 use Rattle.frame.specs.Stored.Naming.{naming_of}
 use Rattle.frame.specs.Stored.AssertionParts.{IsKeptAs, has_parts}
-use Rattle.entries.specs.Histories.{StackVersion}
 use Rattle.frame.specs.Stored.Ends.{AreEnds}
 use Rattle.frame.specs.Stored.Stacks.{AreStacks, kind_test}
 

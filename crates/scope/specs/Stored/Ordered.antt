@@ -1,7 +1,6 @@
 -- Words in order: one that stands twice is next to itself. The code's own form: no public clause cites it.
 use Rattle.std.specs.Prelude.{◌≡◌, ℕ, ◌+◌, ◌<◌, true, false, List, length, get_or}
-use Rattle.std.specs.Borrow.{Bor}
-use Rattle.mm_lex.specs.Alphabet.{Name, name_eq}
+use Rattle.scope.specs.Words.{Bor, Name, name_eq}
 
 -- none of the first n words is the one before it
 abbrev pub DifferNext : List (Bor Name) → ℕ → Type 0

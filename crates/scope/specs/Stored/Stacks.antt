@@ -2,11 +2,8 @@
 -- Source: this project's form.
 -- The model has positions and bracket counts; here each field of the code is said as a function of the statements.
 use Rattle.std.specs.Prelude.{◌≡◌, ℕ, ◌≤◌, Bool, true, false, not, ◌&&◌, ◌==◌, List, [], ◌∷◌, ◌++◌, length, take, if◌then◌else◌}
-use Rattle.std.specs.List.{flat_map, list_any}
-use Rattle.mm_read.specs.declared.stmt.Stmt.{Stmt}
-use Rattle.mm_read.specs.Statements.{Database}
+use Rattle.scope.specs.Words.{flat_map, list_any, Stmt, Database, numbers_in, AreNamed}
 use Rattle.scope.specs.Active.{active, stays_open, is_open, is_close, is_closed, variables, typed_by, active_variables, typed_variables}
-use Rattle.names.specs.Codes.{numbers_in, AreNamed}
 use Rattle.scope.specs.Kinds.{Declared, IsNumberingOf}
 use Rattle.scope.specs.Standing.{stands_at, standing_of}
 use Rattle.scope.specs.Symbols.{symbols_of}

@@ -2,9 +2,7 @@
 -- Source: this project's form.
 -- The code keeps them in one buffer; here they are an option.
 use Rattle.std.specs.Prelude.{◌≡◌, ℕ, ◌==◌, Bool, true, not, ◌&&◌, List, [], ◌∷◌, ◌++◌, Option, Some, option_map, IfSome}
-use Rattle.std.specs.List.{list_any}
-use Rattle.mm_lex.specs.Alphabet.{Name}
-use Rattle.mm_read.specs.Statements.{Expr}
+use Rattle.scope.specs.Words.{list_any, Name, Expr}
 use Rattle.scope.specs.Symbols.{AreNumbers}
 
 -- the recorded numbers stand for these symbols

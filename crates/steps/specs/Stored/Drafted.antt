@@ -2,22 +2,7 @@
 -- Source: this project's form of a table of steps.
 -- The code keeps all expressions in one buffer, and finds a step by its position and those that it takes.
 use Rattle.std.specs.Prelude.{◌≡◌, ◌≢◌, ℕ, zero, suc, ◌≤◌, ◌⊎◌, List, [], ◌∷◌, ◌++◌, length, map, get_or, Option, Some, None, slice_get}
-use Rattle.std.specs.BTreeMap.{BTreeMap, get_by}
-use Rattle.std.specs.Cmp.Lexicographic.{slice_cmp}
-use Rattle.std.specs.Ordering.{nat_cmp}
-use Rattle.std.specs.declared.vec.Vec.{Vec}
-use Rattle.std.specs.declared.alloc.Global.{Global}
-use Rattle.mm_lex.specs.Alphabet.{Name}
-use Rattle.mm_read.specs.Statements.{Database}
-use Rattle.frame.specs.Below.{AreBelow}
-use Rattle.frame.specs.Substitution.{CodeImages, code_apply}
-use Rattle.entries.specs.declared.assertion_view.AssertionView.{AssertionView}
-use Rattle.proof_code.specs.declared.item.Item.{Item}
-use Rattle.subst.specs.declared.symbol_range.SymbolRange.{SymbolRange}
-use Rattle.subst.specs.SymbolRanges.{seen_at}
-use Rattle.verify.specs.Fits.{AreRead}
-use Rattle.verify.specs.ResultPlaces.{below, top}
-use Rattle.verify.specs.Machine.{State, Steps}
+use Rattle.steps.specs.Words.{BTreeMap, get_by, slice_cmp, nat_cmp, Vec, Global, Name, Database, AreBelow, CodeImages, code_apply, AssertionView, Item, SymbolRange, seen_at, AreRead, below, top, State, Steps}
 use Rattle.steps.specs.declared.table_draft.PlacedStep.{PlacedStep}
 use Rattle.steps.specs.declared.table_draft.TableDraft.{TableDraft}
 use Rattle.steps.specs.StepTable.{Step, Progress, progress, RecordsItem}

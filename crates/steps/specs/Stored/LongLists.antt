@@ -2,16 +2,7 @@
 -- Metamath, 4.2.6: a citation of an assertion needs results for its mandatory hypotheses.
 -- The code keeps no groups of variables: a table is made of a right proof, whose images were compared.
 use Rattle.std.specs.Prelude.{◌≡◌, ℕ, ◌<◌, List, [], ◌∷◌, length, map, slice_get, Some}
-use Rattle.mm_lex.specs.Alphabet.{Name}
-use Rattle.mm_read.specs.declared.stmt.Stmt.{Stmt}
-use Rattle.mm_read.specs.Statements.{Database}
-use Rattle.scope.specs.Active.{stmt_at, before}
-use Rattle.names.specs.Codes.{decode}
-use Rattle.entries.specs.declared.assertion_view.Hypothesis.{Hypothesis}
-use Rattle.entries.specs.declared.assertion_view.AssertionView.{AssertionView}
-use Rattle.frame.specs.AssertionView.{AreRequired, IsViewOf}
-use Rattle.frame.specs.Below.{AllBelow}
-use Rattle.frame.specs.FrameOf.{hypotheses, mandatory_groups}
+use Rattle.steps.specs.Words.{Name, Stmt, Database, stmt_at, before, decode, Hypothesis, AssertionView, AreRequired, IsViewOf, AllBelow, hypotheses, mandatory_groups}
 
 -- ---- parts whose groups may be missing
 

@@ -2,9 +2,7 @@
 -- Source: this project's form of a table of steps.
 -- The definition leads from the last step to those that it takes; a marked step is one that was reached.
 use Rattle.std.specs.Prelude.{◌≡◌, ◌↔◌, ◌⊎◌, ℕ, zero, suc, ◌-◌, ◌≤◌, Bool, true, false, if◌then◌else◌, List, [], ◌∷◌, ◌++◌, length, map, replicate, get_or, Some, slice_get, slice_set}
-use Rattle.mm_read.specs.Statements.{Database}
-use Rattle.entries.specs.declared.assertion_view.Hypothesis.{Hypothesis}
-use Rattle.entries.specs.declared.assertion_view.Hypothesis.TheVariants.{Float, Essential}
+use Rattle.steps.specs.Words.{Database, Hypothesis, Float, Essential}
 use Rattle.steps.specs.StepTable.{Step}
 use Rattle.steps.specs.Rows.{Row, row, no_row}
 use Rattle.steps.specs.Essential.{essential_of, IsIn, IsEssential}

@@ -2,9 +2,7 @@
 -- Metamath, 4.2.6: each two variables, one from each of two images, stand together in an active `$d`.
 -- The code keeps words of bits, where a bit that is set is a fact and another one says nothing.
 use Rattle.std.specs.Prelude.{◌≡◌, ℕ, ◌+◌, ◌*◌, ◌<◌, ◌⊎◌, Bool, true, false, List, length, get_or}
-use Rattle.std.specs.Int.{bit_at}
-use Rattle.frame.specs.Parts.{Numbered}
-use Rattle.subst.specs.Words.{is_pair, name_at}
+use Rattle.subst.specs.Words.{bit_at, Numbered, is_pair, name_at}
 use Rattle.subst.specs.declared.disjoint_rows.RowWord.{RowWord}
 use Rattle.subst.specs.declared.place_words.PlaceWord.{PlaceWord}
 use Rattle.subst.specs.Stored.PlaceSets.{HasBit, HasPlace}

@@ -2,8 +2,7 @@
 -- Metamath, 4.2.6: the pairs of variables that a proof needs.
 -- The code keeps its tables from proof to proof.
 use Rattle.std.specs.Prelude.{ℕ, Bool, List}
-use Rattle.frame.specs.Parts.{Numbered}
-use Rattle.subst.specs.Words.{are_disjoint}
+use Rattle.subst.specs.Words.{Numbered, are_disjoint}
 use Rattle.subst.specs.DisjointImages.{image_named}
 use Rattle.subst.specs.SymbolRanges.{images_at}
 use Rattle.subst.specs.declared.symbol_range.SymbolRange.{SymbolRange}

@@ -2,9 +2,7 @@
 -- Metamath, 4.2.6: no variable stands in both images, and each two variables, one from each, stand together in an active `$d`.
 -- The code keeps where the two images lie, for a whole proof: the symbols there stay as they are.
 use Rattle.std.specs.Prelude.{◌≡◌, ℕ, ◌≤◌, ◌⊎◌, true, List, ◌∷◌, [], ◌++◌, length}
-use Rattle.std.specs.List.{All}
-use Rattle.frame.specs.Parts.{Numbered}
-use Rattle.subst.specs.Words.{decode, are_disjoint}
+use Rattle.subst.specs.Words.{All, Numbered, decode, are_disjoint}
 use Rattle.subst.specs.SymbolRanges.{seen_at}
 use Rattle.subst.specs.declared.symbol_range.SymbolRange.{SymbolRange}
 use Rattle.subst.specs.declared.image_pairs.ImagePair.{ImagePair}

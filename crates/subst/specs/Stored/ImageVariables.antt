@@ -2,9 +2,7 @@
 -- Metamath, 4.2.6: the images of variables.
 -- The code reads an image once, and keeps the words of a long one's variables for a whole proof.
 use Rattle.std.specs.Prelude.{◌≡◌, ℕ, ◌<◌, ◌≤◌, ◌⊎◌, List, ◌∷◌, [], ◌++◌, length, get_or}
-use Rattle.std.specs.List.{All}
-use Rattle.frame.specs.Parts.{Numbered}
-use Rattle.subst.specs.Words.{code_image}
+use Rattle.subst.specs.Words.{All, Numbered, code_image}
 use Rattle.subst.specs.SymbolRanges.{seen_at, images_at}
 use Rattle.subst.specs.declared.symbol_range.SymbolRange.{SymbolRange}
 use Rattle.subst.specs.declared.place_words.PlaceWord.{PlaceWord}

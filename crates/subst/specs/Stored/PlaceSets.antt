@@ -2,8 +2,7 @@
 -- Source: this project's form of keeping variables.
 -- The code keeps the words that have bits, in the order in which they were met.
 use Rattle.std.specs.Prelude.{◌≡◌, ℕ, ◌+◌, ◌*◌, ◌<◌, ◌⊎◌, List, length, get_or}
-use Rattle.std.specs.Int.{bit_at}
-use Rattle.frame.specs.Parts.{Numbered}
+use Rattle.subst.specs.Words.{bit_at, Numbered}
 use Rattle.subst.specs.declared.place_words.PlaceWord.{PlaceWord}
 use Rattle.subst.specs.Stored.VariablePlaces.{Places, IsAt, HasVariable, IsAmong}
 

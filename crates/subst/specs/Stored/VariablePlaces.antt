@@ -2,10 +2,7 @@
 -- Source: this project's form of keeping variables.
 -- The code gives each variable a place as it is met, and notes of each other symbol that it is none.
 use Rattle.std.specs.Prelude.{◌≡◌, ℕ, ◌<◌, ◌⊎◌, Bool, true, false, List, length, get_or, Option, Some, None}
-use Rattle.std.specs.Int.{bit_at}
-use Rattle.std.specs.List.{All, Contains}
-use Rattle.subst.specs.Words.{Name, is_variable, name_at, is_pair}
-use Rattle.frame.specs.Parts.{Numbered}
+use Rattle.subst.specs.Words.{bit_at, All, Contains, Name, is_variable, name_at, is_pair, Numbered}
 use Rattle.subst.specs.declared.variable_places.MetSymbol.{MetSymbol}
 
 pub record Places : Type 0 where

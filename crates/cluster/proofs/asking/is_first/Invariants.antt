@@ -1,5 +1,4 @@
-use Rattle.std.proofs.Common.{◌≡◌, drop}
-use Rattle.cluster.specs.Outcome.{first_under}
+use Rattle.cluster.proofs.Words.{◌≡◌, drop, first_under}
 use Rattle.cluster.proofs.asking.is_first.Given as goal
 
 abbrev pub invariant-loop-found : goal.invariant-loop-found

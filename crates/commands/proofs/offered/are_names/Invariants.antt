@@ -1,7 +1,4 @@
-use Rattle.std.specs.Prelude.{◌≡◌, ◌≤◌, is_some}
-use Rattle.std.proofs.Common.{length}
-use Rattle.library.specs.declared.charter.TheConstants.{MOST_NAMES}
-use Rattle.commands.specs.Offered.{names_of}
+use Rattle.commands.proofs.Words.{◌≡◌, ◌≤◌, is_some, length, MOST_NAMES, names_of}
 use Rattle.commands.proofs.CharterNameLemmas.{are_names_after}
 use Rattle.commands.proofs.offered.are_names.Given as goal
 

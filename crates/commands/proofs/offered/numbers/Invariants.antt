@@ -1,6 +1,4 @@
-use Rattle.std.specs.Prelude.{◌≡◌, ◌++◌, option_map}
-use Rattle.std.proofs.Common.{length}
-use Rattle.commands.specs.Offered.{numbers_of}
+use Rattle.commands.proofs.Words.{◌≡◌, ◌++◌, option_map, length, numbers_of}
 use Rattle.commands.proofs.offered.numbers.Given as goal
 
 abbrev pub decreases-loop-word : goal.decreases-loop-word

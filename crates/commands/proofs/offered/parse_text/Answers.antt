@@ -1,8 +1,4 @@
-use Rattle.std.specs.Prelude.{◌≡◌, ℕ, Some}
-use Rattle.std.proofs.Common.{rules}
-use Rattle.commands.specs.LineWords.{entry_at}
-use Rattle.commands.specs.Remaining.{IsPast}
-use Rattle.commands.specs.Texts.{text_at}
+use Rattle.commands.proofs.Words.{◌≡◌, ℕ, Some, rules, entry_at, IsPast, text_at}
 use Rattle.commands.proofs.LineLemmas.{text_at_place, offered_found}
 use Rattle.commands.proofs.offered.parse_text.Goals as goal
 

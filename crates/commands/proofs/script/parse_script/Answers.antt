@@ -1,5 +1,4 @@
-use Rattle.std.proofs.Common.{arith, length, ◌<◌}
-use Rattle.std.proofs.lemmas.Bool.Decides.{nat_tests}
+use Rattle.commands.proofs.Words.{arith, length, ◌<◌, nat_tests}
 use Rattle.commands.proofs.ScriptsLemmas.{is_read_none, is_read_parsed, is_read_unparsed}
 use Rattle.commands.proofs.script.parse_script.Goals as goal
 

@@ -1,6 +1,4 @@
-use Rattle.std.specs.Str.{bytes_eq}
-use Rattle.std.proofs.Common.{◌≡◌, ◌+◌, ◌≤◌, true, false, length, sym, arith}
-use Rattle.std.proofs.lemmas.List.{length-take-le}
+use Rattle.commands.proofs.Words.{bytes_eq, ◌≡◌, ◌+◌, ◌≤◌, true, false, length, sym, arith, length-take-le}
 use Rattle.commands.proofs.TextsLemmas.{passed_none, passed_few, passed_fits, passed_more, found_text, found_few, found_rest}
 use Rattle.commands.proofs.text_form.lines_until.Goals as goal
 

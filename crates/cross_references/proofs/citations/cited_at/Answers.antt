@@ -1,8 +1,4 @@
-use Rattle.std.specs.Prelude.{◌≡◌, ◌<◌, suc, Some, length, slice_get}
-use Rattle.std.proofs.Common.{ap, ◌∙◌, sym, subst, refl, arith}
-use Rattle.std.proofs.lemmas.Option.{slice_get_read}
-use Rattle.mm_read.proofs.NextLemmas.{on_ok}
-use Rattle.scope.specs.Active.{label_of}
+use Rattle.cross_references.proofs.Words.{◌≡◌, ◌<◌, suc, Some, length, slice_get, ap, ◌∙◌, sym, subst, refl, arith, slice_get_read, on_ok, label_of}
 use Rattle.cross_references.proofs.CitationLemmas.{proof-items, cited-those}
 use Rattle.cross_references.proofs.citations.cited_at.Goals as goal
 

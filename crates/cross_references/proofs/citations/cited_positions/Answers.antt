@@ -1,7 +1,4 @@
-use Rattle.std.specs.Prelude.{◌++◌, List, ℕ, filter_map}
-use Rattle.std.proofs.Common.{ap, ◌∙◌, subst}
-use Rattle.frame.specs.Stored.Hypotheses.{In, AreThose}
-use Rattle.library.specs.UseMarks.{place_of}
+use Rattle.cross_references.proofs.Words.{◌++◌, List, ℕ, filter_map, ap, ◌∙◌, subst, In, AreThose, place_of}
 use Rattle.cross_references.proofs.CitationLemmas.{those-cited}
 use Rattle.cross_references.proofs.citations.cited_positions.Goals as goal
 

@@ -1,6 +1,4 @@
-use Rattle.std.specs.Prelude.{eqb}
-use Rattle.std.proofs.lemmas.List.Filters.{dedup_is}
-use Rattle.frame.proofs.CollectLemmas.{ordered}
+use Rattle.cross_references.proofs.Words.{eqb, dedup_is, ordered}
 use Rattle.cross_references.proofs.citations.order.Goals as goal
 
 pub returns : goal.returns

@@ -1,5 +1,4 @@
-use Rattle.std.specs.Prelude.{◌≡◌, ◌++◌, take, filter_map}
-use Rattle.library.specs.UseMarks.{place_of}
+use Rattle.cross_references.proofs.Words.{◌≡◌, ◌++◌, take, filter_map, place_of}
 use Rattle.cross_references.proofs.citations.push_positions.Given as goal
 
 abbrev pub invariant-loop-number : goal.invariant-loop-number

@@ -1,6 +1,4 @@
-use Rattle.std.specs.Prelude.{◌≡◌, IsTrue}
-use Rattle.std.proofs.Common.{ap}
-use Rattle.library.specs.Uses.{is_axiom}
+use Rattle.cross_references.proofs.Words.{◌≡◌, IsTrue, ap, is_axiom}
 use Rattle.cross_references.proofs.ListLemmas.{has-as, on-ok}
 use Rattle.cross_references.proofs.references.add_axiom.Goals as goal
 

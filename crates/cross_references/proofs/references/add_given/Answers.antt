@@ -1,7 +1,4 @@
-use Rattle.std.specs.Prelude.{◌-◌}
-use Rattle.std.proofs.Common.{◌∙◌, sym, arith}
-use Rattle.library.proofs.FrontLemmas.{stands_index}
-use Rattle.cross_references.specs.Passes.{lists_of}
+use Rattle.cross_references.proofs.Words.{◌-◌, ◌∙◌, sym, arith, stands_index, lists_of}
 use Rattle.cross_references.proofs.ListLemmas.{on-ok}
 use Rattle.cross_references.proofs.PassLemmas.{given-more, list-at}
 use Rattle.cross_references.proofs.references.add_given.Goals as goal

@@ -1,7 +1,4 @@
-use Rattle.std.specs.Prelude.{length}
-use Rattle.std.proofs.Common.{arith, refl}
-use Rattle.std.proofs.lemmas.List.{length-map}
-use Rattle.cross_references.specs.Passes.{lists_of}
+use Rattle.cross_references.proofs.Words.{length, arith, refl, length-map, lists_of}
 use Rattle.cross_references.proofs.ListLemmas.{in-at}
 use Rattle.cross_references.proofs.PassLemmas.{user-pushed, lists-count}
 use Rattle.cross_references.proofs.references.add_user.Goals as goal

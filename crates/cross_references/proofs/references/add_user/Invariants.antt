@@ -1,5 +1,4 @@
-use Rattle.std.specs.Prelude.{take}
-use Rattle.cross_references.specs.Passes.{lists_of, HaveUser}
+use Rattle.cross_references.proofs.Words.{take, lists_of, HaveUser}
 use Rattle.cross_references.proofs.references.add_user.Given as goal
 
 abbrev pub invariant-loop-position : goal.invariant-loop-position

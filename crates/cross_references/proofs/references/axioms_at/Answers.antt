@@ -1,8 +1,4 @@
-use Rattle.std.specs.Prelude.{[]}
-use Rattle.std.proofs.Common.{arith, refl}
-use Rattle.frame.specs.Stored.Hypotheses.{OfSome}
-use Rattle.mm_read.proofs.NextLemmas.{on_ok}
-use Rattle.cross_references.specs.Passes.{lists_of, Gives}
+use Rattle.cross_references.proofs.Words.{[], arith, refl, OfSome, on_ok, lists_of, Gives}
 use Rattle.cross_references.proofs.ListLemmas.{in-at, has-some-next, has-some-all, those-collected}
 use Rattle.cross_references.proofs.references.axioms_at.Goals as goal
 

@@ -1,6 +1,4 @@
-use Rattle.std.specs.Prelude.{take, []}
-use Rattle.frame.specs.Stored.Hypotheses.{HasMore, OfSome}
-use Rattle.cross_references.specs.Passes.{lists_of, Gives}
+use Rattle.cross_references.proofs.Words.{take, [], HasMore, OfSome, lists_of, Gives}
 use Rattle.cross_references.proofs.references.axioms_at.Given as goal
 
 abbrev pub invariant-loop-position : goal.invariant-loop-position

@@ -1,8 +1,4 @@
-use Rattle.std.specs.Prelude.{◌≡◌, ◌+◌, ◌<◌, ◌≤◌, suc, length, List, ℕ}
-use Rattle.std.proofs.Common.{ap, sym, ◌∙◌, subst, arith}
-use Rattle.std.specs.Global.{Vec}
-use Rattle.frame.specs.Stored.Hypotheses.{In}
-use Rattle.cross_references.specs.Passes.{lists_of, AreDone}
+use Rattle.cross_references.proofs.Words.{◌≡◌, ◌+◌, ◌<◌, ◌≤◌, suc, length, List, ℕ, ap, sym, ◌∙◌, subst, arith, Vec, In, lists_of, AreDone}
 use Rattle.cross_references.proofs.PassLemmas.{cited-within, done-next, done-all, lists-count, lists-push, lent-lists, have-as, given-as}
 use Rattle.cross_references.proofs.references.cross_references.Goals as goal
 

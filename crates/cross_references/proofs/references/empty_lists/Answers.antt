@@ -1,6 +1,4 @@
-use Rattle.std.specs.Prelude.{◌+◌, ◌++◌, ◌∷◌, [], List, ℕ}
-use Rattle.std.proofs.Common.{◌∙◌, ap, arith}
-use Rattle.cross_references.specs.Passes.{lists_of}
+use Rattle.cross_references.proofs.Words.{◌+◌, ◌++◌, ◌∷◌, [], List, ℕ, ◌∙◌, ap, arith, lists_of}
 use Rattle.cross_references.proofs.PassLemmas.{empties-more, lists-push}
 use Rattle.cross_references.proofs.references.empty_lists.Goals as goal
 

@@ -1,5 +1,4 @@
-use Rattle.std.specs.Prelude.{◌≡◌, [], replicate}
-use Rattle.cross_references.specs.Passes.{lists_of}
+use Rattle.cross_references.proofs.Words.{◌≡◌, [], replicate, lists_of}
 use Rattle.cross_references.proofs.references.empty_lists.Given as goal
 
 abbrev pub invariant-loop : goal.invariant-loop

@@ -1,5 +1,4 @@
-use Rattle.std.specs.Prelude.{◌-◌}
-use Rattle.std.proofs.Common.{arith}
+use Rattle.cross_references.proofs.Words.{◌-◌, arith}
 use Rattle.cross_references.proofs.PassLemmas.{list-set}
 use Rattle.cross_references.proofs.references.push_user.Goals as goal
 

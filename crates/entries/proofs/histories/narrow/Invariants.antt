@@ -1,5 +1,4 @@
-use Rattle.std.proofs.Common.{length}
-use Rattle.entries.specs.Histories.{AreSame}
+use Rattle.entries.proofs.Words.{length, AreSame}
 use Rattle.entries.proofs.histories.narrow.Given as goal
 
 abbrev pub invariant-loop-histories : goal.invariant-loop-histories

@@ -1,6 +1,4 @@
-use Rattle.std.proofs.Common.{◌∙◌, ◌+◌, ◌-◌, ap, sym, arith, length}
-use Rattle.std.proofs.lemmas.Option.{get_or_from_slice_get, slice_get_within}
-use Rattle.entries.specs.declared.history.Version.{Version}
+use Rattle.entries.proofs.Words.{◌∙◌, ◌+◌, ◌-◌, ap, sym, arith, length, get_or_from_slice_get, slice_get_within, Version}
 use Rattle.entries.proofs.VersionLemmas.{IsAbove, is-above}
 use Rattle.entries.proofs.history.above.Goals as goal
 use Rattle.entries.proofs.history.above.Goals.{In_ok-place-2}

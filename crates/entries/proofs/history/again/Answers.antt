@@ -1,5 +1,4 @@
-use Rattle.std.proofs.Common.{◌∙◌, ap, sym, length}
-use Rattle.entries.specs.declared.history.Version.{Version}
+use Rattle.entries.proofs.Words.{◌∙◌, ap, sym, length, Version}
 use Rattle.entries.proofs.VersionLemmas.{version-at, stack-again}
 use Rattle.entries.proofs.history.again.Goals as goal
 

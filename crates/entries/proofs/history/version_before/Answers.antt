@@ -1,5 +1,4 @@
-use Rattle.std.proofs.Common.{rules, ltb}
-use Rattle.std.proofs.lemmas.List.Sorted.{IsPartitionPoint-from_clause, IsPartitionedBy-ltb}
+use Rattle.entries.proofs.Words.{rules, ltb, IsPartitionPoint-from_clause, IsPartitionedBy-ltb}
 use Rattle.entries.proofs.VersionLemmas.{is-found}
 use Rattle.entries.proofs.history.version_before.Goals as goal
 

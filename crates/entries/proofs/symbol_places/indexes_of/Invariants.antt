@@ -1,5 +1,4 @@
-use Rattle.std.proofs.Common.{◌≡◌, map, take}
-use Rattle.entries.specs.Stored.Keys.{index_of}
+use Rattle.entries.proofs.Words.{◌≡◌, map, take, index_of}
 use Rattle.entries.proofs.symbol_places.indexes_of.Given as goal
 
 abbrev pub invariant-loop-key : goal.invariant-loop-key

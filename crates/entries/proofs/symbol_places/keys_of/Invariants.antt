@@ -1,5 +1,4 @@
-use Rattle.std.proofs.Common.{◌≡◌, ℕ, ◌<◌, length, slice_index, List}
-use Rattle.entries.specs.Stored.Keys.{key_of}
+use Rattle.entries.proofs.Words.{◌≡◌, ℕ, ◌<◌, length, slice_index, List, key_of}
 use Rattle.entries.proofs.symbol_places.keys_of.Given as goal
 
 -- the keys of the first symbols

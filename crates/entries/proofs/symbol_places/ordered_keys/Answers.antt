@@ -1,5 +1,4 @@
-use Rattle.std.specs.Prelude.{eqb}
-use Rattle.std.proofs.lemmas.List.Filters.{dedup_is}
+use Rattle.entries.proofs.Words.{eqb, dedup_is}
 use Rattle.entries.proofs.SymbolPlacesLemmas.{keys-ordered}
 use Rattle.entries.proofs.symbol_places.ordered_keys.Goals as goal
 

@@ -1,6 +1,4 @@
-use Rattle.std.proofs.Common.{◌≡◌, ◌∙◌, ap, arith, map, Ok, take, length}
-use Rattle.std.proofs.lemmas.List.{take_all}
-use Rattle.event_lines.specs.EventLines.{line_of}
+use Rattle.event_lines.proofs.Words.{◌≡◌, ◌∙◌, ap, arith, map, Ok, take, length, take_all, line_of}
 use Rattle.event_lines.proofs.EventsLemmas.{written_parses}
 use Rattle.event_lines.proofs.events.event_lines.Goals as goal
 

@@ -1,6 +1,4 @@
-use Rattle.std.proofs.Common.{arith, sym, ◌∙◌}
-use Rattle.std.proofs.lemmas.Option.{slice_get-get_or}
-use Rattle.explain.specs.declared.why.LetterFault.TheVariants.{NotEnded}
+use Rattle.explain.proofs.Words.{arith, sym, ◌∙◌, slice_get-get_or, NotEnded}
 use Rattle.explain.proofs.LetterLemmas.{read-none, all-read, ends-here, broken-at, some-begun, nothing-left}
 use Rattle.explain.proofs.broken_letters.letter_break.Goals as goal
 

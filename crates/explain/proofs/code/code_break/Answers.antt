@@ -1,7 +1,5 @@
-use Rattle.std.proofs.Common.{sym, ◌∙◌, ap}
-use Rattle.std.specs.List.{list_any}
+use Rattle.explain.proofs.Words.{sym, ◌∙◌, ap, list_any, fails}
 use Rattle.explain.specs.declared.code.Test.TheVariants as test
-use Rattle.explain.specs.Breaks.{fails}
 use Rattle.explain.proofs.TokenLemmas.{writes-normal, not-label-normal}
 use Rattle.explain.proofs.code.code_break.Goals as goal
 

@@ -1,5 +1,4 @@
-use Rattle.std.proofs.Common.{sym, ◌∙◌}
-use Rattle.explain.specs.Breaks.{fails}
+use Rattle.explain.proofs.Words.{sym, ◌∙◌, fails}
 use Rattle.explain.proofs.TokenLemmas.{passed-more}
 use Rattle.explain.proofs.code.first_of.Goals as goal
 

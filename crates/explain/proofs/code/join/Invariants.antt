@@ -1,5 +1,4 @@
-use Rattle.std.proofs.Common.{◌≡◌, ◌++◌}
-use Rattle.explain.specs.Breaks.{joined}
+use Rattle.explain.proofs.Words.{◌≡◌, ◌++◌, joined}
 use Rattle.explain.proofs.code.join.Given as goal
 
 abbrev pub invariant-loop-word : goal.invariant-loop-word

@@ -1,6 +1,4 @@
-use Rattle.std.proofs.Common.{◌≡◌, ◌∷◌, sym, ◌∙◌}
-use Rattle.proof_code.specs.Writes.{begin}
-use Rattle.proof_code.proofs.WritesLemmas.{begins}
+use Rattle.explain.proofs.Words.{◌≡◌, ◌∷◌, sym, ◌∙◌, begin, begins}
 use Rattle.explain.proofs.TokenLemmas.{not-label-listed, finish-listing, letters-broken, letters-write}
 use Rattle.explain.proofs.code.listed_break.Goals as goal
 

@@ -1,7 +1,4 @@
-use Rattle.std.proofs.Common.{refl, map}
-use Rattle.names.specs.Codes.{decode}
-use Rattle.scope.specs.Active.{expr_of}
-use Rattle.explain.specs.Explained.{of_hypothesis}
+use Rattle.explain.proofs.Words.{refl, map, decode, expr_of, of_hypothesis}
 use Rattle.explain.proofs.KeptRunLemmas.{hypothesis_is}
 use Rattle.explain.proofs.named_citation.cite.Goals as goal
 

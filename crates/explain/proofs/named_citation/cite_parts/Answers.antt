@@ -1,14 +1,5 @@
-use Rattle.std.proofs.Common.{◌≡◌, ◌∙◌, ◌++◌, ◌-◌, ap, sym, subst, refl, length, drop, take, map, List, ℕ, arith}
-use Rattle.scope.specs.Active.{before}
-use Rattle.names.specs.Codes.{decode, name_at}
-use Rattle.frame.specs.Below.{AllBelow}
-use Rattle.frame.specs.FrameOf.{hypotheses}
-use Rattle.verify.proofs.Named.{all-drop}
-use Rattle.verify.proofs.Words.{length-drop, length-map, map-append, take-append-drop}
-use Rattle.explain.specs.Explained.{named_behind}
-use Rattle.explain.specs.Concluded.{IsWrong}
-use Rattle.explain.specs.Stored.Vectors.{codes, named}
-use Rattle.subst.specs.declared.buffer.TheConstants.{SYMBOLS_LIMIT}
+use Rattle.explain.proofs.Words.{◌≡◌, ◌∙◌, ◌++◌, ◌-◌, ap, sym, subst, refl, length, drop, take, map, List, ℕ, arith, before, decode, name_at, AllBelow, hypotheses, all-drop, map-append, named_behind, IsWrong, codes, named, SYMBOLS_LIMIT}
+use Rattle.verify.proofs.Words.{length-drop, length-map, take-append-drop}
 use Rattle.explain.proofs.NamedLemmas.{named-codes}
 use Rattle.explain.proofs.KeptRunLemmas.{assertion_is, wrong_fails, gives_is}
 use Rattle.explain.proofs.named_citation.cite_parts.Goals as goal

@@ -1,10 +1,4 @@
-use Rattle.std.proofs.Common.{◌<◌, ◌∙◌, ap, sym, subst, length, refl, map}
-use Rattle.scope.specs.Active.{before, expr_of}
-use Rattle.names.specs.Codes.{AreDistinct, decode}
-use Rattle.frame.specs.Below.{AreBelow, AllBelow}
-use Rattle.frame.specs.FrameOf.{hypotheses}
-use Rattle.explain.specs.Stored.Vectors.{AreImages, codes, code_images, named}
-use Rattle.explain.specs.ReadImages.{named_images, images_read, AreVariables}
+use Rattle.explain.proofs.Words.{◌<◌, ◌∙◌, ap, sym, subst, length, refl, map, before, expr_of, AreDistinct, decode, AreBelow, AllBelow, hypotheses, AreImages, codes, code_images, named, named_images, images_read, AreVariables}
 use Rattle.explain.proofs.VectorLemmas.{required-kinds}
 use Rattle.explain.proofs.ImagesLemmas.{apply-below}
 use Rattle.explain.proofs.NamedLemmas.{images_are, named-codes}

@@ -1,19 +1,5 @@
-use Rattle.std.proofs.Common.{◌<◌, ◌≤◌, ◌∙◌, ℕ, List, ap, sym, refl, subst, length, get_or, arith}
-use Rattle.std.proofs.lemmas.Bool.{both_ways}
-use Rattle.std.proofs.lemmas.Option.{get_or_from_slice_get}
-use Rattle.scope.specs.Active.{before}
-use Rattle.scope.proofs.StatementPlaces.{stands-within}
-use Rattle.entries.specs.declared.assertion_view.Hypothesis.{Hypothesis}
-use Rattle.entries.specs.declared.assertion_view.Hypothesis.TheVariants.{Float}
-use Rattle.frame.specs.FrameOf.{hypotheses}
+use Rattle.explain.proofs.Words.{◌<◌, ◌≤◌, ◌∙◌, ℕ, List, ap, sym, refl, subst, length, get_or, arith, both_ways, get_or_from_slice_get, before, stands-within, Hypothesis, Float, hypotheses, decode, AreBelow, AreRequired, IsRequired, code_apply, code_images, named, named_images, images_read, IsOther}
 use Rattle.explain.proofs.VectorLemmas.{required-at, required-typecodes, required-kinds}
-use Rattle.names.specs.Codes.{decode}
-use Rattle.frame.specs.Below.{AreBelow}
-use Rattle.frame.specs.AssertionView.{AreRequired, IsRequired}
-use Rattle.frame.specs.Substitution.{code_apply}
-use Rattle.explain.specs.Stored.Vectors.{code_images, named}
-use Rattle.explain.specs.ReadImages.{named_images, images_read}
-use Rattle.explain.specs.CitationFaults.{IsOther}
 use Rattle.explain.proofs.VectorLemmas.{got, nothing, symbols-at}
 use Rattle.explain.proofs.ImagesLemmas.{apply-below}
 use Rattle.explain.proofs.CitationFaultLemmas.{fit_more, other_here, other_constant, mismatch_is, required_is}

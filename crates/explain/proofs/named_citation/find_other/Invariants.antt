@@ -1,7 +1,4 @@
-use Rattle.std.proofs.Common.{take}
-use Rattle.explain.specs.Stored.Vectors.{named, code_images}
-use Rattle.explain.specs.ReadImages.{named_images}
-use Rattle.explain.specs.CitationFaults.{AllFit}
+use Rattle.explain.proofs.Words.{take, named, code_images, named_images, AllFit}
 use Rattle.explain.proofs.named_citation.find_other.Given as goal
 
 abbrev pub invariant-loop-k : goal.invariant-loop-k

@@ -1,5 +1,4 @@
-use Rattle.std.proofs.Common.{◌≡◌, ◌++◌, drop}
-use Rattle.explain.specs.Stored.Vectors.{codes}
+use Rattle.explain.proofs.Words.{◌≡◌, ◌++◌, drop, codes}
 use Rattle.explain.proofs.named_citation.last_results.Given as goal
 
 abbrev pub invariant-loop-k : goal.invariant-loop-k

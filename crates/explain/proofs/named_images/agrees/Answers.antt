@@ -1,7 +1,5 @@
-use Rattle.std.proofs.Common.{◌≡◌, List, ℕ, ◌++◌, true, false, take_all, ◌∙◌, ap}
-use Rattle.frame.specs.Substitution.{code_apply}
+use Rattle.explain.proofs.Words.{◌≡◌, List, ℕ, ◌++◌, true, false, take_all, ◌∙◌, ap, code_apply, code_images}
 use Rattle.explain.proofs.AgreeLemmas.{match-fails, match-goes}
-use Rattle.explain.specs.Stored.Vectors.{code_images}
 use Rattle.explain.proofs.ImagesLemmas.{nothing_left}
 use Rattle.explain.proofs.named_images.agrees.Goals as goal
 

@@ -1,6 +1,4 @@
-use Rattle.std.proofs.Common.{◌≡◌, ◌≤◌, ◌++◌, drop, length}
-use Rattle.frame.specs.Substitution.{code_apply}
-use Rattle.explain.specs.Stored.Vectors.{code_images}
+use Rattle.explain.proofs.Words.{◌≡◌, ◌≤◌, ◌++◌, drop, length, code_apply, code_images}
 use Rattle.explain.proofs.named_images.apply.Given as goal
 
 abbrev pub invariant-loop-symbol : goal.invariant-loop-symbol

@@ -1,5 +1,4 @@
-use Rattle.std.proofs.Common.{◌∙◌, length, sym, ap, arith}
-use Rattle.std.proofs.lemmas.Option.{slice_get_within}
+use Rattle.explain.proofs.Words.{◌∙◌, length, sym, ap, arith, slice_get_within}
 use Rattle.explain.proofs.ImagesLemmas.{there-is}
 use Rattle.explain.proofs.VectorLemmas.{no_image}
 use Rattle.explain.proofs.named_images.image_or.Goals as goal

@@ -1,15 +1,9 @@
-use Rattle.std.proofs.Common.{◌≡◌, ◌<◌, ◌∙◌, subst, sym, ap, refl, drop, ◌+◌, ◌++◌, length, get_or, arith}
-use Rattle.std.proofs.lemmas.Option.{get_or_from_slice_get, slice_get_within}
-use Rattle.entries.specs.declared.assertion_view.Hypothesis.TheVariants.{Float}
-use Rattle.frame.specs.Below.{AreBelow}
-use Rattle.explain.specs.Stored.Vectors.{codes, code_images, AreImages}
-use Rattle.explain.specs.ReadImages.{codes_read}
+use Rattle.explain.proofs.Words.{◌≡◌, ◌<◌, ◌∙◌, subst, sym, ap, refl, drop, ◌+◌, ◌++◌, length, get_or, arith, get_or_from_slice_get, slice_get_within, Float, AreBelow, codes, code_images, AreImages, codes_read, below-drop}
 use Rattle.explain.proofs.VectorLemmas.{got, nothing, symbols-at}
 use Rattle.explain.proofs.ImagesLemmas.{images-push}
 use Rattle.explain.proofs.NamedLemmas.{read_more, read_skip}
 use Rattle.explain.proofs.named_images.list_images.Goals as goal
 use Rattle.explain.proofs.named_images.list_images.Goals.{in-Float+in_ok-push, in_default}
-use Rattle.subst.proofs.GroupLemmas.{below-drop}
 
 pub loop-k-preserved : goal.loop-k-preserved
 loop-k-preserved c =

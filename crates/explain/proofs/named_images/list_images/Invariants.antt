@@ -1,6 +1,4 @@
-use Rattle.std.proofs.Common.{◌≡◌, ℕ, ◌++◌, drop}
-use Rattle.explain.specs.Stored.Vectors.{codes, AreSymbols, AreImages, code_images}
-use Rattle.explain.specs.ReadImages.{codes_read}
+use Rattle.explain.proofs.Words.{◌≡◌, ℕ, ◌++◌, drop, codes, AreSymbols, AreImages, code_images, codes_read}
 use Rattle.explain.proofs.named_images.list_images.Given as goal
 
 abbrev pub invariant-loop-k : goal.invariant-loop-k

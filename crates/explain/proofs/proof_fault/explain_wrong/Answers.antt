@@ -1,5 +1,4 @@
-use Rattle.std.proofs.Common.{subst}
-use Rattle.proof_code.specs.Writes.{Writes}
+use Rattle.explain.proofs.Words.{subst, Writes}
 use Rattle.explain.proofs.proof_fault.explain_wrong.Goals as goal
 
 pub unreachable-requires : goal.unreachable-requires

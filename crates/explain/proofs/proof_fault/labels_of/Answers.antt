@@ -1,7 +1,5 @@
-use Rattle.std.proofs.Common.{◌∙◌, ap, arith, refl, map}
+use Rattle.explain.proofs.Words.{◌∙◌, ap, arith, refl, map, stmt_at, label_or_none}
 use Rattle.std.proofs.lemmas.List.{take_all}
-use Rattle.scope.specs.Active.{stmt_at}
-use Rattle.verify.specs.Proves.{label_or_none}
 use Rattle.explain.proofs.MandatoryLabelLemmas.{stands-at, labels-more}
 use Rattle.explain.proofs.proof_fault.labels_of.Goals as goal
 

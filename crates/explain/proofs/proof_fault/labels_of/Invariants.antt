@@ -1,6 +1,4 @@
-use Rattle.std.proofs.Common.{◌≡◌, map, take}
-use Rattle.scope.specs.Active.{stmt_at}
-use Rattle.verify.specs.Proves.{label_or_none}
+use Rattle.explain.proofs.Words.{◌≡◌, map, take, stmt_at, label_or_none}
 use Rattle.explain.proofs.proof_fault.labels_of.Given as goal
 
 abbrev pub invariant-loop-position : goal.invariant-loop-position

@@ -1,9 +1,4 @@
-use Rattle.std.proofs.Common.{◌≡◌, ◌-◌, List, [], length, get_or, arith, sym, ◌∙◌, subst, None, Some, slice_get}
-use Rattle.proof_code.specs.declared.item.Item.TheVariants.{Cite}
-use Rattle.verify.proofs.Words.{IfOk-weaker}
-use Rattle.explain.specs.declared.reason.Fault.TheVariants.{Unknown}
-use Rattle.explain.specs.FirstFault.{Fails}
-use Rattle.std.proofs.lemmas.Option.{same_Some}
+use Rattle.explain.proofs.Words.{◌≡◌, ◌-◌, List, [], length, get_or, arith, sym, ◌∙◌, subst, None, Some, slice_get, Cite, IfOk-weaker, Unknown, Fails, same_Some}
 use Rattle.explain.proofs.RunItemLemmas.{found-length, found-at, cited_fails}
 use Rattle.explain.proofs.StoppedLemmas.{held, fails_mark, fails_recall, cannot_cite, mark_there, recall_there, cite_there, position_at}
 use Rattle.explain.proofs.run.fault_at.Goals as goal

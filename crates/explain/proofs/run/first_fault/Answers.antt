@@ -1,5 +1,4 @@
-use Rattle.std.proofs.Common.{get_or, sym}
-use Rattle.proof_code.specs.declared.item.Item.TheVariants.{Mark}
+use Rattle.explain.proofs.Words.{get_or, sym, Mark}
 use Rattle.verify.proofs.Words.{slice_get-get_or}
 use Rattle.explain.proofs.StoppedLemmas.{first_at, first_end}
 use Rattle.explain.proofs.run.first_fault.Goals as goal

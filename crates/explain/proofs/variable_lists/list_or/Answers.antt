@@ -1,8 +1,4 @@
-use Rattle.std.proofs.Common.{sym, subst, arith}
-use Rattle.std.proofs.lemmas.Option.{slice_get_within}
-use Rattle.frame.specs.Substitution.{code_image}
-use Rattle.explain.specs.Stored.Vectors.{code_images}
-use Rattle.explain.specs.VariableLists.{AreVariablesOf}
+use Rattle.explain.proofs.Words.{sym, subst, arith, slice_get_within, code_image, code_images, AreVariablesOf}
 use Rattle.explain.proofs.VariableLemmas.{list-at, own-list}
 use Rattle.explain.proofs.variable_lists.list_or.Goals as goal
 

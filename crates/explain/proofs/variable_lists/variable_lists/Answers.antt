@@ -1,6 +1,4 @@
-use Rattle.std.proofs.Common.{◌∙◌, length, sym, subst, take_all}
-use Rattle.explain.specs.Stored.Vectors.{AreImages}
-use Rattle.explain.specs.VariableLists.{AreListsOf}
+use Rattle.explain.proofs.Words.{◌∙◌, length, sym, subst, take_all, AreImages, AreListsOf}
 use Rattle.explain.proofs.VariableLemmas.{image-at, lists-push}
 use Rattle.explain.proofs.VectorLemmas.{no_image}
 use Rattle.explain.proofs.variable_lists.variable_lists.Goals as goal

@@ -1,5 +1,4 @@
-use Rattle.std.proofs.Common.{take}
-use Rattle.explain.specs.VariableLists.{AreListsOf}
+use Rattle.explain.proofs.Words.{take, AreListsOf}
 use Rattle.explain.proofs.variable_lists.variable_lists.Given as goal
 
 abbrev pub invariant-loop-image : goal.invariant-loop-image

@@ -1,8 +1,4 @@
-use Rattle.std.proofs.Common.{◌≡◌, ◌∙◌, true, length, sym, ap, subst, take_all, ⊎_elim}
-use Rattle.mm_lex.specs.Alphabet.{has_name}
-use Rattle.scope.specs.Active.{is_variable}
-use Rattle.names.specs.Codes.{decode}
-use Rattle.frame.proofs.ActiveDisjointLemmas.{below-at}
+use Rattle.explain.proofs.Words.{◌≡◌, ◌∙◌, true, length, sym, ap, subst, take_all, ⊎_elim, has_name, is_variable, decode, below-at}
 use Rattle.explain.proofs.VariableLemmas.{has_more}
 use Rattle.explain.proofs.ViolationLemmas.{has_at}
 use Rattle.explain.proofs.variable_lists.variables_of.Goals as goal

@@ -1,9 +1,4 @@
-use Rattle.std.proofs.Common.{◌≡◌, true, length, take}
-use Rattle.mm_lex.specs.Alphabet.{Name, has_name}
-use Rattle.scope.specs.Active.{is_variable}
-use Rattle.names.specs.Codes.{decode}
-use Rattle.frame.specs.Below.{AreBelow}
-use Rattle.explain.specs.VariableLists.{AreSeen}
+use Rattle.explain.proofs.Words.{◌≡◌, true, length, take, Name, has_name, is_variable, decode, AreBelow, AreSeen}
 use Rattle.explain.proofs.variable_lists.variables_of.Given as goal
 
 abbrev pub invariant-loop-symbol : goal.invariant-loop-symbol

@@ -1,8 +1,4 @@
-use Rattle.std.proofs.Common.{map, arith, ap}
-use Rattle.names.specs.Codes.{decode}
-use Rattle.frame.specs.Disjoint.{are_groups_disjoint}
-use Rattle.explain.specs.Stored.Vectors.{code_images}
-use Rattle.explain.specs.ReadImages.{named_images}
+use Rattle.explain.proofs.Words.{map, arith, ap, decode, are_groups_disjoint, code_images, named_images}
 use Rattle.explain.proofs.ViolationLemmas.{no_groups}
 use Rattle.explain.proofs.violation.find_violation.Goals as goal
 

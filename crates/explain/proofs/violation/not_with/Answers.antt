@@ -1,11 +1,6 @@
-use Rattle.std.proofs.Common.{◌∙◌, sym, length}
-use Rattle.scope.specs.Active.{is_variable}
-use Rattle.names.specs.Codes.{name_at, decode}
-use Rattle.frame.specs.FrameOf.{is_pair}
-use Rattle.explain.specs.DisjointViolations.{is_kept}
+use Rattle.explain.proofs.Words.{◌∙◌, sym, length, is_variable, name_at, decode, is_pair, is_kept, below-at, kept_by, all-true}
 use Rattle.explain.proofs.ViolationLemmas.{has_at}
 use Rattle.explain.proofs.violation.not_with.Goals as goal
-use Rattle.frame.proofs.ActiveDisjointLemmas.{below-at, kept_by, all-true}
 
 pub variable-requires-in-loop-other : goal.variable-requires-in-loop-other
 variable-requires-in-loop-other c = below-at (length c.args.pairs.now.names) c.args.right.now c.loop-other.other-index 0 c.requires.right c.loop-other-test.true

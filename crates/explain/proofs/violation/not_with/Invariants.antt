@@ -1,7 +1,4 @@
-use Rattle.std.proofs.Common.{◌≡◌, drop}
-use Rattle.std.specs.List.{list_all}
-use Rattle.names.specs.Codes.{name_at, decode}
-use Rattle.explain.specs.DisjointViolations.{is_kept}
+use Rattle.explain.proofs.Words.{◌≡◌, drop, list_all, name_at, decode, is_kept}
 use Rattle.explain.proofs.violation.not_with.Given as goal
 
 abbrev pub invariant-loop-other : goal.invariant-loop-other

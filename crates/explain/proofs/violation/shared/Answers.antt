@@ -1,7 +1,6 @@
-use Rattle.std.proofs.Common.{length}
+use Rattle.explain.proofs.Words.{length, below-at}
 use Rattle.explain.proofs.ViolationLemmas.{has_at}
 use Rattle.explain.proofs.violation.shared.Goals as goal
-use Rattle.frame.proofs.ActiveDisjointLemmas.{below-at}
 
 pub not_with-requires-clause-one : goal.not_with-requires-clause-one
 not_with-requires-clause-one c = below-at (length c.args.pairs.now.names) c.args.left.now c.loop-one.one-index 0 c.requires.left c.loop-one-test.true

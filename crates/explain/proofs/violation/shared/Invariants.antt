@@ -1,6 +1,4 @@
-use Rattle.std.proofs.Common.{◌≡◌, drop}
-use Rattle.names.specs.Codes.{decode}
-use Rattle.frame.specs.Disjoint.{are_disjoint}
+use Rattle.explain.proofs.Words.{◌≡◌, drop, decode, are_disjoint}
 use Rattle.explain.proofs.violation.shared.Given as goal
 
 abbrev pub invariant-loop-one : goal.invariant-loop-one

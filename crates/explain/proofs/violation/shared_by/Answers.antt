@@ -1,10 +1,4 @@
-use Rattle.std.proofs.Common.{◌≡◌, ◌∙◌, sym, ap, subst, true}
-use Rattle.names.specs.Codes.{name_at, decode}
-use Rattle.frame.specs.Disjoint.{are_disjoint}
-use Rattle.frame.specs.Substitution.{code_image, image}
-use Rattle.explain.specs.Stored.Vectors.{code_images}
-use Rattle.explain.specs.ReadImages.{named_images}
-use Rattle.explain.specs.DisjointViolations.{AreShared}
+use Rattle.explain.proofs.Words.{◌≡◌, ◌∙◌, sym, ap, subst, true, name_at, decode, are_disjoint, code_image, image, code_images, named_images, AreShared}
 use Rattle.explain.proofs.NamedLemmas.{image_same}
 use Rattle.explain.proofs.VariableLemmas.{lists-length, disjoint_lists, shared_lists}
 use Rattle.explain.proofs.violation.shared_by.Goals as goal

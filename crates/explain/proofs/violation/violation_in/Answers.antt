@@ -1,11 +1,4 @@
-use Rattle.std.proofs.Common.{◌∙◌, length, ap, subst, sym}
-use Rattle.std.specs.List.{list_all}
-use Rattle.mm_lex.specs.Alphabet.{has_name}
-use Rattle.names.specs.Codes.{decode}
-use Rattle.frame.proofs.ActiveDisjointLemmas.{below-at}
-use Rattle.explain.specs.Stored.Vectors.{code_images}
-use Rattle.explain.specs.ReadImages.{named_images}
-use Rattle.explain.specs.DisjointViolations.{IsViolationWith, is_other_disjoint}
+use Rattle.explain.proofs.Words.{◌∙◌, length, ap, subst, sym, list_all, has_name, decode, below-at, code_images, named_images, IsViolationWith, is_other_disjoint}
 use Rattle.explain.proofs.ViolationLemmas.{has_at, all_step}
 use Rattle.explain.proofs.violation.violation_in.Goals as goal
 

@@ -1,11 +1,4 @@
-use Rattle.std.proofs.Common.{◌≡◌, drop}
-use Rattle.std.specs.List.{list_all}
-use Rattle.names.specs.Codes.{decode}
-use Rattle.frame.specs.Disjoint.{is_group_disjoint}
-use Rattle.explain.specs.Stored.Vectors.{code_images}
-use Rattle.explain.specs.ReadImages.{named_images}
-use Rattle.explain.specs.DisjointViolations.{is_other_disjoint}
-use Rattle.explain.specs.Stored.DisjointPairs.{AreDisjointPairs}
+use Rattle.explain.proofs.Words.{◌≡◌, drop, list_all, decode, is_group_disjoint, code_images, named_images, is_other_disjoint, AreDisjointPairs}
 use Rattle.explain.proofs.violation.violation_in.Given as goal
 
 abbrev pub invariant-loop-first : goal.invariant-loop-first

@@ -1,12 +1,7 @@
-use Rattle.std.proofs.Common.{◌∙◌, ◌<◌, length, arith, sym, ap, map, take_all}
-use Rattle.names.specs.Codes.{decode}
-use Rattle.frame.specs.Disjoint.{is_group_disjoint, are_groups_disjoint}
-use Rattle.explain.specs.Stored.Vectors.{code_images}
-use Rattle.explain.specs.ReadImages.{named_images}
+use Rattle.explain.proofs.Words.{◌∙◌, ◌<◌, length, arith, sym, ap, map, take_all, decode, is_group_disjoint, are_groups_disjoint, code_images, named_images, below-group}
 use Rattle.explain.proofs.ViolationLemmas.{violation_is, group_passes, repeated_passes}
 use Rattle.explain.proofs.violation.violation_of.Goals as goal
 use Rattle.explain.proofs.violation.violation_of.Goals.{then-not-is_repeated+in_default, else-not-is_repeated}
-use Rattle.subst.proofs.GroupLemmas.{below-group}
 
 pub violation_in-requires-clause-group : goal.violation_in-requires-clause-group
 violation_in-requires-clause-group c = below-group (length c.args.pairs.now.names) c.args.groups.now c.loop-k.k c.get.result.now c.requires.groups c.get.ensures

@@ -1,9 +1,4 @@
-use Rattle.std.proofs.Common.{◌≡◌, true, take, map}
-use Rattle.names.specs.Codes.{decode}
-use Rattle.frame.specs.Disjoint.{are_groups_disjoint}
-use Rattle.explain.specs.Stored.Vectors.{code_images}
-use Rattle.explain.specs.ReadImages.{named_images}
-use Rattle.explain.specs.Stored.DisjointPairs.{AreDisjointPairs}
+use Rattle.explain.proofs.Words.{◌≡◌, true, take, map, decode, are_groups_disjoint, code_images, named_images, AreDisjointPairs}
 use Rattle.explain.proofs.violation.violation_of.Given as goal
 
 abbrev pub invariant-loop-k : goal.invariant-loop-k

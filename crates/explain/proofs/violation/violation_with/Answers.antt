@@ -1,16 +1,4 @@
-use Rattle.std.proofs.Common.{◌≡◌, ◌∙◌, length, get_or, sym, ap, refl, true, ◌||◌}
-use Rattle.std.proofs.Math.Bool.{or-true}
-use Rattle.std.proofs.lemmas.Bool.{eqb-true}
-use Rattle.mm_lex.specs.Alphabet.{name_eq}
-use Rattle.names.proofs.CodesLemmas.{name_same}
-use Rattle.names.specs.Codes.{name_at, decode}
-use Rattle.frame.specs.Disjoint.{are_disjoint}
-use Rattle.frame.specs.Substitution.{code_image, image}
-use Rattle.frame.proofs.ActiveDisjointLemmas.{all-true, below-at}
-use Rattle.frame.proofs.KindWalk.{same-number}
-use Rattle.explain.specs.Stored.Vectors.{code_images}
-use Rattle.explain.specs.ReadImages.{named_images}
-use Rattle.explain.specs.DisjointViolations.{is_other_disjoint}
+use Rattle.explain.proofs.Words.{◌≡◌, ◌∙◌, length, get_or, sym, ap, refl, true, ◌||◌, or-true, eqb-true, name_eq, name_same, name_at, decode, are_disjoint, code_image, image, all-true, below-at, same-number, code_images, named_images, is_other_disjoint}
 use Rattle.explain.proofs.NamedLemmas.{image_same}
 use Rattle.explain.proofs.VariableLemmas.{lists-length, no_variables}
 use Rattle.explain.proofs.ViolationLemmas.{has_at, all_step, numbers_differ}

@@ -1,10 +1,4 @@
-use Rattle.std.proofs.Common.{◌≡◌, drop}
-use Rattle.std.specs.List.{list_all}
-use Rattle.names.specs.Codes.{name_at, decode}
-use Rattle.explain.specs.Stored.Vectors.{code_images}
-use Rattle.explain.specs.ReadImages.{named_images}
-use Rattle.explain.specs.DisjointViolations.{is_other_disjoint}
-use Rattle.explain.specs.Stored.DisjointPairs.{AreDisjointPairs}
+use Rattle.explain.proofs.Words.{◌≡◌, drop, list_all, name_at, decode, code_images, named_images, is_other_disjoint, AreDisjointPairs}
 use Rattle.explain.proofs.violation.violation_with.Given as goal
 
 abbrev pub invariant-loop-second : goal.invariant-loop-second

@@ -1,5 +1,4 @@
-use Rattle.std.proofs.Common.{◌≡◌, Some, [], map, ap, subst}
-use Rattle.extract.specs.Wanted.{IsFirstWrong}
+use Rattle.extract.proofs.Words.{◌≡◌, Some, [], map, ap, subst, IsFirstWrong}
 use Rattle.extract.proofs.WantedLemmas.{label-right, label-wrong, label-only}
 use Rattle.extract.proofs.wanted.first_wrong.Goals as goal
 

@@ -1,7 +1,5 @@
-use Rattle.std.proofs.Common.{sym, ◌∙◌}
-use Rattle.library.proofs.QueriesLemmas.{named, no-label}
+use Rattle.extract.proofs.Words.{sym, ◌∙◌, named, no-label, stands-within}
 use Rattle.extract.proofs.wanted.wrong.Goals as goal
-use Rattle.scope.proofs.StatementPlaces.{stands-within}
 
 pub returns-in_default : goal.returns-in_default
 returns-in_default c = no-label c.args.statements.now c.args.frames.now.statements c.requires.same c.args.label.now c.in_default.ensures

@@ -1,5 +1,4 @@
-use Rattle.std.proofs.Common.{◌≡◌, true}
-use Rattle.scope.specs.Active.{is_assertion}
+use Rattle.finding.proofs.Words.{◌≡◌, true, is_assertion}
 use Rattle.finding.proofs.FoundLemmas.{with_assertion}
 use Rattle.finding.proofs.found.counts.Goals as goal
 

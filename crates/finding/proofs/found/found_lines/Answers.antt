@@ -1,5 +1,4 @@
-use Rattle.std.proofs.Common.{refl, arith}
-use Rattle.finding.specs.Found.{Counts}
+use Rattle.finding.proofs.Words.{refl, arith, Counts}
 use Rattle.finding.proofs.FoundLemmas.{lines_on, lines_all, stands_at}
 use Rattle.finding.proofs.found.found_lines.Goals as goal
 

@@ -1,7 +1,4 @@
-use Rattle.std.proofs.Common.{take}
-use Rattle.finding.specs.Essentials.{AreNoted}
-use Rattle.finding.specs.Found.{Counts}
-use Rattle.finding.specs.Lines.{AreFoundLines}
+use Rattle.finding.proofs.Words.{take, AreNoted, Counts, AreFoundLines}
 use Rattle.finding.proofs.found.found_lines.Given as goal
 
 abbrev pub invariant-loop-index : goal.invariant-loop-index

@@ -1,8 +1,4 @@
-use Rattle.std.proofs.Common.{◌+◌, List, ℕ, length, refl, sym, subst}
-use Rattle.std.specs.Prelude.{◌↔◌, IfOk, IsTrue}
-use Rattle.scope.specs.Active.{bares}
-use Rattle.finding.specs.Essentials.{AreKept, AreNoted, IsLeft}
-use Rattle.finding.specs.Found.{HasIn, Has}
+use Rattle.finding.proofs.Words.{◌+◌, List, ℕ, length, refl, sym, subst, ◌↔◌, IfOk, IsTrue, bares, AreKept, AreNoted, IsLeft, HasIn, Has}
 use Rattle.finding.proofs.FoundLemmas.{either_later}
 use Rattle.finding.proofs.HypothesesLemmas.{kept-left, some-left}
 use Rattle.finding.proofs.found.has.Goals as goal

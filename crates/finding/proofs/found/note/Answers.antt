@@ -1,6 +1,4 @@
-use Rattle.std.proofs.Common.{sym, subst}
-use Rattle.std.specs.Prelude.{OnOk}
-use Rattle.finding.specs.Essentials.{AreNoted}
+use Rattle.finding.proofs.Words.{sym, subst, OnOk, AreNoted}
 use Rattle.finding.proofs.found.note.Goals as goal
 
 pub returns-in-WithHypotheses : goal.returns-in-WithHypotheses

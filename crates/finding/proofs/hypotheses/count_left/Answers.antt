@@ -1,5 +1,4 @@
-use Rattle.std.proofs.Common.{arith}
-use Rattle.std.proofs.lemmas.Bool.{both_ways}
+use Rattle.finding.proofs.Words.{arith, both_ways}
 use Rattle.finding.proofs.HypothesesLemmas.{gone-more, left-none}
 use Rattle.finding.proofs.hypotheses.count_left.Goals as goal
 

@@ -1,5 +1,4 @@
-use Rattle.std.proofs.Common.{ℕ, ◌<◌, ◌≤◌, length, get_or}
-use Rattle.finding.specs.Essentials.{IsSomeHypothesis}
+use Rattle.finding.proofs.Words.{ℕ, ◌<◌, ◌≤◌, length, get_or, IsSomeHypothesis}
 use Rattle.finding.proofs.hypotheses.count_left.Given as goal
 
 abbrev pub invariant-loop-left : goal.invariant-loop-left

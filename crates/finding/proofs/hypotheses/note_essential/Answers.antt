@@ -1,6 +1,4 @@
-use Rattle.std.proofs.Common.{subst}
-use Rattle.std.specs.Prelude.{◌↔◌, IsTrue}
-use Rattle.finding.specs.Found.{HasIn}
+use Rattle.finding.proofs.Words.{subst, ◌↔◌, IsTrue, HasIn}
 use Rattle.finding.proofs.HypothesesLemmas.{kept-one}
 use Rattle.finding.proofs.hypotheses.note_essential.Goals as goal
 

@@ -1,12 +1,9 @@
-use Rattle.frame.proofs.Words.{Extends, IsBehind, Result, Ok, Err, OnErr, append-nil, ◌≡◌, ◌∙◌, ap, sym, subst, arith, refl, length, ◌+◌, ◌++◌, ◌∷◌, [], true, bare, made, may-declare, AreBelow, has_parts, statements_of, ReadsAs, IsKeptOf}
+use Rattle.frame.proofs.Words.{Extends, IsBehind, Result, Ok, Err, OnErr, append-nil, ◌≡◌, ◌∙◌, ap, sym, subst, arith, refl, length, ◌+◌, ◌++◌, ◌∷◌, [], true, bare, made, may-declare, AreBelow, has_parts, statements_of, ReadsAs, IsKeptOf, NextStatement, history, kept_until, EntryHeader}
 use Rattle.frame.proofs.EndLemmas.{block-within, ends-next}
 use Rattle.frame.proofs.EnterLemmas.{IsEntered, IsExtended, added-numbers, entered-below, kept-pushed, numbered-pushed, pushed-statements}
 use Rattle.frame.proofs.NamingLemmas.{stored-naming}
 use Rattle.frame.proofs.BackLemmas.{walked-disj, walked-var}
 use Rattle.frame.proofs.StackLemmas.{disjoints-next, variables-next}
-use Rattle.frame.specs.declared.stacks.NextStatement.{NextStatement}
-use Rattle.entries.specs.Histories.{history, kept_until}
-use Rattle.entries.specs.declared.entry_header.EntryHeader.{EntryHeader}
 use Rattle.frame.proofs.extend.extend.Goals as goal
 use Rattle.frame.proofs.extend.extend.Goals.{In-Some}
 

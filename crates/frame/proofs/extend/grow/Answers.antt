@@ -1,5 +1,4 @@
-use Rattle.frame.proofs.Words.{◌≡◌, ◌∙◌, ap, sym, subst, arith, refl, length, length-append, length-take-le, take, extends-length, on-err, [], ◌∷◌, bare, statements_of}
-use Rattle.frame.specs.Stored.GivenSets.{AreGivenSets}
+use Rattle.frame.proofs.Words.{◌≡◌, ◌∙◌, ap, sym, subst, arith, refl, length, length-append, length-take-le, take, extends-length, on-err, [], ◌∷◌, bare, statements_of, AreGivenSets}
 use Rattle.frame.proofs.GivenSetLemmas.{sets-front, sets-more}
 use Rattle.frame.proofs.KindWalk.{as-many}
 use Rattle.frame.proofs.extend.grow.Goals as goal

@@ -1,5 +1,4 @@
-use Rattle.frame.proofs.Words.{sym, arith, inl, get_or, take_more, take_all, subst, Ascends, In, HasMore, extends-refl, extends-trans, set_at}
-use Rattle.entries.proofs.PositionSetLemmas.{ascends-with}
+use Rattle.frame.proofs.Words.{sym, arith, inl, get_or, take_more, take_all, subst, Ascends, In, HasMore, extends-refl, extends-trans, set_at, ascends-with}
 use Rattle.frame.proofs.GivenSetLemmas.{with-more}
 use Rattle.frame.proofs.given_sets.insert_each.Goals as goal
 

@@ -1,5 +1,4 @@
-use Rattle.std.specs.Prelude.{eqb}
-use Rattle.std.proofs.lemmas.List.Filters.{dedup_is}
+use Rattle.frame.proofs.Words.{eqb, dedup_is}
 use Rattle.frame.proofs.CollectLemmas.{ordered}
 use Rattle.frame.proofs.mandatory.order.Goals as goal
 

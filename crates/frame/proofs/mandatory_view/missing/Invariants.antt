@@ -1,5 +1,4 @@
-use Rattle.frame.proofs.Words.{◌≡◌, not, filter, take, set_at}
-use Rattle.entries.specs.PositionSets.{has_position}
+use Rattle.frame.proofs.Words.{◌≡◌, not, filter, take, set_at, has_position}
 use Rattle.frame.proofs.mandatory_view.missing.Given as goal
 
 abbrev pub invariant-loop-position : goal.invariant-loop-position

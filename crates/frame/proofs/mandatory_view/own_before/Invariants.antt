@@ -1,5 +1,4 @@
-use Rattle.frame.proofs.Words.{◌≡◌, ℕ, suc, ◌+◌, ◌-◌, ◌<◌, ◌≤◌, length, get_or, set_at}
-use Rattle.entries.specs.PositionSets.{count_below}
+use Rattle.frame.proofs.Words.{◌≡◌, ℕ, suc, ◌+◌, ◌-◌, ◌<◌, ◌≤◌, length, get_or, set_at, count_below}
 use Rattle.frame.proofs.mandatory_view.own_before.Given as goal
 
 abbrev pub invariant-loop-low : goal.invariant-loop-low

@@ -1,5 +1,4 @@
-use Rattle.frame.proofs.Words.{◌≡◌, ◌++◌, among}
-use Rattle.mm_lex.specs.Words.{AreWords}
+use Rattle.frame.proofs.Words.{◌≡◌, ◌++◌, among, AreWords}
 use Rattle.frame.proofs.one_frame.group.Given as goal
 
 abbrev pub invariant-loop-name : goal.invariant-loop-name

@@ -1,5 +1,4 @@
-use Rattle.frame.proofs.Words.{◌≡◌, ◌∙◌, sym, arith, true, seen}
-use Rattle.frame.specs.Stored.Stacks.{has_code}
+use Rattle.frame.proofs.Words.{◌≡◌, ◌∙◌, sym, arith, true, seen, has_code}
 use Rattle.frame.proofs.PairSearchLemmas.{known-kind, known-pair}
 use Rattle.frame.proofs.pair_memo.has_both.Goals as goal
 use Rattle.frame.proofs.pair_memo.has_both.Goals.{then-is_active_at, else-is_active_at}

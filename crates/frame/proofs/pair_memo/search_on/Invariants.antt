@@ -1,5 +1,4 @@
-use Rattle.frame.proofs.Words.{length}
-use Rattle.frame.specs.Stored.PairSearch.{IsLeft}
+use Rattle.frame.proofs.Words.{length, IsLeft}
 use Rattle.frame.proofs.pair_memo.search_on.Given as goal
 
 -- the `$d` that are left decide

@@ -1,5 +1,4 @@
-use Rattle.frame.proofs.Words.{◌≡◌, length, list_any, is_disj, statements_of}
-use Rattle.frame.specs.Stored.Stacks.{AreOfKind, has_code}
+use Rattle.frame.proofs.Words.{◌≡◌, length, list_any, is_disj, statements_of, AreOfKind, has_code}
 use Rattle.frame.proofs.pairs.any_has.Given as goal
 
 abbrev pub invariant-loop-at : goal.invariant-loop-at

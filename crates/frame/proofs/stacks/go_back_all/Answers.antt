@@ -1,6 +1,4 @@
-use Rattle.frame.proofs.Words.{◌∙◌, ◌≡◌, ◌-◌, arith, seen, ℕ, zero, suc}
-use Rattle.std.specs.Prelude.{max}
-use Rattle.frame.specs.Stored.Stacks.{opening}
+use Rattle.frame.proofs.Words.{◌∙◌, ◌≡◌, ◌-◌, arith, seen, ℕ, zero, suc, max, opening}
 use Rattle.frame.proofs.BackLemmas.{back-start, back-within, walk-until, walk-kept, back-end, back-smaller, back-step}
 use Rattle.frame.proofs.stacks.go_back_all.Goals as goal
 

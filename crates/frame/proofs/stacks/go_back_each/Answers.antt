@@ -1,5 +1,4 @@
-use Rattle.frame.proofs.Words.{◌∙◌, cond, list_any, nat_eq, ap, arith, take, take_all}
-use Rattle.entries.specs.Histories.{gone_back, history, kept_until}
+use Rattle.frame.proofs.Words.{◌∙◌, cond, list_any, nat_eq, ap, arith, take, take_all, gone_back, history, kept_until}
 use Rattle.frame.proofs.StackLemmas.{changed-more, changed-until, changed-keeps, back-twice, back-until, back-kept}
 use Rattle.frame.proofs.stacks.go_back_each.Goals as goal
 

@@ -1,6 +1,4 @@
-use Rattle.frame.proofs.Words.{take}
-use Rattle.entries.specs.Histories.{gone_back}
-use Rattle.frame.specs.Stored.Stacks.{AreChangedBy}
+use Rattle.frame.proofs.Words.{take, gone_back, AreChangedBy}
 use Rattle.frame.proofs.stacks.go_back_each.Given as goal
 
 abbrev pub invariant-loop-code : goal.invariant-loop-code

@@ -1,5 +1,4 @@
-use Rattle.frame.proofs.Words.{◌∙◌, cond, list_any, nat_eq, ap, arith, take, take_all}
-use Rattle.entries.specs.Histories.{pushed, history, kept_until}
+use Rattle.frame.proofs.Words.{◌∙◌, cond, list_any, nat_eq, ap, arith, take, take_all, pushed, history, kept_until}
 use Rattle.frame.proofs.StackLemmas.{changed-more, changed-until, changed-keeps, push-twice, push-until, push-kept}
 use Rattle.frame.proofs.stacks.push_each.Goals as goal
 

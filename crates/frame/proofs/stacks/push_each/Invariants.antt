@@ -1,6 +1,4 @@
-use Rattle.frame.proofs.Words.{take}
-use Rattle.entries.specs.Histories.{pushed}
-use Rattle.frame.specs.Stored.Stacks.{AreChangedBy}
+use Rattle.frame.proofs.Words.{take, pushed, AreChangedBy}
 use Rattle.frame.proofs.stacks.push_each.Given as goal
 
 abbrev pub invariant-loop-code : goal.invariant-loop-code

@@ -1,6 +1,4 @@
-use Rattle.frame.proofs.Words.{◌-◌, sym, subst, arith, refl, ok-weaker, Result, Ok, Err, OnOk}
-use Rattle.entries.specs.declared.kind.Kind.TheVariants.{Disj, Var}
-use Rattle.frame.specs.Stored.Stacks.{IsNext, latest_of}
+use Rattle.frame.proofs.Words.{◌-◌, sym, subst, arith, refl, ok-weaker, Result, Ok, Err, OnOk, Disj, Var, IsNext, latest_of}
 use Rattle.frame.proofs.StackLemmas.{next-pushed, all-later}
 use Rattle.frame.proofs.BackLemmas.{latest-disj-other, latest-var-other, next-other, walked-until}
 use Rattle.frame.proofs.stacks.record_active.Goals as goal

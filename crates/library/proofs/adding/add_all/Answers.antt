@@ -1,9 +1,6 @@
-use Rattle.library.proofs.Words.{◌≡◌, ◌∷◌, ◌++◌, [], true, take, drop, length, Some, sym, ◌∙◌, ◌+◌, ap, subst, arith, bares, drop_all, take_all, IsLegal, IsTrue, OnOk, broken_rule, first_broken, numbered, or_later}
-use denote.Enum.Bare.{sameb}
+use Rattle.library.proofs.Words.{◌≡◌, ◌∷◌, ◌++◌, [], true, take, drop, length, Some, sym, ◌∙◌, ◌+◌, ap, subst, arith, bares, drop_all, take_all, IsLegal, IsTrue, OnOk, broken_rule, first_broken, numbered, or_later, sameb, Memory, is_closed}
 use Rattle.scope.specs.contracts.rule.Rule.{the_type}
-use Rattle.scope.specs.declared.rule.Rule.TheVariants.{Memory}
 use Rattle.library.proofs.AddingLemmas.{kept-more, known-none, left-at, left-more, none-at-end, rule-at-end, rule-is}
-use Rattle.library.specs.Words.{is_closed}
 use Rattle.library.proofs.adding.add_all.Goals as goal
 
 pub loop-index-preserved : goal.loop-index-preserved

@@ -1,6 +1,4 @@
-use Rattle.library.proofs.Words.{arith, take, length, AreShaped, ◌≤◌}
-use Rattle.std.proofs.Common.{rules}
-use Rattle.library.specs.Added.{AreProvedTo}
+use Rattle.library.proofs.Words.{arith, take, length, AreShaped, ◌≤◌, rules, AreProvedTo}
 use Rattle.library.proofs.AheadLemmas.{added-ahead}
 use Rattle.library.proofs.UnprovedLemmas.{shaped-front}
 use Rattle.library.proofs.adding.add_all_verifying.Goals as goal

@@ -1,5 +1,4 @@
-use Rattle.library.proofs.Words.{arith, subst}
-use Rattle.library.specs.Judging.{IsLeastUnproved}
+use Rattle.library.proofs.Words.{arith, subst, IsLeastUnproved}
 use Rattle.library.proofs.UnprovedLemmas.{all-to}
 use Rattle.library.proofs.adding.verify_ahead.Goals as goal
 

@@ -1,5 +1,4 @@
-use Rattle.verify_pool.specs.Least.{IsLeast}
-use Rattle.library.proofs.Words.{IfOk, IsRightProof, length, ◌≡◌, ◌+◌, Some, refl, suc, subst, sym, ◌∙◌, arith, true≢false, get_or_default, slice_get_read, stmt_at, IsLeastUnproved}
+use Rattle.library.proofs.Words.{IsLeast, IfOk, IsRightProof, length, ◌≡◌, ◌+◌, Some, refl, suc, subst, sym, ◌∙◌, arith, true≢false, get_or_default, slice_get_read, stmt_at, IsLeastUnproved}
 use Rattle.library.proofs.UnprovedLemmas.{all-behind, are-proofs, behind-more, behind-pass, none-unproved, some-unproved, some-within}
 use Rattle.library.proofs.ProvingLemmas.{not-there}
 use Rattle.library.proofs.unproved.least_unproved.Goals as goal

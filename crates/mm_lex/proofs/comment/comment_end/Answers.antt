@@ -1,5 +1,4 @@
-use Rattle.std.proofs.Common.{sym}
-use Rattle.std.proofs.lemmas.Slice.Eq.{bytes_eq-Decides}
+use Rattle.mm_lex.proofs.Prelude.{sym, bytes_eq-Decides}
 use Rattle.mm_lex.proofs.Progress.{passes_on, inside_more, inside_closed, inside_nested}
 use Rattle.mm_lex.proofs.CuttingMeans.{plain}
 use Rattle.mm_lex.proofs.comment.comment_end.Goals as goal

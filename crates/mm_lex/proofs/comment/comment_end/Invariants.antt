@@ -1,5 +1,4 @@
-use Rattle.std.proofs.Common.{◌-◌, length}
-use Rattle.mm_lex.specs.Comments.{PassesPlain}
+use Rattle.mm_lex.proofs.Prelude.{◌-◌, length, PassesPlain}
 use Rattle.mm_lex.proofs.comment.comment_end.Given as goal
 
 abbrev pub invariant-loop-span : goal.invariant-loop-span

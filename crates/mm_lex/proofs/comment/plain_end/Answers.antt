@@ -1,5 +1,4 @@
-use Rattle.std.proofs.Common.{refl}
-use Rattle.std.proofs.lemmas.List.{take_rest}
+use Rattle.mm_lex.proofs.Prelude.{refl, take_rest}
 use Rattle.mm_lex.proofs.PlainLemmas.{plain_found, plain_unfound}
 use Rattle.mm_lex.proofs.comment.plain_end.Goals as goal
 

@@ -1,5 +1,4 @@
-use Rattle.std.proofs.Common.{take, arith}
-use Rattle.std.proofs.lemmas.List.{length-take-le}
+use Rattle.mm_lex.proofs.Prelude.{take, arith, length-take-le}
 use Rattle.mm_lex.proofs.RunsLemmas.{position_or_len-le}
 use Rattle.mm_lex.proofs.LanesLemmas.{is_low, mask_of_low, lowest_low}
 use Rattle.mm_lex.proofs.lanes.count_in_lanes.Goals as goal

@@ -1,5 +1,4 @@
-use Rattle.std.proofs.Common.{take, arith}
-use Rattle.std.proofs.lemmas.List.{length-take-le}
+use Rattle.mm_lex.proofs.Prelude.{take, arith, length-take-le}
 use Rattle.mm_lex.proofs.RunsLemmas.{position_or_len-le}
 use Rattle.mm_lex.proofs.LanesLemmas.{is_high, mask_of_high, lowest_high, none_high}
 use Rattle.mm_lex.proofs.lanes.count_low_in_lanes.Goals as goal

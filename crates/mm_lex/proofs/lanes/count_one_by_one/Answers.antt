@@ -1,6 +1,4 @@
-use Rattle.std.proofs.Common.{◌∙◌, ap, length}
-use Rattle.std.specs.Option.{unwrap_or}
-use Rattle.mm_lex.specs.Alphabet.{is_white}
+use Rattle.mm_lex.proofs.Prelude.{◌∙◌, ap, length, unwrap_or, is_white}
 use Rattle.mm_lex.proofs.RunsLemmas.{unwrap_or-position}
 use Rattle.mm_lex.proofs.lanes.count_one_by_one.Goals as goal
 

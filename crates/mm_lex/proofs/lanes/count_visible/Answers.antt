@@ -1,6 +1,4 @@
-use Rattle.std.proofs.Common.{◌∙◌, ap, sym, arith, take, length, ◌+◌, ◌≤◌}
-use Rattle.std.specs.List.{position_or_len}
-use Rattle.std.proofs.lemmas.List.{take_rest}
+use Rattle.mm_lex.proofs.Prelude.{◌∙◌, ap, sym, arith, take, length, ◌+◌, ◌≤◌, position_or_len, take_rest}
 use Rattle.mm_lex.proofs.LanesLemmas.{is_low, ends_here, goes_on}
 use Rattle.mm_lex.proofs.lanes.count_visible.Goals as goal
 

@@ -1,6 +1,4 @@
-use Rattle.std.proofs.Common.{◌≡◌, ◌+◌, ◌-◌, ◌≤◌, length, drop}
-use Rattle.std.specs.List.{position_or_len}
-use Rattle.mm_lex.specs.Alphabet.{is_white}
+use Rattle.mm_lex.proofs.Prelude.{◌≡◌, ◌+◌, ◌-◌, ◌≤◌, length, drop, position_or_len, is_white}
 use Rattle.mm_lex.proofs.lanes.count_visible.Given as goal
 
 abbrev pub invariant-loop-at : goal.invariant-loop-at

@@ -1,7 +1,4 @@
-use Rattle.std.proofs.Common.{◌<◌, ◌∙◌, ap, sym, arith, length, take}
-use Rattle.std.specs.List.{position_or_len}
-use Rattle.std.specs.Option.{unwrap_or}
-use Rattle.std.proofs.lemmas.List.{length-take-le}
+use Rattle.mm_lex.proofs.Prelude.{◌<◌, ◌∙◌, ap, sym, arith, length, take, position_or_len, unwrap_or, length-take-le}
 use Rattle.mm_lex.proofs.RunsLemmas.{unwrap_or-position, is_shown}
 use Rattle.mm_lex.proofs.LanesLemmas.{high_is_shown, clean-take, first_among}
 use Rattle.mm_lex.proofs.lanes.count_white.Goals as goal

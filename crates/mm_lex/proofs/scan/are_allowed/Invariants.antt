@@ -1,6 +1,4 @@
-use Rattle.std.proofs.Common.{◌≡◌, take}
-use Rattle.std.specs.List.{list_all}
-use Rattle.mm_lex.specs.Alphabet.{is_allowed}
+use Rattle.mm_lex.proofs.Prelude.{◌≡◌, take, list_all, is_allowed}
 use Rattle.mm_lex.proofs.scan.are_allowed.Given as goal
 
 abbrev pub invariant-loop-b : goal.invariant-loop-b

@@ -1,5 +1,4 @@
-use Rattle.std.proofs.Common.{◌∙◌, sym, ap, Err, Ok}
-use Rattle.mm_lex.specs.declared.fault.LexFault.TheVariants.{Comment}
+use Rattle.mm_lex.proofs.Prelude.{◌∙◌, sym, ap, Err, Ok, Comment}
 use Rattle.mm_lex.proofs.Progress.{cut_more, cut_comment, cut_end, stops_closer, stops_nested, stops_unclosed, AreTokens-scan, IsCommentFault-scan, same_fault, no_fault}
 use Rattle.mm_lex.proofs.scan.cut.Goals as goal
 

@@ -1,5 +1,4 @@
-use Rattle.std.proofs.Common.{◌∙◌, ap, Err}
-use Rattle.mm_lex.specs.declared.fault.LexFault.TheVariants.{Text}
+use Rattle.mm_lex.proofs.Prelude.{◌∙◌, ap, Err, Text}
 use Rattle.mm_lex.proofs.RunsLemmas.{found_at}
 use Rattle.mm_lex.proofs.BadByteLemmas.{is_bad, IsFirstBadByte-found, IsFirstBadByte-place, IsClean-none, IsClean-no_fault}
 use Rattle.mm_lex.proofs.scan.tokens.Goals as goal

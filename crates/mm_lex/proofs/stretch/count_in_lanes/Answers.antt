@@ -1,5 +1,4 @@
-use Rattle.std.proofs.Common.{take, drop, arith}
-use Rattle.std.proofs.lemmas.List.{length-take-le, length-drop}
+use Rattle.mm_lex.proofs.Prelude.{take, drop, arith, length-take-le, length-drop}
 use Rattle.mm_lex.proofs.StretchLemmas.{none_set, first_set, few_set}
 use Rattle.mm_lex.proofs.stretch.count_in_lanes.Goals as goal
 

@@ -1,5 +1,4 @@
-use Rattle.std.proofs.Common.{◌≡◌, ◌+◌, ◌-◌, ◌≤◌, length, drop}
-use Rattle.mm_lex.specs.Stored.Stretch.{stretch}
+use Rattle.mm_lex.proofs.Prelude.{◌≡◌, ◌+◌, ◌-◌, ◌≤◌, length, drop, stretch}
 use Rattle.mm_lex.proofs.stretch.count_one_by_one.Given as goal
 
 abbrev pub invariant-loop-at : goal.invariant-loop-at

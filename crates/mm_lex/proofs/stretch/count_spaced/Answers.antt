@@ -1,6 +1,4 @@
-use Rattle.std.proofs.Common.{◌∙◌, ◌≡◌, ap, sym, subst, arith, drop, length, ◌+◌, ◌<◌, ◌≤◌}
-use Rattle.std.proofs.lemmas.List.{take_rest}
-use Rattle.mm_lex.specs.Stored.Stretch.{stretch}
+use Rattle.mm_lex.proofs.Prelude.{◌∙◌, ◌≡◌, ap, sym, subst, arith, drop, length, ◌+◌, ◌<◌, ◌≤◌, take_rest, stretch}
 use Rattle.mm_lex.proofs.StretchLemmas.{lanes_count, stretch_goes_on, stretch_ends}
 use Rattle.mm_lex.proofs.stretch.count_spaced.Goals as goal
 

@@ -1,7 +1,4 @@
-use Rattle.std.proofs.Common.{◌∙◌, ap, sym, refl, arith, drop, length, ◌≡◌, ◌<◌, ◌≤◌, ◌+◌, false}
-use Rattle.std.proofs.lemmas.List.{length-drop, take_rest}
-use Rattle.mm_lex.specs.Alphabet.{starts_white}
-use Rattle.mm_lex.specs.Stored.Stretch.{stretch}
+use Rattle.mm_lex.proofs.Prelude.{◌∙◌, ap, sym, refl, arith, drop, length, ◌≡◌, ◌<◌, ◌≤◌, ◌+◌, false, length-drop, take_rest, starts_white, stretch}
 use Rattle.mm_lex.proofs.ListLemmas.{adds_none, adds_on, adds_white, stretch_words, stretch_adds}
 use Rattle.mm_lex.proofs.symbol_list.push_pieces.Goals as goal
 

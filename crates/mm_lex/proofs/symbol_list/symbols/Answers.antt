@@ -1,6 +1,4 @@
-use Rattle.std.proofs.Common.{sym, refl, subst, []}
-use Rattle.std.proofs.lemmas.Result.{err_from_is_err_and}
-use Rattle.mm_lex.specs.Between.{AreBehind, IsTokenBehind, IsNextToken}
+use Rattle.mm_lex.proofs.Prelude.{sym, refl, subst, [], err_from_is_err_and, AreBehind, IsTokenBehind, IsNextToken}
 use Rattle.mm_lex.proofs.BetweenLemmas.{fails_behind, stops_fail}
 use Rattle.mm_lex.proofs.ListLemmas.{adds_on, adds_word, ends_with, ends_text}
 use Rattle.mm_lex.proofs.symbol_list.symbols.Goals as goal

@@ -1,5 +1,4 @@
-use Rattle.std.proofs.Common.{[], ◌-◌, length}
-use Rattle.mm_lex.specs.SymbolList.{AddsSymbols}
+use Rattle.mm_lex.proofs.Prelude.{[], ◌-◌, length, AddsSymbols}
 use Rattle.mm_lex.proofs.symbol_list.symbols.Given as goal
 
 abbrev pub invariant-loop-words : goal.invariant-loop-words

@@ -1,7 +1,4 @@
-use Rattle.std.proofs.Common.{◌∙◌, ap, ◌-◌, ◌<◌, length, take, drop, refl, arith}
-use Rattle.std.specs.List.{position_or_len}
-use Rattle.std.proofs.lemmas.List.{take_rest}
-use Rattle.mm_lex.specs.Alphabet.{is_white}
+use Rattle.mm_lex.proofs.Prelude.{◌∙◌, ap, ◌-◌, ◌<◌, length, take, drop, refl, arith, position_or_len, take_rest, is_white}
 use Rattle.mm_lex.proofs.RunsLemmas.{is_shown, no_run, next_run-whole, next_run-place}
 use Rattle.mm_lex.proofs.LanesLemmas.{clean-drop, clean-take}
 use Rattle.mm_lex.proofs.visible_run.next_run.Goals as goal

@@ -1,6 +1,4 @@
-use Rattle.std.proofs.Common.{◌∙◌, ap, length, drop, ◌-◌}
-use Rattle.std.specs.List.{position_or_len}
-use Rattle.std.proofs.lemmas.List.{take_rest}
+use Rattle.mm_lex.proofs.Prelude.{◌∙◌, ap, length, drop, ◌-◌, position_or_len, take_rest}
 use Rattle.mm_lex.proofs.RunsLemmas.{is_shown, pass_white, shown_behind}
 use Rattle.mm_lex.proofs.LanesLemmas.{clean-drop, clean-take}
 use Rattle.mm_lex.proofs.visible_run.pass_white.Goals as goal

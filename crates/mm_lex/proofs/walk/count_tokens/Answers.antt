@@ -1,8 +1,4 @@
-use Rattle.std.proofs.Common.{refl, arith, subst, [], ◌∷◌, ◌++◌, length-append}
-use Rattle.std.proofs.lemmas.List.{append-nil}
-use Rattle.std.proofs.lemmas.Result.{err_from_is_err_and}
-use Rattle.mm_lex.specs.Alphabet.{word}
-use Rattle.mm_lex.specs.Between.{AreBehind, IsTokenBehind, IsNextToken}
+use Rattle.mm_lex.proofs.Prelude.{refl, arith, subst, [], ◌∷◌, ◌++◌, length-append, append-nil, err_from_is_err_and, word, AreBehind, IsTokenBehind, IsNextToken}
 use Rattle.mm_lex.proofs.BetweenLemmas.{between_none, between_on, behind_on, behind_as, stops_behind}
 use Rattle.mm_lex.proofs.walk.count_tokens.Goals as goal
 

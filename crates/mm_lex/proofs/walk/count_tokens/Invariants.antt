@@ -1,6 +1,4 @@
-use Rattle.std.proofs.Common.{◌≡◌, ◌-◌, ◌≤◌, length, List}
-use Rattle.mm_lex.specs.Alphabet.{Name}
-use Rattle.mm_lex.specs.Between.{HasBetween}
+use Rattle.mm_lex.proofs.Prelude.{◌≡◌, ◌-◌, ◌≤◌, length, List, Name, HasBetween}
 use Rattle.mm_lex.proofs.walk.count_tokens.Given as goal
 
 abbrev pub invariant-loop-span : goal.invariant-loop-span

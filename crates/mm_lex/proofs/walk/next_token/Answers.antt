@@ -1,5 +1,4 @@
-use Rattle.std.proofs.Common.{sym}
-use Rattle.std.proofs.lemmas.Slice.Eq.{bytes_eq-Decides}
+use Rattle.mm_lex.proofs.Prelude.{sym, bytes_eq-Decides}
 use Rattle.mm_lex.proofs.CuttingMeans.{plain}
 use Rattle.mm_lex.proofs.BetweenLemmas.{between_none, between_on, between_comment, behind_on, none_behind}
 use Rattle.mm_lex.proofs.NextRunLemmas.{next_is, stops_stray, stops_nested, stops_unclosed}

@@ -1,5 +1,4 @@
-use Rattle.std.proofs.Common.{[], ◌-◌, length}
-use Rattle.mm_lex.specs.Between.{HasBetween}
+use Rattle.mm_lex.proofs.Prelude.{[], ◌-◌, length, HasBetween}
 use Rattle.mm_lex.proofs.walk.next_token.Given as goal
 
 abbrev pub invariant-loop-run : goal.invariant-loop-run

@@ -1,5 +1,4 @@
-use Rattle.std.proofs.Common.{take, arith}
-use Rattle.std.proofs.lemmas.List.{length-take-le}
+use Rattle.mm_lex.proofs.Prelude.{take, arith, length-take-le}
 use Rattle.mm_lex.proofs.RunsLemmas.{position_or_len-le}
 use Rattle.mm_lex.proofs.FirstSpaceLemmas.{is_space, mask_of_spaces, lowest_space}
 use Rattle.mm_lex.proofs.word_iter.count_before_space.Goals as goal

@@ -1,6 +1,4 @@
-use Rattle.std.proofs.Common.{◌∙◌, ap, sym, ◌+◌, ◌∷◌, take}
-use Rattle.std.proofs.lemmas.List.{take_rest}
-use Rattle.mm_lex.specs.Words.{words_of}
+use Rattle.mm_lex.proofs.Prelude.{◌∙◌, ap, sym, ◌+◌, ◌∷◌, take, take_rest, words_of}
 use Rattle.mm_lex.proofs.WordsLemmas.{at_position, no_position, AreWords-behind}
 use Rattle.mm_lex.proofs.word_iter.split_word.Goals as goal
 

@@ -1,7 +1,4 @@
-use Rattle.std.proofs.Common.{◌≡◌, [], ◌∷◌, ◌++◌, OnOk, subst, codes, sym, ap, ◌∙◌}
-use Rattle.mm_lex.specs.Words.{spaced, words_of}
-use Rattle.mm_read.specs.Export.{line_of}
-use Rattle.mm_lex.proofs.WordsLemmas.{words_of-spaced}
+use Rattle.mm_read.proofs.Words.{◌≡◌, [], ◌∷◌, ◌++◌, OnOk, subst, codes, sym, ap, ◌∙◌, spaced, words_of, line_of, words_of-spaced}
 use Rattle.mm_read.proofs.export.push_line.Goals as goal
 
 pub returns-in-Prove-clause-line : goal.returns-in-Prove-clause-line

@@ -1,7 +1,4 @@
-use Rattle.std.proofs.Common.{◌≡◌, [], ◌∷◌, ◌++◌, OnOk, subst, codes, sym}
-use Rattle.mm_lex.specs.Words.{spaced}
-use Rattle.mm_lex.proofs.WordsLemmas.{words_of-one}
-use Rattle.mm_read.specs.Export.{line_of, with_proof}
+use Rattle.mm_read.proofs.Words.{◌≡◌, [], ◌∷◌, ◌++◌, OnOk, subst, codes, sym, spaced, words_of-one, line_of, with_proof}
 use Rattle.mm_read.proofs.export.push_line_with_proof.Goals as goal
 
 pub returns-in-Prove-clause-line : goal.returns-in-Prove-clause-line

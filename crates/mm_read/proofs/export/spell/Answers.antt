@@ -1,7 +1,4 @@
-use Rattle.std.proofs.Common.{◌≡◌, ◌∙◌, ap, sym, subst}
-use Rattle.std.proofs.lemmas.List.{take_all}
-use Rattle.mm_read.specs.Reads.{Reads}
-use Rattle.mm_read.specs.Export.{export_of}
+use Rattle.mm_read.proofs.Words.{◌≡◌, ◌∙◌, ap, sym, subst, take_all, Reads, export_of}
 use Rattle.mm_read.proofs.ExportReads.{export_reads}
 use Rattle.mm_read.proofs.export.spell.Goals as goal
 

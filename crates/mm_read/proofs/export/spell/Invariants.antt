@@ -1,5 +1,4 @@
-use Rattle.std.proofs.Common.{◌≡◌, take}
-use Rattle.mm_read.specs.Export.{export_of}
+use Rattle.mm_read.proofs.Words.{◌≡◌, take, export_of}
 use Rattle.mm_read.proofs.export.spell.Given as goal
 
 abbrev pub invariant-loop-statement : goal.invariant-loop-statement

@@ -1,6 +1,4 @@
-use Rattle.std.proofs.Common.{subst, []}
-use Rattle.std.proofs.lemmas.Result.{err_from_is_err_and}
-use Rattle.mm_lex.specs.Between.{IsTokenBehind, IsNextToken}
+use Rattle.mm_read.proofs.Words.{subst, [], err_from_is_err_and, IsTokenBehind, IsNextToken}
 use Rattle.mm_read.proofs.AfterFaults.{fault_back}
 use Rattle.mm_read.proofs.parse.add_next.Goals as goal
 

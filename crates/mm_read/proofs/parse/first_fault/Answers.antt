@@ -1,9 +1,4 @@
-use Rattle.std.proofs.Common.{◌++◌, ◌+◌, ◌-◌, ◌≡◌, [], arith, length, subst}
-use Rattle.std.proofs.lemmas.Result.{err_from_is_err_and}
-use Rattle.mm_lex.proofs.BetweenLemmas.{behind_on, stops_behind}
-use Rattle.mm_read.specs.Statements.{spelled}
-use Rattle.mm_read.specs.Reads.{IsShapeFault}
-use Rattle.mm_read.specs.Next.{IsFaultAfter}
+use Rattle.mm_read.proofs.Words.{◌++◌, ◌+◌, ◌-◌, ◌≡◌, [], arith, length, subst, err_from_is_err_and, behind_on, stops_behind, spelled, IsShapeFault, IsFaultAfter}
 use Rattle.mm_read.proofs.StatementByStatement.{fault_behind}
 use Rattle.mm_read.proofs.NextLemmas.{count_before}
 use Rattle.mm_read.proofs.parse.first_fault.Goals as goal

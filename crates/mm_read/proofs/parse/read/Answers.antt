@@ -1,8 +1,5 @@
-use Rattle.std.proofs.Common.{ap, Err}
+use Rattle.mm_read.proofs.Words.{ap, Err, IsFirstBadByte-found, IsFirstBadByte-unique, IsClean-none, Text, spelled}
 use Rattle.mm_lex.specs.declared.fault.LexFault.TheVariants as lex
-use Rattle.mm_lex.proofs.BadByteLemmas.{IsFirstBadByte-found, IsFirstBadByte-unique, IsClean-none}
-use Rattle.mm_read.specs.declared.fault.ReadFault.TheVariants.{Text}
-use Rattle.mm_read.specs.Statements.{spelled}
 use Rattle.mm_read.proofs.OneReading.{bad_no_tokens, bad_no_comment, fault_is, no_bad_byte, the_statements, the_comment_fault, the_shape_fault}
 use Rattle.mm_read.proofs.NextLemmas.{on_err}
 use Rattle.mm_read.proofs.parse.read.Goals as goal

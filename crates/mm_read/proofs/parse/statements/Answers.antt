@@ -1,6 +1,4 @@
-use Rattle.std.proofs.Common.{refl, arith, subst, sym}
-use Rattle.mm_lex.proofs.BetweenLemmas.{between_none}
-use Rattle.mm_read.specs.Next.{AreBefore, IsNextStep}
+use Rattle.mm_read.proofs.Words.{refl, arith, subst, sym, between_none, AreBefore, IsNextStep}
 use Rattle.mm_read.proofs.NextLemmas.{before_more, reads_all}
 use Rattle.mm_read.proofs.parse.statements.Goals as goal
 

@@ -1,5 +1,4 @@
-use Rattle.std.proofs.Common.{◌-◌, length}
-use Rattle.mm_read.specs.Next.{AreBefore}
+use Rattle.mm_read.proofs.Words.{◌-◌, length, AreBefore}
 use Rattle.mm_read.proofs.parse.statements.Given as goal
 
 abbrev pub invariant-loop-next : goal.invariant-loop-next

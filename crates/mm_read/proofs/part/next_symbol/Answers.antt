@@ -1,6 +1,4 @@
-use Rattle.std.proofs.Common.{◌∙◌, ap, sym, refl, subst, []}
-use Rattle.mm_lex.specs.Alphabet.{is_symbol}
-use Rattle.mm_lex.specs.Between.{AreBehind, IsTokenBehind, IsNextToken}
+use Rattle.mm_read.proofs.Words.{◌∙◌, ap, sym, refl, subst, [], is_symbol, AreBehind, IsTokenBehind, IsNextToken}
 use Rattle.mm_read.proofs.PartLemmas.{starts_none, starts_other}
 use Rattle.mm_read.proofs.part.next_symbol.Goals as goal
 use Rattle.mm_read.proofs.part.next_symbol.Goals.{in-Some+else-is_symbol, in_default}

@@ -1,6 +1,4 @@
-use Rattle.std.proofs.Common.{◌∙◌, ap, sym, refl, subst, []}
-use Rattle.mm_lex.specs.Alphabet.{name_eq}
-use Rattle.mm_lex.specs.Between.{AreBehind, IsTokenBehind, IsNextToken}
+use Rattle.mm_read.proofs.Words.{◌∙◌, ap, sym, refl, subst, [], name_eq, AreBehind, IsTokenBehind, IsNextToken}
 use Rattle.mm_read.proofs.PartLemmas.{starts_none, starts_other}
 use Rattle.mm_read.proofs.part.pass_token.Goals as goal
 

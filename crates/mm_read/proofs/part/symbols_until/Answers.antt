@@ -1,9 +1,4 @@
-use Rattle.std.proofs.Common.{◌≡◌, ◌∙◌, ap, sym, arith, subst, inl, inr, ◌+◌, ◌≤◌, length}
-use Rattle.std.proofs.lemmas.Bool.{leb-false}
-use Rattle.mm_lex.specs.Alphabet.{name_eq}
-use Rattle.mm_lex.specs.Between.{AreBehind}
-use Rattle.mm_lex.specs.SymbolList.{EndsSymbols, IsListEnd}
-use Rattle.mm_read.specs.Front.{IsListStop}
+use Rattle.mm_read.proofs.Words.{◌≡◌, ◌∙◌, ap, sym, arith, subst, inl, inr, ◌+◌, ◌≤◌, length, leb-false, name_eq, AreBehind, EndsSymbols, IsListEnd, IsListStop}
 use Rattle.mm_read.proofs.PartLemmas.{stops_at_end, stops_otherwise, list_few}
 use Rattle.mm_read.proofs.part.symbols_until.Goals as goal
 use Rattle.mm_read.proofs.part.symbols_until.Goals.{in-Some+else-eq, else-eq-via-then-eq+else-has_least, else-eq-via-else-eq, in_default}

@@ -1,7 +1,4 @@
-use Rattle.std.proofs.Common.{◌∙◌, ap, sym, refl, subst, arith, codes, ◌∷◌, []}
-use Rattle.std.proofs.lemmas.Result.{err_from_is_err_and}
-use Rattle.mm_lex.specs.Between.{HasBetween, AreBehind, IsTokenBehind, IsNextToken}
-use Rattle.mm_lex.proofs.BetweenLemmas.{between_on, between_as}
+use Rattle.mm_read.proofs.Words.{◌∙◌, ap, sym, refl, subst, arith, codes, ◌∷◌, [], err_from_is_err_and, HasBetween, AreBehind, IsTokenBehind, IsNextToken, between_on, between_as}
 use Rattle.mm_read.proofs.StatementsLemmas.{are_symbols_of}
 use Rattle.mm_read.proofs.Places.{labelled, step}
 use Rattle.mm_read.proofs.FrontFaults.{key_after_label}

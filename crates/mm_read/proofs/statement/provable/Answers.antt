@@ -1,10 +1,5 @@
-use Rattle.std.proofs.Common.{◌≤◌, ◌+◌, ◌∷◌, ◌++◌, [], length, codes, subst, arith, length-append}
-use Rattle.std.proofs.lemmas.Result.{err_from_is_err_and}
-use Rattle.mm_lex.proofs.FewLemmas.{between_few}
+use Rattle.mm_read.proofs.Words.{◌≤◌, ◌+◌, ◌∷◌, ◌++◌, [], length, codes, subst, arith, length-append, err_from_is_err_and, between_few, StopsBehind, stops_behind, IsListFault, IsListStop}
 use Rattle.mm_read.proofs.StatementsLemmas.{are_symbols_of}
-use Rattle.mm_lex.specs.Between.{StopsBehind}
-use Rattle.mm_lex.proofs.BetweenLemmas.{stops_behind}
-use Rattle.mm_read.specs.Front.{IsListFault, IsListStop}
 use Rattle.mm_read.proofs.AfterFaults.{expr_fault, proof_fault}
 use Rattle.mm_read.proofs.NextLemmas.{provable_next}
 use Rattle.mm_read.proofs.statement.provable.Goals as goal

@@ -1,8 +1,4 @@
-use Rattle.std.proofs.Common.{◌∙◌, ap, sym, refl, arith, codes, ◌∷◌, []}
-use Rattle.std.proofs.lemmas.Result.{err_from_is_err_and}
-use Rattle.std.proofs.lemmas.Bool.{and_from}
-use Rattle.mm_lex.proofs.BetweenLemmas.{between_as}
-use Rattle.mm_read.specs.declared.stmt.Stmt.TheVariants.{Const, Var, Disj}
+use Rattle.mm_read.proofs.Words.{◌∙◌, ap, sym, refl, arith, codes, ◌∷◌, [], err_from_is_err_and, and_from, between_as, Const, Var, Disj}
 use Rattle.mm_read.proofs.StatementsLemmas.{are_symbols_of, has_two_of}
 use Rattle.mm_read.proofs.Places.{between, step}
 use Rattle.mm_read.proofs.FrontFaults.{key_in_front, other_in_front}

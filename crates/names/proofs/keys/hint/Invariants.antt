@@ -1,5 +1,4 @@
-use Rattle.std.specs.Prelude.{◌≡◌}
-use Rattle.names.specs.Stored.Keys.{mixed_front}
+use Rattle.names.proofs.Words.{◌≡◌, mixed_front}
 use Rattle.names.proofs.keys.hint.Given as goal
 
 abbrev pub invariant-loop-block : goal.invariant-loop-block

@@ -1,5 +1,4 @@
-use Rattle.std.proofs.Common.{ℕ, ◌<◌}
-use Rattle.names.specs.Stored.Table.{IsTaken}
+use Rattle.names.proofs.Words.{ℕ, ◌<◌, IsTaken}
 use Rattle.names.proofs.table.free_place.Given as goal
 
 abbrev pub invariant-loop-step : goal.invariant-loop-step

@@ -1,5 +1,4 @@
-use Rattle.std.proofs.Common.{ap}
-use Rattle.names.specs.declared.table.Slot.{Slot}
+use Rattle.names.proofs.Words.{ap, Slot}
 use Rattle.names.proofs.TableLemmas.{unused}
 use Rattle.names.proofs.table.free_slots.Goals as goal
 

@@ -1,6 +1,4 @@
-use Rattle.std.proofs.Common.{◌∙◌, sym, arith, rules}
-use Rattle.names.specs.Codes.{name_at}
-use Rattle.names.specs.Stored.Keys.{AreBytes}
+use Rattle.names.proofs.Words.{◌∙◌, sym, arith, rules, name_at, AreBytes}
 use Rattle.names.proofs.KeysLemmas.{key-same}
 use Rattle.names.proofs.table.is_name.Goals as goal
 

@@ -1,5 +1,4 @@
-use Rattle.std.proofs.Common.{◌≡◌, ◌∙◌, sym, rules, arith, inr}
-use Rattle.names.specs.Codes.{name_at}
+use Rattle.names.proofs.Words.{◌≡◌, ◌∙◌, sym, rules, arith, inr, name_at}
 use Rattle.names.proofs.KeysLemmas.{key-same}
 use Rattle.names.proofs.CodesLemmas.{code-at}
 use Rattle.names.proofs.TableLemmas.{not-found}

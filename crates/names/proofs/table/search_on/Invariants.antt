@@ -1,5 +1,4 @@
-use Rattle.std.proofs.Common.{ℕ, ◌<◌}
-use Rattle.names.specs.Stored.Table.{IsPassed}
+use Rattle.names.proofs.Words.{ℕ, ◌<◌, IsPassed}
 use Rattle.names.proofs.table.search_on.Given as goal
 
 abbrev pub invariant-loop-step : goal.invariant-loop-step

@@ -1,8 +1,4 @@
-use Rattle.std.proofs.Common.{◌≡◌, ◌≢◌, ◌∙◌, ap, sym, subst, arith, get_or, ℕ, ◌+◌, List, Some, slice_set}
-use Rattle.std.proofs.lemmas.List.{get_or_read}
-use Rattle.names.specs.Stored.Keys.{AreBytes}
-use Rattle.names.specs.Stored.Overflow.{number_of}
-use Rattle.names.specs.Stored.Table.{IsFree, AreHeld, AreKept, AreFewer}
+use Rattle.names.proofs.Words.{◌≡◌, ◌≢◌, ◌∙◌, ap, sym, subst, arith, get_or, ℕ, ◌+◌, List, Some, slice_set, get_or_read, AreBytes, number_of, IsFree, AreHeld, AreKept, AreFewer}
 use Rattle.names.proofs.TableLemmas.{put-held}
 use Rattle.names.proofs.KeptKeyLemmas.{either, on-ok, held-passed, kept-apart, kept-failed, fewer-apart, held-apart}
 use Rattle.names.proofs.table.settle.Goals as goal

@@ -1,5 +1,4 @@
-use Rattle.std.proofs.Common.{◌∙◌, ap, arith}
-use Rattle.std.specs.Prelude.{slice_range}
+use Rattle.names.proofs.Words.{◌∙◌, ap, arith, slice_range}
 use Rattle.names.proofs.TextsLemmas.{laid-in, text-at}
 use Rattle.names.proofs.texts.part.Goals as goal
 

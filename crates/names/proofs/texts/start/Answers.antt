@@ -1,6 +1,4 @@
-use Rattle.std.proofs.Common.{◌≡◌, ◌∙◌, ap, sym, arith}
-use Rattle.std.specs.Prelude.{suc, ◌-◌}
-use Rattle.names.specs.Stored.Texts.{start_of}
+use Rattle.names.proofs.Words.{◌≡◌, ◌∙◌, ap, sym, arith, suc, ◌-◌, start_of}
 use Rattle.names.proofs.TextsLemmas.{start-first, start-next}
 use Rattle.names.proofs.texts.start.Goals as goal
 

@@ -1,6 +1,4 @@
-use Rattle.std.proofs.Common.{◌≡◌, ◌<◌, ◌∙◌, ap, sym, arith, map, length, List}
-use Rattle.std.proofs.lemmas.List.{length-map}
-use Rattle.mm_lex.specs.Alphabet.{Name}
+use Rattle.patterns.proofs.Prelude.{◌≡◌, ◌<◌, ◌∙◌, ap, sym, arith, map, length, List, length-map, Name}
 use Rattle.patterns.proofs.SegmentLemmas.{too_few, begins_on, begins_not, begins_all}
 use Rattle.patterns.proofs.matching.begins_with.Goals as goal
 

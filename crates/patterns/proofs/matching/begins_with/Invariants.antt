@@ -1,5 +1,4 @@
-use Rattle.std.proofs.Common.{◌≡◌, map, drop}
-use Rattle.patterns.specs.Segments.{begins_with}
+use Rattle.patterns.proofs.Prelude.{◌≡◌, map, drop, begins_with}
 use Rattle.patterns.proofs.matching.begins_with.Given as goal
 
 abbrev pub invariant-loop-i : goal.invariant-loop-i

@@ -1,6 +1,4 @@
-use Rattle.std.proofs.Common.{◌≡◌, ◌<◌, ◌∙◌, ap, sym, arith, map, length, below_more}
-use Rattle.std.proofs.lemmas.Bool.{eqb-true, eqb-false}
-use Rattle.std.proofs.lemmas.List.{length-map}
+use Rattle.patterns.proofs.Prelude.{◌≡◌, ◌<◌, ◌∙◌, ap, sym, arith, map, length, below_more, eqb-true, eqb-false, length-map}
 use Rattle.patterns.proofs.SegmentLemmas.{begins_len, first_here, none_here, end_here, begins_at}
 use Rattle.patterns.proofs.matching.first_place.Goals as goal
 

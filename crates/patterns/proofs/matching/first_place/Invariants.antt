@@ -1,5 +1,4 @@
-use Rattle.std.proofs.Common.{◌≡◌, ℕ, ◌<◌, false, map, drop}
-use Rattle.patterns.specs.Segments.{begins_with}
+use Rattle.patterns.proofs.Prelude.{◌≡◌, ℕ, ◌<◌, false, map, drop, begins_with}
 use Rattle.patterns.proofs.matching.first_place.Given as goal
 
 abbrev pub invariant-loop-place : goal.invariant-loop-place

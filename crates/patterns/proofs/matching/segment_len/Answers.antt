@@ -1,5 +1,4 @@
-use Rattle.std.proofs.Common.{◌∙◌, ap, sym, arith, drop}
-use Rattle.patterns.specs.Segments.{segment_len}
+use Rattle.patterns.proofs.Prelude.{◌∙◌, ap, sym, arith, drop, segment_len}
 use Rattle.patterns.proofs.SegmentLemmas.{segment_on, segment_end, segment_all, segment_within}
 use Rattle.patterns.proofs.matching.segment_len.Goals as goal
 

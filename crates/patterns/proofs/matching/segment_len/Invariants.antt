@@ -1,5 +1,4 @@
-use Rattle.std.proofs.Common.{◌≡◌, ◌+◌, drop}
-use Rattle.patterns.specs.Segments.{segment_len}
+use Rattle.patterns.proofs.Prelude.{◌≡◌, ◌+◌, drop, segment_len}
 use Rattle.patterns.proofs.matching.segment_len.Given as goal
 
 abbrev pub invariant-loop-i : goal.invariant-loop-i

@@ -1,6 +1,4 @@
-use Rattle.std.proofs.Common.{◌∙◌, false, ap, sym, refl, map}
-use Rattle.std.specs.Str.{str_to_ascii_lowercase}
-use Rattle.std.proofs.lemmas.Bool.{both_ways}
+use Rattle.patterns.proofs.Prelude.{◌∙◌, false, ap, sym, refl, map, str_to_ascii_lowercase, both_ways}
 use Rattle.patterns.proofs.PartLemmas.{too_short}
 use Rattle.patterns.proofs.search_words.begins_alike.Goals as goal
 

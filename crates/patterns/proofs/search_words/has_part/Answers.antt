@@ -1,5 +1,4 @@
-use Rattle.std.proofs.Common.{◌≡◌, false, arith, sym, refl, length, below_more}
-use Rattle.std.proofs.lemmas.Bool.{both_ways, eqb-true, eqb-false}
+use Rattle.patterns.proofs.Prelude.{◌≡◌, false, arith, sym, refl, length, below_more, both_ways, eqb-true, eqb-false}
 use Rattle.patterns.proofs.PartLemmas.{alike_at, alike_back, part_at, empty_part, no_part}
 use Rattle.patterns.proofs.search_words.has_part.Goals as goal
 

@@ -1,5 +1,4 @@
-use Rattle.std.proofs.Common.{false, arith, refl}
-use Rattle.std.proofs.lemmas.Bool.{both_ways}
+use Rattle.patterns.proofs.Prelude.{false, arith, refl, both_ways}
 use Rattle.patterns.proofs.PartLemmas.{all_none, all_on, all_end, not_all}
 use Rattle.patterns.proofs.search_words.has_words.Goals as goal
 

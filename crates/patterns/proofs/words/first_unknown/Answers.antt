@@ -1,6 +1,4 @@
-use Rattle.std.proofs.Common.{◌∙◌, ap, sym}
-use Rattle.std.specs.List.{find}
-use Rattle.patterns.specs.Parsing.{is_unknown}
+use Rattle.patterns.proofs.Prelude.{◌∙◌, ap, sym, find, is_unknown}
 use Rattle.patterns.proofs.WordsLemmas.{find_here, find_on}
 use Rattle.patterns.proofs.words.first_unknown.Goals as goal
 

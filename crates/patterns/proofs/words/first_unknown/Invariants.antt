@@ -1,7 +1,4 @@
-use Rattle.std.proofs.Common.{◌≡◌, ◌-◌, ◌≤◌, length}
-use Rattle.std.specs.List.{find}
-use Rattle.patterns.specs.Words.{words_in, words_behind}
-use Rattle.patterns.specs.Parsing.{is_unknown}
+use Rattle.patterns.proofs.Prelude.{◌≡◌, ◌-◌, ◌≤◌, length, find, words_in, words_behind, is_unknown}
 use Rattle.patterns.proofs.words.first_unknown.Given as goal
 
 abbrev pub invariant-loop-found : goal.invariant-loop-found

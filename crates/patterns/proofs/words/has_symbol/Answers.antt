@@ -1,6 +1,4 @@
-use Rattle.std.proofs.Common.{◌∙◌, ap, sym}
-use Rattle.std.specs.List.{list_any}
-use Rattle.patterns.specs.Parsing.{is_symbol_word}
+use Rattle.patterns.proofs.Prelude.{◌∙◌, ap, sym, list_any, is_symbol_word}
 use Rattle.patterns.proofs.WordsLemmas.{any_here, any_on}
 use Rattle.patterns.proofs.words.has_symbol.Goals as goal
 

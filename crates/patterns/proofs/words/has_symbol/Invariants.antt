@@ -1,7 +1,4 @@
-use Rattle.std.proofs.Common.{◌≡◌, ◌-◌, ◌≤◌, length}
-use Rattle.std.specs.List.{list_any}
-use Rattle.patterns.specs.Words.{words_in, words_behind}
-use Rattle.patterns.specs.Parsing.{is_symbol_word}
+use Rattle.patterns.proofs.Prelude.{◌≡◌, ◌-◌, ◌≤◌, length, list_any, words_in, words_behind, is_symbol_word}
 use Rattle.patterns.proofs.words.has_symbol.Given as goal
 
 abbrev pub invariant-loop-found : goal.invariant-loop-found

@@ -1,5 +1,4 @@
-use Rattle.std.proofs.Common.{map, ap, arith}
-use Rattle.mm_lex.specs.Alphabet.{word}
+use Rattle.patterns.proofs.Prelude.{map, ap, arith, word}
 use Rattle.patterns.proofs.words.next_word.Goals as goal
 
 pub returns-in-Some-clause-first : goal.returns-in-Some-clause-first

@@ -1,8 +1,4 @@
-use Rattle.std.proofs.Common.{◌≡◌, ◌==◌, ◌∙◌, ap, arith, take, length}
-use Rattle.std.specs.List.{count_by}
-use Rattle.memchr.specs.Find.{is_byte}
-use Rattle.memchr.proofs.lemmas.CallerLemmas.{length-places}
-use Rattle.places.specs.Lines.{line_feed}
+use Rattle.places.proofs.Words.{◌≡◌, ◌==◌, ◌∙◌, ap, arith, take, length, count_by, is_byte, length-places, line_feed}
 use Rattle.places.proofs.lines_and_columns.line_at.Goals as goal
 
 pub returns : goal.returns

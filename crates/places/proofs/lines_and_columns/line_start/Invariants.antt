@@ -1,5 +1,4 @@
-use Rattle.std.proofs.Common.{ℕ, ◌≡◌, ◌≤◌, ◌<◌, slice_index}
-use Rattle.places.specs.Lines.{line_feed}
+use Rattle.places.proofs.Words.{ℕ, ◌≡◌, ◌≤◌, ◌<◌, slice_index, line_feed}
 use Rattle.places.proofs.lines_and_columns.line_start.Given as goal
 
 abbrev pub invariant-loop-i : goal.invariant-loop-i

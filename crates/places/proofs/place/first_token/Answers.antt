@@ -1,5 +1,4 @@
-use Rattle.std.proofs.Common.{◌<◌, ◌-◌, ◌∙◌, sym, ap, cond, arith}
-use Rattle.mm_lex.specs.declared.span.Span.{Span}
+use Rattle.places.proofs.Words.{◌<◌, ◌-◌, ◌∙◌, sym, ap, cond, arith, Span}
 use Rattle.places.proofs.TokenPlaceLemmas.{one_token}
 use Rattle.places.proofs.place.first_token.Goals as goal
 use Rattle.places.proofs.place.first_token.Goals.{then-ends, else-ends}

@@ -1,6 +1,4 @@
-use Rattle.std.proofs.Common.{◌≡◌, ◌+◌, ◌-◌, drop}
-use Rattle.mm_lex.specs.Tokens.{words}
-use Rattle.places.specs.Places.{behind_ends}
+use Rattle.places.proofs.Words.{◌≡◌, ◌+◌, ◌-◌, drop, words, behind_ends}
 use Rattle.places.proofs.place.first_token.Given as goal
 
 abbrev pub invariant-loop-i : goal.invariant-loop-i

@@ -1,9 +1,4 @@
-use Rattle.std.proofs.Common.{◌≡◌, ◌∙◌, ◌+◌, sym, ap, subst, get_or, [], List, ℕ, rules}
-use Rattle.mm_lex.specs.declared.span.Span.{Span}
-use Rattle.mm_lex.specs.Alphabet.{Name}
-use Rattle.mm_lex.specs.Tokens.{words}
-use Rattle.places.specs.Places.{ends}
-use Rattle.places.specs.CommentFaults.{BeginsStatement}
+use Rattle.places.proofs.Words.{◌≡◌, ◌∙◌, ◌+◌, sym, ap, subst, get_or, [], List, ℕ, rules, Span, Name, words, ends, BeginsStatement}
 use Rattle.places.proofs.BeginLemmas.{statement_here, statement_on, word_is}
 use Rattle.places.proofs.place.statement_at.Goals as goal
 use Rattle.places.proofs.place.statement_at.Goals.{then-ends, else-ends}

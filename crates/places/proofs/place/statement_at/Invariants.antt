@@ -1,5 +1,4 @@
-use Rattle.mm_lex.specs.Tokens.{words}
-use Rattle.places.specs.CommentFaults.{BeginsStatement}
+use Rattle.places.proofs.Words.{words, BeginsStatement}
 use Rattle.places.proofs.place.statement_at.Given as goal
 
 abbrev pub invariant-loop-i : goal.invariant-loop-i

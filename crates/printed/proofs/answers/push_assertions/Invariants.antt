@@ -1,6 +1,4 @@
-use Rattle.std.proofs.Common.{◌≡◌, ◌++◌, take}
-use Rattle.std.specs.Prelude.{flat_map}
-use Rattle.printed.specs.Printed.{listed_text}
+use Rattle.printed.proofs.Words.{◌≡◌, ◌++◌, take, flat_map, listed_text}
 use Rattle.printed.proofs.answers.push_assertions.Given as goal
 
 abbrev pub invariant-loop-assertion : goal.invariant-loop-assertion

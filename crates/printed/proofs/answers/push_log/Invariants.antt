@@ -1,6 +1,4 @@
-use Rattle.std.proofs.Common.{◌≡◌, ◌++◌, take}
-use Rattle.std.specs.Prelude.{flat_map}
-use Rattle.printed.specs.Printed.{logged_text}
+use Rattle.printed.proofs.Words.{◌≡◌, ◌++◌, take, flat_map, logged_text}
 use Rattle.printed.proofs.answers.push_log.Given as goal
 
 abbrev pub invariant-loop-entry : goal.invariant-loop-entry

@@ -1,11 +1,4 @@
-use Rattle.std.specs.Prelude.{◌≡◌, ◌+◌, [], ◌∷◌, ◌++◌, length, Some, true}
-use Rattle.std.proofs.Common.{◌∙◌, ap, arith, drop, sym}
-use Rattle.std.proofs.lemmas.List.{drop_all}
-use denote.Enum.Bare.{sameb}
-use Rattle.scope.specs.Legal.{broken_rule, first_broken, numbered, or_later}
-use Rattle.scope.specs.contracts.rule.Rule.{the_type}
-use Rattle.scope.specs.declared.rule.Rule.TheVariants.{Memory}
-use Rattle.library.proofs.AddingLemmas.{left-at, left-more, none-at-end, rule-at-end, rule-is}
+use Rattle.printed.proofs.Words.{◌≡◌, ◌+◌, [], ◌∷◌, ◌++◌, length, Some, true, ◌∙◌, ap, arith, drop, sym, drop_all, sameb, broken_rule, first_broken, numbered, or_later, the_type, Memory, left-at, left-more, none-at-end, rule-at-end, rule-is}
 use Rattle.printed.proofs.broken_rules.first_broken_in.Goals as goal
 
 pub loop-index-init : goal.loop-index-init

@@ -1,5 +1,4 @@
-use Rattle.std.proofs.Common.{◌≡◌, ◌+◌, [], drop}
-use Rattle.scope.specs.Legal.{first_broken}
+use Rattle.printed.proofs.Words.{◌≡◌, ◌+◌, [], drop, first_broken}
 use Rattle.printed.proofs.broken_rules.first_broken_in.Given as goal
 
 abbrev pub invariant-loop-index : goal.invariant-loop-index

@@ -1,6 +1,4 @@
-use Rattle.std.proofs.Common.{◌≡◌, ◌++◌, take}
-use Rattle.std.specs.Prelude.{flat_map}
-use Rattle.printed.specs.Counted.{carried_text}
+use Rattle.printed.proofs.Words.{◌≡◌, ◌++◌, take, flat_map, carried_text}
 use Rattle.printed.proofs.counted.push_learned.Given as goal
 
 abbrev pub invariant-loop-entry : goal.invariant-loop-entry

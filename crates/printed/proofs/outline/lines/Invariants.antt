@@ -1,5 +1,4 @@
-use Rattle.std.proofs.Common.{◌≡◌, ◌+◌, ◌++◌, drop}
-use Rattle.printed.specs.Outline.{lines_from}
+use Rattle.printed.proofs.Words.{◌≡◌, ◌+◌, ◌++◌, drop, lines_from}
 use Rattle.printed.proofs.outline.lines.Given as goal
 
 abbrev pub invariant-loop-index : goal.invariant-loop-index

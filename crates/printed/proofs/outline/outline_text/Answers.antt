@@ -1,6 +1,4 @@
-use Rattle.std.proofs.Common.{◌∙◌, ap, inl, inr}
-use Rattle.std.proofs.lemmas.Result.{IfOk-weaker}
-use Rattle.printed.specs.Outline.{outline_of}
+use Rattle.printed.proofs.Words.{◌∙◌, ap, inl, inr, IfOk-weaker, outline_of}
 use Rattle.printed.proofs.outline.outline_text.Goals as goal
 
 pub returns-in-Ok : goal.returns-in-Ok

@@ -1,5 +1,4 @@
-use Rattle.std.proofs.Common.{◌∙◌, ap, arith}
-use Rattle.mm_lex.specs.Words.{is_word}
+use Rattle.printed.proofs.Words.{◌∙◌, ap, arith, is_word}
 use Rattle.printed.proofs.PrintedNumbers.{is_word-decimal}
 use Rattle.printed.proofs.outline.push_statement.Goals as goal
 

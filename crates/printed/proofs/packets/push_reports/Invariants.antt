@@ -1,6 +1,4 @@
-use Rattle.std.proofs.Common.{◌≡◌, ◌++◌, take}
-use Rattle.std.specs.Prelude.{flat_map}
-use Rattle.printed.specs.Printed.{report_text}
+use Rattle.printed.proofs.Words.{◌≡◌, ◌++◌, take, flat_map, report_text}
 use Rattle.printed.proofs.packets.push_reports.Given as goal
 
 abbrev pub invariant-loop-report : goal.invariant-loop-report

@@ -1,7 +1,4 @@
-use Rattle.std.proofs.Common.{◌∙◌, sym, ap, ◌++◌, append-nil, map}
-use Rattle.std.proofs.lemmas.List.{drop_all}
-use Rattle.verify.specs.Derivations.{derivation_of, from_list}
-use Rattle.printed.specs.Trees.{trees_lines}
+use Rattle.printed.proofs.Words.{◌∙◌, sym, ap, ◌++◌, append-nil, map, drop_all, derivation_of, from_list, trees_lines}
 use Rattle.printed.proofs.TreesLemmas.{tree_lines_whole}
 use Rattle.printed.proofs.tree_text.+push_tree.Goals as goal
 

@@ -1,6 +1,4 @@
-use Rattle.std.proofs.Common.{◌≡◌, ◌++◌, drop, map}
-use Rattle.verify.specs.Derivations.{derivation_of, from_list}
-use Rattle.printed.specs.Trees.{trees_lines}
+use Rattle.printed.proofs.Words.{◌≡◌, ◌++◌, drop, map, derivation_of, from_list, trees_lines}
 use Rattle.printed.proofs.tree_text.+push_tree.Given as goal
 
 abbrev pub invariant-loop-child : goal.invariant-loop-child

@@ -1,6 +1,4 @@
-use Rattle.std.proofs.Common.{◌≡◌, ◌++◌, take}
-use Rattle.std.specs.Prelude.{flat_map}
-use Rattle.printed.specs.Trees.{label_line}
+use Rattle.printed.proofs.Words.{◌≡◌, ◌++◌, take, flat_map, label_line}
 use Rattle.printed.proofs.tree_text.push_labels.Given as goal
 
 abbrev pub invariant-loop-label : goal.invariant-loop-label

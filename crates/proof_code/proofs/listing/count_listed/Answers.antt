@@ -1,5 +1,4 @@
-use Rattle.proof_code.proofs.Words.{arith, ◌+◌, ◌≤◌, ◌∙◌, ap, sym, length, take, are_listed, count_by}
-use Rattle.std.proofs.lemmas.List.{take_rest}
+use Rattle.proof_code.proofs.Words.{arith, ◌+◌, ◌≤◌, ◌∙◌, ap, sym, length, take, are_listed, count_by, take_rest}
 use Rattle.proof_code.proofs.ListingLemmas.{counted-lanes, is_space}
 use Rattle.proof_code.proofs.listing.count_listed.Goals as goal
 

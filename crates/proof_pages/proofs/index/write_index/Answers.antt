@@ -1,9 +1,4 @@
-use Rattle.std.specs.Prelude.{codes}
-use Rattle.std.proofs.Common.{arith, ◌∙◌, ◌<◌, length}
-use Rattle.std.proofs.lemmas.Option.{slice_get-get_or}
-use Rattle.mm_read.specs.declared.stmt.Stmt.TheVariants.{Open}
-use Rattle.proof_pages.specs.declared.index.TheConstants.{INDEX_START}
-use Rattle.proof_pages.specs.Indexes.{index_row}
+use Rattle.proof_pages.proofs.Words.{codes, arith, ◌∙◌, ◌<◌, length, slice_get-get_or, Open, INDEX_START, index_row}
 use Rattle.proof_pages.proofs.WritingLemmas.{row_on, end_on}
 use Rattle.proof_pages.proofs.index.write_index.Goals as goal
 

@@ -1,8 +1,4 @@
-use Rattle.std.proofs.Common.{◌++◌, take}
-use Rattle.proof_pages.specs.declared.index.TheConstants.{INDEX_START}
-use Rattle.proof_pages.specs.Indexes.{index_row}
-use Rattle.proof_pages.specs.StepLines.{texts_from}
-use Rattle.proof_pages.specs.Writing.{Wrote}
+use Rattle.proof_pages.proofs.Words.{◌++◌, take, INDEX_START, index_row, texts_from, Wrote}
 use Rattle.proof_pages.proofs.index.write_index.Given as goal
 
 abbrev pub invariant-loop-place : goal.invariant-loop-place

@@ -1,6 +1,4 @@
-use Rattle.std.proofs.Common.{◌≡◌, ◌++◌, take}
-use Rattle.std.specs.Prelude.{flat_map}
-use Rattle.proof_pages.specs.Notations.{symbol_html}
+use Rattle.proof_pages.proofs.Words.{◌≡◌, ◌++◌, take, flat_map, symbol_html}
 use Rattle.proof_pages.proofs.notation.push_html_expr.Given as goal
 
 abbrev pub invariant-loop-symbol : goal.invariant-loop-symbol

@@ -1,6 +1,4 @@
-use Rattle.std.proofs.Common.{◌++◌}
-use Rattle.std.specs.Prelude.{codes}
-use Rattle.file_names.specs.FileNames.{file_name}
+use Rattle.proof_pages.proofs.Words.{◌++◌, codes, file_name}
 use Rattle.proof_pages.specs.Notations.{link_start}
 use Rattle.proof_pages.proofs.AppendLemmas.{joined, joined-last}
 use Rattle.proof_pages.proofs.notation.push_link_start.Goals as goal

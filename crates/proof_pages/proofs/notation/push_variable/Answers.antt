@@ -1,6 +1,4 @@
-use Rattle.std.proofs.Common.{◌++◌}
-use Rattle.std.specs.Prelude.{codes, decimal}
-use Rattle.markup.specs.Escapes.{html_text}
+use Rattle.proof_pages.proofs.Words.{◌++◌, codes, decimal, html_text}
 use Rattle.proof_pages.proofs.AppendLemmas.{joined, joined-last}
 use Rattle.proof_pages.proofs.notation.push_variable.Goals as goal
 

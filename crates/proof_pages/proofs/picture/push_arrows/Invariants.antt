@@ -1,6 +1,4 @@
-use Rattle.std.proofs.Common.{◌≡◌, ◌++◌, take}
-use Rattle.std.specs.Prelude.{flat_map}
-use Rattle.proof_pages.specs.Pictures.{arrow_line}
+use Rattle.proof_pages.proofs.Words.{◌≡◌, ◌++◌, take, flat_map, arrow_line}
 use Rattle.proof_pages.proofs.picture.push_arrows.Given as goal
 
 abbrev pub invariant-loop-taken : goal.invariant-loop-taken

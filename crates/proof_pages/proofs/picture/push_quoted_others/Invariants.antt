@@ -1,6 +1,4 @@
-use Rattle.std.proofs.Common.{◌≡◌, ◌++◌, take}
-use Rattle.std.specs.Prelude.{flat_map}
-use Rattle.proof_pages.specs.Pictures.{quoted_symbol}
+use Rattle.proof_pages.proofs.Words.{◌≡◌, ◌++◌, take, flat_map, quoted_symbol}
 use Rattle.proof_pages.proofs.picture.push_quoted_others.Given as goal
 
 abbrev pub invariant-loop-symbol : goal.invariant-loop-symbol

@@ -1,6 +1,4 @@
-use Rattle.std.proofs.Common.{◌≡◌, ◌++◌, take}
-use Rattle.std.specs.Prelude.{flat_map}
-use Rattle.proof_pages.specs.TableRows.{item_html}
+use Rattle.proof_pages.proofs.Words.{◌≡◌, ◌++◌, take, flat_map, item_html}
 use Rattle.proof_pages.proofs.rows.push_items.Given as goal
 
 abbrev pub invariant-loop-position : goal.invariant-loop-position

@@ -1,6 +1,4 @@
-use Rattle.std.proofs.Common.{◌++◌}
-use Rattle.std.specs.Prelude.{codes}
-use Rattle.proof_pages.specs.StepLines.{number_text}
+use Rattle.proof_pages.proofs.Words.{◌++◌, codes, number_text}
 use Rattle.proof_pages.specs.TableRows.{link_html}
 use Rattle.proof_pages.proofs.AppendLemmas.{joined, joined-last}
 use Rattle.proof_pages.proofs.rows.push_link.Goals as goal

@@ -1,5 +1,4 @@
-use Rattle.std.proofs.Common.{◌≡◌, ◌++◌, take}
-use Rattle.std.specs.Prelude.{flat_map}
+use Rattle.proof_pages.proofs.Words.{◌≡◌, ◌++◌, take, flat_map}
 use Rattle.proof_pages.specs.TableRows.{link_html}
 use Rattle.proof_pages.proofs.rows.push_links.Given as goal
 

@@ -1,6 +1,4 @@
-use Rattle.std.proofs.Common.{◌≡◌, ◌++◌, take}
-use Rattle.std.specs.Prelude.{flat_map}
-use Rattle.proof_pages.specs.StepLines.{behind_comma}
+use Rattle.proof_pages.proofs.Words.{◌≡◌, ◌++◌, take, flat_map, behind_comma}
 use Rattle.proof_pages.proofs.step_lines.push_others.Given as goal
 
 abbrev pub invariant-loop-place : goal.invariant-loop-place

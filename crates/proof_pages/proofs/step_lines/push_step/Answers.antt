@@ -1,10 +1,4 @@
-use Rattle.std.proofs.Common.{◌++◌}
-use Rattle.std.specs.Prelude.{codes, get_or}
-use Rattle.std.proofs.Common.{ap, ◌∙◌}
-use Rattle.scope.specs.Active.{stmt_at}
-use Rattle.verify.specs.Proves.{label_or_none}
-use Rattle.steps.specs.Rows.{no_row}
-use Rattle.proof_pages.specs.StepLines.{number_text, taken_text, expr_text}
+use Rattle.proof_pages.proofs.Words.{◌++◌, codes, get_or, ap, ◌∙◌, stmt_at, label_or_none, no_row, number_text, taken_text, expr_text}
 use Rattle.proof_pages.proofs.AppendLemmas.{joined, joined-last}
 use Rattle.proof_pages.proofs.step_lines.push_step.Goals as goal
 

@@ -1,7 +1,4 @@
-use Rattle.std.specs.Prelude.{codes}
-use Rattle.std.proofs.Common.{arith, ◌∙◌}
-use Rattle.steps.specs.Rows.{no_row}
-use Rattle.proof_pages.specs.Pictures.{node_text, picture_head}
+use Rattle.proof_pages.proofs.Words.{codes, arith, ◌∙◌, no_row, node_text, picture_head}
 use Rattle.proof_pages.proofs.WritingLemmas.{row_on, end_on}
 use Rattle.proof_pages.proofs.writing.write_dot.Goals as goal
 

@@ -1,7 +1,4 @@
-use Rattle.std.proofs.Common.{◌++◌, take}
-use Rattle.proof_pages.specs.StepLines.{texts_from}
-use Rattle.proof_pages.specs.Pictures.{picture_head, node_text}
-use Rattle.proof_pages.specs.Writing.{Wrote}
+use Rattle.proof_pages.proofs.Words.{◌++◌, take, texts_from, picture_head, node_text, Wrote}
 use Rattle.proof_pages.proofs.writing.write_dot.Given as goal
 
 abbrev pub invariant-loop-place : goal.invariant-loop-place

@@ -1,7 +1,4 @@
-use Rattle.std.specs.Prelude.{[]}
-use Rattle.std.proofs.Common.{arith}
-use Rattle.steps.specs.Rows.{no_row}
-use Rattle.proof_pages.specs.StepLines.{step_line}
+use Rattle.proof_pages.proofs.Words.{[], arith, no_row, step_line}
 use Rattle.proof_pages.proofs.WritingLemmas.{row_on}
 use Rattle.proof_pages.proofs.writing.write_plain.Goals as goal
 

@@ -1,6 +1,4 @@
-use Rattle.std.proofs.Common.{take}
-use Rattle.proof_pages.specs.StepLines.{step_line, texts_from}
-use Rattle.proof_pages.specs.Writing.{Wrote}
+use Rattle.proof_pages.proofs.Words.{take, step_line, texts_from, Wrote}
 use Rattle.proof_pages.proofs.writing.write_plain.Given as goal
 
 abbrev pub invariant-loop-place : goal.invariant-loop-place

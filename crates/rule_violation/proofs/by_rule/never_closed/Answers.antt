@@ -1,5 +1,4 @@
-use Rattle.std.proofs.Common.{◌≡◌, ◌+◌, ◌-◌, ◌<◌, length, arith, sym, ◌∙◌}
-use Rattle.scope.specs.Active.{is_open}
+use Rattle.rule_violation.proofs.Words.{◌≡◌, ◌+◌, ◌-◌, ◌<◌, length, arith, sym, ◌∙◌, is_open}
 use Rattle.rule_violation.proofs.SearchLemmas.{found_active, closed_on, closed_few}
 use Rattle.rule_violation.proofs.by_rule.never_closed.Goals as goal
 

@@ -1,5 +1,4 @@
-use Rattle.std.proofs.Common.{◌≡◌, ◌+◌, ◌≤◌, length, drop}
-use Rattle.rule_violation.specs.Search.{closed_behind}
+use Rattle.rule_violation.proofs.Words.{◌≡◌, ◌+◌, ◌≤◌, length, drop, closed_behind}
 use Rattle.rule_violation.proofs.by_rule.never_closed.Given as goal
 
 abbrev pub invariant-loop-i : goal.invariant-loop-i

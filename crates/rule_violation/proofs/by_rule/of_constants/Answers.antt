@@ -1,9 +1,4 @@
-use Rattle.std.proofs.Common.{◌≡◌, false, sym, subst, IsSomeAnd}
-use Rattle.std.specs.Prelude.{IfOk}
-use Rattle.mm_read.specs.declared.stmt.Stmt.{Stmt}
-use Rattle.scope.specs.declared.rule.Rule.TheVariants.{G2}
-use Rattle.scope.specs.Legal.{keeps}
-use Rattle.rule_violation.specs.Violates.{Violates}
+use Rattle.rule_violation.proofs.Words.{◌≡◌, false, sym, subst, IsSomeAnd, IfOk, Stmt, G2, keeps, Violates}
 use Rattle.rule_violation.proofs.ViolationLemmas.{G2_twice}
 use Rattle.rule_violation.proofs.by_rule.of_constants.Goals as goal
 

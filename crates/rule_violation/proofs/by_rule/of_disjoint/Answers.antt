@@ -1,9 +1,4 @@
-use Rattle.std.proofs.Common.{◌≡◌, false, sym, subst, IsSomeAnd}
-use Rattle.std.specs.Prelude.{IfOk}
-use Rattle.mm_read.specs.declared.stmt.Stmt.{Stmt}
-use Rattle.scope.specs.declared.rule.Rule.TheVariants.{G8}
-use Rattle.scope.specs.Legal.{keeps}
-use Rattle.rule_violation.specs.Violates.{Violates}
+use Rattle.rule_violation.proofs.Words.{◌≡◌, false, sym, subst, IsSomeAnd, IfOk, Stmt, G8, keeps, Violates}
 use Rattle.rule_violation.proofs.ViolationLemmas.{G8_twice}
 use Rattle.rule_violation.proofs.by_rule.of_disjoint.Goals as goal
 

@@ -1,5 +1,4 @@
-use Rattle.std.proofs.Common.{ap}
-use Rattle.scope.specs.Active.{expr_of}
+use Rattle.rule_violation.proofs.Words.{ap, expr_of}
 use Rattle.rule_violation.proofs.ViolationLemmas.{G5_is}
 use Rattle.rule_violation.proofs.by_rule.of_expression.Goals as goal
 

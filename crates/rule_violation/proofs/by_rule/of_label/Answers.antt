@@ -1,5 +1,4 @@
-use Rattle.std.proofs.Common.{ap}
-use Rattle.scope.specs.Active.{label_of}
+use Rattle.rule_violation.proofs.Words.{ap, label_of}
 use Rattle.rule_violation.proofs.ViolationLemmas.{G4_is}
 use Rattle.rule_violation.proofs.by_rule.of_label.Goals as goal
 

@@ -1,5 +1,4 @@
-use Rattle.std.proofs.Common.{ap}
-use Rattle.rule_violation.specs.Violates.{typed_expr}
+use Rattle.rule_violation.proofs.Words.{ap, typed_expr}
 use Rattle.rule_violation.proofs.ViolationLemmas.{G9_is}
 use Rattle.rule_violation.proofs.by_rule.of_typed.Goals as goal
 

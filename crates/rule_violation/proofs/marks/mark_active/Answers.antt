@@ -1,9 +1,4 @@
-use Rattle.std.proofs.Common.{◌≡◌, ◌∙◌, sym, ap, arith, ◌+◌, ◌-◌, ◌<◌, ◌==◌, ◌&&◌, drop, length, []}
-use Rattle.std.specs.List.{list_any}
-use Rattle.std.proofs.Math.Bool.{or_comm}
-use Rattle.scope.specs.Active.{active_from}
-use Rattle.rule_violation.specs.Marks.{marked}
-use Rattle.rule_violation.specs.Search.{meets}
+use Rattle.rule_violation.proofs.Words.{◌≡◌, ◌∙◌, sym, ap, arith, ◌+◌, ◌-◌, ◌<◌, ◌==◌, ◌&&◌, drop, length, [], list_any, or_comm, active_from, marked, meets}
 use Rattle.rule_violation.proofs.MarksLemmas.{marked-both, marked-none}
 use Rattle.rule_violation.proofs.SearchLemmas.{active_back, closed_on, closed_few, none_active, none_closed}
 use Rattle.rule_violation.proofs.marks.mark_active.Goals as goal

@@ -1,8 +1,4 @@
-use Rattle.std.proofs.Common.{◌≡◌, ◌+◌, ◌≤◌, drop, length}
-use Rattle.std.specs.List.{list_any}
-use Rattle.scope.specs.Active.{active_from}
-use Rattle.rule_violation.specs.Marks.{marked}
-use Rattle.rule_violation.specs.Search.{meets, closed_behind}
+use Rattle.rule_violation.proofs.Words.{◌≡◌, ◌+◌, ◌≤◌, drop, length, list_any, active_from, marked, meets, closed_behind}
 use Rattle.rule_violation.proofs.marks.mark_active.Given as goal
 
 abbrev pub invariant-loop-i : goal.invariant-loop-i

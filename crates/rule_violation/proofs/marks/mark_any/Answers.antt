@@ -1,7 +1,4 @@
-use Rattle.std.proofs.Common.{◌∙◌, sym, ap, arith, ◌+◌, drop}
-use Rattle.std.specs.List.{list_any}
-use Rattle.rule_violation.specs.Marks.{marked}
-use Rattle.rule_violation.specs.Search.{meets}
+use Rattle.rule_violation.proofs.Words.{◌∙◌, sym, ap, arith, ◌+◌, drop, list_any, marked, meets}
 use Rattle.rule_violation.proofs.MarksLemmas.{marked-both, marked-none}
 use Rattle.rule_violation.proofs.SearchLemmas.{rest_is, rest_empty}
 use Rattle.rule_violation.proofs.marks.mark_any.Goals as goal

@@ -1,7 +1,4 @@
-use Rattle.std.proofs.Common.{◌≡◌, false, sym, rules}
-use Rattle.mm_lex.specs.Alphabet.{has_name}
-use Rattle.scope.specs.Active.{constants}
-use Rattle.mm_lex.specs.Alphabet.{Name}
+use Rattle.rule_violation.proofs.Words.{◌≡◌, false, sym, rules, has_name, constants, Name}
 use Rattle.rule_violation.proofs.MarksLemmas.{marked-none}
 use Rattle.rule_violation.proofs.marks.mark_constants.Goals as goal
 

@@ -1,6 +1,4 @@
-use Rattle.std.proofs.Common.{◌≡◌, false, sym, rules}
-use Rattle.scope.specs.Active.{is_float_of}
-use Rattle.mm_lex.specs.Alphabet.{Name}
+use Rattle.rule_violation.proofs.Words.{◌≡◌, false, sym, rules, is_float_of, Name}
 use Rattle.rule_violation.proofs.MarksLemmas.{marked-none}
 use Rattle.rule_violation.proofs.marks.mark_float.Goals as goal
 

@@ -1,6 +1,4 @@
-use Rattle.std.proofs.Common.{◌≡◌, false, sym, rules}
-use Rattle.scope.specs.Active.{label_of, has_label}
-use Rattle.mm_lex.specs.Alphabet.{Name}
+use Rattle.rule_violation.proofs.Words.{◌≡◌, false, sym, rules, label_of, has_label, Name}
 use Rattle.rule_violation.proofs.MarksLemmas.{marked-none}
 use Rattle.rule_violation.proofs.marks.mark_label.Goals as goal
 

@@ -1,5 +1,4 @@
-use Rattle.std.proofs.Common.{sym, ◌∙◌, true≢false}
-use Rattle.names.proofs.CodesLemmas.{unknown-number}
+use Rattle.rule_violation.proofs.Words.{sym, ◌∙◌, true≢false, unknown-number}
 use Rattle.rule_violation.proofs.MarksLemmas.{mark_is}
 use Rattle.rule_violation.proofs.marks.mark_of.Goals as goal
 

@@ -1,8 +1,4 @@
-use Rattle.std.proofs.Common.{◌∙◌, sym, ap, refl, ◌||◌}
-use Rattle.mm_lex.specs.Alphabet.{has_name}
-use Rattle.scope.specs.Active.{label_of, has_label, constants, variables}
-use Rattle.rule_violation.specs.Marks.{marked}
-use Rattle.rule_violation.specs.Search.{meets}
+use Rattle.rule_violation.proofs.Words.{◌∙◌, sym, ap, refl, ◌||◌, has_name, label_of, has_label, constants, variables, marked, meets}
 use Rattle.rule_violation.proofs.MarksLemmas.{marked-both, marked-three}
 use Rattle.rule_violation.proofs.marks.mark_stmt.Goals as goal
 

@@ -1,5 +1,4 @@
-use Rattle.std.proofs.Common.{◌≡◌, ◌==◌, ◌&&◌, false, sym, ap, rules}
-use Rattle.rule_violation.specs.Search.{meets}
+use Rattle.rule_violation.proofs.Words.{◌≡◌, ◌==◌, ◌&&◌, false, sym, ap, rules, meets}
 use Rattle.rule_violation.proofs.MarksLemmas.{marked-none}
 use Rattle.rule_violation.proofs.marks.mark_where_active.Goals as goal
 

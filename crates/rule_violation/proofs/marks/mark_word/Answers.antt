@@ -1,5 +1,4 @@
-use Rattle.std.proofs.Common.{sym}
-use Rattle.names.proofs.CodesLemmas.{unknown-number}
+use Rattle.rule_violation.proofs.Words.{sym, unknown-number}
 use Rattle.rule_violation.proofs.MarksLemmas.{marked-one, marked-absent}
 use Rattle.rule_violation.proofs.marks.mark_word.Goals as goal
 

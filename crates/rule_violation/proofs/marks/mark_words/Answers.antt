@@ -1,6 +1,4 @@
-use Rattle.std.proofs.Common.{◌∙◌, ◌||◌, sym, ap, refl}
-use Rattle.mm_lex.specs.Alphabet.{name_eq, has_name}
-use Rattle.rule_violation.specs.Marks.{marked}
+use Rattle.rule_violation.proofs.Words.{◌∙◌, ◌||◌, sym, ap, refl, name_eq, has_name, marked}
 use Rattle.rule_violation.proofs.MarksLemmas.{marked-both, marked-none}
 use Rattle.rule_violation.proofs.marks.mark_words.Goals as goal
 

@@ -1,6 +1,4 @@
-use Rattle.std.proofs.Common.{◌≡◌}
-use Rattle.mm_lex.specs.Alphabet.{has_name}
-use Rattle.rule_violation.specs.Marks.{marked}
+use Rattle.rule_violation.proofs.Words.{◌≡◌, has_name, marked}
 use Rattle.rule_violation.proofs.marks.mark_words.Given as goal
 
 abbrev pub invariant-loop-word : goal.invariant-loop-word

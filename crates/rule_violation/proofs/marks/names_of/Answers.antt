@@ -1,5 +1,4 @@
-use Rattle.std.proofs.Common.{◌∙◌, sym, ap, ◌||◌}
-use Rattle.mm_lex.specs.Alphabet.{has_name}
+use Rattle.rule_violation.proofs.Words.{◌∙◌, sym, ap, ◌||◌, has_name}
 use Rattle.rule_violation.proofs.MarksLemmas.{coded_first}
 use Rattle.rule_violation.proofs.marks.names_of.Goals as goal
 

@@ -1,5 +1,4 @@
-use Rattle.std.proofs.Common.{◌≡◌, ◌||◌, true}
-use Rattle.mm_lex.specs.Alphabet.{Name, has_name}
+use Rattle.rule_violation.proofs.Words.{◌≡◌, ◌||◌, true, Name, has_name}
 use Rattle.rule_violation.proofs.marks.names_of.Given as goal
 
 abbrev pub invariant-loop-word : goal.invariant-loop-word

@@ -1,6 +1,4 @@
-use Rattle.std.proofs.Common.{◌∙◌, sym, refl, length, arith}
-use Rattle.std.proofs.lemmas.Option.{slice_get_read}
-use Rattle.rule_violation.specs.Search.{meets}
+use Rattle.rule_violation.proofs.Words.{◌∙◌, sym, refl, length, arith, slice_get_read, meets}
 use Rattle.rule_violation.proofs.SearchLemmas.{found_at, rest_decides, rest_empty}
 use Rattle.rule_violation.proofs.search.find.Goals as goal
 

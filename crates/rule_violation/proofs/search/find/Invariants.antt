@@ -1,6 +1,4 @@
-use Rattle.std.proofs.Common.{◌≡◌, drop}
-use Rattle.std.specs.List.{list_any}
-use Rattle.rule_violation.specs.Search.{meets}
+use Rattle.rule_violation.proofs.Words.{◌≡◌, drop, list_any, meets}
 use Rattle.rule_violation.proofs.search.find.Given as goal
 
 abbrev pub invariant-loop-i : goal.invariant-loop-i

@@ -1,5 +1,4 @@
-use Rattle.std.proofs.Common.{◌≡◌, ◌+◌, ◌-◌, ◌<◌, length, arith, sym, ◌∙◌}
-use Rattle.rule_violation.specs.Search.{meets}
+use Rattle.rule_violation.proofs.Words.{◌≡◌, ◌+◌, ◌-◌, ◌<◌, length, arith, sym, ◌∙◌, meets}
 use Rattle.rule_violation.proofs.SearchLemmas.{found_active, none_back, closed_on, closed_few}
 use Rattle.rule_violation.proofs.search.find_active.Goals as goal
 

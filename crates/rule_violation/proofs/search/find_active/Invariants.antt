@@ -1,7 +1,4 @@
-use Rattle.std.proofs.Common.{◌≡◌, ◌+◌, ◌≤◌, false, drop, length}
-use Rattle.std.specs.List.{list_any}
-use Rattle.scope.specs.Active.{active_from}
-use Rattle.rule_violation.specs.Search.{meets, closed_behind}
+use Rattle.rule_violation.proofs.Words.{◌≡◌, ◌+◌, ◌≤◌, false, drop, length, list_any, active_from, meets, closed_behind}
 use Rattle.rule_violation.proofs.search.find_active.Given as goal
 
 abbrev pub invariant-loop-i : goal.invariant-loop-i

@@ -1,8 +1,6 @@
-use Rattle.std.proofs.Common.{◌≡◌, ◌∙◌, ◌||◌, sym, ap, ◌∷◌, drop}
-use Rattle.std.specs.List.{list_any}
+use Rattle.rule_violation.proofs.Words.{◌≡◌, ◌∙◌, ◌||◌, sym, ap, ◌∷◌, drop, list_any, first-named, rest-named}
 use Rattle.rule_violation.proofs.SearchLemmas.{behind, first_is}
 use Rattle.rule_violation.proofs.symbol_search.first_marked.Goals as goal
-use Rattle.names.proofs.CodesLemmas.{first-named, rest-named}
 
 pub mark_of-requires-clause-named : goal.mark_of-requires-clause-named
 mark_of-requires-clause-named c = first-named c.args.names.now c.loop-index.left c.next.new.self c.in-Some.name.now c.loop-index.invariant.named c.in-Some.ensures.steps

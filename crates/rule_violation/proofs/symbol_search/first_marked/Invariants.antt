@@ -1,7 +1,4 @@
-use Rattle.std.proofs.Common.{◌≡◌, Bool, map, drop}
-use Rattle.std.specs.List.{list_any}
-use Rattle.mm_lex.specs.Alphabet.{Name}
-use Rattle.names.specs.Codes.{AreNamed}
+use Rattle.rule_violation.proofs.Words.{◌≡◌, Bool, map, drop, list_any, Name, AreNamed}
 use Rattle.rule_violation.proofs.symbol_search.first_marked.Given as goal
 
 abbrev pub invariant-loop-index : goal.invariant-loop-index

@@ -1,7 +1,5 @@
-use Rattle.std.proofs.Common.{◌∙◌}
-use Rattle.std.specs.List.{list_any}
+use Rattle.rule_violation.proofs.Words.{◌∙◌, list_any, meets, IsAt}
 use Rattle.rule_violation.specs.declared.search.Part.TheVariants as part
-use Rattle.rule_violation.specs.Search.{meets, IsAt}
 use Rattle.rule_violation.proofs.SearchLemmas.{some_told, IsAt-any}
 use Rattle.rule_violation.proofs.symbol_search.is_constant.Goals as goal
 

@@ -1,8 +1,5 @@
-use Rattle.std.proofs.Common.{◌∙◌}
-use Rattle.std.specs.List.{list_any}
-use Rattle.scope.specs.Active.{active}
+use Rattle.rule_violation.proofs.Words.{◌∙◌, list_any, active, meets, IsActiveAt}
 use Rattle.rule_violation.specs.declared.search.Part.TheVariants as part
-use Rattle.rule_violation.specs.Search.{meets, IsActiveAt}
 use Rattle.rule_violation.proofs.SearchLemmas.{some_told, IsActiveAt-any}
 use Rattle.rule_violation.proofs.symbol_search.is_variable.Goals as goal
 

@@ -1,12 +1,6 @@
-use Rattle.std.proofs.Common.{◌≡◌, ◌∙◌, ◌||◌, ◌&&◌, Bool, true, false, not, cond, sym, ap, refl, map, replicate, length}
-use Rattle.std.specs.List.{list_any}
-use Rattle.std.proofs.Math.Bool.{or-false}
-use Rattle.mm_lex.specs.Alphabet.{Name}
-use Rattle.scope.specs.Active.{active}
+use Rattle.rule_violation.proofs.Words.{◌≡◌, ◌∙◌, ◌||◌, ◌&&◌, Bool, true, false, not, cond, sym, ap, refl, map, replicate, length, list_any, or-false, Name, active, marked, is_wrong_unseen, meets, fails}
 use Rattle.rule_violation.specs.declared.search.Part.TheVariants as part
 use Rattle.rule_violation.specs.declared.symbol_search.Test.TheVariants as test
-use Rattle.rule_violation.specs.Marks.{marked, is_wrong_unseen}
-use Rattle.rule_violation.specs.Search.{meets, fails}
 use Rattle.rule_violation.proofs.MarksLemmas.{marked-once, marked-twice}
 use Rattle.rule_violation.proofs.symbol_search.mark_wrong.Goals as goal
 

@@ -1,5 +1,4 @@
-use Rattle.std.proofs.Common.{◌∙◌, sym, ap, arith, ◌<◌, ◌++◌, length}
-use Rattle.names.specs.Codes.{name_at}
+use Rattle.rule_violation.proofs.Words.{◌∙◌, sym, ap, arith, ◌<◌, ◌++◌, length, name_at}
 use Rattle.rule_violation.proofs.MarksLemmas.{again, none_again}
 use Rattle.rule_violation.proofs.symbol_search.twice.Goals as goal
 

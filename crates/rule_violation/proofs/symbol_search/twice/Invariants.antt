@@ -1,5 +1,4 @@
-use Rattle.std.proofs.Common.{◌≡◌, ◌++◌}
-use Rattle.names.specs.Codes.{AreDistinct}
+use Rattle.rule_violation.proofs.Words.{◌≡◌, ◌++◌, AreDistinct}
 use Rattle.rule_violation.proofs.symbol_search.twice.Given as goal
 
 abbrev pub invariant-loop-word : goal.invariant-loop-word

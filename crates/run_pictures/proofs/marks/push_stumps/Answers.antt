@@ -1,6 +1,4 @@
-use Rattle.run_pictures.specs.Marks.{stumps}
-use Rattle.std.proofs.Common.{◌++◌}
-use Rattle.run_pictures.specs.RunView.{packets_of}
+use Rattle.run_pictures.proofs.Words.{stumps, ◌++◌, packets_of}
 use Rattle.run_pictures.proofs.MarksLemmas.{one_packet, no_packet_left}
 use Rattle.run_pictures.proofs.marks.push_stumps.Goals as goal
 

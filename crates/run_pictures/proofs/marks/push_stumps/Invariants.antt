@@ -1,6 +1,4 @@
-use Rattle.std.proofs.Common.{◌≡◌, ◌++◌, ◌-◌}
-use Rattle.run_pictures.specs.Marks.{stumps, stumps_from}
-use Rattle.run_pictures.specs.RunView.{packets_of}
+use Rattle.run_pictures.proofs.Words.{◌≡◌, ◌++◌, ◌-◌, stumps, stumps_from, packets_of}
 use Rattle.run_pictures.proofs.marks.push_stumps.Given as goal
 
 abbrev pub invariant-loop-number : goal.invariant-loop-number

@@ -1,5 +1,4 @@
-use Rattle.std.proofs.Common.{refl}
-use Rattle.world.specs.Replicas.{next_entry}
+use Rattle.run_pictures.proofs.Words.{refl, next_entry}
 use Rattle.run_pictures.proofs.RunLemmas.{taken_stays}
 use Rattle.run_pictures.proofs.run.apply_on.Goals as goal
 

@@ -1,5 +1,4 @@
-use Rattle.std.proofs.Common.{◌≡◌, ◌++◌, ℕ, List, true, drop}
-use Rattle.scope.specs.Stored.Stacks.{can_push}
+use Rattle.scope.proofs.Words.{◌≡◌, ◌++◌, ℕ, List, true, drop, can_push}
 use Rattle.scope.proofs.accept.push_each.Given as goal
 
 abbrev pub invariant-loop-number : goal.invariant-loop-number

@@ -1,8 +1,4 @@
-use Rattle.std.proofs.Common.{◌≡◌, ◌∙◌, ap, sym, subst, ◌++◌, ◌∷◌, [], List, append_assoc, false}
-use Rattle.mm_lex.specs.Alphabet.{Name, has_name, name_eq}
-use Rattle.std.proofs.lemmas.Bool.{or_right}
-use Rattle.scope.specs.Kinds.{declared_symbols, is_symbol_kind, is_label_kind, kind_in, with_kinds}
-use Rattle.scope.specs.Stored.SymbolNumbers.{AreRecorded}
+use Rattle.scope.proofs.Words.{◌≡◌, ◌∙◌, ap, sym, subst, ◌++◌, ◌∷◌, [], List, append_assoc, false, Name, has_name, name_eq, or_right, declared_symbols, is_symbol_kind, is_label_kind, kind_in, with_kinds, AreRecorded}
 use Rattle.scope.proofs.AcceptLemmas.{with_kinds-more}
 use Rattle.scope.proofs.SymbolNameLemmas.{names_that-append, label_free, recorded-later, recorded-more}
 use Rattle.scope.proofs.declare.declare_symbols.Goals as goal

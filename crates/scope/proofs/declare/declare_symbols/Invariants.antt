@@ -1,6 +1,4 @@
-use Rattle.std.proofs.Common.{◌≡◌, ◌++◌, true, false}
-use Rattle.mm_lex.specs.Alphabet.{Name, has_name}
-use Rattle.scope.specs.Kinds.{Declared, declared_symbols, kind_in, is_label_kind, with_kinds}
+use Rattle.scope.proofs.Words.{◌≡◌, ◌++◌, true, false, Name, has_name, Declared, declared_symbols, kind_in, is_label_kind, with_kinds}
 use Rattle.scope.proofs.SymbolNameLemmas.{AreDone}
 use Rattle.scope.proofs.declare.declare_symbols.Given as goal
 

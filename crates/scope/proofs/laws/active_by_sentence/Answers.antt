@@ -1,9 +1,4 @@
-use Rattle.std.proofs.Common.{◌≡◌, ℕ, ◌≤◌, ◌<◌, Bool, true, false, ◌&&◌, nat_le, nat_lt, arith, ap, ◌∙◌, refl}
-use Rattle.std.proofs.lemmas.Bool.Decides.{nat_tests}
-use Rattle.std.proofs.lemmas.Bool.{ltb-true, le-leb, lt-ltb}
-use Rattle.mm_read.specs.Statements.{Database}
-use Rattle.scope.specs.Active.{is_active, stays_open}
-use Rattle.scope.specs.Laws.{NeverCloses, between}
+use Rattle.scope.proofs.Words.{◌≡◌, ℕ, ◌≤◌, ◌<◌, Bool, true, false, ◌&&◌, nat_le, nat_lt, arith, ap, ◌∙◌, refl, nat_tests, ltb-true, le-leb, lt-ltb, Database, is_active, stays_open, NeverCloses, between}
 use Rattle.scope.proofs.ActiveLemmas.{stays_open-means, means-stays_open}
 use Rattle.scope.proofs.laws.active_by_sentence.Goals as goal
 

@@ -1,6 +1,4 @@
-use Rattle.std.proofs.Common.{◌≡◌, ◌∙◌, ap, sym, arith, false, not, ◌&&◌, take, ◌++◌, ◌∷◌, [], length, append_assoc, ◌+◌}
-use Rattle.mm_lex.specs.Alphabet.{has_name}
-use Rattle.scope.specs.Legal.{all_different}
+use Rattle.scope.proofs.Words.{◌≡◌, ◌∙◌, ap, sym, arith, false, not, ◌&&◌, take, ◌++◌, ◌∷◌, [], length, append_assoc, ◌+◌, has_name, all_different}
 use Rattle.scope.proofs.SortsLemmas.{short_differ, first-length, first-more, all_different-append, all_different-front}
 use Rattle.scope.proofs.legal.differ_pair_by_pair.Goals as goal
 

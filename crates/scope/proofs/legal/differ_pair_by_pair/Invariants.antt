@@ -1,5 +1,4 @@
-use Rattle.std.proofs.Common.{◌+◌, ◌<◌, ◌≡◌, true, take, ◌++◌, length, ◌^◌}
-use Rattle.scope.specs.Legal.{all_different}
+use Rattle.scope.proofs.Words.{◌+◌, ◌<◌, ◌≡◌, true, take, ◌++◌, length, ◌^◌, all_different}
 use Rattle.scope.proofs.legal.differ_pair_by_pair.Given as goal
 
 abbrev pub invariant-loop-i : goal.invariant-loop-i

@@ -1,5 +1,4 @@
-use Rattle.std.proofs.Common.{◌≡◌, length}
-use Rattle.scope.specs.Stored.SymbolNumbers.{numbers_differ}
+use Rattle.scope.proofs.Words.{◌≡◌, length, numbers_differ}
 use Rattle.scope.proofs.legal.numbers_differ.Given as goal
 
 abbrev pub invariant-loop-left : goal.invariant-loop-left

@@ -1,13 +1,4 @@
-use Rattle.std.proofs.Common.{◌∙◌, ap, sym, subst, length, take, ◌++◌, ◌∷◌, [], ◌+◌, Option, List, ℕ}
-use Rattle.scope.specs.Active.{bare}
-use Rattle.scope.specs.Kinds.{Declared, IsNumberingOf}
-use Rattle.scope.specs.Standing.{stands_at, standing_of}
-use Rattle.scope.specs.Declares.{IsRecordedBy}
-use Rattle.scope.specs.Stored.SymbolNumbers.{AreRecorded}
-use Rattle.scope.specs.Symbols.{symbols_after, symbols_in, AreNumbers, AreVariableNumbers}
-use Rattle.mm_lex.specs.Alphabet.{Name}
-use Rattle.mm_read.specs.declared.stmt.Stmt.{Stmt}
-use Rattle.mm_read.specs.declared.stmt.Stmt.TheVariants.{Open, Close, Const, Var, Disj, Float, Ess, Axiom, Prove}
+use Rattle.scope.proofs.Words.{◌∙◌, ap, sym, subst, length, take, ◌++◌, ◌∷◌, [], ◌+◌, Option, List, ℕ, bare, Declared, IsNumberingOf, stands_at, standing_of, IsRecordedBy, AreRecorded, symbols_after, symbols_in, AreNumbers, AreVariableNumbers, Name, Stmt, Open, Close, Const, Var, Disj, Float, Ess, Axiom, Prove}
 use Rattle.scope.proofs.BareLemmas.{declared_with-bare, legal-bare}
 use Rattle.scope.proofs.DeclaredLemmas.{may-declare, numbering-after, recorded-after}
 use Rattle.scope.proofs.StandingLemmas.{standing-after, stands-bare}

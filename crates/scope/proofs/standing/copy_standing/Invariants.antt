@@ -1,6 +1,4 @@
-use Rattle.std.proofs.Common.{◌≡◌, take}
-use Rattle.std.specs.List.{flat_map}
-use Rattle.scope.specs.Standing.{stands_at}
+use Rattle.scope.proofs.Words.{◌≡◌, take, flat_map, stands_at}
 use Rattle.scope.proofs.standing.copy_standing.Given as goal
 
 abbrev pub invariant-loop-entry : goal.invariant-loop-entry

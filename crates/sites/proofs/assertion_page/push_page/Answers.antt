@@ -1,9 +1,4 @@
-use Rattle.std.specs.Prelude.{◌≡◌, ℕ, ◌+◌, Some, slice_get}
-use Rattle.std.proofs.Common.{◌∙◌, ap, sym, subst}
-use Rattle.std.proofs.lemmas.Option.{slice_get-get_or}
-use Rattle.frame.specs.FrameOf.{HasAssertion}
-use Rattle.mm_read.specs.declared.stmt.Stmt.{Stmt}
-use Rattle.scope.specs.Active.{bares}
+use Rattle.sites.proofs.Words.{◌≡◌, ℕ, ◌+◌, Some, slice_get, ◌∙◌, ap, sym, subst, slice_get-get_or, HasAssertion, Stmt, bares}
 use Rattle.sites.proofs.SiteLemmas.{assertion-at}
 use Rattle.sites.proofs.assertion_page.push_page.Goals as goal
 

@@ -1,11 +1,4 @@
-use Rattle.std.specs.Prelude.{◌≡◌, ℕ, ◌≤◌, length, true, refl}
-use Rattle.mm_read.specs.declared.stmt.Stmt.{Stmt}
-use Rattle.mm_read.specs.declared.stmt.Stmt.TheVariants.{Prove}
-use Rattle.mm_read.specs.Statements.{Database}
-use Rattle.scope.specs.Active.{bare, bares, is_assertion, is_provable}
-use Rattle.scope.proofs.StatementPlaces.{stands-within}
-use Rattle.verify.specs.Right.{IsProvable}
-use Rattle.verify.proofs.RightLemmas.{provable-bare}
+use Rattle.sites.proofs.Words.{◌≡◌, ℕ, ◌≤◌, length, true, refl, Stmt, Prove, Database, bare, bares, is_assertion, is_provable, stands-within, IsProvable, provable-bare}
 use Rattle.sites.proofs.assertion_page.push_theorem.Goals as goal
 
 within : (S F : Database) (at : ℕ) (s : Stmt) → F ≡ bares S → IsProvable S at s → (1 ≤ at) × (at ≤ length F)

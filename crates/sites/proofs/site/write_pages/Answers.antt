@@ -1,5 +1,4 @@
-use Rattle.std.specs.Prelude.{◌<◌, length}
-use Rattle.std.proofs.Common.{ap, arith}
+use Rattle.sites.proofs.Words.{◌<◌, length, ap, arith}
 use Rattle.sites.proofs.SiteLemmas.{pages-next}
 use Rattle.sites.proofs.site.write_pages.Goals as goal
 

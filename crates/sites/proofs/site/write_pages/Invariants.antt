@@ -1,5 +1,4 @@
-use Rattle.std.specs.Prelude.{take}
-use Rattle.sites.specs.SiteFiles.{WritesNamed, page_names}
+use Rattle.sites.proofs.Words.{take, WritesNamed, page_names}
 use Rattle.sites.proofs.site.write_pages.Given as goal
 
 abbrev pub invariant-loop-index : goal.invariant-loop-index

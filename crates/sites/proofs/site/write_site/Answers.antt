@@ -1,6 +1,4 @@
-use Rattle.std.specs.Prelude.{◌∷◌, [], codes}
-use Rattle.std.proofs.Common.{subst}
-use Rattle.sites.specs.SiteFiles.{WritesNamed}
+use Rattle.sites.proofs.Words.{◌∷◌, [], codes, subst, WritesNamed}
 use Rattle.sites.proofs.SiteLemmas.{site-written}
 use Rattle.sites.proofs.site.write_site.Goals as goal
 

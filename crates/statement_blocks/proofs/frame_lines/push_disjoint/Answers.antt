@@ -1,5 +1,4 @@
-use Rattle.std.proofs.Common.{◌∙◌, ap}
-use Rattle.scope.specs.Active.{bare}
+use Rattle.statement_blocks.proofs.Words.{◌∙◌, ap, bare}
 use Rattle.statement_blocks.proofs.FrameLemmas.{on_ok, stands_bare, has_assertion, groups_are}
 use Rattle.statement_blocks.proofs.frame_lines.push_disjoint.Goals as goal
 

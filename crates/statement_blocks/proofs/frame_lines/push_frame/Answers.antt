@@ -1,7 +1,4 @@
-use Rattle.std.proofs.Common.{◌∙◌, ap}
-use Rattle.std.specs.Prelude.{flat_map}
-use Rattle.scope.specs.Active.{bare}
-use Rattle.statement_blocks.specs.Lines.{line_at}
+use Rattle.statement_blocks.proofs.Words.{◌∙◌, ap, flat_map, bare, line_at}
 use Rattle.statement_blocks.proofs.FrameLemmas.{on_ok, stands_bare, has_assertion, frame_is}
 use Rattle.statement_blocks.proofs.frame_lines.push_frame.Goals as goal
 

@@ -1,5 +1,4 @@
-use Rattle.std.proofs.Common.{◌≤◌, ◌∙◌, ap, arith, length}
-use Rattle.statement_blocks.specs.Lines.{numbers_line}
+use Rattle.statement_blocks.proofs.Words.{◌≤◌, ◌∙◌, ap, arith, length, numbers_line}
 use Rattle.statement_blocks.proofs.FrameLemmas.{more_items, all_items}
 use Rattle.statement_blocks.proofs.frame_lines.push_groups.Goals as goal
 

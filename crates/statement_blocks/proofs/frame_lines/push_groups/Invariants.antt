@@ -1,6 +1,4 @@
-use Rattle.std.proofs.Common.{◌≡◌, ◌++◌, take}
-use Rattle.std.specs.Prelude.{flat_map}
-use Rattle.statement_blocks.specs.Lines.{numbers_line}
+use Rattle.statement_blocks.proofs.Words.{◌≡◌, ◌++◌, take, flat_map, numbers_line}
 use Rattle.statement_blocks.proofs.frame_lines.push_groups.Given as goal
 
 abbrev pub invariant-loop-index : goal.invariant-loop-index

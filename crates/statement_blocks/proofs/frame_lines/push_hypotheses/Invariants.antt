@@ -1,6 +1,4 @@
-use Rattle.std.proofs.Common.{◌≡◌, ◌++◌, take}
-use Rattle.std.specs.Prelude.{flat_map}
-use Rattle.statement_blocks.specs.Lines.{line_at}
+use Rattle.statement_blocks.proofs.Words.{◌≡◌, ◌++◌, take, flat_map, line_at}
 use Rattle.statement_blocks.proofs.frame_lines.push_hypotheses.Given as goal
 
 abbrev pub invariant-loop-position : goal.invariant-loop-position

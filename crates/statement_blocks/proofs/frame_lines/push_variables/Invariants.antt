@@ -1,6 +1,4 @@
-use Rattle.std.proofs.Common.{◌≡◌, ◌++◌, take}
-use Rattle.std.specs.Prelude.{flat_map}
-use Rattle.statement_blocks.specs.Lines.{number_text}
+use Rattle.statement_blocks.proofs.Words.{◌≡◌, ◌++◌, take, flat_map, number_text}
 use Rattle.statement_blocks.proofs.frame_lines.push_variables.Given as goal
 
 abbrev pub invariant-loop-number : goal.invariant-loop-number

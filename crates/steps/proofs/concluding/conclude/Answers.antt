@@ -1,8 +1,4 @@
-use Rattle.std.proofs.Common.{◌-◌, ◌++◌, ◌∙◌, ap, is_some, subst}
-use Rattle.frame.specs.Substitution.{code_apply}
-use Rattle.subst.specs.SymbolRanges.{images_at}
-use Rattle.subst.specs.declared.buffer.TheConstants.{SYMBOLS_LIMIT}
-use Rattle.subst.specs.Stored.Written.{Appends}
+use Rattle.steps.proofs.Words.{◌-◌, ◌++◌, ◌∙◌, ap, is_some, subst, code_apply, images_at, SYMBOLS_LIMIT, Appends}
 use Rattle.steps.proofs.ConcludingLemmas.{never-other, all-read}
 use Rattle.steps.proofs.concluding.conclude.Goals as goal
 

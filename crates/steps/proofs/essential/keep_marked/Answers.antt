@@ -1,17 +1,9 @@
-use Rattle.std.proofs.Common.{◌≡◌, ◌+◌, ◌<◌, ◌∷◌, ◌++◌, [], ap, sym, ◌∙◌, subst, arith, length, length-append, map}
-use Rattle.std.specs.Prelude.{get_or}
-use Rattle.std.proofs.lemmas.List.{length-map}
-use Rattle.frame.specs.Below.{AreBelow}
-use Rattle.steps.specs.Rows.{no_row}
-use Rattle.steps.specs.Essential.{essential_of}
-use Rattle.steps.specs.Stored.Marked.{marked_before, number_of, AreNumbers, kept_row}
+use Rattle.steps.proofs.Words.{◌≡◌, ◌+◌, ◌<◌, ◌∷◌, ◌++◌, [], ap, sym, ◌∙◌, subst, arith, length, length-append, map, get_or, length-map, AreBelow, no_row, essential_of, marked_before, number_of, AreNumbers, kept_row, below-more, below-get}
 use Rattle.steps.proofs.DraftRowLemmas.{row-same}
 use Rattle.steps.proofs.PremiseLemmas.{premises-below}
 use Rattle.steps.proofs.MarkedPlaceLemmas.{numbers-more, numbers-are, kept-more, kept-same, are-essential}
 use Rattle.steps.proofs.essential.keep_marked.Goals as goal
 use Rattle.steps.proofs.essential.keep_marked.Goals.{then-marks-place+in_ok-premises+in_ok-taken+in_ok-push-2, else-marks-place}
-use Rattle.frame.proofs.SymbolNumberLemmas.{below-more}
-use Rattle.verify.proofs.PlanLemmas.{below-get}
 
 pub bounds-marks-place : goal.bounds-marks-place
 bounds-marks-place c =

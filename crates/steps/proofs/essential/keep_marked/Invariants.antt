@@ -1,6 +1,4 @@
-use Rattle.std.proofs.Common.{◌≡◌, map}
-use Rattle.steps.specs.Stored.LongLists.{AreKept}
-use Rattle.steps.specs.Stored.Marked.{marked_before, AreNumbers, kept_row}
+use Rattle.steps.proofs.Words.{◌≡◌, map, AreKept, marked_before, AreNumbers, kept_row}
 use Rattle.steps.proofs.essential.keep_marked.Given as goal
 
 -- the marked rows before this place

@@ -1,5 +1,4 @@
-use Rattle.std.proofs.Common.{arith}
-use Rattle.frame.proofs.ActiveDisjointLemmas.{below-at}
+use Rattle.steps.proofs.Words.{arith, below-at}
 use Rattle.steps.proofs.essential.mark_all.Goals as goal
 
 pub bounds-marks-place : goal.bounds-marks-place

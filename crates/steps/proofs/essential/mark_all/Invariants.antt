@@ -1,5 +1,4 @@
-use Rattle.std.proofs.Common.{◌≡◌, drop}
-use Rattle.steps.specs.Stored.Marked.{mark_each}
+use Rattle.steps.proofs.Words.{◌≡◌, drop, mark_each}
 use Rattle.steps.proofs.essential.mark_all.Given as goal
 
 abbrev pub invariant-loop-place : goal.invariant-loop-place

@@ -1,16 +1,8 @@
-use Rattle.std.proofs.Common.{◌≡◌, ap, sym, ◌∙◌, subst, arith, length}
-use Rattle.std.specs.Prelude.{get_or}
-use Rattle.std.proofs.lemmas.List.{length-map}
-use Rattle.std.proofs.lemmas.Option.{slice_get-get_or}
-use Rattle.frame.specs.Below.{AreBelow}
-use Rattle.steps.specs.Rows.{no_row, steps_of}
-use Rattle.steps.specs.Essential.{essential_of}
-use Rattle.steps.specs.Stored.Marked.{MarksMore, mark_each}
+use Rattle.steps.proofs.Words.{◌≡◌, ap, sym, ◌∙◌, subst, arith, length, get_or, length-map, slice_get-get_or, AreBelow, no_row, steps_of, essential_of, MarksMore, mark_each, below-more}
 use Rattle.steps.proofs.DraftRowLemmas.{step-at}
 use Rattle.steps.proofs.PremiseLemmas.{premises-below}
 use Rattle.steps.proofs.EssentialMarkLemmas.{marked-on, each-more}
 use Rattle.steps.proofs.essential.mark_step.Goals as goal
-use Rattle.frame.proofs.SymbolNumberLemmas.{below-more}
 
 pub bounds-marks-place : goal.bounds-marks-place
 bounds-marks-place c =

@@ -1,7 +1,4 @@
-use Rattle.std.proofs.Common.{◌≡◌, ap, sym, ◌∙◌, subst, arith, length}
-use Rattle.std.proofs.lemmas.List.{length-map}
-use Rattle.steps.specs.Rows.{steps_of}
-use Rattle.steps.specs.Stored.Marked.{mark_last, AreMarkedFrom}
+use Rattle.steps.proofs.Words.{◌≡◌, ap, sym, ◌∙◌, subst, arith, length, length-map, steps_of, mark_last, AreMarkedFrom}
 use Rattle.steps.proofs.EssentialMarkLemmas.{marked-last, marks-exact}
 use Rattle.steps.proofs.essential.marks_of.Goals as goal
 

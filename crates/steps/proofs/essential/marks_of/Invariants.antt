@@ -1,6 +1,4 @@
-use Rattle.steps.specs.Rows.{steps_of}
-use Rattle.steps.specs.Stored.LongLists.{AreKept}
-use Rattle.steps.specs.Stored.Marked.{AreMarkedFrom}
+use Rattle.steps.proofs.Words.{steps_of, AreKept, AreMarkedFrom}
 use Rattle.steps.proofs.essential.marks_of.Given as goal
 
 -- the steps from here on were looked at

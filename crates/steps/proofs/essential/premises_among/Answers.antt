@@ -1,5 +1,4 @@
-use Rattle.std.proofs.Common.{ap, ◌∙◌}
-use Rattle.std.proofs.lemmas.Option.{get_or_from_slice_get, slice_get_within}
+use Rattle.steps.proofs.Words.{ap, ◌∙◌, get_or_from_slice_get, slice_get_within}
 use Rattle.steps.proofs.PremiseLemmas.{float-step, essential-step}
 use Rattle.steps.proofs.essential.premises_among.Goals as goal
 use Rattle.steps.proofs.essential.premises_among.Goals.{in-Float, in-Essential+in_ok-push-in-Essential}

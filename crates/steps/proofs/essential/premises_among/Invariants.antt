@@ -1,5 +1,4 @@
-use Rattle.std.proofs.Common.{◌≡◌, ◌++◌, drop}
-use Rattle.steps.specs.Stored.Marked.{taken_by}
+use Rattle.steps.proofs.Words.{◌≡◌, ◌++◌, drop, taken_by}
 use Rattle.steps.proofs.essential.premises_among.Given as goal
 
 abbrev pub invariant-loop-k : goal.invariant-loop-k

@@ -1,8 +1,4 @@
-use Rattle.std.proofs.Common.{◌≡◌, sym, ◌∙◌, ap, length}
-use Rattle.std.proofs.lemmas.Result.{IfOk-weaker}
-use Rattle.steps.specs.Rows.{no_row}
-use Rattle.steps.specs.Stored.Marked.{taken_by}
-use Rattle.std.specs.Prelude.{get_or}
+use Rattle.steps.proofs.Words.{◌≡◌, sym, ◌∙◌, ap, length, IfOk-weaker, no_row, taken_by, get_or}
 use Rattle.steps.proofs.PremiseLemmas.{asks-all, essential-by, none-essential, never-nothing, follows-at}
 use Rattle.steps.proofs.essential.premises_of.Goals as goal
 

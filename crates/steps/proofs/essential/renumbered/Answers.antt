@@ -1,5 +1,4 @@
-use Rattle.std.proofs.Common.{◌∷◌, ◌++◌, [], map, take, get_or, sym, ◌∙◌, ap}
-use Rattle.frame.proofs.ActiveDisjointLemmas.{below-at}
+use Rattle.steps.proofs.Words.{◌∷◌, ◌++◌, [], map, take, get_or, sym, ◌∙◌, ap, below-at}
 use Rattle.steps.proofs.DraftLemmas.{map-more}
 use Rattle.steps.proofs.essential.renumbered.Goals as goal
 

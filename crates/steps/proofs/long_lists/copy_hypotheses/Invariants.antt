@@ -1,5 +1,4 @@
-use Rattle.std.proofs.Common.{◌≡◌, map, take}
-use Rattle.entries.specs.Hypotheses.{told}
+use Rattle.steps.proofs.Words.{◌≡◌, map, take, told}
 use Rattle.steps.proofs.long_lists.copy_hypotheses.Given as goal
 
 abbrev pub invariant-loop-index : goal.invariant-loop-index

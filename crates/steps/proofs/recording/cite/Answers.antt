@@ -1,15 +1,8 @@
-use Rattle.std.proofs.Common.{◌∙◌, ap, subst}
-use Rattle.std.proofs.lemmas.Result.{on_ok_weaker}
-use Rattle.scope.specs.Active.{expr_of}
-use Rattle.frame.specs.Citations.{IsHypothesis}
-use Rattle.verify.proofs.LabelTableLemmas.{has_with}
-use Rattle.steps.specs.Stored.LongLists.{with_groups}
+use Rattle.steps.proofs.Words.{◌∙◌, ap, subst, on_ok_weaker, expr_of, IsHypothesis, has_with, with_groups, stands-within, some-same}
 use Rattle.steps.proofs.CiteLemmas.{many, typed, typecodes-count, different, assertion-draft, assertion-done, hypothesis-draft, hypothesis-done}
-use Rattle.scope.proofs.StatementPlaces.{stands-within}
 use Rattle.steps.proofs.ConcludingLemmas.{standing-codes}
 use Rattle.steps.proofs.DraftedItemLemmas.{never-nothing}
 use Rattle.steps.proofs.recording.cite.Goals as goal
-use Rattle.frame.proofs.FoundByNumber.{some-same}
 
 pub cite_parts-requires-clause-many : goal.cite_parts-requires-clause-many
 cite_parts-requires-clause-many c =

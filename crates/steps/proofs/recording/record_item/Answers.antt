@@ -1,12 +1,6 @@
-use Rattle.std.proofs.Common.{suc, ◌-◌, [], get_or, arith, sym, ◌∙◌, ap, subst, None}
-use Rattle.std.proofs.lemmas.Result.{on_ok_weaker}
-use Rattle.proof_code.specs.declared.item.Item.TheVariants.{Recall}
-use Rattle.proof_code.specs.ItemNumbers.{item_of}
-use Rattle.proof_code.proofs.RowOfNumbers.{item-cite, item-recall}
-use Rattle.steps.specs.Stored.Drafted.{CanDo, IsDone}
+use Rattle.steps.proofs.Words.{suc, ◌-◌, [], get_or, arith, sym, ◌∙◌, ap, subst, None, on_ok_weaker, Recall, item_of, item-cite, item-recall, CanDo, IsDone, suc_back}
 use Rattle.steps.proofs.DraftedItemLemmas.{position-there}
 use Rattle.steps.proofs.recording.record_item.Goals as goal
-use Rattle.verify.proofs.LabelTableLemmas.{suc_back}
 
 pub returns-then-number-eq0-clause-done : goal.returns-then-number-eq0-clause-done
 returns-then-number-eq0-clause-done c =

@@ -1,9 +1,7 @@
-use Rattle.std.proofs.Common.{sym, subst}
-use Rattle.frame.specs.AtPosition.{ArePositions}
+use Rattle.steps.proofs.Words.{sym, subst, ArePositions, stands-within}
 use Rattle.steps.proofs.ReachedLemmas.{reached-start, reached-can, reached-next, reached-steps, reached-last}
 use Rattle.steps.proofs.UnfoldLemmas.{unfolds}
 use Rattle.steps.proofs.steps_table.proof_table.Goals as goal
-use Rattle.scope.proofs.StatementPlaces.{stands-within}
 
 pub loop-number-init : goal.loop-number-init
 loop-number-init c = (

@@ -1,9 +1,4 @@
-use Rattle.std.proofs.Common.{◌≡◌, List}
-use Rattle.mm_lex.specs.Alphabet.{Name}
-use Rattle.frame.specs.AtPosition.{ArePositions, AreLegal}
-use Rattle.proof_code.specs.ItemNumbers.{items_of}
-use Rattle.steps.specs.Stored.Drafted.{IsDraft}
-use Rattle.steps.specs.Stored.LongLists.{AreKept}
+use Rattle.steps.proofs.Words.{◌≡◌, List, Name, ArePositions, AreLegal, items_of, IsDraft, AreKept}
 use Rattle.steps.proofs.ReachedLemmas.{Reached}
 use Rattle.steps.proofs.steps_table.proof_table.Given as goal
 

@@ -1,6 +1,4 @@
-use Rattle.std.proofs.Common.{◌∷◌, length, inr, sym, ◌∙◌, ap, refl}
-use Rattle.std.proofs.lemmas.Result.{on_ok_weaker}
-use Rattle.steps.specs.Stored.Drafted.{place_of}
+use Rattle.steps.proofs.Words.{◌∷◌, length, inr, sym, ◌∙◌, ap, refl, on_ok_weaker, place_of}
 use Rattle.steps.proofs.table_draft.cite_hypothesis.Goals as goal
 
 pub returns : goal.returns

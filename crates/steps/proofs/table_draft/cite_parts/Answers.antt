@@ -1,11 +1,4 @@
-use Rattle.std.proofs.Common.{◌≡◌, arith, ◌-◌, [], ◌∷◌, ◌++◌, length, map, drop, take, get_or, inr, sym, ◌∙◌, ap, subst, refl}
-use Rattle.std.proofs.lemmas.Result.{on_ok_weaker}
-use Rattle.frame.specs.Below.{AreBelow}
-use Rattle.subst.specs.SymbolRanges.{seen_at, AreWithin}
-use Rattle.subst.proofs.GroupLemmas.{below-drop}
-use Rattle.verify.specs.Fits.{IsTyped, AreRead}
-use Rattle.verify.specs.ResultPlaces.{top}
-use Rattle.steps.specs.Stored.Drafted.{place_in, place_of}
+use Rattle.steps.proofs.Words.{◌≡◌, arith, ◌-◌, [], ◌∷◌, ◌++◌, length, map, drop, take, get_or, inr, sym, ◌∙◌, ap, subst, refl, on_ok_weaker, AreBelow, seen_at, AreWithin, below-drop, IsTyped, AreRead, top, place_in, place_of}
 use Rattle.steps.proofs.DraftLemmas.{places-within, exprs-seen}
 use Rattle.steps.proofs.table_draft.cite_parts.Goals as goal
 

@@ -1,6 +1,4 @@
-use Rattle.std.proofs.Common.{◌∷◌, ◌++◌, [], map, take, sym, ◌∙◌, ap}
-use Rattle.frame.proofs.ActiveDisjointLemmas.{below-at}
-use Rattle.steps.specs.Stored.Drafted.{place_in}
+use Rattle.steps.proofs.Words.{◌∷◌, ◌++◌, [], map, take, sym, ◌∙◌, ap, below-at, place_in}
 use Rattle.steps.proofs.DraftLemmas.{map-more}
 use Rattle.steps.proofs.table_draft.fill_places.Goals as goal
 

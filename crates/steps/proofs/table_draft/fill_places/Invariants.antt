@@ -1,5 +1,4 @@
-use Rattle.std.proofs.Common.{◌≡◌, map, take}
-use Rattle.steps.specs.Stored.Drafted.{place_in}
+use Rattle.steps.proofs.Words.{◌≡◌, map, take, place_in}
 use Rattle.steps.proofs.table_draft.fill_places.Given as goal
 
 abbrev pub invariant-loop-number : goal.invariant-loop-number

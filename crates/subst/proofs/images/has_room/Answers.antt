@@ -1,5 +1,4 @@
-use Rattle.subst.proofs.Words.{◌≡◌, ℕ, ◌<◌, ◌≤◌, Option, Some, None, IfSome, IfNone, true, false, length, arith, refl, sym, ◌∙◌, code_apply}
-use Rattle.std.specs.Prelude.{is_some}
+use Rattle.subst.proofs.Words.{◌≡◌, ℕ, ◌<◌, ◌≤◌, Option, Some, None, IfSome, IfNone, true, false, length, arith, refl, sym, ◌∙◌, code_apply, is_some}
 use Rattle.subst.proofs.images.has_room.Goals as goal
 
 fits : (r : Option ℕ) (size room : ℕ) → IfSome r (λ len. (len ≡ size) × (len ≤ room)) → IfNone r (room < size) → (is_some r ≡ true → size ≤ room) × (size ≤ room → is_some r ≡ true)

@@ -1,6 +1,4 @@
-use Rattle.std.proofs.Common.{◌≡◌, ◌≤◌, length, take}
-use Rattle.std.specs.List.{flat_map}
-use Rattle.subst.specs.Vanishing.{group_left}
+use Rattle.subst.proofs.Words.{◌≡◌, ◌≤◌, length, take, flat_map, group_left}
 use Rattle.subst.proofs.vanishing.collect.Given as goal
 
 abbrev pub invariant-loop-at : goal.invariant-loop-at

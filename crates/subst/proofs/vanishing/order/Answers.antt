@@ -1,6 +1,4 @@
-use Rattle.std.specs.Prelude.{eqb}
-use Rattle.std.proofs.lemmas.List.Filters.{dedup_is}
-use Rattle.frame.proofs.CollectLemmas.{ordered}
+use Rattle.subst.proofs.Words.{eqb, dedup_is, ordered}
 use Rattle.subst.proofs.vanishing.order.Goals as goal
 
 pub returns : goal.returns

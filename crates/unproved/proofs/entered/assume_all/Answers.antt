@@ -1,6 +1,4 @@
-use Rattle.std.proofs.Common.{rules, arith, ◌≡◌, ◌-◌, ◌<◌, ◌≤◌, ◌∙◌, length, get_or}
-use Rattle.std.proofs.lemmas.List.{length-set}
-use Rattle.unproved.specs.Unproved.{IsWithin}
+use Rattle.unproved.proofs.Words.{rules, arith, ◌≡◌, ◌-◌, ◌<◌, ◌≤◌, ◌∙◌, length, get_or, length-set, IsWithin}
 use Rattle.unproved.proofs.AssumedLemmas.{assumed-on, shaped-on}
 use Rattle.unproved.proofs.entered.assume_all.Goals as goal
 

@@ -1,6 +1,4 @@
-use Rattle.std.proofs.Common.{◌≡◌, drop, length}
-use Rattle.library.specs.Words.{AreShaped}
-use Rattle.unproved.specs.Unproved.{assumed}
+use Rattle.unproved.proofs.Words.{◌≡◌, drop, length, AreShaped, assumed}
 use Rattle.unproved.proofs.entered.assume_all.Given as goal
 
 abbrev pub invariant-loop-at : goal.invariant-loop-at

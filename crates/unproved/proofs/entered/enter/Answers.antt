@@ -1,12 +1,5 @@
-use Rattle.std.specs.Prelude.{◌≡◌, ◌+◌, [], ◌∷◌, ◌++◌, Some, true}
-use Rattle.std.proofs.Common.{◌∙◌, ap, drop, sym, take_all}
-use Rattle.std.proofs.lemmas.List.{drop_all}
-use denote.Enum.Bare.{sameb}
-use Rattle.scope.specs.Active.{bare, bares}
-use Rattle.scope.specs.Legal.{broken_rule, first_broken, numbered, or_later}
-use Rattle.scope.specs.contracts.rule.Rule.{the_type}
-use Rattle.scope.specs.declared.rule.Rule.TheVariants.{Memory}
-use Rattle.library.proofs.AddingLemmas.{left-at, left-more, none-at-end, rule-at-end, rule-is, taken-more}
+use Rattle.unproved.proofs.Words.{◌≡◌, ◌+◌, [], ◌∷◌, ◌++◌, Some, true, ◌∙◌, ap, drop, sym, take_all, drop_all, sameb, bare, broken_rule, first_broken, numbered, or_later, the_type, Memory, left-at, left-more, none-at-end, rule-at-end, rule-is, taken-more}
+use Rattle.scope.specs.Active.{bares}
 use Rattle.unproved.proofs.entered.enter.Goals as goal
 
 pub loop-index-init : goal.loop-index-init

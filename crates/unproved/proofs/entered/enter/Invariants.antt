@@ -1,6 +1,5 @@
-use Rattle.std.proofs.Common.{◌≡◌, ◌+◌, [], drop, take}
+use Rattle.unproved.proofs.Words.{◌≡◌, ◌+◌, [], drop, take, first_broken}
 use Rattle.scope.specs.Active.{bares}
-use Rattle.scope.specs.Legal.{first_broken}
 use Rattle.unproved.proofs.entered.enter.Given as goal
 
 abbrev pub invariant-loop-index : goal.invariant-loop-index

@@ -1,6 +1,4 @@
-use Rattle.std.proofs.Common.{◌+◌, Some, subst, sym}
-use Rattle.unproved.specs.Stretches.{IsLeastIn}
-use Rattle.unproved.specs.Unproved.{AreUnproved}
+use Rattle.unproved.proofs.Words.{◌+◌, Some, subst, sym, IsLeastIn, AreUnproved}
 use Rattle.unproved.proofs.UnprovedLemmas.{all-found, least-more, least-within}
 use Rattle.unproved.proofs.search.add_found.Goals as goal
 

@@ -1,6 +1,4 @@
-use Rattle.std.proofs.Common.{◌-◌, ◌≤◌}
-use Rattle.unproved.specs.Stretches.{IsLeastIn}
-use Rattle.unproved.specs.Unproved.{AreUnproved}
+use Rattle.unproved.proofs.Words.{◌-◌, ◌≤◌, IsLeastIn, AreUnproved}
 use Rattle.unproved.proofs.search.add_found.Given as goal
 
 abbrev pub invariant-loop-found : goal.invariant-loop-found

@@ -1,5 +1,4 @@
-use Rattle.std.proofs.Common.{◌-◌, ◌≤◌, length}
-use Rattle.unproved.specs.Unproved.{AreUnproved}
+use Rattle.unproved.proofs.Words.{◌-◌, ◌≤◌, length, AreUnproved}
 use Rattle.unproved.proofs.search.find_all.Given as goal
 
 abbrev pub invariant-loop-front : goal.invariant-loop-front

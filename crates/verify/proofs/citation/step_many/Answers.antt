@@ -1,8 +1,5 @@
-use Rattle.verify.proofs.Words.{◌≡◌, ◌-◌, ◌∙◌, ap, sym, subst, arith, [], drop, length-map, map, get_or, get_or_from_slice_get, IfOk-weaker, HasCited}
-use Rattle.std.proofs.Common.{length-append}
-use Rattle.std.proofs.lemmas.List.{get_or-map}
-use Rattle.std.proofs.lemmas.Option.{slice_get_within}
-use Rattle.verify.specs.declared.label_table.LabelEntry.TheVariants.{Hypothesis, Nothing}
+use Rattle.verify.proofs.Words.{◌≡◌, ◌-◌, ◌∙◌, ap, sym, subst, arith, [], drop, length-map, map, get_or, get_or_from_slice_get, IfOk-weaker, HasCited, length-append, get_or-map, slice_get_within, Nothing}
+use Rattle.verify.specs.declared.label_table.LabelEntry.TheVariants.{Hypothesis}
 use Rattle.verify.proofs.StepLemmas.{mark-on, viewed-on, rest-entries, item-rest}
 use Rattle.verify.proofs.LabelTableLemmas.{suc_back, viewed-entry}
 use Rattle.verify.proofs.citation.step_many.Goals as goal

@@ -1,8 +1,5 @@
-use Rattle.verify.proofs.Words.{◌≡◌, List, length, map, take, Name, AreLegal, item_of, behind, AreKnown, AreEntries}
-use Rattle.std.specs.Prelude.{option_map, ◌++◌}
-use Rattle.verify.specs.LabelTable.{viewed}
+use Rattle.verify.proofs.Words.{◌≡◌, List, length, map, take, Name, AreLegal, item_of, behind, AreKnown, AreEntries, option_map, ◌++◌, viewed, AreKeptLists}
 use Rattle.verify.proofs.StepLemmas.{Reached}
-use Rattle.verify.specs.KeptLists.{AreKeptLists}
 use Rattle.verify.proofs.failure.run_items.Given as goal
 
 -- behind the items so far

@@ -1,6 +1,4 @@
-use Rattle.verify.proofs.Words.{◌≡◌, ◌+◌, ◌<◌, ◌∙◌, true, ap, sym, subst, arith, length, take, AllBelow, below-group}
-use Rattle.entries.specs.Stored.Spans.{cut}
-use Rattle.verify.specs.KeptLists.{SaySame, are_covered}
+use Rattle.verify.proofs.Words.{◌≡◌, ◌+◌, ◌<◌, ◌∙◌, true, ap, sym, subst, arith, length, take, AllBelow, below-group, cut, SaySame, are_covered}
 use Rattle.verify.proofs.KeptListsLemmas.{below-added, same-kept, same-left}
 use Rattle.verify.proofs.kept_lists.copy_groups.Goals as goal
 

@@ -1,6 +1,4 @@
-use Rattle.verify.proofs.Words.{ℕ, length, take, AllBelow}
-use Rattle.entries.specs.Stored.Spans.{AreSpansIn, cut}
-use Rattle.verify.specs.KeptLists.{SaySame}
+use Rattle.verify.proofs.Words.{ℕ, length, take, AllBelow, AreSpansIn, cut, SaySame}
 use Rattle.verify.proofs.kept_lists.copy_groups.Given as goal
 
 abbrev pub invariant-loop-index : goal.invariant-loop-index

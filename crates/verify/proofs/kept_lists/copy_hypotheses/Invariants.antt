@@ -1,5 +1,4 @@
-use Rattle.verify.proofs.Words.{◌≡◌, map, take}
-use Rattle.entries.specs.Hypotheses.{told}
+use Rattle.verify.proofs.Words.{◌≡◌, map, take, told}
 use Rattle.verify.proofs.kept_lists.copy_hypotheses.Given as goal
 
 abbrev pub invariant-loop-index : goal.invariant-loop-index

@@ -1,5 +1,4 @@
-use Rattle.verify.proofs.Words.{◌≡◌, true, take, list_all}
-use Rattle.verify.specs.KeptLists.{is_paired}
+use Rattle.verify.proofs.Words.{◌≡◌, true, take, list_all, is_paired}
 use Rattle.verify.proofs.kept_lists.is_covered.Given as goal
 
 abbrev pub invariant-loop-index : goal.invariant-loop-index

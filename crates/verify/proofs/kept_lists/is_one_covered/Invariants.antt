@@ -1,5 +1,4 @@
-use Rattle.verify.proofs.Words.{◌≡◌, true, take, get_or, list_all}
-use Rattle.verify.specs.KeptLists.{is_paired}
+use Rattle.verify.proofs.Words.{◌≡◌, true, take, get_or, list_all, is_paired}
 use Rattle.verify.proofs.kept_lists.is_one_covered.Given as goal
 
 abbrev pub invariant-loop-other : goal.invariant-loop-other

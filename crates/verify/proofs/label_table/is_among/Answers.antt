@@ -1,5 +1,4 @@
-use Rattle.verify.proofs.Words.{sym, ◌∙◌, ap, arith, is_hypothesis_among}
-use Rattle.std.proofs.lemmas.List.Sorted.{searched}
+use Rattle.verify.proofs.Words.{sym, ◌∙◌, ap, arith, is_hypothesis_among, searched}
 use Rattle.verify.specs.declared.label_table.LabelEntry.TheVariants.{Hypothesis}
 use Rattle.verify.proofs.LabelTableLemmas.{found-is, none-is}
 use Rattle.verify.proofs.label_table.is_among.Goals as goal

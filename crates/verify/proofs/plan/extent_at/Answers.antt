@@ -1,5 +1,4 @@
-use Rattle.verify.proofs.Words.{◌≡◌, ℕ, length, get_or, arith, ◌∙◌, max, nat_tests, below-at}
-use Rattle.std.specs.Ordering.{nat_cmp, ord_max}
+use Rattle.verify.proofs.Words.{◌≡◌, ℕ, length, get_or, arith, ◌∙◌, max, nat_tests, below-at, nat_cmp, ord_max}
 use Rattle.verify.proofs.PlanLemmas.{so-far-step, so-far-end, extent-low}
 use Rattle.verify.proofs.plan.extent_at.Goals as goal
 

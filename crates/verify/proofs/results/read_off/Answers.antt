@@ -1,5 +1,4 @@
-use Rattle.verify.proofs.Words.{◌≡◌, ℕ, ◌+◌, ◌∙◌, ap, arith, List, sym, subst, SymbolRange, Some, Float, Essential, AreWithin, AreInside, IsMistyped, ReadTo, AreFront}
-use Rattle.std.specs.Prelude.{IfSome, MatchOption}
+use Rattle.verify.proofs.Words.{◌≡◌, ℕ, ◌+◌, ◌∙◌, ap, arith, List, sym, subst, SymbolRange, Some, Float, Essential, AreWithin, AreInside, IsMistyped, ReadTo, AreFront, IfSome, MatchOption}
 use Rattle.verify.proofs.ReadImageLemmas.{float-next, front-next, other-next, read-whole, mistyped, place-at, place-within}
 use Rattle.verify.proofs.results.read_off.Goals.{in-Float+in_ok-read_more+else-not-branch, in_default-get}
 use Rattle.verify.proofs.results.read_off.Goals as goal

@@ -1,5 +1,4 @@
-use Rattle.world.proofs.Words.{◌≡◌, List, ◌∷◌, ◌++◌, [], ap, sym, ◌∙◌, subst, append_assoc, into_iter_items, into_iter_steps, append-nil, nil_from_length, Yields-more}
-use Rattle.world.proofs.Words.{Entry, Event, carried, all_carried, carried_size, Taken, Carried, Headline, Replicas, taken_front, stops_there}
+use Rattle.world.proofs.Words.{◌≡◌, List, ◌∷◌, ◌++◌, [], ap, sym, ◌∙◌, subst, append_assoc, into_iter_items, into_iter_steps, append-nil, nil_from_length, Yields-more, Entry, Event, carried, all_carried, carried_size, Taken, Carried, Headline, Replicas, taken_front, stops_there}
 use Rattle.world.proofs.EntryLogs.{all_carried-append}
 use Rattle.world.proofs.HeadlineLemmas.{headline_holds}
 use Rattle.world.proofs.ReplicasLemmas.{run_goes_on, step_taken}

@@ -1,6 +1,4 @@
-use Rattle.std.proofs.Common.{◌≡◌, rules}
-use Rattle.commands.specs.Remaining.{Remaining}
-use Rattle.commands.specs.Texts.{bytes_before}
+use Rattle.commands.proofs.Words.{◌≡◌, rules, Remaining, bytes_before}
 use Rattle.commands.proofs.TextsLemmas.{past_taken}
 use Rattle.commands.proofs.lines.Lines.take_bytes.Goals as goal
 

@@ -1,9 +1,4 @@
-use Rattle.std.specs.Prelude.{◌≡◌, ◌∷◌}
-use Rattle.std.proofs.Common.{rules}
-use Rattle.commands.specs.Pieces.{split_at}
-use Rattle.commands.specs.declared.node_line.NodeLine.TheVariants.{Offer}
-use Rattle.commands.specs.declared.play_line.PlayLine.TheVariants.{Node}
-use Rattle.commands.specs.PlayLines.{or_node_line, play_alone, play_line_by, play_text_form, world_line}
+use Rattle.commands.proofs.Words.{◌≡◌, ◌∷◌, rules, split_at, Offer, Node, or_node_line, play_alone, play_line_by, play_text_form, world_line}
 use Rattle.commands.proofs.LineLemmas.{alone_parsed, said_by, said_other, said_fault}
 use Rattle.commands.proofs.play_line.PlayLineLine.parse.Goals as goal
 

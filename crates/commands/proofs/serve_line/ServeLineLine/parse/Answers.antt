@@ -1,9 +1,5 @@
-use Rattle.std.specs.Prelude.{◌≡◌, ◌∷◌}
-use Rattle.std.proofs.Common.{rules}
-use Rattle.commands.specs.Pieces.{split_at}
-use Rattle.commands.specs.declared.node_line.NodeLine.TheVariants.{Offer}
+use Rattle.commands.proofs.Words.{◌≡◌, ◌∷◌, rules, split_at, Offer, added_or, serve_line_by, submit_form}
 use Rattle.commands.specs.declared.serve_line.ServeLine.TheVariants.{Node}
-use Rattle.commands.specs.ServeLines.{added_or, serve_line_by, submit_form}
 use Rattle.commands.proofs.LineLemmas.{said_by, said_other, said_fault}
 use Rattle.commands.proofs.serve_line.ServeLineLine.parse.Goals as goal
 

@@ -1,6 +1,4 @@
-use Rattle.std.specs.Prelude.{◌≡◌, true, false, codes}
-use Rattle.std.specs.Str.{bytes_eq}
-use Rattle.commands.specs.ServeLines.{serve_line_of}
+use Rattle.commands.proofs.Words.{◌≡◌, true, false, codes, bytes_eq, serve_line_of}
 use Rattle.commands.proofs.LineLemmas.{session_help, session_parsed, session_fault}
 use Rattle.commands.proofs.session_line.SessionLineLine.parse.Goals as goal
 

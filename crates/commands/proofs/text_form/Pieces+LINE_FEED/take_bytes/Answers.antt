@@ -1,7 +1,4 @@
-use Rattle.std.proofs.Common.{◌≡◌, ◌==◌, ◌+◌, ◌∙◌, Some, ap, sym, true, false, take, get_or, rules, arith}
-use Rattle.std.proofs.lemmas.Grind.{common_steps}
-use Rattle.commands.specs.Pieces.{split_at}
-use Rattle.commands.specs.Texts.{bytes_before}
+use Rattle.commands.proofs.Words.{◌≡◌, ◌==◌, ◌+◌, ◌∙◌, Some, ap, sym, true, false, take, get_or, rules, arith, common_steps, split_at, bytes_before}
 use Rattle.commands.proofs.TextsLemmas.{bytes_found, bytes_missing, text_and_rest}
 use Rattle.commands.proofs.text_form.Pieces+LINE_FEED.take_bytes.Goals as goal
 

@@ -1,5 +1,4 @@
-use Rattle.std.specs.Prelude.{◌++◌, ◌∷◌, [], List, ℕ}
-use Rattle.std.proofs.Common.{◌∙◌, ap}
+use Rattle.cross_references.proofs.Words.{◌++◌, ◌∷◌, [], List, ℕ, ◌∙◌, ap}
 use Rattle.cross_references.proofs.ListLemmas.{has-one, rounds_more}
 use Rattle.cross_references.proofs.collector.Collector.add.Goals as goal
 

@@ -1,5 +1,4 @@
-use Rattle.std.specs.Prelude.{take}
-use Rattle.frame.specs.Stored.Hypotheses.{In, HasMore}
+use Rattle.cross_references.proofs.Words.{take, In, HasMore}
 use Rattle.cross_references.proofs.collector.Collector.add_all.Given as goal
 
 abbrev pub invariant-loop-position : goal.invariant-loop-position

@@ -1,6 +1,4 @@
-use Rattle.std.specs.Prelude.{List, ℕ}
-use Rattle.std.proofs.Common.{◌∙◌, subst}
-use Rattle.frame.specs.Stored.Hypotheses.{In, AreThose}
+use Rattle.cross_references.proofs.Words.{List, ℕ, ◌∙◌, subst, In, AreThose}
 use Rattle.cross_references.proofs.collector.Collector.ordered.Goals as goal
 
 pub returns : goal.returns

@@ -1,5 +1,4 @@
-use Rattle.entries.proofs.Words.{◌∙◌, ap, sym, take, arith, slice_get, length, take_all, min, bodies_of, with_states_before}
-use Rattle.std.proofs.lemmas.List.{length-take}
+use Rattle.entries.proofs.Words.{◌∙◌, ap, sym, take, arith, slice_get, length, take_all, min, bodies_of, with_states_before, length-take}
 use Rattle.entries.proofs.StatementRecordLemmas.{within, with-take}
 use Rattle.entries.proofs.AddedStatement.{packed-fewer, bodies-fewer}
 use Rattle.entries.proofs.entries.Entries.truncate.Goals as goal

@@ -1,5 +1,4 @@
-use Rattle.std.proofs.Common.{◌∙◌, ◌∷◌, sym}
-use Rattle.entries.specs.Histories.{stack_at}
+use Rattle.entries.proofs.Words.{◌∙◌, ◌∷◌, sym, stack_at}
 use Rattle.entries.proofs.AddedStatement.{on-ok}
 use Rattle.entries.proofs.LogLemmas.{logged-change}
 use Rattle.entries.proofs.histories.Histories.push.Goals as goal

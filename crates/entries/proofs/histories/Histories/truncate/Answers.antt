@@ -1,5 +1,4 @@
-use Rattle.std.proofs.Common.{◌≡◌, ◌∙◌, ◌-◌, Some, ap, sym, subst, arith, slice_get, slice_set, length, take}
-use Rattle.entries.specs.Stored.Versions.{AreLogged}
+use Rattle.entries.proofs.Words.{◌≡◌, ◌∙◌, ◌-◌, Some, ap, sym, subst, arith, slice_get, slice_set, length, take, AreLogged}
 use Rattle.entries.proofs.LogLemmas.{log-within, pop-step, IsPopStep}
 use Rattle.entries.proofs.histories.Histories.truncate.Goals as goal
 use Rattle.entries.proofs.histories.Histories.truncate.Goals.{In-Some, After-pop_after}

@@ -1,6 +1,4 @@
-use Rattle.std.proofs.Common.{◌≡◌, ℕ, length}
-use Rattle.entries.specs.Histories.{history, kept_until}
-use Rattle.entries.specs.Stored.Versions.{AreLogged}
+use Rattle.entries.proofs.Words.{◌≡◌, ℕ, length, history, kept_until, AreLogged}
 use Rattle.entries.proofs.histories.Histories.truncate.Given as goal
 
 abbrev pub invariant-loop-number : goal.invariant-loop-number

@@ -1,6 +1,4 @@
-use Rattle.std.proofs.Common.{◌∙◌, ap, sym, subst}
-use Rattle.entries.specs.Histories.{is_changed, gone_back}
-use Rattle.entries.specs.Stored.Versions.{AreVersions}
+use Rattle.entries.proofs.Words.{◌∙◌, ap, sym, subst, is_changed, gone_back, AreVersions}
 use Rattle.entries.proofs.VersionLemmas.{versions-more, changed-more}
 use Rattle.entries.proofs.history.History.go_back.Goals as goal
 

@@ -1,5 +1,4 @@
-use Rattle.std.proofs.Common.{◌∙◌, ap, sym}
-use Rattle.entries.specs.Histories.{is_changed}
+use Rattle.entries.proofs.Words.{◌∙◌, ap, sym, is_changed}
 use Rattle.entries.proofs.VersionLemmas.{changed-is}
 use Rattle.entries.proofs.history.History.is_changed.Goals as goal
 

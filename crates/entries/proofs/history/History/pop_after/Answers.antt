@@ -1,6 +1,4 @@
-use Rattle.std.proofs.Common.{◌≡◌, ◌∙◌, ◌-◌, ap, sym, subst, arith, take, cond, nat_lt, true, false}
-use Rattle.std.proofs.lemmas.Bool.{lt-ltb, le-ltb}
-use Rattle.entries.specs.Stored.Versions.{AreVersions, versions_of}
+use Rattle.entries.proofs.Words.{◌≡◌, ◌∙◌, ◌-◌, ap, sym, subst, arith, take, cond, nat_lt, true, false, lt-ltb, le-ltb, AreVersions, versions_of}
 use Rattle.entries.proofs.VersionLemmas.{is-popped, none-popped, fewer-versions}
 use Rattle.entries.proofs.history.History.pop_after.Goals as goal
 

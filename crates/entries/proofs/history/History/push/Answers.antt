@@ -1,6 +1,4 @@
-use Rattle.std.proofs.Common.{◌∙◌, ap, sym, subst}
-use Rattle.entries.specs.Histories.{is_changed, pushed}
-use Rattle.entries.specs.Stored.Versions.{AreVersions}
+use Rattle.entries.proofs.Words.{◌∙◌, ap, sym, subst, is_changed, pushed, AreVersions}
 use Rattle.entries.proofs.VersionLemmas.{versions-more, changed-more}
 use Rattle.entries.proofs.history.History.push.Goals as goal
 

@@ -1,5 +1,4 @@
-use Rattle.std.proofs.Common.{◌∙◌, ap, refl}
-use Rattle.entries.specs.Histories.{stack_at}
+use Rattle.entries.proofs.Words.{◌∙◌, ap, refl, stack_at}
 use Rattle.entries.proofs.VersionLemmas.{found-readable}
 use Rattle.entries.proofs.history.History.stack.Goals as goal
 

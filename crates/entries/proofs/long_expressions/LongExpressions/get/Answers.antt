@@ -1,5 +1,4 @@
-use Rattle.std.proofs.Common.{ℕ, List, sym, ◌∙◌, ap, nat_eq}
-use Rattle.std.specs.Map.{lookup}
+use Rattle.entries.proofs.Words.{ℕ, List, sym, ◌∙◌, ap, nat_eq, lookup}
 use Rattle.entries.proofs.LongExpressionsLemmas.{result-of, lookup-found, lookup-missed}
 use Rattle.entries.proofs.long_expressions.LongExpressions.get.Goals as goal
 

@@ -1,6 +1,5 @@
-use Rattle.std.proofs.Common.{ℕ, ◌<◌, List, [], ◌∷◌, ◌++◌, sym, ◌∙◌, ap, subst, arith, length, length-append}
-use Rattle.std.specs.List.{All, zip}
-use Rattle.std.specs.List.Sorted.{IsStrictlyIncreasing}
+use Rattle.entries.proofs.Words.{ℕ, ◌<◌, List, [], ◌∷◌, ◌++◌, sym, ◌∙◌, ap, subst, arith, length, All, zip, IsStrictlyIncreasing}
+use Rattle.std.proofs.Common.{length-append}
 use Rattle.entries.proofs.LongExpressionsLemmas.{rises-push, zip-below, zip-push}
 use Rattle.entries.proofs.long_expressions.LongExpressions.push.Goals as goal
 

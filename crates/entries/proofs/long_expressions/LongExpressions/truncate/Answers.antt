@@ -1,5 +1,4 @@
-use Rattle.std.proofs.Common.{ℕ, List, sym, ◌∙◌, ap, subst, nat_lt, take}
-use Rattle.std.specs.List.{filter, zip}
+use Rattle.entries.proofs.Words.{ℕ, List, sym, ◌∙◌, ap, subst, nat_lt, take, filter, zip}
 use Rattle.entries.proofs.LongExpressionsLemmas.{IsCut, result-of, cut-found, cut-missed, filter-cut}
 use Rattle.entries.proofs.long_expressions.LongExpressions.truncate.Goals as goal
 use Rattle.entries.proofs.long_expressions.LongExpressions.truncate.Goals.{in-Ok, in-Err}

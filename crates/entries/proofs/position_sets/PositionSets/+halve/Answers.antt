@@ -1,9 +1,4 @@
-use Rattle.std.proofs.Common.{sym, subst, [], ◌+◌, ◌/◌, length, take, drop, arith}
-use Rattle.std.specs.Prelude.{IfOk}
-use Rattle.std.proofs.lemmas.List.{take-append-drop, take_rest}
-use Rattle.std.proofs.lemmas.Bool.Decides.{nat_tests}
-use Rattle.std.proofs.lemmas.Grind.{common_steps}
-use Rattle.entries.specs.PositionSets.{Ascends, IsSet}
+use Rattle.entries.proofs.Words.{sym, subst, [], ◌+◌, ◌/◌, length, take, drop, arith, IfOk, take-append-drop, take_rest, nat_tests, common_steps, Ascends, IsSet}
 use Rattle.entries.proofs.PositionSetLemmas.{ascends-front, ascends-back}
 use Rattle.entries.proofs.JoinedSetLemmas.{extended-set, halves-joined}
 use Rattle.entries.proofs.position_sets.PositionSets.+halve.Goals as goal

@@ -1,7 +1,4 @@
-use Rattle.std.specs.Prelude.{IfOk}
-use Rattle.std.proofs.Common.{sym, subst, arith}
-use Rattle.std.proofs.lemmas.Bool.Decides.{nat_tests}
-use Rattle.entries.specs.PositionSets.{Ascends, IsSet}
+use Rattle.entries.proofs.Words.{IfOk, sym, subst, arith, nat_tests, Ascends, IsSet}
 use Rattle.entries.proofs.PositionSetLemmas.{ascends-with}
 use Rattle.entries.proofs.JoinedSetLemmas.{put-below, put-here, put-above}
 use Rattle.entries.proofs.position_sets.PositionSets.+put_in.Goals as goal

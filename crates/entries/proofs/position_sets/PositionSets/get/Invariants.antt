@@ -1,5 +1,4 @@
-use Rattle.std.proofs.Common.{◌≡◌, slice_get}
-use Rattle.entries.specs.PositionSets.{set_at}
+use Rattle.entries.proofs.Words.{◌≡◌, slice_get, set_at}
 use Rattle.entries.proofs.position_sets.PositionSets.get.Given as goal
 
 abbrev pub invariant-loop-top : goal.invariant-loop-top

@@ -1,6 +1,4 @@
-use Rattle.std.proofs.Common.{ap, sym, subst, ◌∙◌, arith}
-use Rattle.std.proofs.lemmas.Bool.Decides.{nat_tests}
-use Rattle.entries.specs.PositionSets.{has_position, Ascends}
+use Rattle.entries.proofs.Words.{ap, sym, subst, ◌∙◌, arith, nat_tests, has_position, Ascends}
 use Rattle.entries.proofs.PositionSetLemmas.{has-below, has-beyond}
 use Rattle.entries.proofs.position_sets.PositionSets.has.Goals as goal
 

@@ -1,5 +1,4 @@
-use Rattle.std.proofs.Common.{◌≡◌}
-use Rattle.entries.specs.PositionSets.{set_at, has_position}
+use Rattle.entries.proofs.Words.{◌≡◌, set_at, has_position}
 use Rattle.entries.proofs.position_sets.PositionSets.has.Given as goal
 
 abbrev pub invariant-loop-top : goal.invariant-loop-top

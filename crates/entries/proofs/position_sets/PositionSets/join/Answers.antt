@@ -1,7 +1,5 @@
-use Rattle.std.proofs.Common.{ℕ, ap, sym, subst, ◌∙◌, ◌∷◌, [], length, length-append, arith}
-use Rattle.std.proofs.lemmas.List.{get_or_at, length_push}
-use Rattle.entries.specs.Stored.PositionSets.{joined}
-use Rattle.entries.specs.PositionSets.{IsSet}
+use Rattle.entries.proofs.Words.{ℕ, ap, sym, subst, ◌∙◌, ◌∷◌, [], length, arith, get_or_at, length_push, joined, IsSet}
+use Rattle.std.proofs.Common.{length-append}
 use Rattle.entries.proofs.SetNodeLemmas.{more-sets, more-nodes}
 use Rattle.entries.proofs.position_sets.PositionSets.join.Goals as goal
 

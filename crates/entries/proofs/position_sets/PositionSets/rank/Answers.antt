@@ -1,5 +1,4 @@
-use Rattle.std.proofs.Common.{ℕ, ◌≡◌, ◌<◌, ◌+◌, ◌^◌, inl, inr, arith}
-use Rattle.std.proofs.Math.Nat.{eq-zero-or-pos}
+use Rattle.entries.proofs.Words.{ℕ, ◌≡◌, ◌<◌, ◌+◌, ◌^◌, inl, inr, arith, eq-zero-or-pos}
 use Rattle.entries.proofs.JoinedSetLemmas.{below-left, below-right}
 use Rattle.entries.proofs.position_sets.PositionSets.rank.Goals as goal
 

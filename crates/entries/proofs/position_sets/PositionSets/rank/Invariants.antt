@@ -1,5 +1,4 @@
-use Rattle.std.proofs.Common.{◌≡◌, ◌<◌, ◌+◌, ◌^◌, length}
-use Rattle.entries.specs.PositionSets.{set_at, count_below}
+use Rattle.entries.proofs.Words.{◌≡◌, ◌<◌, ◌+◌, ◌^◌, length, set_at, count_below}
 use Rattle.entries.proofs.position_sets.PositionSets.rank.Given as goal
 
 abbrev pub invariant-loop-top : goal.invariant-loop-top

@@ -1,5 +1,4 @@
-use Rattle.std.proofs.Common.{sym, subst, ◌∙◌, append_assoc, arith}
-use Rattle.entries.specs.PositionSets.{Ascends}
+use Rattle.entries.proofs.Words.{sym, subst, ◌∙◌, append_assoc, arith, Ascends}
 use Rattle.entries.proofs.PositionSetLemmas.{parts}
 use Rattle.entries.proofs.JoinedSetLemmas.{joined-extends, right-whole, turned}
 use Rattle.entries.proofs.position_sets.PositionSets.rotate_right.Goals as goal

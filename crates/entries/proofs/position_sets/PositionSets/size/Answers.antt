@@ -1,6 +1,5 @@
-use Rattle.std.proofs.Common.{ap, subst, length, arith, [], ◌∷◌}
+use Rattle.entries.proofs.Words.{ap, subst, length, arith, [], ◌∷◌, Ascends, IsSet, set_at}
 use Rattle.entries.proofs.SetNodeLemmas.{all-ascend, empty, sets-length}
-use Rattle.entries.specs.PositionSets.{Ascends, IsSet, set_at}
 use Rattle.entries.proofs.position_sets.PositionSets.size.Goals as goal
 
 pub returns-clause-size : goal.returns-clause-size

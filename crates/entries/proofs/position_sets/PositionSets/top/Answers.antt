@@ -1,6 +1,4 @@
-use Rattle.std.proofs.Common.{ap, subst, sym, ◌≡◌, ◌-◌, ◌∙◌, length, slice_get, Some, [], arith}
-use Rattle.entries.specs.PositionSets.{IsSet}
-use Rattle.entries.specs.Stored.PositionSets.{IsTop}
+use Rattle.entries.proofs.Words.{ap, subst, sym, ◌≡◌, ◌-◌, ◌∙◌, length, slice_get, Some, [], arith, IsSet, IsTop}
 use Rattle.entries.proofs.SetNodeLemmas.{top, empty, past}
 use Rattle.entries.proofs.position_sets.PositionSets.top.Goals as goal
 use Rattle.entries.proofs.position_sets.PositionSets.top.Goals.{then-set-eq0-via-then-set-eq0, then-set-eq0-via-else-set-eq0+then-nodes-set}

@@ -1,5 +1,4 @@
-use Rattle.std.proofs.Common.{◌≡◌, ◌∙◌, ◌-◌, ◌∷◌, suc, ap, sym, arith, get_or}
-use Rattle.entries.specs.Stored.Versions.{stacked, versions_of, no_version}
+use Rattle.entries.proofs.Words.{◌≡◌, ◌∙◌, ◌-◌, ◌∷◌, suc, ap, sym, arith, get_or, stacked, versions_of, no_version}
 use Rattle.entries.proofs.VersionLemmas.{version-at, below-within}
 use Rattle.entries.proofs.position_stack.PositionStack.pop.Goals as goal
 

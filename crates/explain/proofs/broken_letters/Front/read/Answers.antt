@@ -1,5 +1,4 @@
-use Rattle.std.proofs.Common.{arith, refl, sym, ap, ◌+◌, ◌*◌}
-use Rattle.explain.specs.declared.why.LetterFault.TheVariants.{NotLetter, NotEnded, TooGreat}
+use Rattle.explain.proofs.Words.{arith, refl, sym, ap, ◌+◌, ◌*◌, NotLetter, NotEnded, TooGreat}
 use Rattle.explain.proofs.LetterLemmas.{broken-at, some-begun, word-over, begun-over, number-read, mark-read, letter-read, other-here, ends-so}
 use Rattle.explain.proofs.broken_letters.Front.read.Goals as goal
 

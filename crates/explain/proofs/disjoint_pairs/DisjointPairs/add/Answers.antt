@@ -1,5 +1,4 @@
-use Rattle.std.proofs.Common.{◌≡◌, sym, subst}
-use Rattle.explain.specs.Stored.DisjointPairs.{AreDisjointPairs}
+use Rattle.explain.proofs.Words.{◌≡◌, sym, subst, AreDisjointPairs}
 use Rattle.explain.proofs.DisjointPairLemmas.{pairs-after}
 use Rattle.explain.proofs.disjoint_pairs.DisjointPairs.add.Goals as goal
 use Rattle.explain.proofs.disjoint_pairs.DisjointPairs.add.Goals.{then-len-ge-MOST_PAIRS, else-len-ge-MOST_PAIRS}

@@ -1,5 +1,4 @@
-use Rattle.std.proofs.Common.{subst}
-use Rattle.explain.specs.Stored.DisjointPairs.{IsPairAt}
+use Rattle.explain.proofs.Words.{subst, IsPairAt}
 use Rattle.explain.proofs.DisjointPairLemmas.{pair-there}
 use Rattle.explain.proofs.disjoint_pairs.DisjointPairs.has.Goals as goal
 

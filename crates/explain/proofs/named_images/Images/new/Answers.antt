@@ -1,7 +1,4 @@
-use Rattle.std.proofs.Common.{◌≡◌, ◌∙◌, ◌+◌, ◌-◌, ◌<◌, length, drop, subst, ap, get_or, cond, Some, add-one, arith}
-use Rattle.std.specs.BTreeMap.{get}
-use Rattle.std.specs.Ordering.{nat_cmp, is_eq}
-use Rattle.explain.specs.ImagePlaces.{IsPlaced}
+use Rattle.explain.proofs.Words.{◌≡◌, ◌∙◌, ◌+◌, ◌-◌, ◌<◌, length, drop, subst, ap, get_or, cond, Some, add-one, arith, get, nat_cmp, is_eq, IsPlaced}
 use Rattle.explain.proofs.ImagesLemmas.{placed_more}
 use Rattle.explain.proofs.VectorLemmas.{no_image}
 use Rattle.explain.proofs.named_images.Images.new.Goals as goal

@@ -1,7 +1,4 @@
-use Rattle.std.proofs.Common.{ℕ, drop}
-use Rattle.std.specs.BTreeMap.{get}
-use Rattle.std.specs.Ordering.{nat_cmp}
-use Rattle.explain.specs.ImagePlaces.{IsPlaced}
+use Rattle.explain.proofs.Words.{ℕ, drop, get, nat_cmp, IsPlaced}
 use Rattle.explain.proofs.named_images.Images.new.Given as goal
 
 abbrev pub invariant-loop-i : goal.invariant-loop-i

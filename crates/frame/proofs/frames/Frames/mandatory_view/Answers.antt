@@ -1,7 +1,4 @@
-use Rattle.frame.proofs.Words.{◌≡◌, ◌∙◌, ap, sym, subst, arith, ℕ, List, filter, not, same_Some, before, hypotheses, is_assertion, true, set_at, slice_get_within, statements_of, Entry}
-use Rattle.entries.specs.PositionSets.{has_position}
-use Rattle.frame.specs.Stored.GivenSets.{kept_set}
-use Rattle.frame.specs.Stored.Merged.{AreMerged, with_each}
+use Rattle.frame.proofs.Words.{◌≡◌, ◌∙◌, ap, sym, subst, arith, ℕ, List, filter, not, same_Some, before, hypotheses, is_assertion, true, set_at, slice_get_within, statements_of, Entry, has_position, kept_set, AreMerged, with_each}
 use Rattle.frame.proofs.AssertionViewLemmas.{IsThere, is-there}
 use Rattle.frame.proofs.KindWalk.{as-many}
 use Rattle.frame.proofs.MandatoryViewLemmas.{view-is, view-merged}

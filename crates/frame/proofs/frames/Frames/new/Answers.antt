@@ -1,5 +1,4 @@
-use Rattle.std.proofs.Common.{rules}
-use Rattle.frame.proofs.Words.{◌∙◌, ap, sym, length, is_disj, is_var}
+use Rattle.frame.proofs.Words.{rules, ◌∙◌, ap, sym, length, is_disj, is_var}
 use Rattle.frame.proofs.StackLemmas.{stacks-none}
 use Rattle.frame.proofs.frames.Frames.new.Goals as goal
 

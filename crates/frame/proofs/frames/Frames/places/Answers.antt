@@ -1,6 +1,4 @@
-use Rattle.frame.proofs.Words.{◌∙◌, ◌-◌, ap, sym, length, expr_of, names_in, labels_in, seen}
-use Rattle.entries.specs.SymbolPlaces.{ArePlacesOf}
-use Rattle.frame.specs.ExprPlaces.{AreExprPlaces}
+use Rattle.frame.proofs.Words.{◌∙◌, ◌-◌, ap, sym, length, expr_of, names_in, labels_in, seen, ArePlacesOf, AreExprPlaces}
 use Rattle.frame.proofs.StoredReading.{two-of, entry-expr, is-entry}
 use Rattle.frame.proofs.StoredOneMore.{numbered-at}
 use Rattle.frame.proofs.BufferedHypotheses.{some-map}

@@ -1,5 +1,4 @@
-use Rattle.frame.proofs.Words.{◌∙◌, ap, sym, subst, length, take, statements_of}
-use Rattle.frame.specs.Stored.GivenSets.{AreGivenSets}
+use Rattle.frame.proofs.Words.{◌∙◌, ap, sym, subst, length, take, statements_of, AreGivenSets}
 use Rattle.frame.proofs.frames.Frames.shorten.Goals as goal
 
 pub invariant_of-self : goal.invariant_of-self

@@ -1,7 +1,6 @@
-use Rattle.frame.proofs.Words.{◌-◌, sym, subst, refl, ⊎_elim, ⊎_map, take, statements_of, set_at}
+use Rattle.frame.proofs.Words.{◌-◌, sym, subst, refl, ⊎_elim, ⊎_map, take, statements_of, set_at, IsGivenBy}
 use Rattle.frame.proofs.CollectLemmas.{appended, those-by}
 use Rattle.frame.proofs.GivenSetLemmas.{given-at}
-use Rattle.frame.specs.Stored.GivenSets.{IsGivenBy}
 use Rattle.frame.proofs.given_sets.GivenSets.add.Goals as goal
 
 pub returns : goal.returns

@@ -1,5 +1,4 @@
-use Rattle.frame.proofs.Words.{◌∙◌, ◌+◌, ◌-◌, sym, subst, arith, inr, ⊎_elim, take_all, statements_of, AreThose, AreWith, IsGiven, Ascends, In}
-use Rattle.std.proofs.lemmas.Result.{IfOk-weaker}
+use Rattle.frame.proofs.Words.{◌∙◌, ◌+◌, ◌-◌, sym, subst, arith, inr, ⊎_elim, take_all, statements_of, AreThose, AreWith, IsGiven, Ascends, In, IfOk-weaker}
 use Rattle.frame.proofs.CollectLemmas.{those-by}
 use Rattle.frame.proofs.KindWalk.{as-many}
 use Rattle.frame.proofs.given_sets.GivenSets.collect.Goals as goal

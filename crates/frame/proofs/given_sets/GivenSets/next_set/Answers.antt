@@ -1,7 +1,5 @@
-use Rattle.frame.proofs.Words.{◌≡◌, ◌<◌, ◌∙◌, sym, subst, length, true≢false, Ess, seen, set_at, statements_of, Ascends, HasMore, In}
-use Rattle.std.proofs.lemmas.Result.{IfOk-weaker}
+use Rattle.frame.proofs.Words.{◌≡◌, ◌<◌, ◌∙◌, sym, subst, length, true≢false, Ess, seen, set_at, statements_of, Ascends, HasMore, In, IfOk-weaker, kept_set}
 use Rattle.frame.proofs.GivenSetLemmas.{kept-ascends, kept-within, set-next}
-use Rattle.frame.specs.Stored.GivenSets.{kept_set}
 use Rattle.frame.proofs.given_sets.GivenSets.next_set.Goals as goal
 use Rattle.frame.proofs.given_sets.GivenSets.next_set.Goals.{in-Ess, in_default}
 

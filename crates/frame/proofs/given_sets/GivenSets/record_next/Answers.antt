@@ -1,7 +1,6 @@
-use Rattle.frame.proofs.Words.{◌∙◌, ◌++◌, ◌∷◌, [], ap, statements_of}
+use Rattle.frame.proofs.Words.{◌∙◌, ◌++◌, ◌∷◌, [], ap, statements_of, KeptSet}
 use Rattle.frame.proofs.GivenSetLemmas.{sets-next}
 use Rattle.frame.proofs.KindWalk.{as-many}
-use Rattle.frame.specs.declared.given_sets.KeptSet.{KeptSet}
 use Rattle.frame.proofs.given_sets.GivenSets.record_next.Goals as goal
 
 pub returns-clause-recorded : goal.returns-clause-recorded

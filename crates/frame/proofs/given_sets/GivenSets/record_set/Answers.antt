@@ -1,5 +1,4 @@
-use Rattle.frame.proofs.Words.{◌≡◌, ◌∙◌, arith, refl, sym, statements_of, on-err}
-use Rattle.entries.proofs.SetNodeLemmas.{cut-back}
+use Rattle.frame.proofs.Words.{◌≡◌, ◌∙◌, arith, refl, sym, statements_of, on-err, cut-back}
 use Rattle.frame.proofs.GivenSetLemmas.{sets-moved}
 use Rattle.frame.proofs.given_sets.GivenSets.record_set.Goals as goal
 

@@ -1,5 +1,4 @@
-use Rattle.frame.proofs.Words.{◌≡◌, ◌∙◌, ap, sym, refl, suc, subst, arith, length, take, take_all, take-take, length-take-le, slice_get, Some}
-use Rattle.frame.specs.Stored.GivenSets.{AreGivenSets}
+use Rattle.frame.proofs.Words.{◌≡◌, ◌∙◌, ap, sym, refl, suc, subst, arith, length, take, take_all, take-take, length-take-le, slice_get, Some, AreGivenSets}
 use Rattle.frame.proofs.GivenSetLemmas.{sets-cut, sets-moved}
 use Rattle.frame.proofs.given_sets.GivenSets.truncate.Goals as goal
 

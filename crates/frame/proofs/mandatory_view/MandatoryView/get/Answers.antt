@@ -1,5 +1,4 @@
-use Rattle.frame.proofs.Words.{◌≡◌, ◌∙◌, ◌+◌, ◌-◌, ◌<◌, ◌≤◌, ℕ, suc, ap, sym, subst, arith, refl, List, length, get_or, get_or_from_slice_get, slice_get, slice_get-get_or, slice_get_read, slice_get_within, Some, set_at}
-use Rattle.entries.specs.PositionSets.{count_below}
+use Rattle.frame.proofs.Words.{◌≡◌, ◌∙◌, ◌+◌, ◌-◌, ◌<◌, ◌≤◌, ℕ, suc, ap, sym, subst, arith, refl, List, length, get_or, get_or_from_slice_get, slice_get, slice_get-get_or, slice_get_read, slice_get_within, Some, set_at, count_below}
 use Rattle.frame.proofs.MergedLemmas.{get-own, get-set, left-within, length-each, low-within}
 use Rattle.frame.proofs.mandatory_view.MandatoryView.get.Goals as goal
 use Rattle.frame.proofs.mandatory_view.MandatoryView.get.Goals.{After-get, else-low-len-via-then-low-len+else-place-index, else-low-len-via-else-low-len}

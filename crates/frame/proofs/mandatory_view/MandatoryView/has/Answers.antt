@@ -1,7 +1,4 @@
-use Rattle.frame.proofs.Words.{◌∙◌, ◌||◌, ap, sym, or_right, or-false, set_at}
-use Rattle.std.proofs.lemmas.List.Sorted.{searched}
-use Rattle.entries.specs.PositionSets.{has_position}
-use Rattle.frame.specs.Stored.Merged.{with_each}
+use Rattle.frame.proofs.Words.{◌∙◌, ◌||◌, ap, sym, or_right, or-false, set_at, searched, has_position, with_each}
 use Rattle.frame.proofs.MergedLemmas.{ascends-sorted, found-is, has-each}
 use Rattle.frame.proofs.mandatory_view.MandatoryView.has.Goals as goal
 

@@ -1,6 +1,4 @@
-use Rattle.frame.proofs.Words.{◌≡◌, ◌∙◌, ◌-◌, ◌&&◌, ap, sym, arith, not, false, list_any, nat_eq}
-use Rattle.entries.specs.Histories.{history, stack_at}
-use Rattle.frame.specs.Stored.Stacks.{has_code}
+use Rattle.frame.proofs.Words.{◌≡◌, ◌∙◌, ◌-◌, ◌&&◌, ap, sym, arith, not, false, list_any, nat_eq, history, stack_at, has_code}
 use Rattle.frame.proofs.PairStackLemmas.{pair-is, pair-swapped, stack-of-kind}
 use Rattle.frame.proofs.pairs.Pairs.has.Goals as goal
 

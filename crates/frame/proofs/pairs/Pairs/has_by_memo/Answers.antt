@@ -1,5 +1,4 @@
-use Rattle.frame.proofs.Words.{◌≡◌, ◌∙◌, arith, false, nat_eq}
-use Rattle.frame.specs.Stored.PairSearch.{AreSought}
+use Rattle.frame.proofs.Words.{◌≡◌, ◌∙◌, arith, false, nat_eq, AreSought}
 use Rattle.frame.proofs.PairSearchLemmas.{left-start, pair-turn, sought-turn}
 use Rattle.frame.proofs.pairs.Pairs.has_by_memo.Goals as goal
 

@@ -1,5 +1,4 @@
-use Rattle.frame.proofs.Words.{◌∙◌, ◌-◌, ap, arith}
-use Rattle.entries.specs.Histories.{history, stack_at}
+use Rattle.frame.proofs.Words.{◌∙◌, ◌-◌, ap, arith, history, stack_at}
 use Rattle.frame.proofs.PairStackLemmas.{row-is, row-low, stack-of-kind}
 use Rattle.frame.proofs.pairs.Pairs.row.Goals as goal
 

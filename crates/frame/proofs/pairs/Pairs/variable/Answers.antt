@@ -1,5 +1,4 @@
-use Rattle.frame.proofs.Words.{◌∙◌, ◌-◌, ap, arith, not}
-use Rattle.entries.specs.Histories.{history, stack_at}
+use Rattle.frame.proofs.Words.{◌∙◌, ◌-◌, ap, arith, not, history, stack_at}
 use Rattle.frame.proofs.PairStackLemmas.{variable-is}
 use Rattle.frame.proofs.pairs.Pairs.variable.Goals as goal
 

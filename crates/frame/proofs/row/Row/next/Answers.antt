@@ -1,5 +1,4 @@
-use Rattle.frame.proofs.Words.{◌-◌, sym, subst, arith, is_disj, statements_of, slice_get_within}
-use Rattle.frame.specs.Stored.Stacks.{AreOfKind}
+use Rattle.frame.proofs.Words.{◌-◌, sym, subst, arith, is_disj, statements_of, slice_get_within, AreOfKind}
 use Rattle.frame.proofs.KindWalk.{as-many}
 use Rattle.frame.proofs.row.Row.next.Goals as goal
 

@@ -1,7 +1,4 @@
-use Rattle.frame.proofs.Words.{◌≡◌, Some}
-use Rattle.std.proofs.Common.{nat_eq}
-use Rattle.std.specs.Map.{lookup}
-use Rattle.entries.specs.SymbolPlaces.{ArePlacesOf}
+use Rattle.frame.proofs.Words.{◌≡◌, Some, nat_eq, lookup, ArePlacesOf}
 use Rattle.frame.proofs.BufferedHypotheses.{some-map}
 use Rattle.frame.proofs.LongExpressionLemmas.{found-places}
 use Rattle.frame.proofs.stored_entries.StoredEntries.places.Goals as goal

@@ -1,5 +1,4 @@
-use Rattle.frame.proofs.Words.{◌∙◌}
-use Rattle.entries.specs.Entries.{assertion_of, made}
+use Rattle.frame.proofs.Words.{◌∙◌, assertion_of, made}
 use Rattle.frame.proofs.LongExpressionLemmas.{are-below, back-kept, long-pushed, short-pushed, taken-back}
 use Rattle.frame.proofs.stored_entries.StoredEntries.push.Goals as goal
 

@@ -1,6 +1,5 @@
 -- The statements that contracts see own nothing, so they may go to another thread.
-use denote.Param.Send.{IsSend, owning_send}
-use Rattle.library.specs.contracts.decided.DecidedEntries.{the_row, the_type}
+use Rattle.library.proofs.Words.{IsSend, owning_send, the_row, the_type}
 
 pub send : IsSend the_row
 send = owning_send the_type tt (λ d. tt) (λ k x w. tt)

@@ -1,7 +1,4 @@
-use Rattle.library.proofs.Words.{◌≡◌, ℕ, ◌+◌, ◌*◌, ◌≤◌, List, length, Option, Some, None, refl, subst, ap, sym, ◌∙◌, arith, Database, Submission, Text, Cause, TooLong, BadText, Shape, NotChartered, IsAllowed, IsFault, IsCause, IsReading, Extends, Decides, Replica, status, decided_with}
-use Rattle.library.specs.Added.{count_of}
-use Rattle.library.specs.LibraryOf.{author_of, serial_of}
-use Rattle.library.specs.LibraryState.{IsWithinText, IsWithinEntry, verdict_of}
+use Rattle.library.proofs.Words.{◌≡◌, ℕ, ◌+◌, ◌*◌, ◌≤◌, List, length, Option, Some, None, refl, subst, ap, sym, ◌∙◌, arith, Database, Submission, Text, Cause, TooLong, BadText, Shape, NotChartered, IsAllowed, IsFault, IsCause, IsReading, Extends, Decides, Replica, status, decided_with, count_of, author_of, serial_of, IsWithinText, IsWithinEntry, verdict_of}
 use Rattle.library.proofs.CausesLemmas.{one-reading}
 use Rattle.library.proofs.DecidedLemmas.{opened, settled as settled-table}
 use Rattle.library.proofs.library.Library.apply_by.Goals as goal

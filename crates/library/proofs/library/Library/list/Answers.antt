@@ -1,6 +1,4 @@
-use Rattle.library.proofs.Words.{◌≡◌, ℕ, ◌+◌, ◌<◌, [], ◌∷◌, ◌++◌, length, take, get_or, List, refl, sym, ◌∙◌, ap, append-nil, arith, take_all, take_more, Name, Stmt, Axiom, Prove, Database, listed, listed_of}
-use Rattle.std.proofs.lemmas.List.Elements.{filter_map-append}
-use Rattle.library.specs.declared.listed.Listed.{Listed}
+use Rattle.library.proofs.Words.{◌≡◌, ℕ, ◌+◌, ◌<◌, [], ◌∷◌, ◌++◌, length, take, get_or, List, refl, sym, ◌∙◌, ap, append-nil, arith, take_all, take_more, Name, Stmt, Axiom, Prove, Database, listed, listed_of, filter_map-append, Listed}
 use Rattle.library.proofs.library.Library.list.Goals as goal
 use Rattle.library.proofs.library.Library.list.Goals.{in-Axiom+in_ok-copy-in-Axiom, in-Prove+in_ok-copy-in-Prove}
 

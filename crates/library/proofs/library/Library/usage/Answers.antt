@@ -1,5 +1,4 @@
-use Rattle.std.proofs.Common.{rules}
-use Rattle.library.proofs.Words.{refl, stands-within}
+use Rattle.library.proofs.Words.{rules, refl, stands-within}
 use Rattle.library.proofs.QueriesLemmas.{named, no-label, usage-label}
 use Rattle.library.proofs.library.Library.usage.Goals as goal
 

@@ -1,8 +1,7 @@
-use Rattle.library.proofs.Words.{bares, ◌∙◌, ◌<◌, ap, get_or, length, subst, sym, proof_of, is_provable, IfOk, Says, StandsProved, provable-bare}
+use Rattle.library.proofs.Words.{bares, ◌∙◌, ◌<◌, ap, get_or, length, subst, sym, proof_of, is_provable, IfOk, Says, StandsProved, provable-bare, AreKeptLists}
 use Rattle.library.proofs.ProvingLemmas.{judged-stands, not-there}
 use Rattle.library.proofs.UnprovedLemmas.{proof-at, proof-stands}
 use Rattle.library.proofs.CitedByLemmas.{not-provable}
-use Rattle.verify.specs.KeptLists.{AreKeptLists}
 use Rattle.library.proofs.unproved.ProofsWork.judge.Goals as goal
 
 pub prove-requires-clause-provable : goal.prove-requires-clause-provable

@@ -1,5 +1,4 @@
-use Rattle.std.proofs.Common.{◌∙◌, ap, sym}
-use Rattle.mm_lex.specs.Words.{spaced}
+use Rattle.mm_lex.proofs.Prelude.{◌∙◌, ap, sym, spaced}
 use Rattle.mm_lex.proofs.WordsLemmas.{spaced-words_of}
 use Rattle.mm_lex.proofs.words.Words.as_text.Goals as goal
 

@@ -1,7 +1,4 @@
-use Rattle.std.proofs.Common.{◌≡◌, List, ◌++◌, ◌∷◌, [], ap, ◌∙◌, rules}
-use Rattle.std.specs.List.{list_all}
-use Rattle.mm_lex.specs.Alphabet.{Name}
-use Rattle.mm_lex.specs.Words.{words_of, is_word}
+use Rattle.mm_lex.proofs.Prelude.{◌≡◌, List, ◌++◌, ◌∷◌, [], ap, ◌∙◌, rules, list_all, Name, words_of, is_word}
 use Rattle.mm_lex.proofs.WordsLemmas.{words_of-one, AreWords-push}
 use Rattle.mm_lex.proofs.words.Words.push.Goals as goal
 

@@ -1,8 +1,4 @@
-use Rattle.std.proofs.Common.{◌≡◌, ◌∙◌, ap, sym, subst, arith, ◌<◌, length, take, rules}
-use Rattle.std.proofs.lemmas.List.{length-take-le, take_all}
-use Rattle.names.specs.Codes.{name_at}
-use Rattle.names.specs.Stored.Keys.{AreBytes, key_of}
-use Rattle.names.specs.Stored.Table.{AreKept}
+use Rattle.names.proofs.Words.{◌≡◌, ◌∙◌, ap, sym, subst, arith, ◌<◌, length, take, rules, length-take-le, take_all, name_at, AreBytes, key_of, AreKept}
 use Rattle.names.proofs.DistinctLemmas.{take-name}
 use Rattle.names.proofs.KeptKeyLemmas.{kept-push}
 use Rattle.names.proofs.kept.Kept.of.Goals as goal

@@ -1,5 +1,4 @@
-use Rattle.std.proofs.Common.{take, length, ◌≤◌}
-use Rattle.names.specs.Stored.Table.{AreKept}
+use Rattle.names.proofs.Words.{take, length, ◌≤◌, AreKept}
 use Rattle.names.proofs.kept.Kept.of.Given as goal
 
 abbrev pub invariant-loop-number : goal.invariant-loop-number

@@ -1,7 +1,4 @@
-use Rattle.std.proofs.Common.{◌≡◌, ◌≢◌, ◌∙◌, sym, subst, arith, ℕ, ◌<◌, length, rules}
-use Rattle.names.specs.Codes.{name_at}
-use Rattle.names.specs.Stored.Overflow.{number_of}
-use Rattle.names.specs.declared.kept.Kept.{Kept}
+use Rattle.names.proofs.Words.{◌≡◌, ◌≢◌, ◌∙◌, sym, subst, arith, ℕ, ◌<◌, length, rules, name_at, number_of, Kept}
 use Rattle.names.proofs.KeptKeyLemmas.{names-apart}
 use Rattle.names.proofs.kept.Kept.truncate.Goals as goal
 use Rattle.names.proofs.kept.Kept.truncate.Goals.{then-index-eq-APART, else-index-eq-APART}

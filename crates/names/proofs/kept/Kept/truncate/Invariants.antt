@@ -1,6 +1,4 @@
-use Rattle.std.proofs.Common.{◌≡◌, ℕ, ◌<◌}
-use Rattle.names.specs.Codes.{name_at}
-use Rattle.names.specs.Stored.Overflow.{number_of}
+use Rattle.names.proofs.Words.{◌≡◌, ℕ, ◌<◌, name_at, number_of}
 use Rattle.names.proofs.kept.Kept.truncate.Given as goal
 
 abbrev pub invariant-loop-number : goal.invariant-loop-number

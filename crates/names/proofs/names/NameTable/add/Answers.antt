@@ -1,10 +1,4 @@
-use Rattle.std.proofs.Common.{◌≡◌, ◌∙◌, ap, sym, subst, ◌<◌, slice_set, rules}
-use Rattle.std.specs.Prelude.{false, refl}
-use Rattle.mm_lex.specs.Alphabet.{has_name}
-use Rattle.names.specs.declared.table.TheConstants.{NO_NAME}
-use Rattle.names.specs.Codes.{name_at}
-use Rattle.names.specs.Stored.Overflow.{number_of}
-use Rattle.names.specs.Stored.Table.{IsFree}
+use Rattle.names.proofs.Words.{◌≡◌, ◌∙◌, ap, sym, subst, ◌<◌, slice_set, rules, false, refl, has_name, NO_NAME, name_at, number_of, IsFree}
 use Rattle.names.proofs.KeptKeyLemmas.{none-is}
 use Rattle.names.proofs.PutLemmas.{Holds, names-same, names-put, names-set_apart}
 use Rattle.names.proofs.names.NameTable.add.Goals as goal

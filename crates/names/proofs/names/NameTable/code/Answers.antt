@@ -1,5 +1,4 @@
-use Rattle.std.proofs.Common.{sym, subst}
-use Rattle.names.specs.Codes.{AreDistinct}
+use Rattle.names.proofs.Words.{sym, subst, AreDistinct}
 use Rattle.names.proofs.CodesLemmas.{code-name, added-name}
 use Rattle.names.proofs.CodesLemmas.{unknown-number}
 use Rattle.names.proofs.DistinctLemmas.{distinct-push}

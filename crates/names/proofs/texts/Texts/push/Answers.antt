@@ -1,7 +1,5 @@
-use Rattle.std.proofs.Common.{◌≡◌, ◌∙◌, ap, sym, subst, arith, length, rules}
+use Rattle.names.proofs.Words.{◌≡◌, ◌∙◌, ap, sym, subst, arith, length, rules, ◌++◌, ◌∷◌, [], ◌+◌, cut, AreLaid}
 use Rattle.std.proofs.lemmas.List.{length-append}
-use Rattle.std.specs.Prelude.{◌++◌, ◌∷◌, [], ◌+◌}
-use Rattle.names.specs.Stored.Texts.{cut, AreLaid}
 use Rattle.names.proofs.TextsLemmas.{push-text, laid-push}
 use Rattle.names.proofs.texts.Texts.push.Goals as goal
 use Rattle.names.proofs.texts.Texts.push.Goals.{Else-is_err}

@@ -1,7 +1,4 @@
-use Rattle.std.proofs.Common.{◌≡◌, ◌∙◌, ap, sym, subst, arith, length, take}
-use Rattle.std.proofs.lemmas.List.{length-take-le, take_all}
-use Rattle.std.specs.Prelude.{◌<◌}
-use Rattle.names.specs.Stored.Texts.{cut, start_of, AreLaid}
+use Rattle.names.proofs.Words.{◌≡◌, ◌∙◌, ap, sym, subst, arith, length, take, length-take-le, take_all, ◌<◌, cut, start_of, AreLaid}
 use Rattle.names.proofs.TextsLemmas.{cut-length, start-within, cut-take, laid-take}
 use Rattle.names.proofs.texts.Texts.truncate.Goals as goal
 use Rattle.names.proofs.texts.Texts.truncate.Goals.{After-truncate-then-len}

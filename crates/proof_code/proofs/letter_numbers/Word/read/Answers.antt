@@ -1,5 +1,4 @@
-use Rattle.std.proofs.Common.{◌≡◌, ◌<◌, ◌==◌, false, cond, arith}
-use Rattle.std.proofs.lemmas.Bool.Decides.{nat_tests}
+use Rattle.proof_code.proofs.Words.{◌≡◌, ◌<◌, ◌==◌, false, cond, arith, nat_tests}
 use Rattle.proof_code.proofs.ReadProofLemmas.{over_limit}
 use Rattle.proof_code.proofs.letter_numbers.Word.read.Goals.{then-letter-eq1, else-letter-eq1}
 use Rattle.proof_code.proofs.letter_numbers.Word.read.Goals as goal

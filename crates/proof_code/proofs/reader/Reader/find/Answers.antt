@@ -1,6 +1,4 @@
-use Rattle.std.proofs.Common.{arith, ap, length, take}
-use Rattle.std.proofs.lemmas.List.{with_items_is}
-use Rattle.proof_code.proofs.Words.{◌≡◌, ◌+◌, ◌∷◌, refl, sym, begin}
+use Rattle.proof_code.proofs.Words.{arith, ap, length, take, with_items_is, ◌≡◌, ◌+◌, ◌∷◌, refl, sym, begin}
 use Rattle.proof_code.proofs.ListingLemmas.{listing-none, listing-some}
 use Rattle.proof_code.proofs.WritesLemmas.{begins, without_header}
 use Rattle.proof_code.proofs.ReadProofLemmas.{marked_first, unnumbered, heading}

@@ -1,6 +1,4 @@
-use Rattle.std.proofs.Common.{◌∙◌, ◌++◌, ◌∷◌, [], List, ap}
-use Rattle.world.specs.Carried.{carried}
-use Rattle.run_pictures.specs.declared.step.Step.{Step}
+use Rattle.run_pictures.proofs.Words.{◌∙◌, ◌++◌, ◌∷◌, [], List, ap, carried, Step}
 use Rattle.run_pictures.proofs.RunLemmas.{event_recorded, step_is}
 use Rattle.run_pictures.proofs.run.Run.step.Goals as goal
 

@@ -1,7 +1,4 @@
-use Rattle.std.proofs.Common.{◌≡◌}
-use Rattle.std.specs.List.{list_all}
-use Rattle.scope.specs.Active.{is_variable}
-use Rattle.scope.specs.Symbols.{symbols_of}
+use Rattle.scope.proofs.Words.{◌≡◌, list_all, is_variable, symbols_of}
 use Rattle.scope.proofs.SymbolNameLemmas.{AreDone}
 use Rattle.scope.proofs.legal.Judge.are_active.Given as goal
 

@@ -1,5 +1,4 @@
-use Rattle.std.proofs.Common.{subst, IfSome, ◌∙◌}
-use Rattle.scope.specs.Symbols.{symbols_of, AreNumbers}
+use Rattle.scope.proofs.Words.{subst, IfSome, ◌∙◌, symbols_of, AreNumbers}
 use Rattle.scope.proofs.NamesLemmas.{symbols-distinct}
 use Rattle.scope.proofs.AcceptLemmas.{numbers-differ}
 use Rattle.scope.proofs.legal.Judge.are_distinct.Goals as goal

@@ -1,9 +1,4 @@
-use Rattle.std.proofs.Common.{◌≡◌, ◌&&◌, ◌||◌}
-use Rattle.std.specs.List.{list_all}
-use Rattle.scope.specs.Active.{is_constant, is_variable}
-use Rattle.scope.specs.Legal.{are_typed, starts_with_constant}
-use Rattle.scope.specs.Sorts.{is_constant_sort}
-use Rattle.scope.specs.Symbols.{symbols_of}
+use Rattle.scope.proofs.Words.{◌≡◌, ◌&&◌, ◌||◌, list_all, is_constant, is_variable, are_typed, starts_with_constant, is_constant_sort, symbols_of}
 use Rattle.scope.proofs.SymbolNameLemmas.{AreDone}
 use Rattle.scope.proofs.legal.Judge.are_symbols.Given as goal
 

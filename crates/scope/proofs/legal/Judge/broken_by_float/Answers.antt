@@ -1,7 +1,4 @@
-use Rattle.std.proofs.Common.{◌≡◌, ◌∙◌, ap, sym, subst, not, ◌||◌, true}
-use Rattle.mm_lex.specs.Alphabet.{Name}
-use Rattle.scope.specs.Active.{was_symbol, was_label}
-use Rattle.scope.specs.Sorts.{IsSort}
+use Rattle.scope.proofs.Words.{◌≡◌, ◌∙◌, ap, sym, subst, not, ◌||◌, true, Name, was_symbol, was_label, IsSort}
 use Rattle.scope.proofs.LegalLemmas.{float-sorts}
 use Rattle.scope.proofs.legal.Judge.broken_by_float.Goals as goal
 

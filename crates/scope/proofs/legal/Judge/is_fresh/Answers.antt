@@ -1,6 +1,4 @@
-use Rattle.std.proofs.Common.{◌≡◌, ◌∙◌, ap, sym, not, is_some, Bool, true, false, ◌||◌}
-use Rattle.scope.specs.Active.{was_label, was_symbol}
-use Rattle.scope.specs.Kinds.{kind_in}
+use Rattle.scope.proofs.Words.{◌≡◌, ◌∙◌, ap, sym, not, is_some, Bool, true, false, ◌||◌, was_label, was_symbol, kind_in}
 use Rattle.scope.proofs.SortsLemmas.{fresh-kind, some_second}
 use Rattle.scope.proofs.legal.Judge.is_fresh.Goals as goal
 

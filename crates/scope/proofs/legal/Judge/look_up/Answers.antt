@@ -1,20 +1,7 @@
-use Rattle.std.proofs.Common.{◌≡◌, ◌∙◌, ap, sym, subst, Some, None, ◌==◌, Option, ℕ, List}
-use Rattle.std.specs.List.{list_any}
-use Rattle.mm_lex.specs.Alphabet.{Name}
-use Rattle.mm_read.specs.Statements.{Database}
-use Rattle.scope.specs.Accepted.{Accepted}
-use Rattle.scope.specs.Active.{active_variables, typed_variables, is_variable, has_float}
-use Rattle.names.specs.Codes.{numbers_in}
-use Rattle.scope.specs.Kinds.{Declared, kind_in, names_as, MatchesKind, MatchesKinds, IsNumberOf}
-use Rattle.scope.specs.Symbols.{symbols_of}
-use Rattle.scope.specs.Sorts.{IsSort, sort_by}
-use Rattle.scope.specs.declared.numbering.NameKind.{NameKind}
-use Rattle.scope.specs.declared.legal.Sort.{Sort}
-use Rattle.scope.specs.declared.numbering.NameKind.TheVariants.{Constant, Variable, Label}
+use Rattle.scope.proofs.Words.{◌≡◌, ◌∙◌, ap, sym, subst, Some, None, ◌==◌, Option, ℕ, List, list_any, Name, Database, Accepted, active_variables, typed_variables, is_variable, has_float, numbers_in, Declared, kind_in, names_as, MatchesKind, MatchesKinds, IsNumberOf, symbols_of, IsSort, sort_by, NameKind, Sort, Constant, Variable, Label, code-at, found-number}
 use Rattle.scope.specs.declared.legal.Sort.TheVariants as sort
 use Rattle.scope.proofs.SortsLemmas.{constant-sort, label-sort, no-sort, variable-sort, numbers-has, is_variable-active, has_float-typed}
 use Rattle.scope.proofs.NamesLemmas.{symbols-distinct}
-use Rattle.names.proofs.CodesLemmas.{code-at, found-number}
 use Rattle.scope.proofs.legal.Judge.look_up.Goals as goal
 
 -- the kind of a name by the numbering tells its declarations in the statements

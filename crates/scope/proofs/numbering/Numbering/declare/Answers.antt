@@ -1,12 +1,7 @@
-use Rattle.std.proofs.Common.{◌≡◌, ◌+◌, ◌∙◌, ap, sym, subst, arith, length, length-append, rules, vec_len}
-use Rattle.std.specs.Prelude.{◌++◌, ◌∷◌, [], cond}
-use Rattle.std.proofs.lemmas.List.{map-append}
-use Rattle.scope.specs.Kinds.{Declared, kind_in, zip_kinds, names_as, declared_symbols, IsNumberOf, is_symbol_kind, is_labelling}
+use Rattle.scope.proofs.Words.{◌≡◌, ◌+◌, ◌∙◌, ap, sym, subst, arith, length, length-append, rules, vec_len, ◌++◌, ◌∷◌, [], cond, map-append, Declared, kind_in, zip_kinds, names_as, declared_symbols, IsNumberOf, is_symbol_kind, is_labelling, kinds_of, AreCounted, places_that, CountedKind}
 use Rattle.scope.proofs.AcceptLemmas.{ok_of}
 use Rattle.scope.proofs.EntryLemmas.{places-count, new-number}
 use Rattle.scope.proofs.KindsLemmas.{none-kind, their-push, length-seen}
-use Rattle.scope.specs.Stored.KindCounts.{kinds_of, AreCounted, places_that}
-use Rattle.scope.specs.declared.numbering.CountedKind.{CountedKind}
 use Rattle.scope.proofs.KindCountLemmas.{kinds-length, counted-push, places-push, places-fewer}
 use Rattle.scope.proofs.numbering.Numbering.declare.Goals as goal
 use Rattle.scope.proofs.numbering.Numbering.declare.Goals.{After-number_at}

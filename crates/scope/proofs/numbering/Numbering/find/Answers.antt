@@ -1,8 +1,4 @@
-use Rattle.std.proofs.Common.{◌∙◌, ap, sym, subst, arith, ℕ}
-use Rattle.std.specs.Prelude.{slice_get}
-use Rattle.scope.specs.Kinds.{Declared, names_as, kind_in, zip_kinds, IsNumberOf}
-use Rattle.scope.specs.Stored.KindCounts.{kinds_of}
-use Rattle.names.proofs.CodesLemmas.{code-name, unknown-number}
+use Rattle.scope.proofs.Words.{◌∙◌, ap, sym, subst, arith, ℕ, slice_get, Declared, names_as, kind_in, zip_kinds, IsNumberOf, kinds_of, code-name, unknown-number}
 use Rattle.scope.proofs.KindsLemmas.{kind-none}
 use Rattle.scope.proofs.EntryLemmas.{before-within, kind-of-entry, number-of-entry}
 use Rattle.scope.proofs.numbering.Numbering.find.Goals as goal

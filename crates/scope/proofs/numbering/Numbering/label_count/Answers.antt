@@ -1,5 +1,4 @@
-use Rattle.std.proofs.Common.{◌≡◌, ◌∙◌, length, rules, vec_len}
-use Rattle.scope.specs.Kinds.{is_labelling}
+use Rattle.scope.proofs.Words.{◌≡◌, ◌∙◌, length, rules, vec_len, is_labelling}
 use Rattle.scope.proofs.EntryLemmas.{places-count}
 use Rattle.scope.proofs.numbering.Numbering.label_count.Goals as goal
 

@@ -1,6 +1,5 @@
-use Rattle.std.proofs.Common.{◌∙◌, ap, sym, length}
+use Rattle.scope.proofs.Words.{◌∙◌, ap, sym, length, kinds_of}
 use Rattle.scope.proofs.KindsLemmas.{length-seen}
-use Rattle.scope.specs.Stored.KindCounts.{kinds_of}
 use Rattle.scope.proofs.KindCountLemmas.{kinds-length}
 use Rattle.scope.proofs.numbering.Numbering.len.Goals as goal
 

@@ -1,5 +1,4 @@
-use Rattle.std.proofs.Common.{◌≡◌, ◌∙◌, arith, length, rules, vec_len}
-use Rattle.scope.specs.Kinds.{is_symbol_kind}
+use Rattle.scope.proofs.Words.{◌≡◌, ◌∙◌, arith, length, rules, vec_len, is_symbol_kind}
 use Rattle.scope.proofs.EntryLemmas.{places-count, name-of-number}
 use Rattle.scope.proofs.numbering.Numbering.symbol.Goals as goal
 

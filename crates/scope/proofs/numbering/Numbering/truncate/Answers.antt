@@ -1,9 +1,5 @@
-use Rattle.std.proofs.Common.{◌∙◌, ap, sym, subst, arith, length, take}
-use Rattle.std.specs.Prelude.{slice_get}
-use Rattle.std.proofs.lemmas.List.{take-map, take_all}
-use Rattle.scope.specs.Kinds.{zip_kinds, declared_symbols, declared_labels, is_symbol_kind, is_labelling}
+use Rattle.scope.proofs.Words.{◌∙◌, ap, sym, subst, arith, length, take, slice_get, take-map, take_all, zip_kinds, declared_symbols, declared_labels, is_symbol_kind, is_labelling, kinds_of, AreCounted, places_that}
 use Rattle.scope.proofs.KindsLemmas.{their-take, length-seen}
-use Rattle.scope.specs.Stored.KindCounts.{kinds_of, AreCounted, places_that}
 use Rattle.scope.proofs.KindCountLemmas.{kinds-length, counted-take, take-same, places-take}
 use Rattle.scope.proofs.EntryLemmas.{symbols-before, labels-before, before-within}
 use Rattle.scope.proofs.numbering.Numbering.truncate.Goals as goal

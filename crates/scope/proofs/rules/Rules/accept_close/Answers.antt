@@ -1,7 +1,5 @@
-use Rattle.std.proofs.Common.{◌≡◌, ◌∙◌, ap, sym, ◌++◌, ◌∷◌, [], None, refl, length, vec_len, rules, ◌≤◌, arith}
+use Rattle.scope.proofs.Words.{◌≡◌, ◌∙◌, ap, sym, ◌++◌, ◌∷◌, [], None, refl, length, vec_len, rules, ◌≤◌, arith, bare, broken_rule}
 use Rattle.mm_read.specs.declared.stmt.Stmt.TheVariants as shape
-use Rattle.scope.specs.Active.{bare}
-use Rattle.scope.specs.Legal.{broken_rule}
 use Rattle.scope.proofs.ActiveLemmas.{left_open}
 use Rattle.scope.proofs.BlocksLemmas.{length-blocks}
 use Rattle.scope.proofs.StackFollows.{kept-close, some_open}

@@ -1,14 +1,5 @@
-use Rattle.std.proofs.Common.{◌≡◌, ◌∙◌, ap, sym, subst, arith, length, get_or, ◌++◌, ◌∷◌, [], ◌==◌, None, refl, List, ℕ}
-use Rattle.std.specs.List.{list_any}
-use Rattle.mm_lex.specs.Alphabet.{Name}
-use Rattle.mm_read.specs.Statements.{Database}
-use Rattle.mm_read.specs.declared.stmt.Stmt.{Stmt}
+use Rattle.scope.proofs.Words.{◌≡◌, ◌∙◌, ap, sym, subst, arith, length, get_or, ◌++◌, ◌∷◌, [], ◌==◌, None, refl, List, ℕ, list_any, Name, Database, Stmt, Accepted, bare, broken_rule, number_in, AreVariableNumbers, symbols_of, symbols_after}
 use Rattle.mm_read.specs.declared.stmt.Stmt.TheVariants as shape
-use Rattle.scope.specs.Accepted.{Accepted}
-use Rattle.scope.specs.Active.{bare}
-use Rattle.scope.specs.Legal.{broken_rule}
-use Rattle.names.specs.Codes.{number_in}
-use Rattle.scope.specs.Symbols.{AreVariableNumbers, symbols_of, symbols_after}
 use Rattle.scope.proofs.StandingLemmas.{standing-fewer}
 use Rattle.scope.proofs.AcceptLemmas.{same-kept, accept-float, float-apart, float-number}
 use Rattle.scope.proofs.rules.Rules.accept_float.Goals as goal

@@ -1,6 +1,4 @@
-use Rattle.std.proofs.Common.{◌∙◌, ap, sym, ◌++◌, ◌∷◌, [], refl}
-use Rattle.scope.specs.Active.{bare, active}
-use Rattle.scope.specs.Stored.Stacks.{sizes_of}
+use Rattle.scope.proofs.Words.{◌∙◌, ap, sym, ◌++◌, ◌∷◌, [], refl, bare, active, sizes_of}
 use Rattle.scope.proofs.StackFollows.{kept-open}
 use Rattle.scope.proofs.AcceptLemmas.{same-kept}
 use Rattle.scope.proofs.rules.Rules.accept_open.Goals as goal

@@ -1,5 +1,4 @@
-use Rattle.std.proofs.Common.{ap, sym, refl, arith, length}
-use Rattle.scope.specs.Active.{bare}
+use Rattle.scope.proofs.Words.{ap, sym, refl, arith, length, bare}
 use Rattle.scope.proofs.StandingLemmas.{standing-fewer}
 use Rattle.scope.proofs.AcceptLemmas.{same-kept, accept-plain, bare-plain}
 use Rattle.scope.proofs.rules.Rules.accept_plain.Goals as goal

@@ -1,10 +1,5 @@
-use Rattle.std.proofs.Common.{◌≡◌, ◌∙◌, ap, sym, subst, ◌++◌, ◌∷◌, [], None, refl}
-use Rattle.mm_read.specs.declared.stmt.Stmt.{Stmt}
+use Rattle.scope.proofs.Words.{◌≡◌, ◌∙◌, ap, sym, subst, ◌++◌, ◌∷◌, [], None, refl, Stmt, Accepted, bare, broken_rule, AreVariableNumbers, symbols_after}
 use Rattle.mm_read.specs.declared.stmt.Stmt.TheVariants as shape
-use Rattle.scope.specs.Accepted.{Accepted}
-use Rattle.scope.specs.Active.{bare}
-use Rattle.scope.specs.Legal.{broken_rule}
-use Rattle.scope.specs.Symbols.{AreVariableNumbers, symbols_after}
 use Rattle.scope.proofs.AcceptLemmas.{same-kept, accept-variables, can_push-variables}
 use Rattle.scope.proofs.rules.Rules.accept_variables.Goals as goal
 

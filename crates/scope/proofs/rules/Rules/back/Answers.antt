@@ -1,5 +1,4 @@
-use Rattle.std.proofs.Common.{◌∙◌, ap, sym, length, take, refl}
-use Rattle.scope.specs.Standing.{standing_of}
+use Rattle.scope.proofs.Words.{◌∙◌, ap, sym, length, take, refl, standing_of}
 use Rattle.scope.proofs.GoingBackLemmas.{kept-back, standing-back}
 use Rattle.scope.proofs.AcceptLemmas.{same-kept}
 use Rattle.scope.proofs.rules.Rules.back.Goals as goal

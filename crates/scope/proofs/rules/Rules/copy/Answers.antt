@@ -1,6 +1,4 @@
-use Rattle.std.proofs.Common.{◌≡◌, ◌∙◌, sym, subst, refl}
-use Rattle.mm_read.specs.Statements.{Database}
-use Rattle.scope.specs.Stored.Stacks.{IsKept}
+use Rattle.scope.proofs.Words.{◌≡◌, ◌∙◌, sym, subst, refl, Database, IsKept}
 use Rattle.scope.proofs.AcceptLemmas.{same-kept}
 use Rattle.scope.proofs.rules.Rules.copy.Goals as goal
 

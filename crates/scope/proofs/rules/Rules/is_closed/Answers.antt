@@ -1,5 +1,4 @@
-use Rattle.std.proofs.Common.{◌≡◌, ◌∙◌, ap, sym, ◌==◌, not, nat_lt, length, rules, vec_len, []}
-use Rattle.scope.specs.Active.{is_closed, count, is_open, is_close}
+use Rattle.scope.proofs.Words.{◌≡◌, ◌∙◌, ap, sym, ◌==◌, not, nat_lt, length, rules, vec_len, [], is_closed, count, is_open, is_close}
 use Rattle.scope.proofs.ActiveLemmas.{left_open}
 use Rattle.scope.proofs.BlocksLemmas.{length-blocks, closed-left, open-left_open}
 use Rattle.scope.proofs.rules.Rules.is_closed.Goals as goal

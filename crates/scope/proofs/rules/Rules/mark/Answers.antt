@@ -1,7 +1,4 @@
-use Rattle.std.proofs.Common.{◌≡◌, ◌∙◌, ap, sym, subst, true}
-use Rattle.scope.specs.Active.{is_closed, active}
-use Rattle.scope.specs.Stored.Stacks.{IsKept, sizes_of}
-use Rattle.mm_read.specs.Statements.{Database}
+use Rattle.scope.proofs.Words.{◌≡◌, ◌∙◌, ap, sym, subst, true, is_closed, active, IsKept, sizes_of, Database}
 use Rattle.scope.proofs.GoingBackLemmas.{kept-mark}
 use Rattle.scope.proofs.rules.Rules.mark.Goals as goal
 

@@ -1,10 +1,4 @@
-use Rattle.std.proofs.Common.{◌∙◌, ap, sym, subst}
-use Rattle.std.specs.List.{flat_map}
-use Rattle.scope.specs.Accepted.{Accepted}
-use Rattle.scope.specs.Active.{active}
-use Rattle.scope.specs.Kinds.{Declared}
-use Rattle.scope.specs.Standing.{stands_at}
-use Rattle.scope.specs.Stored.Stacks.{IsScope}
+use Rattle.scope.proofs.Words.{◌∙◌, ap, sym, subst, flat_map, Accepted, active, Declared, stands_at, IsScope}
 use Rattle.scope.proofs.StandingLemmas.{stands-again}
 use Rattle.scope.proofs.scope.Scope.copy.Goals as goal
 

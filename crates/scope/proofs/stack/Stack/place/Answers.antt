@@ -1,6 +1,4 @@
-use Rattle.std.proofs.Common.{get_or, refl, rules, ◌≡◌, ◌∙◌, ap, sym, arith, Some, slice_get, length, ◌==◌}
-use Rattle.std.specs.List.{list_any}
-use Rattle.std.proofs.lemmas.Option.{slice_get_within, slice_get_read, get_or_from_slice_get}
+use Rattle.scope.proofs.Words.{get_or, refl, rules, ◌≡◌, ◌∙◌, ap, sym, arith, Some, slice_get, length, ◌==◌, list_any, slice_get_within, slice_get_read, get_or_from_slice_get}
 use Rattle.scope.proofs.StackLemmas.{no_member}
 use Rattle.scope.proofs.stack.Stack.place.Goals as goal
 

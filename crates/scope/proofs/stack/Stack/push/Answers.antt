@@ -1,5 +1,4 @@
-use Rattle.std.proofs.Common.{◌≡◌, ◌∙◌, ap, sym, Some, slice_get, length, ◌==◌, false, inl, inr, rules}
-use Rattle.std.specs.List.{list_any}
+use Rattle.scope.proofs.Words.{◌≡◌, ◌∙◌, ap, sym, Some, slice_get, length, ◌==◌, false, inl, inr, rules, list_any}
 use Rattle.scope.proofs.StackLemmas.{other, pushed}
 use Rattle.scope.proofs.stack.Stack.push.Goals as goal
 

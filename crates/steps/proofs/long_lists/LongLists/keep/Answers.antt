@@ -1,6 +1,4 @@
-use Rattle.std.proofs.Common.{◌≡◌, ◌∷◌, ◌++◌, [], length, arith, sym, ◌∙◌, ap, subst}
-use Rattle.scope.specs.Active.{stmt_at}
-use Rattle.steps.specs.Stored.LongLists.{AreKept, IsAt}
+use Rattle.steps.proofs.Words.{◌≡◌, ◌∷◌, ◌++◌, [], length, arith, sym, ◌∙◌, ap, subst, stmt_at, AreKept, IsAt}
 use Rattle.steps.proofs.LongListLemmas.{kept-push, at-end, made-of}
 use Rattle.steps.proofs.long_lists.LongLists.keep.Goals as goal
 

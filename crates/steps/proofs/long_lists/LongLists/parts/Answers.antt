@@ -1,7 +1,4 @@
-use Rattle.std.proofs.Common.{◌∙◌, ap, sym, arith, Some}
-use Rattle.std.specs.Prelude.{is_some}
-use Rattle.std.proofs.lemmas.Option.{slice_get-get_or}
-use Rattle.scope.proofs.StatementPlaces.{stands-within}
+use Rattle.steps.proofs.Words.{◌∙◌, ap, sym, arith, Some, is_some, slice_get-get_or, stands-within}
 use Rattle.steps.proofs.LongListLemmas.{whole-parts, kept-parts}
 use Rattle.steps.proofs.long_lists.LongLists.parts.Goals as goal
 

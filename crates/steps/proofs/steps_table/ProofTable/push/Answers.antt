@@ -1,6 +1,4 @@
-use Rattle.std.proofs.Common.{◌++◌, ◌∷◌, [], arith, length, length-append, map, sym, ◌∙◌, ap, subst, refl}
-use Rattle.steps.specs.Stored.Drafted.{AreInBuffer, row_of}
-use Rattle.steps.specs.Rows.{row}
+use Rattle.steps.proofs.Words.{◌++◌, ◌∷◌, [], arith, length, length-append, map, sym, ◌∙◌, ap, subst, refl, AreInBuffer, row_of, row}
 use Rattle.steps.proofs.DraftRowLemmas.{rows-more, buffer-snoc, buffer-weaken}
 use Rattle.steps.proofs.steps_table.ProofTable.push.Goals as goal
 

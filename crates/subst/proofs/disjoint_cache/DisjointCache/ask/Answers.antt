@@ -1,5 +1,4 @@
-use Rattle.subst.proofs.Words.{◌∙◌, images_at}
-use Rattle.std.proofs.lemmas.Result.{IfOk-weaker}
+use Rattle.subst.proofs.Words.{◌∙◌, images_at, IfOk-weaker}
 use Rattle.subst.proofs.GroupLemmas.{groups-named}
 use Rattle.subst.proofs.disjoint_cache.DisjointCache.ask.Goals as goal
 

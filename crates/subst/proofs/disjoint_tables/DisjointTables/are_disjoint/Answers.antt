@@ -1,5 +1,4 @@
-use Rattle.subst.proofs.Words.{code_image, images_at}
-use Rattle.std.proofs.lemmas.Result.{IfOk-weaker}
+use Rattle.subst.proofs.Words.{code_image, images_at, IfOk-weaker}
 use Rattle.subst.proofs.VariablePlaceLemmas.{grows-twice}
 use Rattle.subst.proofs.DisjointRowLemmas.{facts-grown}
 use Rattle.subst.proofs.ImageVariableLemmas.{range-below, range-words}

@@ -1,5 +1,4 @@
-use Rattle.frame.proofs.SymbolNumberLemmas.{below-take}
-use Rattle.subst.proofs.Words.{◌+◌, sym, ◌∙◌, length, subst, below-at, images_at, image_named, AddsWords, HasPlace, IsIn, TellsEach, true, false}
+use Rattle.subst.proofs.Words.{below-take, ◌+◌, sym, ◌∙◌, length, subst, below-at, images_at, image_named, AddsWords, HasPlace, IsIn, TellsEach, true, false}
 use Rattle.subst.proofs.VariablePlaceLemmas.{places-below, places-same}
 use Rattle.subst.proofs.DisjointRowLemmas.{facts-grown}
 use Rattle.subst.proofs.ImageVariableLemmas.{listed-in}

@@ -1,6 +1,4 @@
-use Rattle.subst.proofs.Words.{◌≡◌, ◌-◌, ◌∷◌, ◌++◌, [], false, Option, Some, None, List, ℕ, length, drop, take, take_all, get_or, ap, refl, sym, ◌∙◌, subst, below-at, code_apply, code_image, images_at, seen_at, AddsImage, HasPlace, SymbolRange}
-use Rattle.std.specs.Prelude.{is_some}
-use Rattle.frame.proofs.SymbolNumberLemmas.{below-take}
+use Rattle.subst.proofs.Words.{◌≡◌, ◌-◌, ◌∷◌, ◌++◌, [], false, Option, Some, None, List, ℕ, length, drop, take, take_all, get_or, ap, refl, sym, ◌∙◌, subst, below-at, code_apply, code_image, images_at, seen_at, AddsImage, HasPlace, SymbolRange, is_some, below-take}
 use Rattle.subst.proofs.WrittenImages.{apply-take}
 use Rattle.subst.proofs.ImageRangesLemmas.{image-none}
 use Rattle.subst.proofs.DisjointRowLemmas.{facts-grown}

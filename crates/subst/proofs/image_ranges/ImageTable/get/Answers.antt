@@ -1,5 +1,4 @@
-use Rattle.subst.proofs.Words.{◌≡◌, ℕ, nat_lt, ◌≤◌, ◌==◌, List, length, get_or, true, false, Bool, sym, ◌∙◌, ap, arith, nat_eq, cond, Some, None, lookup, eq-eqb, SymbolRange, Slot, placed}
-use Rattle.std.proofs.lemmas.Bool.Decides.{nat_tests}
+use Rattle.subst.proofs.Words.{◌≡◌, ℕ, nat_lt, ◌≤◌, ◌==◌, List, length, get_or, true, false, Bool, sym, ◌∙◌, ap, arith, nat_eq, cond, Some, None, lookup, eq-eqb, SymbolRange, Slot, placed, nat_tests}
 use Rattle.subst.proofs.SlotLemmas.{placed-slot, slot-none, slot-at}
 use Rattle.subst.proofs.image_ranges.ImageTable.get.Goals as goal
 use Rattle.subst.proofs.BitsLemmas.{differ}

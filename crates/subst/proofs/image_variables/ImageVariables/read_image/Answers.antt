@@ -1,5 +1,4 @@
-use Rattle.subst.proofs.Words.{length, sym, ◌∙◌, subst, AreBelow, IsRangeOf}
-use Rattle.std.specs.Prelude.{IfOk}
+use Rattle.subst.proofs.Words.{length, sym, ◌∙◌, subst, AreBelow, IsRangeOf, IfOk}
 use Rattle.subst.proofs.ImageRangesLemmas.{image-some, image-none}
 use Rattle.subst.proofs.ImageVariableLemmas.{long-range, most-own}
 use Rattle.subst.proofs.image_variables.ImageVariables.read_image.Goals as goal

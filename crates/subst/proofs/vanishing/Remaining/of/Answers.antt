@@ -1,8 +1,4 @@
-use Rattle.std.proofs.Common.{◌≡◌, ap, slice_get, ◌∙◌}
-use Rattle.std.specs.List.{filter_map}
-use Rattle.frame.specs.Substitution.{code_apply}
-use Rattle.subst.specs.SymbolRanges.{images_at}
-use Rattle.subst.specs.Vanishing.{remaining}
+use Rattle.subst.proofs.Words.{◌≡◌, ap, slice_get, ◌∙◌, filter_map, code_apply, images_at, remaining}
 use Rattle.subst.proofs.VanishingLemmas.{apply-remaining, remaining-read}
 use Rattle.subst.proofs.vanishing.Remaining.of.Goals as goal
 

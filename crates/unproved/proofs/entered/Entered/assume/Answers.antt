@@ -1,6 +1,4 @@
-use Rattle.std.proofs.Common.{sym, subst}
-use Rattle.library.specs.Good.{Good}
-use Rattle.library.specs.Words.{AllLegal}
+use Rattle.unproved.proofs.Words.{sym, subst, Good, AllLegal}
 use Rattle.unproved.proofs.AssumedGoodLemmas.{good_assumed}
 use Rattle.unproved.proofs.entered.Entered.assume.Goals as goal
 

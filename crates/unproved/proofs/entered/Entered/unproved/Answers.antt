@@ -1,5 +1,4 @@
-use Rattle.std.proofs.Common.{rules, length, IfOk}
-use Rattle.unproved.specs.Unproved.{AreUnproved}
+use Rattle.unproved.proofs.Words.{rules, length, IfOk, AreUnproved}
 use Rattle.unproved.proofs.UnprovedLemmas.{found_within}
 use Rattle.unproved.proofs.entered.Entered.unproved.Goals as goal
 

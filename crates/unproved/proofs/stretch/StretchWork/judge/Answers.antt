@@ -1,12 +1,5 @@
-use Rattle.std.proofs.Common.{◌≡◌, ◌+◌, ◌-◌, ◌<◌, ◌≤◌, ◌∙◌, IfOk, Some, ap, arith, length, subst, sym}
-use Rattle.library.specs.Words.{bares, proof_of, is_provable, stmt_at}
-use Rattle.library.specs.Judging.{StandsProved}
-use Rattle.library.proofs.CitedByLemmas.{not-provable}
-use Rattle.library.proofs.FrontLemmas.{stands_index}
-use Rattle.library.proofs.ProvingLemmas.{judged-stands, not-there}
-use Rattle.verify.proofs.RightLemmas.{provable-bare}
-use Rattle.verify.specs.KeptLists.{AreKeptLists}
-use Rattle.verify.specs.Right.{Says}
+use Rattle.unproved.proofs.Words.{◌≡◌, ◌+◌, ◌-◌, ◌<◌, ◌≤◌, ◌∙◌, IfOk, Some, ap, arith, length, subst, sym, bares, proof_of, is_provable, StandsProved, not-provable, stands_index, judged-stands, not-there, provable-bare, AreKeptLists, Says}
+use Rattle.library.specs.Words.{stmt_at}
 use Rattle.unproved.proofs.stretch.StretchWork.judge.Goals as goal
 
 pub prove-requires-clause-provable : goal.prove-requires-clause-provable

@@ -1,5 +1,4 @@
-use Rattle.verify.proofs.Words.{◌≡◌, ◌++◌, ◌∷◌, [], ◌∙◌, ap, sym, subst, arith, length, stmt_at}
-use Rattle.verify.specs.KeptLists.{AreKeptLists, IsAt}
+use Rattle.verify.proofs.Words.{◌≡◌, ◌++◌, ◌∷◌, [], ◌∙◌, ap, sym, subst, arith, length, stmt_at, AreKeptLists, IsAt}
 use Rattle.verify.proofs.KeptListsLemmas.{at-end, kept-push}
 use Rattle.verify.proofs.kept_lists.KeptLists.keep.Goals as goal
 

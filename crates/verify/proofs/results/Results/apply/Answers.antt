@@ -1,5 +1,4 @@
-use Rattle.verify.proofs.Words.{◌≡◌, ℕ, ◌+◌, ◌-◌, ◌≤◌, ◌++◌, [], ◌∷◌, Bool, true, false, List, length, arith, refl, sym, subst, ap, ◌∙◌, length-append, weight_limit, Name, AreBelow, AreInside, AreOver, SymbolRange, code_apply, code_image, image-more, images_at, inside-more, seen-last}
-use Rattle.subst.specs.Stored.Written.{Appends}
+use Rattle.verify.proofs.Words.{◌≡◌, ℕ, ◌+◌, ◌-◌, ◌≤◌, ◌++◌, [], ◌∷◌, Bool, true, false, List, length, arith, refl, sym, subst, ap, ◌∙◌, length-append, weight_limit, Name, AreBelow, AreInside, AreOver, SymbolRange, code_apply, code_image, image-more, images_at, inside-more, seen-last, Appends}
 use Rattle.verify.proofs.ResultPlaceLemmas.{apply-kept, apply-seen, apply-cut, grown-kept, new-place, recorded-more}
 use Rattle.verify.proofs.results.Results.apply.Goals as goal
 

@@ -1,9 +1,4 @@
-use Rattle.verify.proofs.Words.{◌≡◌, ℕ, Bool, List, [], ◌∷◌, length, filter, sym, ◌∙◌, subst, Name, Expr, decode, decode-injective, expr_of, stands-within, AreBelow, AreDistinct}
-use Rattle.entries.specs.SymbolPlaces.{ArePlacesOf}
-use Rattle.frame.specs.ExprPlaces.{AreExprPlaces}
-use Rattle.subst.specs.Vanishing.{is_left}
-use Rattle.std.proofs.Common.{inl, inr}
-use Rattle.std.proofs.lemmas.Bool.{cases_Bool}
+use Rattle.verify.proofs.Words.{◌≡◌, ℕ, Bool, List, [], ◌∷◌, length, filter, sym, ◌∙◌, subst, Name, Expr, decode, decode-injective, expr_of, stands-within, AreBelow, AreDistinct, ArePlacesOf, AreExprPlaces, is_left, inl, inr, cases_Bool}
 use Rattle.verify.proofs.results.Results.shorten.Goals as goal
 
 -- the numbers of the expression are those whose places are kept

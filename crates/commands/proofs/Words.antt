@@ -1,0 +1,36 @@
+-- The words in which this crate is proved, passed on from one place.
+pub use Rattle.commands.specs.LineWords.{Words, by_first, entry_at, line_by}
+pub use Rattle.commands.specs.NodeLines.{stands_alone, text_or}
+pub use Rattle.commands.specs.Offered.{names_of, numbers_of, text_offered}
+pub use Rattle.commands.specs.Pieces.{split_at}
+pub use Rattle.commands.specs.PlayLines.{or_node_line, play_alone, play_line_by, play_line_of, play_text_form, world_line}
+pub use Rattle.commands.specs.Remaining.{IsPast, Remaining}
+pub use Rattle.commands.specs.Scripts.{Parses, ParsesLine, followed, script_from, script_of, with_line}
+pub use Rattle.commands.specs.ServeLines.{added_or, serve_line_by, serve_line_of, submit_form}
+pub use Rattle.commands.specs.SessionLines.{help_or}
+pub use Rattle.commands.specs.Texts.{bytes_before, first_bytes, lines_before, text_at}
+pub use Rattle.commands.specs.declared.line_words.EntryAt.{EntryAt}
+pub use Rattle.commands.specs.declared.line_words.TheConstants.{SPACE}
+pub use Rattle.commands.specs.declared.node_line.NodeLine.{NodeLine}
+pub use Rattle.commands.specs.declared.node_line.NodeLine.TheVariants.{Begin, Offer}
+pub use Rattle.commands.specs.declared.offered.Offered.{Offered}
+pub use Rattle.commands.specs.declared.play_line.PlayLine.TheVariants.{Node}
+pub use Rattle.commands.specs.declared.script.LineFault.{LineFault}
+pub use Rattle.commands.specs.declared.script.TheConstants.{LINE_FEED}
+pub use Rattle.commands.specs.declared.serve_line.ServeLine.{ServeLine}
+pub use Rattle.commands.specs.declared.session_line.SessionLine.{SessionLine}
+pub use Rattle.commands.specs.declared.session_line.SessionLine.TheVariants.{Help, Serve}
+pub use Rattle.commands.specs.declared.text_form.TextForm.{TextForm}
+pub use Rattle.library.specs.Charters.{is_rising}
+pub use Rattle.library.specs.declared.charter.TheConstants.{MOST_NAMES}
+pub use Rattle.library.specs.declared.entry.Entry.TheVariants.{Text}
+pub use Rattle.std.proofs.Common.{ap, append-nil, append_assoc, arith, drop, get_or, length, length-append, length-drop, rules, subst, suc, sym, take, ◌∙◌}
+pub use Rattle.std.proofs.lemmas.Bool.{eqb-true, false≢true, ltb-false, ltb-true}
+pub use Rattle.std.proofs.lemmas.Bool.Decides.{nat_tests}
+pub use Rattle.std.proofs.lemmas.Grind.{common_steps}
+pub use Rattle.std.proofs.lemmas.List.{drop_at, drop_more, length-take-le, take-append-drop, take_all, take_at}
+pub use Rattle.std.proofs.lemmas.List.Splits.{join_with_byte-slice_split, length-slice_split, slice_split-cons_no, slice_split-cons_yes, slice_split_first}
+pub use Rattle.std.proofs.lemmas.List.Sums.{count_by-le-length}
+pub use Rattle.std.specs.List.{join_with_byte, onto_first, position_or_len, slice_split}
+pub use Rattle.std.specs.Prelude.{Bool, Err, IsErrAnd, IsSome, IsTrue, List, None, Ok, Option, Result, Some, [], codes, cond, count_by, false, if◌then◌else◌, is_some, nat_lt, not, option_and_then, option_map, position, refl, slice_index, true, zero, ℕ, ◌&&◌, ◌++◌, ◌+◌, ◌-◌, ◌<◌, ◌==◌, ◌||◌, ◌∷◌, ◌≡◌, ◌≤◌}
+pub use Rattle.std.specs.Str.{bytes_eq}

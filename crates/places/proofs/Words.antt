@@ -1,0 +1,28 @@
+-- The words in which this crate is proved, passed on from one place.
+pub use Rattle.memchr.proofs.lemmas.CallerLemmas.{length-places}
+pub use Rattle.memchr.specs.Find.{is_byte}
+pub use Rattle.mm_lex.proofs.NameLemmas.{name_same}
+pub use Rattle.mm_lex.proofs.TokensLemmas.{AreTokens-unique}
+pub use Rattle.mm_lex.specs.Alphabet.{Name, has_byte, is_label, is_symbol, is_white, name_eq, runs, runs_from, starts_white, with_byte, word}
+pub use Rattle.mm_lex.specs.Comments.{runs_behind}
+pub use Rattle.mm_lex.specs.Tokens.{AllPlain, AreParts, AreTokens, Cuts, IsPart, Part, closer, is_plain, opener, part_spans, words}
+pub use Rattle.mm_lex.specs.declared.span.Span.{Span}
+pub use Rattle.mm_read.proofs.StatementsLemmas.{label_plain, plain_is_no_key, symbol_plain, symbols_of}
+pub use Rattle.mm_read.specs.Reads.{Reads}
+pub use Rattle.mm_read.specs.Statements.{AreShaped, Database, are_symbols, has_two, is_shaped, spelled, stmt_tokens}
+pub use Rattle.mm_read.specs.declared.stmt.Stmt.{Stmt}
+pub use Rattle.mm_read.specs.declared.stmt.Stmt.TheVariants.{Axiom, Close, Const, Disj, Ess, Float, Open, Prove, Var}
+pub use Rattle.places.specs.CommentFaults.{BeginsStatement}
+pub use Rattle.places.specs.Descriptions.{AreDescriptions, at_statements, comments_before, comments_in, comments_of, contents, first_of}
+pub use Rattle.places.specs.Lines.{line_feed}
+pub use Rattle.places.specs.Places.{HasToken, IsPlaceOf, behind_ends, ends, index_of}
+pub use Rattle.places.specs.Walk.{IsWaiting, PassesDull, after_run, at_start, begun, walk_over}
+pub use Rattle.places.specs.declared.description.Walk.{Walk}
+pub use Rattle.places.specs.declared.description.Walk.TheVariants.{Inside, Outside}
+pub use Rattle.std.proofs.Common.{Bool, IsFalse, IsSomeAnd, IsTrue, List, None, Option, Some, [], ap, append_assoc, arith, below_more, codes, cond, drop, eqb, false, flat_map, get_or, length, length-append, length-take, not, refl, rules, slice_get, slice_index, subst, suc, sym, take, true, zero, zero-add, ℕ, ◌&&◌, ◌++◌, ◌+◌, ◌-◌, ◌<◌, ◌==◌, ◌||◌, ◌∙◌, ◌∷◌, ◌≡◌, ◌≤◌}
+pub use Rattle.std.proofs.Math.Seq.{drop-cons}
+pub use Rattle.std.proofs.lemmas.Bool.{and_from, and_parts, both_ways}
+pub use Rattle.std.proofs.lemmas.List.{append-nil, drop-drop, get_or-drop, get_or-map, get_or-take, length-drop, length-map, map-append, take-append-drop}
+pub use Rattle.std.proofs.lemmas.List.Folds.{list_all-append}
+pub use Rattle.std.proofs.lemmas.Option.{slice_get-get_or, slice_get_within}
+pub use Rattle.std.specs.List.{count_by, list_all}

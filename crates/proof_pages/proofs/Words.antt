@@ -1,0 +1,20 @@
+-- The words in which this crate is proved, passed on from one place.
+pub use Rattle.file_names.specs.FileNames.{file_name}
+pub use Rattle.markup.specs.Escapes.{html_text}
+pub use Rattle.mm_read.specs.declared.stmt.Stmt.TheVariants.{Open}
+pub use Rattle.proof_pages.specs.Indexes.{index_row}
+pub use Rattle.proof_pages.specs.Notations.{symbol_html}
+pub use Rattle.proof_pages.specs.Pictures.{arrow_line, node_text, picture_head, quoted_symbol}
+pub use Rattle.proof_pages.specs.StepLines.{behind_comma, expr_text, number_text, step_line, symbol_text, taken_text, texts_from}
+pub use Rattle.proof_pages.specs.TableRows.{item_html}
+pub use Rattle.proof_pages.specs.Writing.{Wrote}
+pub use Rattle.proof_pages.specs.declared.index.TheConstants.{INDEX_START}
+pub use Rattle.scope.specs.Active.{stmt_at}
+pub use Rattle.std.proofs.Common.{ap, arith, length, subst, sym, take, ◌++◌, ◌<◌, ◌∙◌, ◌≡◌}
+pub use Rattle.std.proofs.lemmas.List.{append-nil, append_assoc, length-take-le, take_all, take_more}
+pub use Rattle.std.proofs.lemmas.Option.{slice_get-get_or}
+pub use Rattle.std.specs.Io.KnownBytes.{Appends}
+pub use Rattle.std.specs.Prelude.{Err, List, None, Ok, OnOk, Option, Result, Some, [], codes, decimal, flat_map, get_or, if◌then◌else◌, suc, ℕ, ◌+◌, ◌∷◌, ◌≤◌}
+pub use Rattle.std.specs.Result.{is_ok}
+pub use Rattle.steps.specs.Rows.{no_row}
+pub use Rattle.verify.specs.Proves.{label_or_none}

@@ -1,0 +1,29 @@
+-- The words in which this crate is proved, passed on from one place.
+pub use Rattle.mm_lex.proofs.NameLemmas.{name_same, same_name}
+pub use Rattle.mm_lex.specs.Alphabet.{Name, has_name, name_eq}
+pub use Rattle.mm_read.specs.Statements.{Database, Expr}
+pub use Rattle.mm_read.specs.declared.stmt.Stmt.{Stmt}
+pub use Rattle.mm_read.specs.declared.stmt.Stmt.TheVariants.{Axiom, Close, Const, Disj, Ess, Float, Open, Prove, Var}
+pub use Rattle.names.proofs.AddedNames.{has_name-append}
+pub use Rattle.names.proofs.CodesLemmas.{code-name, first-named, has-at, name_eq-comm, rest-named, unknown-number}
+pub use Rattle.names.specs.Codes.{AreDistinct, AreNamed, code_of, name_at}
+pub use Rattle.rule_violation.specs.Marks.{is_wrong_unseen, marked}
+pub use Rattle.rule_violation.specs.Search.{IsActiveAt, IsAt, closed_behind, closed_by, fails, meets}
+pub use Rattle.rule_violation.specs.Violates.{Among, IsLabelOf, IsRepeated, IsSymbolOf, IsTwice, Violates, typed_expr}
+pub use Rattle.rule_violation.specs.declared.symbol_search.Test.{Test}
+pub use Rattle.rule_violation.specs.declared.violation.RuleViolation.{RuleViolation}
+pub use Rattle.rule_violation.specs.declared.violation.RuleViolation.TheVariants.{Earlier, Label, Statement, Symbol, Twice}
+pub use Rattle.scope.proofs.SortsLemmas.{or_swap}
+pub use Rattle.scope.specs.Active.{active, active_from, constants, expr_of, has_float, has_label, is_constant, is_float_of, is_open, is_variable, label_of, stays_open, stmt_at, variables, was_label, was_symbol}
+pub use Rattle.scope.specs.Legal.{all_different, are_typed, is_fresh_label, keeps}
+pub use Rattle.scope.specs.declared.rule.Rule.{Rule}
+pub use Rattle.scope.specs.declared.rule.Rule.TheVariants.{G2, G3, G4, G5, G8, G9}
+pub use Rattle.std.proofs.Common.{Bool, IsSomeAnd, IsTrue, List, MatchOption, None, Option, Some, [], add-one, ap, append-nil, arith, cond, drop, false, get_or, inl, inr, length, map, not, refl, replicate, rules, slice_get, slice_set, subst, suc, sym, true, true≢false, zero, ℕ, ◌&&◌, ◌++◌, ◌+◌, ◌-◌, ◌<◌, ◌==◌, ◌||◌, ◌∙◌, ◌∷◌, ◌≡◌, ◌≤◌}
+pub use Rattle.std.proofs.Math.Bool.{not-not, or-false, or-true, or_assoc, or_comm}
+pub use Rattle.std.proofs.Math.Seq.{drop-cons}
+pub use Rattle.std.proofs.lemmas.Bool.{and_from, and_parts, cases_lt, false_from_ne_true, not-true, or_parts, or_right}
+pub use Rattle.std.proofs.lemmas.Map.Keys.{any_passes_from_place}
+pub use Rattle.std.proofs.lemmas.Option.{slice_get_read}
+pub use Rattle.std.proofs.lemmas.Result.{IfOk-weaker}
+pub use Rattle.std.specs.List.{list_all, list_any}
+pub use Rattle.std.specs.Prelude.{IfOk, Result, is_some, nat_le, slice_index_or}

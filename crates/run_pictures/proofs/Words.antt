@@ -1,0 +1,21 @@
+-- The words in which this crate is proved, passed on from one place.
+pub use Rattle.library.specs.declared.entry.Entry.{Entry}
+pub use Rattle.library.specs.declared.verdict.Verdict.{Verdict}
+pub use Rattle.net.specs.Taken.{Taken, with_event, world_of}
+pub use Rattle.net.specs.World.{all_happen, packets_after}
+pub use Rattle.net.specs.declared.event.Event.{Event}
+pub use Rattle.net.specs.declared.event.Event.TheVariants.{Begin, Deliver, Offer, Restart}
+pub use Rattle.net.specs.declared.fault.StepFault.{StepFault}
+pub use Rattle.run_pictures.specs.Begun.{ended_of}
+pub use Rattle.run_pictures.specs.Marks.{Packets, stump, stumps, stumps_from}
+pub use Rattle.run_pictures.specs.RunView.{IsRecorded, packets_of}
+pub use Rattle.run_pictures.specs.Steps.{Reached, act_of, begun_of, is_event, is_event_act, learned_in, node_in, step_of, steps_from, steps_of, then_event}
+pub use Rattle.run_pictures.specs.declared.mark.Mark.{Mark}
+pub use Rattle.run_pictures.specs.declared.step.Begun.{Begun}
+pub use Rattle.run_pictures.specs.declared.step.Step.{Step}
+pub use Rattle.std.proofs.Common.{ap, append-nil, append_assoc, arith, sym, ◌++◌, ◌-◌, ◌∙◌}
+pub use Rattle.std.proofs.lemmas.List.Elements.{filter-append}
+pub use Rattle.std.specs.Prelude.{Err, IfOk, IfSome, IsSomeAnd, List, None, Ok, OnErr, Option, Result, Some, [], false, filter, length, refl, suc, true, zero, ℕ, ◌+◌, ◌<◌, ◌∷◌, ◌≡◌, ◌≤◌}
+pub use Rattle.world.specs.Carried.{carried, carried_size}
+pub use Rattle.world.specs.Replicas.{IsApplied, Replicas, new_replicas, next_entry}
+pub use Rattle.world.specs.declared.carried.Carried.{Carried}

@@ -1,0 +1,88 @@
+-- The words in which this crate is proved, passed on from one place.
+pub use Rattle.entries.proofs.StatementRecordLemmas.{get-last}
+pub use Rattle.entries.specs.Hypotheses.{told}
+pub use Rattle.entries.specs.SymbolPlaces.{ArePlacesOf}
+pub use Rattle.entries.specs.declared.assertion_view.AssertionView.{AssertionView}
+pub use Rattle.entries.specs.declared.assertion_view.Hypothesis.{Hypothesis}
+pub use Rattle.entries.specs.declared.assertion_view.Hypothesis.TheVariants.{Essential, Float}
+pub use Rattle.frame.proofs.ActiveDisjointLemmas.{below-at}
+pub use Rattle.frame.proofs.FoundByNumber.{decode-injective, map-at, some-same}
+pub use Rattle.frame.proofs.PositionLemmas.{get-front}
+pub use Rattle.frame.proofs.SymbolNumberLemmas.{below-more, below-push, below-take}
+pub use Rattle.frame.specs.AssertionView.{AreRequired, IsOf, IsViewOf}
+pub use Rattle.frame.specs.AtPosition.{AreLegal, ArePositions, HasLabelsOnce, IsMeaning, IsPosition}
+pub use Rattle.frame.specs.Below.{AllBelow, AreBelow}
+pub use Rattle.frame.specs.Bound.{IsBound}
+pub use Rattle.frame.specs.Citations.{Carries, IsHypothesis, IsInstance, premises}
+pub use Rattle.frame.specs.ExprPlaces.{AreExprPlaces}
+pub use Rattle.frame.specs.FrameOf.{HasAssertion, hypotheses, mandatory_groups}
+pub use Rattle.frame.specs.Substitution.{code_apply}
+pub use Rattle.frame.specs.declared.meaning.Meaning.TheVariants.{Nothing}
+pub use Rattle.mm_lex.specs.Alphabet.{Name}
+pub use Rattle.mm_read.specs.Statements.{Database, Expr}
+pub use Rattle.mm_read.specs.declared.stmt.Stmt.{Stmt}
+pub use Rattle.names.proofs.OverflowLemmas.{apart, keeps}
+pub use Rattle.names.specs.Codes.{AreDistinct, decode}
+pub use Rattle.proof_code.proofs.RowOfNumbers.{item-cite, item-recall}
+pub use Rattle.proof_code.specs.ItemNumbers.{item_of, items_of}
+pub use Rattle.proof_code.specs.declared.item.Item.{Item}
+pub use Rattle.proof_code.specs.declared.item.Item.TheVariants.{Cite, Mark, Recall}
+pub use Rattle.scope.proofs.StatementPlaces.{stands-within}
+pub use Rattle.scope.specs.Active.{before, expr_of, is_assertion, stmt_at}
+pub use Rattle.std.proofs.Common.{ap, append_assoc, arith, drop, inl, inr, is_some, length-append, subst, sym, take, true≢false, ◌∙◌, ◌≡◌}
+pub use Rattle.std.proofs.lemmas.Bool.{cases_Bool, cases_lt}
+pub use Rattle.std.proofs.lemmas.List.{drop_all, get_or-set_same, length-map, length-replicate, length-set, map-append, map_push}
+pub use Rattle.std.proofs.lemmas.Option.{get_or_from_slice_get, slice_get-get_or, slice_get_within}
+pub use Rattle.std.proofs.lemmas.Result.{IfOk-weaker, on_ok_weaker}
+pub use Rattle.std.proofs.lemmas.Slice.Eq.{bytes_eq-Decides}
+pub use Rattle.std.specs.BTreeMap.{BTreeMap, UpdatesBy}
+pub use Rattle.std.specs.Borrow.{Bor}
+pub use Rattle.std.specs.Cmp.{eq_by_cmp_equiv}
+pub use Rattle.std.specs.Cmp.Lexicographic.{nat_list_cmp_total, slice_cmp}
+pub use Rattle.std.specs.List.Sorted.{IsStrictlyIncreasing}
+pub use Rattle.std.specs.Ordering.{is_eq, nat_cmp}
+pub use Rattle.std.specs.Prelude.{Bool, IfSome, List, None, Option, Some, [], false, get_or, if◌then◌else◌, length, map, refl, replicate, slice_get, slice_set, suc, true, zero, ℕ, ◌++◌, ◌+◌, ◌-◌, ◌<◌, ◌∷◌, ◌≢◌, ◌≤◌, ◌⊎◌}
+pub use Rattle.std.specs.Str.{bytes_eq}
+pub use Rattle.std.specs.declared.alloc.Global.{Global}
+pub use Rattle.std.specs.declared.vec.Vec.{Vec}
+pub use Rattle.steps.specs.Essential.{AreEssential, IsEssential, IsIn, IsRenumbered, essential_of, for_premises, is_last, is_premise, is_taken, mandatory}
+pub use Rattle.steps.specs.Rows.{AreRows, Follows, IsRow, Row, expr_in, from_assertion, from_hypothesis, no_row, row, steps_of}
+pub use Rattle.steps.specs.StepTable.{AreSteps, IsPlaced, Makes, Progress, RecordsItem, RecordsItems, Step, comes_last, of_assertion, of_hypothesis, progress, stands}
+pub use Rattle.steps.specs.Stored.Drafted.{AreInBuffer, AreKnown, CanDo, Finds, GivesAssertion, GivesHypothesis, IsDone, IsDraft, IsTied, codes_in, key_of, place_in, place_of, progress_of, row_of, rows_of}
+pub use Rattle.steps.specs.Stored.LongLists.{AreKept, AreListsOf, AreMadeOf, HasPartsOf, IsAt, Listed, with_groups}
+pub use Rattle.steps.specs.Stored.Marked.{AreMarkedFrom, AreMarks, AreNumbers, HasMark, MarksMore, kept_row, mark_each, mark_last, marked_before, number_of, taken_by}
+pub use Rattle.steps.specs.Unfolded.{citation_over, has_assertion, last_unfolded, unfolded, unfolded_behind}
+pub use Rattle.steps.specs.declared.table_draft.PlacedStep.{PlacedStep}
+pub use Rattle.steps.specs.declared.table_draft.TableDraft.{TableDraft}
+pub use Rattle.subst.proofs.GroupLemmas.{below-drop}
+pub use Rattle.subst.proofs.SymbolRangeLemmas.{seen-last, seen-more}
+pub use Rattle.subst.specs.Stored.Written.{Appends}
+pub use Rattle.subst.specs.SymbolRanges.{AreWithin, images_at, seen_at}
+pub use Rattle.subst.specs.declared.buffer.TheConstants.{SYMBOLS_LIMIT}
+pub use Rattle.subst.specs.declared.symbol_range.SymbolRange.{SymbolRange}
+pub use Rattle.verify.proofs.CitationLemmas.{Meets, meets-step}
+pub use Rattle.verify.proofs.CitingLemmas.{read-over}
+pub use Rattle.verify.proofs.Complete.{conclude_same}
+pub use Rattle.verify.proofs.Decide.{append_cut, length-premises, not_both}
+pub use Rattle.verify.proofs.GrowthLemmas.{leaves}
+pub use Rattle.verify.proofs.ImageLemmas.{apply-below}
+pub use Rattle.verify.proofs.KeptListsLemmas.{cited-plain}
+pub use Rattle.verify.proofs.LabelTableLemmas.{has_with, suc_back}
+pub use Rattle.verify.proofs.LawsHold.{spellings_run}
+pub use Rattle.verify.proofs.MarkLemmas.{no-mark, set_true}
+pub use Rattle.verify.proofs.Named.{halves, length-top}
+pub use Rattle.verify.proofs.PlanLemmas.{below-get, map-pick, trees-same}
+pub use Rattle.verify.proofs.ReadImageLemmas.{reads-seen}
+pub use Rattle.verify.proofs.RequiredHypotheses.{required-different, required-lengths}
+pub use Rattle.verify.proofs.ResultPlaceLemmas.{get-map, map-drop}
+pub use Rattle.verify.proofs.StepLemmas.{all-taken, items-more}
+pub use Rattle.verify.proofs.Words.{same_Some}
+pub use Rattle.verify.specs.Derivations.{Derivation, apply, from_list, hyp}
+pub use Rattle.verify.specs.Fits.{AreDifferent, AreRead, IsTyped, Reads}
+pub use Rattle.verify.specs.Growth.{Grows, GrowsBy, Trees, a_hypothesis, an_assertion, trees}
+pub use Rattle.verify.specs.Machine.{Cites, Results, Runs, State, Steps, start, with_mark, with_result}
+pub use Rattle.verify.specs.Plan.{pick}
+pub use Rattle.verify.specs.ReadPlaces.{ReadsAll}
+pub use Rattle.verify.specs.ResultPlaces.{below, top}
+pub use Rattle.verify.specs.Right.{Derives, IsRight}
+pub use Rattle.verify.specs.StepsByNumber.{AreNamed}

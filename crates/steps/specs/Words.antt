@@ -1,0 +1,30 @@
+-- The words in which this crate is stated, passed on from one place.
+pub use Rattle.entries.specs.declared.assertion_view.AssertionView.{AssertionView}
+pub use Rattle.entries.specs.declared.assertion_view.Hypothesis.{Hypothesis}
+pub use Rattle.entries.specs.declared.assertion_view.Hypothesis.TheVariants.{Essential, Float}
+pub use Rattle.frame.specs.AssertionView.{AreRequired, IsViewOf}
+pub use Rattle.frame.specs.Below.{AllBelow, AreBelow}
+pub use Rattle.frame.specs.Citations.{Carries, IsHypothesis, IsInstance, premises}
+pub use Rattle.frame.specs.FrameOf.{hypotheses, mandatory_groups}
+pub use Rattle.frame.specs.Substitution.{CodeImages, code_apply}
+pub use Rattle.mm_lex.specs.Alphabet.{Name}
+pub use Rattle.mm_read.specs.Statements.{Database, Expr}
+pub use Rattle.mm_read.specs.declared.stmt.Stmt.{Stmt}
+pub use Rattle.names.specs.Codes.{decode}
+pub use Rattle.proof_code.specs.declared.item.Item.{Item}
+pub use Rattle.proof_code.specs.declared.item.Item.TheVariants.{Cite, Mark, Recall}
+pub use Rattle.scope.specs.Active.{before, expr_of, is_assertion, is_essential, stmt_at}
+pub use Rattle.std.specs.BTreeMap.{BTreeMap, get_by}
+pub use Rattle.std.specs.Cmp.Lexicographic.{slice_cmp}
+pub use Rattle.std.specs.List.Sorted.{IsStrictlyIncreasing}
+pub use Rattle.std.specs.Ordering.{nat_cmp}
+pub use Rattle.std.specs.declared.alloc.Global.{Global}
+pub use Rattle.std.specs.declared.vec.Vec.{Vec}
+pub use Rattle.subst.specs.SymbolRanges.{seen_at}
+pub use Rattle.subst.specs.declared.symbol_range.SymbolRange.{SymbolRange}
+pub use Rattle.verify.specs.Derivations.{Derivation, apply, from_list, hyp}
+pub use Rattle.verify.specs.Fits.{AreRead}
+pub use Rattle.verify.specs.Machine.{State, Steps}
+pub use Rattle.verify.specs.Plan.{pick}
+pub use Rattle.verify.specs.ResultPlaces.{below, top}
+pub use Rattle.verify.specs.Spells.{IsCitable}
