@@ -13,8 +13,8 @@ use numbers::push_number;
 use std::alloc::{AllocError, Global};
 use world::Carried;
 
-/// Returns the lines of `play` that make the events again: an event is one line, and the offer of a
-/// text with a line feed is `offer-bytes` with the bytes of the text.
+/// Returns the lines of `play` that reproduce the events: each event is one line, but a text with a
+/// line feed is offered by `offer-bytes`, followed by its bytes.
 ///
 /// Errors: an allocation fails. Cost: the size of the lines.
 pub fn event_lines(alloc: Global, events: &[Event<Carried>]) -> Result<Vec<u8>, AllocError>
@@ -29,7 +29,7 @@ pub fn event_lines(alloc: Global, events: &[Event<Carried>]) -> Result<Vec<u8>, 
     Ok(text)
 }
 
-/// Appends the count of the lines of the events, and these lines.
+/// Appends a line `events N` with the count of the lines of the events, and these lines.
 ///
 /// Errors: an allocation fails. Cost: the size of the lines.
 pub fn push_events(

@@ -1,7 +1,7 @@
 //! The history of a run as a script of `play`, which makes each of its events again.
 //!
-//! The crate above uses one contract: that of `event_lines`, whose text is parsed as exactly the
-//! events. `push_events` appends the text to an answer, after the count of its lines.
+//! The main contract: the text of `event_lines` is parsed as exactly the events. `push_events`, which
+//! `program` uses, appends this text to an answer, after the count of its lines.
 #![tactic(auto)]
 
 mod events;

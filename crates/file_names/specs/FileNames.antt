@@ -22,7 +22,7 @@ reserved = codes "index" ∷ codes "con" ∷ codes "prn" ∷ codes "aux" ∷ cod
 abbrev pub mark : Name → List ℕ
 mark label = if has_name label reserved then codes "+" else []
 
--- the name spells the label, which else is longer than 100 bytes
+-- the name spells it: a label of at most 100 bytes
 abbrev pub is_spelled : Name → Bool
 is_spelled label = nat_le (length label) 100 && is_label label
 

@@ -14,19 +14,19 @@ pub const INDEX: &str = "index.html";
 /// The name of the style sheet.
 pub const STYLE: &str = "style.css";
 
-/// How many bytes a label has at most that is spelled in a name.
+/// The largest length in bytes of a label that a name spells.
 const LONGEST: usize = 100;
 
-/// The labels whose names a system keeps for devices, and that of the list of all assertions.
+/// The labels that would name a device of Windows or the index.
 const RESERVED: [&[u8]; 25] = [
     b"index", b"con", b"prn", b"aux", b"nul", b"com0", b"com1", b"com2", b"com3", b"com4", b"com5",
     b"com6", b"com7", b"com8", b"com9", b"lpt0", b"lpt1", b"lpt2", b"lpt3", b"lpt4", b"lpt5",
     b"lpt6", b"lpt7", b"lpt8", b"lpt9",
 ];
 
-/// Appends the name of the file of the assertion with a label at a position: the label, with `+`
-/// before a dot and in place of a capital letter, which is then small; `+` and the position if the
-/// label is longer than 100 bytes.
+/// Appends the name of the file of the assertion with a label at a position. A label of at most 100
+/// bytes is spelled: `+` stands before each dot, each capital letter becomes `+` and its lowercase
+/// letter, and `+` follows a reserved label. Anything else is named by `+` and the position.
 ///
 /// Errors: an allocation fails; what is in the text then is not specified. Cost: the length of the
 /// label. Source: this project's own form; the names of devices are those of Windows.
@@ -37,7 +37,7 @@ pub fn push_file_name(text: &mut Vec<u8>, label: &[u8], position: usize) -> Resu
     text.extend_from_slice(b".html")
 }
 
-/// Appends the name without its ending.
+/// Appends the name without `.html`.
 fn push_front(text: &mut Vec<u8>, label: &[u8], position: usize) -> Result<(), AllocError>
     ensures { OnOk result (text.new.items
         ≡ text.old.items ++ (if is_spelled label.now then spelled label.now else numbered position)) }

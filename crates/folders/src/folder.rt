@@ -39,10 +39,10 @@ pub trait Folder {
     /// Errors: `Memory`; `Refused` if something else stands there, or it cannot be made.
     fn open(&mut self, path: &str) -> Result<(), FolderFault>;
 
-    /// Writes a file with this name and these bytes into the folder, in place of one with the name.
+    /// Writes a file with this name and these bytes into the folder. A folder of the file system
+    /// replaces a file of that name, one in memory keeps both.
     ///
-    /// Errors: `Memory`, `Refused`; the folder has then no part of the file, and what stood there
-    /// before.
+    /// Errors: `Memory`, `Refused`; no file of that name has then a part of these bytes.
     fn write(&mut self, name: &str, bytes: &[u8]) -> Result<(), FolderFault>
         ensures { OnOk result (gains self.old name.now bytes.now self.new) };
 }

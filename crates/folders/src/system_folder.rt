@@ -5,11 +5,11 @@ use std::fs::{self, File};
 use std::io::Write;
 use std::rt::Files;
 
-/// The name of a file that is not whole yet. It has no ending, so it is that of no page.
+/// The name of a file that is not whole yet. No page has this name, since it has no extension.
 const UNFINISHED: &str = "+unfinished";
 
 /// A folder of the file system. A file is written under another name, which it loses once it is
-/// whole; a symbolic link is not followed.
+/// whole; a link of that name is not followed.
 #[derive(Drop)]
 pub struct SystemFolder<'a, R> {
     rt: &'a R,
@@ -17,7 +17,7 @@ pub struct SystemFolder<'a, R> {
 }
 
 impl<'a, R: Files + AllocGlobal> SystemFolder<'a, R> {
-    /// Returns the folder where the program runs. Does not allocate.
+    /// Returns a folder that is not open yet: `open` comes before `write`. Does not allocate.
     pub fn new(rt: &'a R) -> SystemFolder<'a, R> {
         SystemFolder {
             rt,

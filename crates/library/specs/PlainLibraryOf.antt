@@ -1,5 +1,5 @@
 -- The library of a log of texts, by a definition that knows no charter.
--- Source: this project's profile, as it was before charters.
+-- Source: this project's profile without charters.
 -- No code stands on it; a law says that the library of a log without charters is this one.
 use Rattle.std.specs.Prelude.{◌≡◌, ◌≢◌, ◌<◌, ◌≤◌, List, [], ◌∷◌, ◌++◌, length, Option, Some, None}
 use Rattle.library.specs.Words.{Name, LexFault, IsLexFault, Database, HasTokens, IsNoDatabase}

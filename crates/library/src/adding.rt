@@ -13,7 +13,7 @@ use std::alloc::{AllocError, Global};
 use std::thread::{Threads, join_mut};
 use verify_pool::{Checkers, Gate, Workers, judge_all};
 
-/// A text with this many statements has proofs judged ahead.
+/// The first part of a text, whose proofs are judged ahead, has more statements than this.
 const MANY: usize = 8_192;
 
 /// Tables that judge the next statement: the state of the rules, and the frames of the statements.
@@ -80,7 +80,7 @@ pub(crate) fn add_all(statements: &[Stmt], tables: &mut Tables, steps: &mut Step
 }
 
 /// Adds the statements as `add_all` does. Where they are the first of a library and many, a thread of its own adds a first
-/// part of them to tables of its own, and half of the workers but one, two workers at least, judge the proofs of this part
+/// part of them to tables of its own, and half of the workers less one, but at least one, judge the proofs of this part
 /// meanwhile: these leave a processor to the calling thread.
 ///
 /// Cost: that of `add_all`, and one step more for each statement of the first part.
@@ -128,7 +128,8 @@ pub(crate) fn add_all_verifying<G: Gate + Sync, R: Threads + Sync>(
     added
 }
 
-/// Returns how many of the first statements are judged ahead: five sixteenths of many, up to where no block is open.
+/// Returns the length of the part that is judged ahead: the shortest beginning with more than five sixteenths of the
+/// statements, and more than `MANY`, at whose end no block is open; 0 if there is none.
 fn count_ahead(statements: &[Stmt]) -> usize
     ensures { result ≤ length statements.now }
 {

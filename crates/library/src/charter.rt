@@ -26,7 +26,8 @@ impl Model for Names {
 }
 
 impl Names {
-    /// Returns the names with these numbers; `None` where there are no numbers, more than 64, or they do not rise strictly.
+    /// Returns the names with these numbers; `None` where there are no numbers, more than 64, or they are not strictly
+    /// increasing.
     /// Does not allocate.
     pub fn new(numbers: Vec<u64>) -> Option<Names>
         ensures { MatchOption result (AreNames numbers.items → ⊥) (λ names. names ≡ numbers.items) }
@@ -38,19 +39,12 @@ impl Names {
         Some(Names { numbers })
     }
 
-    /// Returns the numbers, in rising order.
+    /// Returns the numbers, in ascending order.
     pub fn as_slice(&self) -> &[u64]
         ensures numbers { result.now ≡ self.now }
         ensures names { AreNames self.now }
     {
         self.numbers.as_slice()
-    }
-
-    /// Gives the numbers back. Does not allocate.
-    pub fn into_vec(self) -> Vec<u64>
-        ensures { result.items ≡ self }
-    {
-        self.numbers
     }
 
     /// Tells whether the author is named.

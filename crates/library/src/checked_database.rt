@@ -111,11 +111,10 @@ impl CheckedDatabase {
         self.checkers.alloc()
     }
 
-    /// Adds the statements whole, where they are good after those that are there; else returns why they are not.
+    /// Appends the statements if the whole list is then good; otherwise appends none and returns the cause.
     ///
-    /// Errors: an allocation fails; nothing is added then. Cost: that of the statements added, two steps each at most. To
-    /// mark the statements that are there, and to go back to them, does not allocate. The room that only statements needed
-    /// which are not added is given back, if smaller blocks can be allocated.
+    /// Errors: an allocation fails; nothing is added then. Cost: that of the statements added, two steps each at most. Rolling
+    /// back does not allocate. Memory that only refused statements needed is given back, if smaller blocks can be allocated.
     pub(crate) fn extend<
         E: Fn(&[Stmt], &mut Tables, &mut StepCounts, &mut Checkers) -> Added,
         F: Fn(&Proofs<'_>, &mut Checkers) -> Result<Option<usize>, AllocError>,

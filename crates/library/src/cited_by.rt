@@ -107,7 +107,7 @@ impl Search {
 }
 
 impl Search {
-    /// Tells so where the mandatory hypotheses are many.
+    /// Does the same as `meets` for a proof with many mandatory hypotheses, which are read through a view.
     fn meets_many(
         &mut self,
         database: &CheckedDatabase,
@@ -130,8 +130,8 @@ impl Search {
     }
 }
 
-/// Tells whether one of the numbers cites a marked statement, by a list with a test of each mandatory hypothesis and then of
-/// each listed label. The first of them that is marked is mostly cited, so the numbers are tried there once before the end.
+/// Returns whether one of the numbers cites a marked statement, by a list with one flag for each mandatory hypothesis, and then
+/// for each listed label. The first marked one is usually cited, so the numbers are searched once as soon as it is found.
 fn listed_meet(
     frames: &Frames,
     heading: Heading<'_>,
@@ -167,7 +167,7 @@ fn listed_meet(
     Ok(has_marked(numbers, wanted))
 }
 
-/// Tells so where the mandatory hypotheses are viewed, by a list with a test of each listed label alone.
+/// Does the same as `listed_meet`, with the mandatory hypotheses through a view, and flags for the listed labels alone.
 fn listed_meet_many(
     frames: &Frames,
     heading: Heading<'_>,

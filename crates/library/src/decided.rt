@@ -7,7 +7,7 @@ ghost use Rattle.library.specs.LibraryState.{verdict_of};
 use crate::verdict::Cause;
 use std::marker::Model;
 
-/// Where an entry stands that was judged.
+/// The state of an entry whose judging has begun.
 #[derive(Clone, Copy, Drop)]
 pub enum Standing {
     /// Its judging began; an allocation failed, or it is under way.
@@ -24,7 +24,7 @@ pub struct DecidedEntry {
     pub cause: Option<Cause>,
 }
 
-/// The verdicts so far, in the order of the log. It has no bytes.
+/// The verdicts so far, in the order of the log. It has no bytes: only contracts see the entries.
 #[derive(Drop)]
 pub struct DecidedEntries {
     pub ghost entries: { List Decided },
@@ -38,7 +38,7 @@ impl Model for DecidedEntries {
 unsafe impl Send for DecidedEntries {}
 
 impl DecidedEntries {
-    /// Returns no verdict.
+    /// Returns the empty list of verdicts.
     pub fn none() -> DecidedEntries
         ensures { result.entries ≡ [] }
     {

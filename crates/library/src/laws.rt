@@ -11,7 +11,7 @@ pub fn one_library()
     ensures { OneLibrary }
 {}
 
-/// The statements of a log's library begin those of a longer log's library.
+/// The statements of a log's library are a prefix of those of a longer log's library.
 pub fn libraries_grow()
     ensures { LibrariesGrow }
 {}

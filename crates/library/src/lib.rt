@@ -1,6 +1,6 @@
 //! One replica of the library: entries of the log to verdicts, and the statements that they validly add.
 //!
-//! The crate above uses one contract: an application makes the step of `specs/LibraryOf` with its verdict, and running out
+//! The main contract, which `world` uses: an application makes the step of `specs/LibraryOf` with its verdict, and running out
 //! of memory decides nothing.
 //!
 //! Reading order: `submission`, `charter`, `entry` (what a log holds), `verdict`; `library`, `decided`; `entry_text` (a text and its

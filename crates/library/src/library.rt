@@ -99,7 +99,7 @@ impl Library {
     ///
     /// Errors: an allocation fails; the entry stays undecided, and statements, verdicts and charter are as before.
     /// Cost: that of the entry's own text, whatever was added before and whoever submitted it; at most three steps for each
-    /// of its statements.
+    /// of its statements: a step is one statement that is given to the rules and frames, and contracts alone see their count.
     pub fn apply(&mut self, next: Option<&Entry>) -> Result<Verdict, AllocError>
         ensures step { IfOk result (λ verdict. Applies self.old.replica (option_map (λ e. e.now) next.entry) verdict self.new.replica) }
         ensures same { OnErr result (self.new.replica ≡ self.old.replica) }
@@ -119,8 +119,8 @@ impl Library {
     }
 
     /// Applies the next entry as `apply` does, its text read and its proofs checked by some workers in parallel. Each passes
-    /// the gate before each proof; the jobs are the `$p` of the text, in order, and of a long text that is judged ahead first
-    /// those of its first part, then the others, each counted from 0. No answer depends on the number of workers.
+    /// the gate before each proof; the jobs are the `$p` of the text, in order; if a long text is judged ahead, those of its
+    /// first part and then those of the rest, each counted from 0. No answer depends on the number of workers.
     ///
     /// Errors and steps: those of `apply`, and out of memory if a proof is heavy and the gate keeps these out
     /// (`Gate::admits_heavy`). Cost: that of the entry's own text, a large text and its proofs over the workers.
@@ -158,8 +158,8 @@ impl Library {
     }
 
     /// Applies the next entry, where `read` returns the statements that a text writes, `add` adds statements to the
-    /// tables, and `least` returns of proofs the index of the least that is not right. The statements of a text are added
-    /// where they are good; a charter counts from now on where it is added.
+    /// tables, and `least` returns the index of the first proof that is not right, or `None`. The statements of a text
+    /// are added if they are good; a charter that is added is in force from now on.
     fn apply_by<
         T: Fn(&[u8]) -> Result<Vec<Stmt>, ReadFault>,
         E: Fn(&[Stmt], &mut Tables, &mut StepCounts, &mut Checkers) -> Added,

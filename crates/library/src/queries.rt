@@ -46,8 +46,8 @@ impl Library {
     /// Returns the labels of the `$a` that the proof of the label cites, or that the proofs of the `$p` it cites use, each once,
     /// in the order of the library.
     ///
-    /// Errors: `NoLabel` where no statement has the label, `NotProvable` where it is no `$p`, both also where every
-    /// allocation fails; `Memory` in place of an answer alone. Cost: that of the proofs that it rests on, each read
+    /// Errors: `NoLabel` if no statement has the label, `NotProvable` if it is no `$p`, both even if every allocation
+    /// fails; else `Memory`. Cost: that of the proofs that it rests on, each read
     /// once, and a byte for each statement before it. Source: Metamath, 4.2.6 and appendix B.
     pub fn trace(&self, label: &[u8]) -> Result<Vec<Word>, AskFault>
         ensures labels { IfOk result (λ labels. IsTrace self.now.replica.statements label.now labels.items) }
@@ -62,8 +62,7 @@ impl Library {
     /// Returns the labels of the `$p` whose proofs cite the statement with the label, a hypothesis or an assertion, each once,
     /// in the order of the library; with `all` also of those that use it through others, as `trace` does.
     ///
-    /// Errors: `NoLabel` where no statement has the label, also where every allocation fails; `Memory` in place of an answer
-    /// alone. Cost: that of the proofs after the statement, each read once, and once more where it lists what is sought, and
+    /// Errors: `NoLabel` if no statement has the label, even if every allocation fails; else `Memory`. Cost: that of the proofs after the statement, each read once, and once more where it lists what is sought, and
     /// a byte a statement. Source: Metamath, 4.2.6 and appendix B.
     pub fn usage(&self, label: &[u8], all: bool) -> Result<Vec<Word>, AskFault>
         ensures labels { IfOk result (λ labels. IsUsage self.now.replica.statements label.now all labels.items) }

@@ -60,8 +60,8 @@ impl<'a> Work for Proofs<'a> {
     }
 }
 
-/// Returns the position of the least `$p` after the first `front` statements that is not proved, where `least` returns of
-/// proofs the index of the least that is not right.
+/// Returns the position of the first `$p` after the first `front` statements that is not proved, where `least` returns the
+/// index of the first proof that is not right, or `None`.
 ///
 /// Errors: an allocation fails. Cost: that of the proofs, and one look at each of these statements.
 pub(crate) fn least_unproved<

@@ -12,26 +12,26 @@ pub enum Cause {
     Text,
     /// C3: the tokens are no list of statements.
     Shape,
-    /// C7: a charter is there that does not name the author, and this is the least `$c` or `$a` of the text. For a
+    /// C7: the charter in force does not name the author, and this is the first `$c` or `$a` of the text. For a
     /// refused charter the number is 0.
     NotChartered { statement: usize },
-    /// C4: the least statement that breaks a rule, and its least rule. A block that is open at the end breaks G10 one
+    /// C4: the first statement that breaks a rule, and its least rule. A block that is open at the end breaks G10 one
     /// above the last statement.
     Rule { statement: usize, rule: Rule },
-    /// C5: the least `$p` whose proof is not right, where no token of the proof has the byte `?`.
+    /// C5: the first `$p` whose proof is not right, where no token of the proof has the byte `?`.
     Proof { statement: usize },
-    /// C6: the least `$p` whose proof is not right, where a token of the proof has it.
+    /// C6: the first `$p` whose proof is not right, where a token of the proof has it.
     Unfinished { statement: usize },
 }
 
 /// The outcome of an entry of the log.
 #[derive(Clone, Copy, Debug, Drop, PartialEq, Eq)]
 pub enum Verdict {
-    /// A text was added whole, or a charter counts from now on.
+    /// A text was added whole, or a charter is in force from now on.
     Added,
     /// It was a no-operation.
     Nothing,
-    /// The author's entry of that number was decided before; the first verdict stays.
+    /// The author's entry of that serial was decided before; the first verdict stays.
     Repeat,
     /// The entry was refused, and nothing of it was added.
     Refused(Cause),

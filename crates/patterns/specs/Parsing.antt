@@ -19,7 +19,7 @@ is_unknown w = has_byte 36 w && not (name_eq w (codes "$?") || name_eq w (codes 
 abbrev pub ArePattern : List Name → Type 0
 ArePattern ws = (find is_unknown ws ≡ None) × IsTrue (list_any is_symbol_word ws)
 
--- why they are no pattern: the first word that is no part, or no symbol; an allocation fails only where they are one
+-- why they are refused: the first unknown word, else that none is a symbol; `Memory` only if they are a pattern
 abbrev pub IsRefusal : List Name → BadPattern → Type 0
 IsRefusal ws (Word w) = find is_unknown ws ≡ Some w.now
 IsRefusal ws NoSymbol = (find is_unknown ws ≡ None) × IsFalse (list_any is_symbol_word ws)

@@ -31,7 +31,7 @@ may_be (Symbol s) x = name_eq s.now x
 may_be One x = true
 may_be Many x = false
 
--- the symbols begin with one for each part
+-- the first symbols match the parts, one each
 abbrev pub begins_with : List Part → List Name → Bool
 begins_with [] e = true
 begins_with (q ∷ p) [] = false

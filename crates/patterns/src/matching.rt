@@ -52,7 +52,7 @@ fn is_many(part: &Part) -> bool
     matches!(part, Part::Many)
 }
 
-/// Returns the first place at which the symbols begin with one for each part of the segment.
+/// Returns the first index from which the symbols match the parts of the segment, one each.
 fn first_place(segment: &[Part], symbols: &[&[u8]]) -> Option<usize>
     ensures first { IsFirstPlace segment.now (map (λ s. s.now) symbols.now) result }
     ensures room { IfSome result (λ place. place + length segment.now ≤ length symbols.now) }
@@ -69,7 +69,7 @@ fn first_place(segment: &[Part], symbols: &[&[u8]]) -> Option<usize>
     }
 }
 
-/// Tells whether the symbols begin with one for each part.
+/// Returns whether the first symbols match the parts, one each.
 fn begins_with(segment: &[Part], symbols: &[&[u8]]) -> bool
     ensures { result ≡ begins_with segment.now (map (λ s. s.now) symbols.now) }
 {

@@ -21,16 +21,6 @@ pub enum BadPattern<'a> {
     Memory,
 }
 
-impl<'a> From<AllocError> for BadPattern<'a> {
-    ghost use Rattle.patterns.specs.declared.pattern.BadPattern.TheVariants.{Memory};
-
-    ghost from_gives = { λ _ fault. fault ≡ Memory };
-
-    fn from(_error: AllocError) -> BadPattern<'a> {
-        BadPattern::Memory
-    }
-}
-
 /// A pattern of symbols. Contracts see the list of its parts.
 #[derive(Drop)]
 pub struct Pattern<'a> {
@@ -48,11 +38,11 @@ impl<'a> Model for Pattern<'a> {
 }
 
 impl<'a> Pattern<'a> {
-    /// Parses a pattern: words between white bytes, `$?` for any one symbol, `$*` for any number of
-    /// symbols, and every other word for itself, a symbol.
+    /// Parses a pattern: words between white bytes. `$?` matches any one symbol, `$*` any number of
+    /// symbols, and any other word the symbol that it spells.
     ///
-    /// Errors: `Word`, the first word with another `$`; else `NoSymbol`; both even if every allocation
-    /// fails; else `Memory`. Cost: the size of the text. Source: `search` of the program metamath.
+    /// Errors: `Word`, the first word that has a `$` and is neither `$?` nor `$*`; else `NoSymbol`; both
+    /// even if every allocation fails; else `Memory`. Cost: the size of the text. Source: `search` of the program metamath.
     pub fn parse(alloc: Global, text: &'a str) -> Result<Pattern<'a>, BadPattern<'a>>
         ensures parts { IfOk result (λ parts. parts ≡ map part_of (words_in text.now)) }
         ensures pattern { IfOk result (λ _. ArePattern (words_in text.now)) }
@@ -71,7 +61,7 @@ impl<'a> Pattern<'a> {
         }
     }
 
-    /// Tells whether the pattern matches a contiguous part of the symbols. Does not allocate.
+    /// Returns whether the pattern matches a contiguous run of the symbols. Does not allocate.
     ///
     /// Cost: at most the number of symbols times the number of parts, also with `$*`.
     pub fn is_in(&self, symbols: &[&[u8]]) -> bool

@@ -35,8 +35,8 @@ impl<'a> SearchWords<'a> {
         }
     }
 
-    /// Tells whether a description has each of the words as a part, whatever the case of the letters
-    /// A to Z. Does not allocate.
+    /// Returns whether a description contains each of the words, ignoring ASCII case. Does not
+    /// allocate.
     ///
     /// Cost: at most the size of the description times that of the words.
     pub fn are_in(&self, description: &[u8]) -> bool
@@ -46,7 +46,7 @@ impl<'a> SearchWords<'a> {
     }
 }
 
-/// Tells whether the description has each of the words of a text as a part.
+/// Returns whether the description contains each of the words of a text.
 fn has_words(description: &[u8], text: &[u8]) -> bool
     ensures { IsTrue result ↔ HasWords description.now (words_in text.now) }
 {
@@ -60,7 +60,7 @@ fn has_words(description: &[u8], text: &[u8]) -> bool
     true
 }
 
-/// Tells whether the text has the word as a part, whatever the case of the letters A to Z.
+/// Returns whether the text contains the word, ignoring ASCII case.
 fn has_part(text: &[u8], word: &[u8]) -> bool
     ensures { IsTrue result ↔ HasPart text.now word.now }
 {

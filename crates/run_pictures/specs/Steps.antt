@@ -1,4 +1,4 @@
--- The steps that the events of a history are.
+-- The steps of the events of a history.
 -- Source: Lamport, Paxos Made Simple, section 3: a run is a list of events, each at one node.
 -- The code records a step as the world takes its event; here they are read off the history.
 use Rattle.std.specs.Prelude.{ℕ, suc, Bool, true, false, List, [], ◌∷◌, Option, Some, None, Result, length, slice_get}

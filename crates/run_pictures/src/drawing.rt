@@ -41,7 +41,8 @@ struct Scene<'a> {
     from: usize,
 }
 
-/// Returns a part of a run as an SVG picture: its marks, and no others.
+/// Returns a part of a run as an SVG picture of its marks. `weights` are those that the run was made
+/// with.
 ///
 /// Errors: `TooLarge` if more than `MOST_ROWS` steps are to be shown, else `Memory` if an allocation
 /// fails. Cost: that of `Run::marks`, and the size of the picture.

@@ -18,7 +18,8 @@ const MOST_SHOWN: usize = 48;
 /// The byte that stands for one that is no printable ASCII.
 const UNSEEN: u8 = b'?';
 
-/// Returns the name of a step: the line of `play` that makes it, without the node.
+/// Returns the name of a step: its kind, with the author, the serial and the start of the text of an
+/// offer, the number of a packet, or the slot and the verdict of an application.
 pub(crate) fn step_label(alloc: Global, world: &World, act: Act) -> Result<Vec<u8>, AllocError> {
     let mut name = Vec::new(alloc);
     match act {

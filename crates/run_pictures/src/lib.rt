@@ -1,9 +1,8 @@
 //! The picture of a run: each event and each application of an entry a row, each packet an arrow
 //! from where it was posted to where it was delivered, or a stump.
 //!
-//! The contracts that the crate above uses: a `Run` records exactly the steps of its history, and
-//! `Run::marks` returns exactly the marks of some of them (`specs/Steps`, `specs/Marks`).
-//! `draw` draws these marks and no others.
+//! The main contracts: a `Run` records exactly the steps of its history, and `Run::marks` returns
+//! exactly the marks of some of them (`specs/Steps`, `specs/Marks`), which `draw` draws.
 //!
 //! Reading order: `step` and `mark` (the types), specs/Begun, Steps, Marks and RunView, `run` (a world whose
 //! steps are recorded), `part` (the steps that are shown), `marks`, `labels`, `drawing`.

@@ -4,12 +4,12 @@ ghost use Rattle.run_pictures.specs.Marks.{shown_of};
 
 use crate::step::Step;
 
-/// A part of a run: some of its steps, events and applications counted alike from 0.
+/// A part of a run: some of its steps, events and applications counted together from 0.
 #[derive(Clone, Copy, Debug, PartialEq, Eq)]
 pub struct Part {
-    /// The first step.
+    /// The index of the first step.
     pub from: usize,
-    /// How many steps, if there are as many.
+    /// The largest number of steps.
     pub count: usize,
 }
 
@@ -20,7 +20,7 @@ pub(crate) fn shown(steps: &[Step], part: Part) -> &[Step]
     first(without(steps, part.from), part.count)
 }
 
-/// Returns the steps without the first ones.
+/// Returns the steps after the first `count`.
 #[tactic(auto, using(std::proofs::lemmas::List::drop_all))]
 fn without(steps: &[Step], count: usize) -> &[Step]
     ensures { result.now ≡ drop count steps.now }
@@ -32,7 +32,7 @@ fn without(steps: &[Step], count: usize) -> &[Step]
     }
 }
 
-/// Returns the first steps.
+/// Returns the first `count` steps, or all if there are fewer.
 #[tactic(auto, using(std::proofs::lemmas::List::take_all))]
 fn first(steps: &[Step], count: usize) -> &[Step]
     ensures { result.now ≡ take count steps.now }

@@ -10,15 +10,17 @@ pub struct Step {
     /// The node at which it happened.
     pub node: u8,
     pub act: Act,
-    /// The number of the first packet that it posted, and the number after the last.
+    /// The number of the first packet that it posted; 0 for an application.
     pub first_post: u64,
+    /// The number after that of the last packet that it posted; 0 for an application.
     pub end_post: u64,
-    /// How many entries the log of the node had before it, and how many after it.
+    /// How many entries the log of the node had before it.
     pub learned_before: u32,
+    /// How many entries the log of the node has after it.
     pub learned: u32,
 }
 
-/// The event of a step.
+/// The kind of a step: an event, or the application of an entry.
 #[derive(Clone, Copy, PartialEq, Eq)]
 pub enum Act {
     /// An entry is offered by the event of the history at this index.

@@ -26,7 +26,7 @@ fn push_progress(line: &mut Vec<u8>, written: u64, all: u64) -> Result<(), Alloc
     line.extend_from_slice(b" pages\n")
 }
 
-/// Appends a number of at most six digits, a comma between its thousands and its last three digits.
+/// Appends a number below 1,000,000,000 with a comma between groups of three digits.
 fn push_grouped(line: &mut Vec<u8>, number: u64) -> Result<(), AllocError> {
     if number < 1_000 {
         return push_number(line, number);
@@ -36,7 +36,7 @@ fn push_grouped(line: &mut Vec<u8>, number: u64) -> Result<(), AllocError> {
     push_three(line, number % 1_000)
 }
 
-/// Appends the number of the thousands.
+/// Appends the digits before the last three, grouped.
 fn push_grouped_front(line: &mut Vec<u8>, thousands: u64) -> Result<(), AllocError> {
     if thousands < 1_000 {
         return push_number(line, thousands);

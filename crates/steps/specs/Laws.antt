@@ -1,6 +1,6 @@
 -- Laws of the steps of items, whatever the items are.
 -- Metamath, 4.2.6: a result follows from earlier ones.
--- The code finds steps again; here that no two are one.
+-- The code looks steps up in a map; here that no two are equal.
 use Rattle.std.specs.Prelude.{◌≡◌, ℕ, List, Some, slice_get}
 use Rattle.steps.specs.Words.{Database, AreBelow, Item}
 use Rattle.steps.specs.StepTable.{Step, AreSteps}

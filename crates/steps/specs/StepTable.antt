@@ -9,7 +9,7 @@ pub record Step : Type 0 where
   pub position : ℕ
   pub taken : List ℕ
 
--- the steps so far; of the results that wait, and of those that were marked, the places of their steps
+-- the steps so far, and the places of the steps of the results on the stack, and of those that were marked
 pub record Progress : Type 0 where
   pub steps : List Step
   pub stack : List ℕ

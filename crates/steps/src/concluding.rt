@@ -12,8 +12,8 @@ use std::alloc::AllocError;
 use subst::{Buffer, ImageRanges, Remaining, SYMBOLS_LIMIT, SymbolRange, place_between};
 use verify::read_off;
 
-/// Returns the symbols of an expression whose images are not empty, if it is known where its symbols stand and these are few;
-/// else the expression. With the images put in, both give the same.
+/// Returns the symbols of an expression whose images are not empty, if `standing` is given and they are at most a quarter of the
+/// expression; otherwise the expression. Substituting in either gives the same.
 ///
 /// Errors: an allocation fails. Cost: the distinct symbols of the expression, and the symbols that are returned.
 fn shortened<'a>(
@@ -37,8 +37,8 @@ fn shortened<'a>(
 /// Appends to the symbols the conclusion of the assertion from the results at these places, and returns where it lies.
 /// `standing` tells where the symbols of its expression stand.
 ///
-/// Cost: one look at each result, and the symbols written; and those of the expression, of which only the distinct ones count
-/// if it is known where they stand.
+/// Errors: an allocation fails, or the expressions exceed `SYMBOLS_LIMIT` symbols. Cost: one look at each result, the symbols
+/// written, and the symbols of the expression, or only its distinct ones if `standing` is given.
 pub fn conclude(
     symbols: &mut Buffer,
     images: &mut ImageRanges,

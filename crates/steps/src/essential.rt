@@ -1,4 +1,4 @@
-//! The steps that a mathematician reads.
+//! The essential steps: the last, and those that are taken for a `$e`.
 ghost use Rattle.std.specs.Prelude.{◌≡◌, suc, ◌<◌, ◌≤◌, [], IfOk, OnOk, length, map, get_or};
 ghost use Rattle.frame.specs.Below.{AreBelow};
 ghost use Rattle.steps.specs.Rows.{no_row, steps_of, AreRows};
@@ -95,7 +95,7 @@ fn mark_step(
     Ok(())
 }
 
-/// Returns a mark at the last of so many steps alone.
+/// Returns `count` marks, of which only the last is set.
 fn last_marked(alloc: Global, count: usize) -> Result<Vec<bool>, AllocError>
     ensures { IfOk result (λ marks. marks.items ≡ mark_last count) }
 {
@@ -106,8 +106,8 @@ fn last_marked(alloc: Global, count: usize) -> Result<Vec<bool>, AllocError>
     Ok(marks)
 }
 
-/// Returns for each step whether it is kept: the last, and those that a kept step takes for a `$e`. A step takes earlier ones, so
-/// they are walked down.
+/// Returns for each step whether it is kept: the last, and those that a kept step takes for a `$e`. A step takes
+/// only earlier steps, so the steps are visited from the last to the first.
 fn marks_of(
     alloc: Global,
     frames: &Frames,
@@ -147,10 +147,10 @@ fn renumbered(alloc: Global, list: &[usize], numbers: &[usize]) -> Result<Vec<us
     Ok(taken)
 }
 
-/// Returns the last step of a table of the `$p` at a position, and with each step those that it takes for a `$e`; numbered anew,
-/// and each with only those as the steps that it takes.
+/// Returns the essential steps of a table of the `$p` at a position: the last, and for each kept step those that it takes for a
+/// `$e`. They are renumbered, and each row lists only kept steps.
 ///
-/// Cost: the table's own size; long lists of an assertion that it cites are made twice. Source: Metamath, 4.2.6.
+/// Errors: an allocation fails. Cost: the table's own size; long lists of an assertion that it cites are made twice. Source: Metamath, 4.2.6.
 pub fn essential_table(
     alloc: Global,
     frames: &Frames,

@@ -1,4 +1,5 @@
-//! The mandatory hypotheses of assertions with long lists, each listed once for a table.
+//! The mandatory hypotheses of assertions with long lists, each listed once for a table. An assertion has long lists if
+//! `Frames::cited` returns `None` for it.
 ghost use Rattle.std.specs.Prelude.{◌≡◌, [], false, map, is_some, Some, IfOk, IfSome, OnOk};
 ghost use Rattle.mm_read.specs.declared.stmt.Stmt.{Stmt as Statement};
 ghost use Rattle.scope.specs.Active.{stmt_at};
@@ -91,7 +92,7 @@ pub struct LongLists {
     alloc: Global,
     /// The parts of the assertion that is listed now.
     buffers: FrameBuffers,
-    /// The index of the list of the assertion at a position. An index only says where to look.
+    /// The index of the list of the assertion at a position. It is only a hint: `find` checks the list at that index.
     indexes: BTreeMap<usize, usize>,
     pub lists: Vec<HypothesisList>,
 }

@@ -84,7 +84,7 @@ impl ProofTable {
         self.placed[place].position
     }
 
-    /// Returns the places of the steps whose results it takes, in the order of the hypotheses.
+    /// Returns the places of the steps whose results the step at a place takes, in the order of the hypotheses.
     pub fn taken(&self, place: usize) -> &[usize]
         requires { place < length self.now }
         ensures { result.now ≡ (get_or self.now place no_row).step.taken }
@@ -92,7 +92,7 @@ impl ProofTable {
         self.placed[place].taken.as_slice()
     }
 
-    /// Returns the numbers of the symbols of its expression.
+    /// Returns the numbers of the symbols of the expression of the step at a place.
     pub fn expr(&self, place: usize) -> &[u32]
         requires { place < length self.now }
         ensures { result.now ≡ (get_or self.now place no_row).expr }
@@ -103,8 +103,8 @@ impl ProofTable {
 
 /// Returns the steps of the items of a right proof of the `$p` at that position, with what each concludes.
 ///
-/// Cost: that of the proof, and of looking each citation up among the steps. There is no limit on the steps. Long lists of an
-/// assertion that it cites are made once.
+/// Errors: an allocation fails. Cost: that of the proof, and of looking each citation up among the steps. There is no limit on
+/// the steps. Long lists of an assertion that it cites are made once.
 /// Source: Metamath, 4.2.6 and appendix B.
 pub fn proof_table(
     alloc: Global,

@@ -27,13 +27,17 @@ pub struct PlacedStep {
     pub place: SymbolRange,
 }
 
-/// The steps so far, those of the results on the stack and of those that were marked, and buffers.
+/// The steps so far, and buffers.
 #[derive(Drop)]
 pub struct TableDraft {
     pub placed: Vec<PlacedStep>,
+    /// The expressions of the steps, one after another.
     pub symbols: Buffer,
+    /// The places of the steps of the results on the stack.
     pub stack: Vec<usize>,
+    /// The places of the steps of the results that were marked.
     pub saved: Vec<usize>,
+    /// The place of a step, by the position that it cites and the places that it takes.
     pub known: BTreeMap<Vec<usize>, usize>,
     pub images: ImageRanges,
     pub remaining: Remaining,

@@ -1,4 +1,4 @@
--- The law of `--assume`: what is asked about is good.
+-- The law of `--assume`: the statements that the answers are about are good.
 -- Source: Metamath, 4.2.6: a citation asks an earlier assertion for its frame alone, a `$a` like a `$p`.
 use Rattle.std.specs.Prelude.{ℕ, List, length}
 use Rattle.library.specs.Good.{Good}

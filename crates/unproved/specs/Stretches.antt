@@ -7,7 +7,7 @@ use Rattle.library.specs.Words.{Database, bares}
 use Rattle.library.specs.Judging.{StandsProved}
 use Rattle.verify_pool.specs.Least.{IsLeast}
 
--- statements, the names that their frames number, and the positions after which and up to which some of them stand
+-- statements, the names that their frames number, and the part of them after position `front`, up to `end`
 pub record Within : Type 0 where
   pub statements : Database
   pub names : List Name

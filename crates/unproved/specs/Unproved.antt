@@ -8,7 +8,7 @@ use Rattle.library.specs.Judging.{StandsProved}
 use Rattle.library.specs.declared.verdict.Cause.{Cause}
 use Rattle.library.specs.declared.verdict.Cause.TheVariants.{Proof, Unfinished}
 
--- the positions above the one, up to the other, of exactly the `$p` that are not proved, in order
+-- the positions after `front`, up to `end`, of exactly the `$p` that are not proved, in order
 abbrev pub AreUnproved : Database → ℕ → ℕ → List ℕ → Type 0
 AreUnproved S front end [] = (at : ℕ) → front < at → at ≤ end → StandsProved S at
 AreUnproved S front end (at ∷ list) =

@@ -20,7 +20,7 @@ use std::mem::replace;
 use std::thread::Threads;
 use verify_pool::Workers;
 
-/// The statements of a text that break no rule, with their rules and frames. Contracts see the
+/// The statements of a legal text, with the state of the rules and their frames. Contracts see the
 /// statements.
 #[derive(Drop)]
 pub struct Entered {
@@ -80,11 +80,11 @@ impl Entered {
         &self.frames
     }
 
-    /// Finds every `$p` that is not proved, each judged against earlier statements. Returns
-    /// their positions, in order. No answer depends on the number of workers.
+    /// Finds every `$p` that is not proved, each judged against earlier statements. Returns their
+    /// positions, from 1, ascending. No answer depends on the number of workers.
     ///
-    /// Errors: an allocation fails. Cost: that of the proofs over the workers; those that follow a
-    /// wrong one among 2,048 statements are judged once more, on the calling thread.
+    /// Errors: an allocation fails. Cost: that of the proofs over the workers; the proofs after the first
+    /// wrong one in a stretch of at most 2,048 statements are judged again, on the calling thread.
     /// Source: Metamath, 4.2.6 and appendix B.
     pub fn unproved<R: Threads + Sync>(
         &self,
@@ -105,7 +105,7 @@ impl Entered {
     }
 
     /// Makes a library of the statements, each unproved `$p` taken as a `$a` with the same label and
-    /// expression. No proof is judged once more.
+    /// expression. `unproved` is the list that the call of this name returns. No proof is judged again.
     ///
     /// Errors: an allocation fails. Cost: the size of the statements.
     #[tactic(auto, using(crate::proofs::AssumedGoodLemmas::good_assumed, crate::proofs::UnprovedLemmas::all_within))]

@@ -1,6 +1,6 @@
 //! The `$p` of a list of statements that are not proved.
 //!
-//! The crate above uses one contract: `Entered::unproved` returns the positions of exactly the `$p`
+//! The main contract: `Entered::unproved` returns the positions of exactly the `$p`
 //! that are not proved, in order, with any number of workers.
 //!
 //! Reading order: `entered` (statements with their frames), `stretch` (statements as jobs of a

@@ -12,10 +12,10 @@ use std::alloc::{AllocError, Global};
 use std::thread::Threads;
 use verify_pool::{Checkers, OpenGate, Workers, judge_all, judge_here};
 
-/// How many statements are judged in parallel before the next, at most.
+/// The largest number of statements that are judged in parallel at a time.
 const STRETCH: usize = 2_048;
 
-/// How many statements are judged on the calling thread, since threads would cost more.
+/// Fewer statements than this are judged on the calling thread: starting threads would cost more.
 const FEW: usize = 32;
 
 /// Statements with their frames, and the workers that judge them.
@@ -48,8 +48,8 @@ pub(crate) fn find_all<R: Threads + Sync>(search: &Search<'_, R>) -> Result<Vec<
     Ok(list)
 }
 
-/// Returns the position up to which statements after the first `front` are judged next: that of the
-/// first `$p` with an unfinished proof, which is not proved and so ends a search, or `STRETCH` more.
+/// Returns the position at which the next stretch ends: that of the first `$p` with an unfinished
+/// proof, else `front + STRETCH`, or that of the last statement.
 fn stretch_end(statements: &[Stmt], front: usize) -> usize
     requires { front < length statements.now }
     ensures later { front < result }
@@ -117,7 +117,7 @@ fn first_in<R: Threads + Sync>(
     }
 }
 
-/// Returns the same, judged by the workers.
+/// Returns the same as `first_in`, judged by the workers.
 fn first_by_workers<R: Threads + Sync>(
     search: &Search<'_, R>,
     checkers: &mut Checkers,
@@ -138,7 +138,7 @@ fn first_by_workers<R: Threads + Sync>(
     judge_all(search.rt, checkers, &stretch, search.workers, &OpenGate)
 }
 
-/// Returns the same, judged on the calling thread up to that `$p`.
+/// Returns the same as `first_in`, judged on the calling thread, which ends at that `$p`.
 fn first_here<R: Threads + Sync>(
     search: &Search<'_, R>,
     checkers: &mut Checkers,

@@ -4,7 +4,8 @@ ghost use Rattle.std.specs.Prelude.{◌≤◌, vec_len, OnOk};
 use std::alloc::{AllocError, Global};
 use verify::Checker;
 
-/// How many symbols the results of a proof may have that a worker checks: 4 MB. Heavier proofs are left to the calling thread.
+/// The largest number of symbols of the results of a proof that a worker checks (4 MiB). Heavier proofs are left to the
+/// calling thread.
 pub const SHARE: usize = 1_048_576;
 
 /// A worker's checker, and the outcome of the worker's jobs.
@@ -17,8 +18,8 @@ pub struct Worker {
     pub deferred: Vec<usize>,
 }
 
-/// The checker of the calling thread, and one for each worker: made when it is first needed, and kept from then on with its
-/// buffers. The one of the calling thread alone takes the heaviest proofs, so their room is needed once.
+/// The checker of the calling thread, and those of the workers, which are made when first needed and kept, with their buffers,
+/// until memory runs out. The one of the calling thread alone takes the heaviest proofs, so their room is needed once.
 ///
 /// `Work::begin` prepares each of them whatever it judged before, so contracts say nothing of them.
 #[derive(Drop)]

@@ -22,7 +22,7 @@ use verify::{Answer, Checker};
 pub struct Job {
     /// The position of the `$p`.
     pub at: usize,
-    /// The items of its proof; `None` where its tokens write no items: such a job is not right.
+    /// The items of its proof. A job without items is not right.
     pub code: Option<Items>,
 }
 
@@ -31,7 +31,7 @@ pub struct Job {
 /// The jobs are dealt out to the workers in turn, each worker runs on a thread of its own where one can be made, and
 /// passes `Place::Job(index)` of the gate before the job of that index. A worker stops at its first job that is not right.
 ///
-/// Errors: an allocation fails. Cost: that of the proofs, over the workers.
+/// Errors and cost: those of `judge_all`.
 #[tactic(auto, using(crate::proofs::LeastLemmas::least_bad))]
 pub fn check_all<G: Gate + Sync, R: Threads + Sync>(
     rt: &R,

@@ -18,11 +18,11 @@ use verify::{Answer, Checker};
 /// The jobs are dealt out in turn to the workers, of whom no more take part than there are jobs. Each worker has a checker
 /// of its own, runs on a thread of its own where one can be made, and passes `Place::Job(index)` of the gate before the job
 /// of that index. A worker stops at its first job that is not right, and puts off those that need more memory than it has:
-/// the calling thread judges these after all workers ended, if the gate admits heavy proofs. Where this runs out of
-/// memory, the checkers of the workers are dropped, and the calling thread judges all jobs again.
+/// the calling thread judges these after all workers ended. If this runs out of memory and the gate admits heavy proofs, the
+/// checkers of the workers are dropped, and the calling thread judges all jobs again.
 ///
-/// Errors: an allocation fails for the calling thread too, or a proof is heavy and the gate admits none. Cost: that of the jobs, over the workers; where jobs are judged
-/// again, once more theirs.
+/// Errors: an allocation fails for the calling thread; if the gate admits no heavy proofs, also if one fails for a worker or
+/// a proof is heavy. Cost: that of the jobs, over the workers, and again if jobs are judged again.
 pub fn judge_all<W: Work + Sync, G: Gate + Sync, R: Threads + Sync>(
     rt: &R,
     checkers: &mut Checkers,
@@ -193,9 +193,10 @@ fn least_in_stripe<W: Work, G: Gate>(
     Ok(None)
 }
 
-/// Tells whether a job is found not to be right. A job that needs more memory than there is is put off.
+/// Judges a job, and returns whether it is wrong. A job that runs out of memory is appended to `deferred`, and `false` is
+/// returned.
 ///
-/// Errors: it cannot be put off either. Cost: that of the job.
+/// Errors: it cannot be appended. Cost: that of the job.
 fn is_wrong<W: Work>(
     work: &W,
     index: usize,
@@ -240,7 +241,7 @@ fn settle<W: Work>(
     Ok(least)
 }
 
-/// Judges a job that was put off, where it is before the least one that is not right, and returns which is the least then.
+/// Judges a deferred job if its index is below `least`. Returns the new least index of a job that is not right.
 ///
 /// Errors: an allocation fails. Cost: that of the job.
 fn settle_one<W: Work>(

@@ -8,7 +8,7 @@ use net::Event;
 use std::alloc::{AllocError, Global};
 use synod::Value;
 
-/// An entry in a packet.
+/// An entry as a value that the nodes agree on.
 #[derive(Drop)]
 pub struct Carried(pub Entry);
 

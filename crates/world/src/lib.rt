@@ -1,7 +1,8 @@
 //! The libraries of all nodes of one agreement, driven by a list of events.
 //!
-//! The contract that the crates above use is the headline, of an Ok of `run` and of each `World`: whatever was lost, repeated
-//! or delayed and whoever restarted, of the libraries of any two nodes at any two moments one is a prefix of the other.
+//! The main theorem is `headline`: whatever was lost, repeated or delayed and whoever restarted, any two nodes' libraries, at any
+//! two moments, are one a prefix of the other. `program` and `run_pictures` use `World`, `cluster` uses `Replica`; `run` serves
+//! tests.
 //!
 //! Read the definitions, specs/Carried, Replicas and Headline; then `carried`, `replica`,
 //! `world`, `replay` and `laws`.

@@ -1,4 +1,4 @@
-//! One node's replica: its library, and how many entries of its log made it.
+//! One node's replica: its library, and the number of log entries applied to it.
 ghost use Rattle.std.specs.Prelude.{◌≡◌, ◌<◌, replicate, option_map, IsSome, IfOk};
 ghost use Rattle.slots.specs.declared.slots.TheConstants.{SLOTS};
 ghost use Rattle.world.specs.Carried.{entry_of};
@@ -13,7 +13,7 @@ use std::mem;
 use std::thread::Threads;
 use verify_pool::{Gate, Workers};
 
-/// A library, and how many entries of a log made it, in order from the first.
+/// A library, and the number of log entries applied to it, in order from the first.
 #[derive(Drop)]
 pub struct Replica {
     library: Library,
@@ -39,7 +39,7 @@ impl Replica {
         }
     }
 
-    /// Replaces it by the replica of a new node. Does not allocate.
+    /// Resets this replica to that of a new node, and discards its library. Does not allocate.
     pub fn give_up(&mut self, alloc: Global)
         ensures { self.new ≡ new_library }
     {
@@ -60,9 +60,10 @@ impl Replica {
         &self.library
     }
 
-    /// Applies the entry that is next in the log. Returns `None` if there is none.
+    /// Applies the entry that is next in the log, if there is one: `Some(None)` is a no-operation. Returns `None` if the log ends
+    /// here.
     ///
-    /// Errors: `Memory`; the replica then stays at its slot. Cost: that of `Library::apply` on the entry.
+    /// Errors: `Memory`; the replica is then unchanged. Cost: that of `Library::apply` on the entry.
     pub fn apply_next(
         &mut self,
         next: Option<&Option<Carried>>,
@@ -111,7 +112,7 @@ fn entry_in(entry: &Option<Carried>) -> Option<&Entry>
     }
 }
 
-/// Makes a new replica for each of so many nodes.
+/// Makes a new replica for each of `nodes` nodes.
 pub(crate) fn new_replicas(alloc: Global, nodes: u8) -> Result<Vec<Replica>, AllocError>
     ensures { IfOk result (λ replicas. replicas.items ≡ replicate nodes new_library) }
 {
@@ -122,7 +123,7 @@ pub(crate) fn new_replicas(alloc: Global, nodes: u8) -> Result<Vec<Replica>, All
     Ok(replicas)
 }
 
-/// Gives up the library of a node that restarts.
+/// Discards the library of a node that restarts.
 pub(crate) fn give_up(alloc: Global, replicas: &mut Vec<Replica>, restarted: Option<u8>)
     ensures { replicas.new.items ≡ given_up replicas.old.items restarted }
 {

@@ -53,7 +53,7 @@ impl World {
         })
     }
 
-    /// Takes an event. Returns how many packets were posted so far. A restart gives up the library of its node.
+    /// Takes an event. Returns how many packets were posted so far. A restart discards the library of its node.
     ///
     /// Errors: the first fault that the event meets, or `Memory` where it meets none; the world is then as before.
     pub fn step(&mut self, event: Event<Entry>) -> Result<u64, StepFault>
@@ -74,7 +74,7 @@ impl World {
 
     /// Applies the next entry of node `k`'s log to its library. Returns `None` if no entry is next. Never passes a gap.
     ///
-    /// Errors: `NoNode` where there is no such node, else `Memory`; the library then stays at its slot.
+    /// Errors: `NoNode` where there is no such node, else `Memory`; the world is then unchanged.
     /// Cost: that of `Library::apply` on the entry.
     pub fn apply_next(&mut self, k: u8) -> Result<Option<Verdict>, StepFault>
         ensures applied { IfSome (next_entry self.old k) (λ entry. IfOk result (λ answer. IsSomeAnd answer (λ verdict. IsApplied self.old k entry verdict self.new))) }

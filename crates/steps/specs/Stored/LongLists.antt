@@ -1,6 +1,6 @@
 -- The mandatory hypotheses of assertions that a table lists once.
 -- Metamath, 4.2.6: a citation of an assertion needs results for its mandatory hypotheses.
--- The code keeps no groups of variables: a table is made of a right proof, whose images were compared.
+-- The code keeps no groups of variables: a table is made of a right proof, whose disjoint variable conditions were checked.
 use Rattle.std.specs.Prelude.{◌≡◌, ℕ, ◌<◌, List, [], ◌∷◌, length, map, slice_get, Some}
 use Rattle.steps.specs.Words.{Name, Stmt, Database, stmt_at, before, decode, Hypothesis, AssertionView, AreRequired, IsViewOf, AllBelow, hypotheses, mandatory_groups}
 
