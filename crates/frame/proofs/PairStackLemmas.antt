@@ -1,5 +1,5 @@
 -- Two variables that stand together in an active `$d`, and the variables that are active, by the stacks.
-use Rattle.frame.proofs.Words.{◌≡◌, ◌∙◌, ap, sym, subst, arith, refl, ℕ, suc, ◌+◌, ◌-◌, ◌<◌, ◌≤◌, Bool, true, false, cond, not, ◌||◌, ◌&&◌, ◌==◌, nat_eq, List, [], ◌∷◌, ◌++◌, length, map, filter, take, slice_get, slice_get_within, Option, Some, None, length-take, same_Some, list_any, or-false, append_assoc, length-append, take-get, and_comm, list_any-map, AllBelow, AreBelow, Name, name_eq, has_name, name_at, decode, AreDistinct, Stmt, Database, Entry, Storage, stays_open, active_from, actives, actives_from, is_disj, is_var, is_variable, separated, variables, is_pair, groups, names_in, labels_in, statements_of, stmt_of, AreStored, history, stack_at, symbols_at, option_symbols, has_code, having_behind, having, IsOfKind, AreOfKind}
+use Rattle.frame.proofs.Words.{◌≡◌, ◌∙◌, ap, sym, subst, arith, refl, ℕ, suc, ◌+◌, ◌-◌, ◌<◌, ◌≤◌, Bool, true, false, cond, not, ◌||◌, ◌&&◌, ◌==◌, nat_eq, List, [], ◌∷◌, ◌++◌, length, map, filter, take, slice_get, slice_get_within, Option, Some, None, length-take, same_Some, list_any, or-false, append_assoc, length-append, take-get, and_comm, list_any-map, AllBelow, AreBelow, Name, name_eq, has_name, name_at, decode, AreDistinct, Stmt, Database, Entry, Storage, stays_open, active_from, actives, actives_from, is_disj, is_var, is_variable, separated, variables, is_pair, groups, names_in, labels_in, statements_of, stmt_of, AreStored, history, stack_at, symbols_at, option_symbols, has_code, having_behind, having, IsOfKind, AreOfKind, AreTogether, have_both}
 use Rattle.frame.proofs.FoundByNumber.{map-back}
 use Rattle.frame.proofs.LegalBehind.{stands-at}
 use Rattle.frame.proofs.StoredOneMore.{numbered-at}
@@ -36,6 +36,16 @@ having-any q es c ps = having-any-behind q [] es c ps
 pub some-any : (xs : List ℕ) → not (nat_eq (length xs) 0) ≡ list_any (λ x. true) xs
 some-any [] = refl
 some-any (x ∷ xs) = grind arith
+
+-- one that passes two tests passes the second
+second-any : (f g : ℕ × Stmt → Bool) (ps : List (ℕ × Stmt)) → list_any (λ p. f p && g p) ps ≡ true → list_any g ps ≡ true
+second-any f g [] e = e
+second-any f g (p ∷ ps) e = by (f p) (g p) (second-any f g ps) e
+  where
+    by : (s t : Bool) → (list_any (λ q. f q && g q) ps ≡ true → list_any g ps ≡ true) → ((s && t) || list_any (λ q. f q && g q) ps) ≡ true → (t || list_any g ps) ≡ true
+    by s true rest h = refl
+    by true false rest h = rest h
+    by false false rest h = rest h
 
 -- ---- where the active statements stand
 
@@ -160,6 +170,24 @@ module _ (k : Storage) (stored : AreStored k) (d : AreDistinct (names_in k)) (m 
   pub row-is : (x y : ℕ) (st : List ℕ) → x < length N → y < length N → m ≤ length (statements_of k) → st ≡ stack_at (history k.disjoints x) (m + 1)
       → is_pair T (name_at N x) (name_at N y) ≡ (not (x == y) && list_any (λ list. list_any (λ c. y == c) list) (map (symbols_at k.entries) st))
   row-is x y st a b le is = pair-is x y st a b le is ∙ ap (λ t. not (nat_eq x y) && t) (list_any-map (symbols_at k.entries) (λ list. list_any (λ c. nat_eq y c) list) st)
+
+  -- two symbols of one `$d` of the row stand together
+  pub row-together : (x : ℕ) (st : List ℕ) → m ≤ length (statements_of k) → st ≡ stack_at (history k.disjoints x) (m + 1) → AreTogether (record { statements = T; names = N }) (map (symbols_at k.entries) st)
+  row-together x st le is = record { each = two }
+    where
+      two : (a b : ℕ) → a < length N → b < length N → (a == b) ≡ false → have_both (map (symbols_at k.entries) st) a b ≡ true → is_pair T (name_at N a) (name_at N b) ≡ true
+      two a b la lb other one =
+          let es = k.entries in
+          let listed : List (ℕ × Stmt) = actives is_disj T in
+          let both : ℕ → Bool = λ p. has_code es a p && has_code es b p in
+          let in_row : list_any both st ≡ true = list_any-map (symbols_at es) (λ list. list_any (λ c. nat_eq a c) list && list_any (λ c. nat_eq b c) list) st ∙ one in
+          let of_row : list_any both (having es x listed) ≡ true = ap (list_any both) (sym (stack-having x st le is)) ∙ in_row in
+          let own = stack_at (history k.disjoints a) (m + 1) in
+          pair-is a b own la lb le refl
+          ∙ (ap (λ t. not t && list_any (λ p. has_code es b p) own) other
+          ∙ (ap (list_any (λ p. has_code es b p)) (stack-having a own le refl)
+          ∙ (having-any (λ p. has_code es b p) es a listed
+          ∙ second-any (λ p. has_code es x p.0) (λ p. both p.0) listed (sym (having-any both es x listed) ∙ of_row))))
 
 -- ---- the symbols of one `$d`
 

@@ -30,6 +30,7 @@ pub use Rattle.frame.specs.ExprPlaces.{AreExprPlaces}
 pub use Rattle.frame.specs.FrameOf.{HasAssertion, frame_of, groups, hypotheses, is_hypothesis, is_mandatory, is_pair, is_used, mandatory_groups, separates}
 pub use Rattle.frame.specs.LastActive.{actives, actives_from, is_disj, is_var, last_active_of, last_active_of_kind, last_position}
 pub use Rattle.frame.specs.Laws.{GroupsArePairs}
+pub use Rattle.frame.specs.PairRows.{AreTogether, have_both}
 pub use Rattle.frame.specs.Parts.{FrameParts, Numbered}
 pub use Rattle.frame.specs.Stored.AssertionParts.{IsKeptAs, floats_in, groups_by, has_parts, has_two, is_float_in, is_typed, is_typed_by, kept_with, option_required, option_symbols, recorded_in, required_at, required_by, symbols_at, typecode_at, typed}
 pub use Rattle.frame.specs.Stored.Counts.{AreNumbered, AreZero, AreZeroBehind, Grown, HasRoom, HasTwo, IsBehind, IsLabelBelow, IsPlain, KeepsCounts, kind_of, next_last_active, with_declared, with_entry, zero_symbol}

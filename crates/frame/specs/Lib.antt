@@ -1,6 +1,7 @@
 pub mod Words
 pub mod Parts
 pub mod FrameOf
+pub mod PairRows
 pub mod Substitution
 pub mod Disjoint
 pub mod Citations

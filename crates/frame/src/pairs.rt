@@ -1,6 +1,6 @@
 //! The disjoint variables at a position.
 ghost use Rattle.std.specs.Prelude.{◌≡◌, ◌==◌, ◌&&◌, ◌||◌, ◌<◌, ℕ, not, false, length, IfNone, IfSome};
-ghost use Rattle.{std.specs.List.list_any, mm_lex.specs.Alphabet.Name, names.specs.Codes.name_at, names.specs.Codes.code_of, scope.specs.Active.is_variable, frame.specs.Below.AllBelow, frame.specs.Below.AreBelow, frame.specs.FrameOf.is_pair, frame.specs.LastActive.is_disj, frame.specs.Stored.EntryMeanings.statements_of, frame.specs.Stored.Stacks.AreOfKind, frame.specs.Stored.Stacks.IsOfKind, frame.specs.Stored.Stacks.has_code, frame.specs.Stored.Whole.AreStored};
+ghost use Rattle.{std.specs.List.list_any, mm_lex.specs.Alphabet.Name, names.specs.Codes.name_at, names.specs.Codes.code_of, scope.specs.Active.is_variable, frame.specs.Below.AllBelow, frame.specs.Below.AreBelow, frame.specs.FrameOf.is_pair, frame.specs.LastActive.is_disj, frame.specs.PairRows.AreTogether, frame.specs.Stored.EntryMeanings.statements_of, frame.specs.Stored.Stacks.AreOfKind, frame.specs.Stored.Stacks.IsOfKind, frame.specs.Stored.Stacks.has_code, frame.specs.Stored.Whole.AreStored};
 
 use crate::at_position::last_active_at;
 use crate::pair_memo::{PairMemo, search};
@@ -77,6 +77,7 @@ impl<'a> Pairs<'a> {
     pub fn row(&self, x: u32) -> Row<'a>
         requires { x < length self.now.names }
         ensures pairs { (y : ℕ) → y < length self.now.names → is_pair self.now.statements (name_at self.now.names x) (name_at self.now.names y) ≡ (not (x == y) && list_any (λ list. list_any (λ c. y == c) list) result) }
+        ensures together { AreTogether self.now result }
         ensures below { AllBelow (length self.now.names) result }
     {
         Row::new(self.storage, self.storage.disjoints.stack(x, self.at))

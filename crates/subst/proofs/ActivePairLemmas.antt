@@ -67,23 +67,24 @@ pub record ArePairsOf (v u : Numbered) : Type 0 where
 pub pairs-own : (v u : Numbered) → u ≡ v → ArePairsOf v u
 pairs-own v u e = rw e (record { names = refl; each = λ x y hx hy h. h })
 
+-- a symbol of the list stands in it, and has a name
+pub in-list : (list : List ℕ) (x : ℕ) → IsAmong (length list) list x → list_any (λ c. x == c) list ≡ true
+in-list list x p = list_any_at (λ c. x == c) list p.0 0 p.1 (eq-eqb _ _ (sym p.2))
+
+pub named : (v : Numbered) (list : List ℕ) → AreBelow (length v.names) list → (x : ℕ) → IsAmong (length list) list x → x < length v.names
+named v list below x p = subst (λ m. m < length v.names) p.2 (below-at (length v.names) list p.0 0 below p.1)
+
 module _ (v u w : Numbered) (list : List ℕ) (pairs : ArePairsOf v u)
     (tells : (x y : ℕ) → x < length u.names → y < length u.names → is_pair u.statements (name_at u.names x) (name_at u.names y) ≡ (not (x == y) && (list_any (λ c. x == c) list && list_any (λ c. y == c) list) || is_pair w.statements (name_at u.names x) (name_at u.names y))) where
   pub pairs-fewer : w.names ≡ u.names → ArePairsOf v w
   pairs-fewer same = record { names = same ∙ pairs.names; each = λ x y hx hy h. pairs.each x y hx hy ((rw pairs.names at tells) x y hx hy ∙ or_right _ _ h) }
 
-  in-list : (x : ℕ) → IsAmong (length list) list x → list_any (λ c. x == c) list ≡ true
-  in-list x p = list_any_at (λ c. x == c) list p.0 0 p.1 (eq-eqb _ _ (sym p.2))
-
-  named : AreBelow (length v.names) list → (x : ℕ) → IsAmong (length list) list x → x < length v.names
-  named below x p = subst (λ m. m < length v.names) p.2 (below-at (length v.names) list p.0 0 below p.1)
-
   pub list-pairs : AreBelow (length v.names) list → ArePairs v list
   list-pairs below = record {
     each = λ x y p q other.
-        (let hx = named below x p in
-        let hy = named below y q in
-        pairs.each x y hx hy ((rw pairs.names at tells) x y hx hy ∙ or_left _ _ (and_from _ _ (ap not (differ x y other)) (and_from _ _ (in-list x p) (in-list y q)))));
+        (let hx = named v list below x p in
+        let hy = named v list below y q in
+        pairs.each x y hx hy ((rw pairs.names at tells) x y hx hy ∙ or_left _ _ (and_from _ _ (ap not (differ x y other)) (and_from _ _ (in-list list x p) (in-list list y q)))));
   }
 
 -- ---- what is recorded of a list

@@ -15,6 +15,7 @@ pub mod VariablePlaceLemmas
 mod PlaceSetLemmas
 pub mod DisjointRowLemmas
 mod ActivePairLemmas
+mod OneListLemmas
 pub mod ImageVariableLemmas
 pub mod ImagePairLemmas
 mod DisjointTableLemmas

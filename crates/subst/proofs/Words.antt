@@ -7,6 +7,7 @@ pub use Rattle.frame.proofs.SymbolNumberLemmas.{below-take}
 pub use Rattle.frame.specs.Below.{AllBelow, AreBelow}
 pub use Rattle.frame.specs.Disjoint.{are_disjoint, are_groups_disjoint, is_group_disjoint}
 pub use Rattle.frame.specs.FrameOf.{groups, is_pair, together}
+pub use Rattle.frame.specs.PairRows.{AreTogether}
 pub use Rattle.frame.specs.Parts.{Numbered}
 pub use Rattle.frame.specs.Stored.Hypotheses.{AreThose, In}
 pub use Rattle.frame.specs.Substitution.{CodeImages, Images, apply, code_apply, code_image, image, images_from, images_of_names}
@@ -22,7 +23,7 @@ pub use Rattle.std.proofs.Math.Bool.{and_comm}
 pub use Rattle.std.proofs.Math.Seq.{drop-append_seam, take-append-add, take-append_seam}
 pub use Rattle.std.proofs.lemmas.Bool.{and_from, and_parts, and_right, both_ways, cases_Bool, cases_eq, cases_lt, eq-eqb, eqb-true, false_from_ne_true, lt-ltb, ltb-false, ltb-true, not-true, not_from_false, or_cases, or_left, or_parts, or_right, true_from_ne_false}
 pub use Rattle.std.proofs.lemmas.Bool.Decides.{nat_tests}
-pub use Rattle.std.proofs.lemmas.List.{append_cancel_left, drop-append-le, drop-drop, drop-take, drop_all, flat_map_more, get_or-append-add, get_or-append_right, get_or-drop, get_or-set_other, get_or-set_same, get_or-take, get_or_append_left, get_or_default, get_or_push, length-set, length-take, length-take-le, length_push, map-id, take-append-drop, take-append-le, take-take, take_all, take_more, take_rest}
+pub use Rattle.std.proofs.lemmas.List.{append_cancel_left, drop-append-le, drop-drop, drop-take, drop_all, flat_map_more, get_or-append-add, get_or-append_right, get_or-drop, get_or-set_other, get_or-set_same, get_or-take, get_or_append_left, get_or-replicate, get_or_default, get_or_past, get_or_push, length-replicate, length-set, length-take, length-take-le, length_push, map-id, take-append-drop, take-append-le, take-take, take_all, take_more, take_rest}
 pub use Rattle.std.proofs.lemmas.List.Elements.{All-contains, All-nil, All-push, All-same, All-weaker, Contains-append_cases, Contains-append_left, Contains-append_right, filter_map-append}
 pub use Rattle.std.proofs.lemmas.List.Filters.{dedup_is}
 pub use Rattle.std.proofs.lemmas.List.Folds.{Any-from_list_any, list_all-map, list_all_at, list_all_more, list_any_at}
@@ -47,6 +48,7 @@ pub use Rattle.subst.specs.Stored.ImagePairs.{AreDisjointPairs, IsDisjointPair, 
 pub use Rattle.subst.specs.Stored.ImageVariables.{AddsImage, Appends, AppendsWord, AreImagesRecorded, AreRead, GrowsWords, IsIn, IsLong, IsRangeOf, KeepsImage, KeepsMost, KeepsRest, RecordedImages, RecordsImage}
 pub use Rattle.subst.specs.Stored.PlaceSets.{AddsFirst, AddsSymbols, AddsWord, AddsWords, ArePlacesBelow, HasAmong, HasBit, HasEither, HasPlace, TakesPlace, near_word, no_word}
 pub use Rattle.subst.specs.Stored.Slots.{AreUpTo, placed}
+pub use Rattle.subst.specs.Stored.SymbolMarks.{AreMarksOf, HasBoth, IsMarked, TakesMark, TakesPlaces, number_at}
 pub use Rattle.subst.specs.Stored.VariablePlaces.{AreBitsOf, ArePlaced, ArePlacesOf, Grows, HasVariable, IsAmong, IsAt, IsListed, IsPlace, IsVariable, Places, is_kept, variable_name}
 pub use Rattle.subst.specs.Stored.Written.{IsWritten, LacksRoom}
 pub use Rattle.subst.specs.SymbolRanges.{AreInside, AreWithin, images_at, seen_at}

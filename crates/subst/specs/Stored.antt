@@ -3,6 +3,7 @@ pub mod Slots
 pub mod Written
 pub mod VariablePlaces
 pub mod PlaceSets
+pub mod SymbolMarks
 pub mod DisjointRows
 pub mod ImageVariables
 pub mod ImagePairs

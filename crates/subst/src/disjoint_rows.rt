@@ -7,7 +7,8 @@ ghost use Rattle.subst.specs.Stored.PlaceSets.{ArePlacesBelow, HasBit, near_word
 ghost use Rattle.subst.specs.Stored.VariablePlaces.{ArePlaced, Grows};
 
 use crate::hints::Hints;
-use crate::place_words::{PlaceWord, lowest, without};
+use crate::one_list::OneList;
+use crate::place_words::{PlaceWord, costly_steps, lowest, without};
 use crate::variable_places::VariablePlaces;
 use frame::{PairMemo, Pairs};
 use std::alloc::{AllocError, Global};
@@ -41,6 +42,7 @@ pub struct DisjointRows {
     learned: bool,
     /// The pairs that long searches found, whatever the proof.
     memo: PairMemo,
+    one_list: OneList,
 }
 
 impl Model for DisjointRows {
@@ -62,6 +64,7 @@ impl DisjointRows {
             words: Vec::new(alloc),
             learned: false,
             memo: PairMemo::new(alloc),
+            one_list: OneList::new(alloc),
         }
     }
 
@@ -71,6 +74,15 @@ impl DisjointRows {
     {
         self.words.clear();
         self.learned = false;
+    }
+
+    /// Removes all facts, and gives back the memory of marks.
+    pub fn release(&mut self, alloc: Global)
+        ensures { self.new ≡ [] }
+    {
+        self.words.clear();
+        self.learned = false;
+        self.one_list.release(alloc);
     }
 
     /// Returns the index of the word for a place and a word of others, if there is one.
@@ -323,6 +335,40 @@ impl DisjointRows {
             }
         }
         Ok(true)
+    }
+
+    /// Whether each of the variables at the places of a list of words is disjoint from each of those at the places of others,
+    /// which may be many.
+    ///
+    /// Where that of `are_disjoint` is much, an active `$d` that has all of them is looked for first.
+    ///
+    /// Errors: an allocation fails. Cost: the symbols of one active `$d` that has all of them, and of those read before it;
+    /// where none was found within as many steps as `are_disjoint` takes, that of `are_disjoint`.
+    #[inline(never)]
+    pub fn are_many_disjoint(
+        &mut self,
+        pairs: &Pairs<'_>,
+        variables: &VariablePlaces,
+        words: &[PlaceWord],
+        others: &[PlaceWord],
+    ) -> Result<bool, AllocError>
+        requires placed { ArePlaced pairs.now variables.now }
+        requires facts { AreFacts pairs.now variables.now self.old }
+        requires there { ArePlacesBelow (length variables.now.variables) words.now }
+        requires others { ArePlacesBelow (length variables.now.variables) others.now }
+        ensures facts { AreFacts pairs.now variables.now self.new }
+        ensures tells { IfOk result (TellsEach pairs.now variables.now words.now others.now) }
+    {
+        let Some(steps) = costly_steps(words, others.len()) else {
+            return self.are_disjoint(pairs, variables, words, others);
+        };
+        if self
+            .one_list
+            .stand_in_one(pairs, variables, words, others, steps)?
+        {
+            return Ok(true);
+        }
+        self.are_disjoint(pairs, variables, words, others)
     }
 }
 

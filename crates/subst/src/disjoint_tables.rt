@@ -16,15 +16,12 @@ use crate::image_pairs::{ImagePair, ImagePairs};
 use crate::image_ranges::ImageRanges;
 use crate::image_variables::ImageVariables;
 use crate::place_set::PlaceSet;
-use crate::place_words::PlaceWord;
+use crate::place_words::{PlaceWord, costly_steps};
 use crate::symbol_range::{SymbolRange, contains};
 use crate::variable_places::VariablePlaces;
 use entries::Groups;
 use frame::Pairs;
 use std::alloc::{AllocError, Global};
-
-/// To hold an image against others costs much if it takes at least so many steps, and at least 64 for each of them.
-const COSTLY: usize = 256;
 
 /// The variables of one proof, those of its images, and which of its images were found to be disjoint.
 #[derive(Drop)]
@@ -69,14 +66,14 @@ impl DisjointTables {
     {
         self.variables.clear();
         self.images.release(alloc);
-        self.rows.clear();
+        self.rows.release(alloc);
         self.found.release(alloc);
     }
 
     /// Whether the images of two variables are disjoint. They are held against each other.
     ///
     /// Errors: an allocation fails. Cost: the images if they were not read in this citation, and that of
-    /// `DisjointRows::are_disjoint`.
+    /// `DisjointRows::are_many_disjoint`.
     fn are_disjoint(
         &mut self,
         pairs: &Pairs<'_>,
@@ -106,7 +103,7 @@ impl DisjointTables {
         let words = self.images.words_in(one);
         let others = self.images.words_in(other);
         self.rows
-            .are_disjoint(pairs, &self.variables, words, others)
+            .are_many_disjoint(pairs, &self.variables, words, others)
     }
 
     /// Whether the images of two variables are disjoint. If both are ranges, this is noted for the proof.
@@ -358,19 +355,14 @@ impl DisjointTables {
 }
 
 /// Returns whether it costs much to hold the variables at the places of words against those at the places of so many others,
-/// which are those of so many images.
+/// which are those of so many images: at least 256 steps, and 64 for each image.
 ///
 /// Cost: the words, if there are many of both.
 fn is_costly(words: &[PlaceWord], others: usize, images: usize) -> bool {
-    if words.len().saturating_mul(others) < COSTLY / 64 {
-        return false;
+    match costly_steps(words, others) {
+        Some(steps) => steps / 64 >= images,
+        None => false,
     }
-    let mut places = 0usize;
-    for word in words {
-        places = places.saturating_add(word.bits.count_ones() as usize);
-    }
-    let steps = places.saturating_mul(others);
-    steps >= COSTLY && steps / 64 >= images
 }
 
 /// Whether the group at an index is equal to the one before it.

@@ -6,7 +6,7 @@
 //! the names that they stand for is a law. `DisjointCache` tells whether images meet the disjoint variable condition.
 //!
 //! Reading order: `symbol_range`, `image_ranges`, `copies`, `filling`, `matching`, `buffer`, `vanishing`, `images`, `disjoint_condition`; `hints`,
-//! `variable_places`, `place_words`, `place_set`, `disjoint_rows`, `image_variables`, `image_pairs`, `disjoint_tables`,
+//! `variable_places`, `place_words`, `place_set`, `one_list`, `disjoint_rows`, `image_variables`, `image_pairs`, `disjoint_tables`,
 //! `subject`, `disjoint_cache`; `laws`.
 #![tactic(auto)]
 
@@ -24,6 +24,7 @@ mod image_variables;
 mod images;
 mod laws;
 mod matching;
+mod one_list;
 mod place_set;
 mod place_words;
 mod subject;

@@ -9,6 +9,25 @@ pub struct PlaceWord {
     pub bits: u64,
 }
 
+/// To hold an image against another costs much if it takes at least so many steps.
+const COSTLY: usize = 256;
+
+/// Returns how many steps it takes to hold the variables at the places of words against those at the places of so many other
+/// words, if these are at least 256, which is much.
+///
+/// Cost: the words, if there are many of both.
+pub fn costly_steps(words: &[PlaceWord], others: usize) -> Option<usize> {
+    if words.len().saturating_mul(others) < COSTLY / 64 {
+        return None;
+    }
+    let mut places = 0usize;
+    for word in words {
+        places = places.saturating_add(word.bits.count_ones() as usize);
+    }
+    let steps = places.saturating_mul(others);
+    if steps < COSTLY { None } else { Some(steps) }
+}
+
 /// The lowest bit of a word.
 #[inline(always)]
 pub fn lowest(word: u64) -> usize

@@ -1,5 +1,5 @@
 use Rattle.frame.proofs.Words.{◌∙◌, ◌-◌, ap, arith, history, stack_at}
-use Rattle.frame.proofs.PairStackLemmas.{row-is, row-low, stack-of-kind}
+use Rattle.frame.proofs.PairStackLemmas.{row-is, row-low, row-together, stack-of-kind}
 use Rattle.frame.proofs.pairs.Pairs.row.Goals as goal
 
 pub new-requires-clause-disjoints : goal.new-requires-clause-disjoints
@@ -15,5 +15,6 @@ returns c =
     let lt = rw (← c.self.view_is) at c.requires in
     rw (← c.self.view_is, c.new.ensures) (record {
       pairs = λ y b. row-is k c.self.invariant.0 c.self.invariant.1 (at - 1) c.args.x y c.stack.result lt b (omega (arith, c.self.invariant.3)) (c.stack.ensures ∙ ap (stack_at (history k.disjoints c.args.x)) (omega (arith, c.self.invariant.2)));
+      together = row-together k c.self.invariant.0 c.self.invariant.1 (at - 1) c.args.x c.stack.result (omega (arith, c.self.invariant.3)) (c.stack.ensures ∙ ap (stack_at (history k.disjoints c.args.x)) (omega (arith, c.self.invariant.2)));
       below = row-low k c.self.invariant.0 c.self.invariant.1 (at - 1) c.stack.result;
     })

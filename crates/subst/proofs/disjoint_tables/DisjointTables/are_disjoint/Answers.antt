@@ -19,13 +19,13 @@ pub returns-in_err-other-clause-grows : goal.returns-in_err-other-clause-grows
 returns-in_err-other-clause-grows c =
     grows-twice c.args.self.now.variables c.image_of.new.variables c.image_of-2.new.variables c.image_of.ensures.grows c.image_of-2.ensures.grows
 
-pub are_disjoint-requires-clause-facts : goal.are_disjoint-requires-clause-facts
-are_disjoint-requires-clause-facts c =
+pub are_many_disjoint-requires-clause-facts : goal.are_many_disjoint-requires-clause-facts
+are_many_disjoint-requires-clause-facts c =
     let grows = grows-twice c.args.self.now.variables c.image_of.new.variables c.image_of-2.new.variables c.image_of.ensures.grows c.image_of-2.ensures.grows in
     facts-grown c.args.pairs.now c.args.self.now.variables c.image_of-2.new.variables c.args.self.now.rows grows c.requires.tables.facts
 
-pub are_disjoint-requires-clause-there : goal.are_disjoint-requires-clause-there
-are_disjoint-requires-clause-there c =
+pub are_many_disjoint-requires-clause-there : goal.are_many_disjoint-requires-clause-there
+are_many_disjoint-requires-clause-there c =
     let v = c.args.pairs.now in
     let f = c.image_of-2.new.variables in
     let n = c.image_of-2.new.self in
@@ -33,8 +33,8 @@ are_disjoint-requires-clause-there c =
     let own = range-words v c.image_of.new.variables f c.image_of.new.self n c.in_ok-one.one image c.image_of-2.ensures.grows c.image_of-2.ensures.words c.in_ok-one.ensures.range in
     rw c.words_in-words.ensures (range-below v f n.words c.in_ok-one.one image own)
 
-pub are_disjoint-requires-clause-others : goal.are_disjoint-requires-clause-others
-are_disjoint-requires-clause-others c =
+pub are_many_disjoint-requires-clause-others : goal.are_many_disjoint-requires-clause-others
+are_many_disjoint-requires-clause-others c =
     rw c.words_in-others.ensures (range-below c.args.pairs.now c.image_of-2.new.variables c.image_of-2.new.self.words c.in_ok-other.other (code_image (images_at c.args.symbols.now c.args.images.now) c.args.second) c.in_ok-other.ensures.range)
 
 pub returns-clause-grows : goal.returns-clause-grows
@@ -48,6 +48,6 @@ returns-clause-disjoint c =
     let n = c.image_of-2.new.self in
     let σ = images_at c.args.symbols.now c.args.images.now in
     let own = range-words v c.image_of.new.variables f c.image_of.new.self n c.in_ok-one.one (code_image σ c.args.first) c.image_of-2.ensures.grows c.image_of-2.ensures.words c.in_ok-one.ensures.range in
-    IfOk-weaker c.are_disjoint.result _ _
+    IfOk-weaker c.are_many_disjoint.result _ _
     (λ b told. two-told v f c.image_of-2.ensures.placed (code_image σ c.args.first) (code_image σ c.args.second) n.words c.in_ok-one.one c.in_ok-other.other own c.in_ok-other.ensures.range b told)
-    (rw (c.words_in-words.ensures, c.words_in-others.ensures) at c.are_disjoint.ensures.tells)
+    (rw (c.words_in-words.ensures, c.words_in-others.ensures) at c.are_many_disjoint.ensures.tells)
