@@ -280,7 +280,8 @@ impl Frames {
 
     /// Truncates to the first `len` statements.
     ///
-    /// Does not allocate. Cost: the size of the statements that are removed.
+    /// Cannot fail: unused room is given back if a smaller block can be allocated. Cost: the size of the statements that are
+    /// removed.
     pub fn shorten(&mut self, len: usize)
         ensures statements { self.new.statements ≡ take len self.old.statements }
         ensures names { Extends self.new.names self.old.names }

@@ -114,7 +114,7 @@ impl CheckedDatabase {
     /// Appends the statements if the whole list is then good; otherwise appends none and returns the cause.
     ///
     /// Errors: an allocation fails; nothing is added then. Cost: that of the statements added, two steps each at most. Rolling
-    /// back does not allocate. Memory that only refused statements needed is given back, if smaller blocks can be allocated.
+    /// back cannot fail. Memory that only refused statements needed is given back, if smaller blocks can be allocated.
     pub(crate) fn extend<
         E: Fn(&[Stmt], &mut Tables, &mut StepCounts, &mut Checkers) -> Added,
         F: Fn(&Proofs<'_>, &mut Checkers) -> Result<Option<usize>, AllocError>,

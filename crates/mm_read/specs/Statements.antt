@@ -1,4 +1,4 @@
--- Statements: what each of the eight shapes may hold, and the tokens that write it.
+-- Statements: what each of the nine shapes may hold, and the tokens that write it.
 -- Source: Metamath, 4.1 and appendix E.
 -- The code walks over the tokens from the left; here a statement is written out as its tokens.
 use Rattle.std.specs.Prelude.{Bool, true, false, not, ◌&&◌, IsTrue, List, [], ◌∷◌, ◌++◌, flat_map, codes}
@@ -24,7 +24,7 @@ abbrev pub has_two : Expr → Bool
 has_two [] = false
 has_two (w ∷ ws) = not (is_empty ws)
 
--- the statement is of one of the eight shapes
+-- the statement is of one of the nine shapes
 abbrev pub is_shaped : Stmt → Bool
 is_shaped Open = true
 is_shaped Close = true

@@ -340,10 +340,10 @@ impl DisjointRows {
     /// Whether each of the variables at the places of a list of words is disjoint from each of those at the places of others,
     /// which may be many.
     ///
-    /// Where that of `are_disjoint` is much, an active `$d` that has all of them is looked for first.
+    /// If `are_disjoint` would take many steps, one active `$d` that has all of them is looked for first.
     ///
     /// Errors: an allocation fails. Cost: the symbols of one active `$d` that has all of them, and of those read before it;
-    /// where none was found within as many steps as `are_disjoint` takes, that of `are_disjoint`.
+    /// if none is found within as many steps as `are_disjoint` takes, also that of `are_disjoint`.
     #[inline(never)]
     pub fn are_many_disjoint(
         &mut self,
