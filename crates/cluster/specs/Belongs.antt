@@ -1,6 +1,6 @@
 -- Which switch a cell belongs to, and which of two cells of one switch is ahead.
 -- Source: Lamport, Paxos Made Simple, section 3: all servers execute the same commands, each as far as it learned them.
--- The code tests the tie entry by entry where switch and cell are both at hand, since two locks share no fact.
+-- The code tests this entry by entry where it has both switch and cell, since two locks share no fact.
 use Rattle.std.specs.Prelude.{◌≡◌, ◌<◌, ℕ, List, Some, length, slice_get}
 use Rattle.cluster.specs.Words.{Database, IsBeginningOf, SwitchView, BeginsLog, Carried, carried_size}
 use Rattle.cluster.specs.declared.compare.Ahead.{Ahead}
@@ -11,7 +11,7 @@ use Rattle.cluster.specs.Cell.{Cell}
 abbrev pub Belongs : Cell → SwitchView Carried → Type 0
 Belongs c switch = BeginsLog carried_size switch c.at c.entries
 
--- each of the cells does
+-- each of the cells belongs to the switch
 abbrev pub EachBelongs : List Cell → SwitchView Carried → Type 0
 EachBelongs cells switch = (k : ℕ) (c : Cell) → slice_get cells k ≡ Some c → Belongs c switch
 

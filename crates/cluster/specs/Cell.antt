@@ -26,11 +26,11 @@ AddsEntry old new None (Ok true) = ⊥
 AddsEntry old new None (Ok false) = new ≡ old
 AddsEntry old new None (Err fault) = ⊥
 
--- the cell takes over the next entry so, and the rest of it stays
+-- the cell takes over the next entry in this way, and is otherwise unchanged
 pub record TakesOver (old new : Cell) (next : Option (Option Carried)) (result : Result Bool StepFault) : Type 0 where
   pub adds : AddsEntry old.entries new.entries next result
   pub rest : new ≡ record old { entries = new.entries }
 
--- the entry that is applied next, if it is taken over
+-- the entry to apply next, if it is taken over
 abbrev pub next_entry : Cell → Option (Option Entry)
 next_entry c = slice_get (entries_of c.entries) c.node.applied

@@ -1,5 +1,5 @@
 -- The outcome of an entry at a node.
--- Source: this project's profile: the first entry under an author and a serial number is decided, and each later one is a repeat.
+-- Source: this project's profile: the first entry under an author and a serial number is decided, each later one is a repeat.
 use Rattle.std.specs.Prelude.{◌≡◌, ◌⊎◌, Bool, false, ◌&&◌, ◌==◌, List, [], ◌∷◌, Option, Some, None, if◌then◌else◌}
 use Rattle.library.specs.LibraryOf.{author_of, serial_of, status}
 use Rattle.library.specs.declared.entry.Entry.{Entry}
@@ -8,17 +8,17 @@ use Rattle.library.specs.declared.verdict.Verdict.TheVariants.{Repeat}
 use Rattle.world.specs.declared.carried.Carried.{Carried}
 use Rattle.cluster.specs.Cell.{Cell}
 
--- one of a log is an entry under the author and the serial number of this entry
+-- an element of a log is an entry under the author and the serial number of this entry
 abbrev pub is_under : Entry → Option Carried → Bool
 is_under entry None = false
 is_under entry (Some c) = (author_of entry == author_of c.0) && (serial_of entry == serial_of c.0)
 
--- the first entry of a log under them, which is the one that its library decides
+-- the first entry of a log under them, which is the one that its library decides; None if there is none
 abbrev pub first_under : Entry → List (Option Carried) → Option Carried
 first_under entry [] = None
 first_under entry (c ∷ cs) = if is_under entry c then c else first_under entry cs
 
--- with the verdict decided under them, and the first entry under them: the verdict if that is this entry, and else a repeat
+-- from the verdict decided under them and the first entry under them: the verdict if the first is this entry, else a repeat
 abbrev pub IsOutcomeBy : Option Verdict → Option Carried → Entry → Option Verdict → Type 0
 IsOutcomeBy None first entry outcome = outcome ≡ None
 IsOutcomeBy (Some verdict) first entry outcome =

@@ -10,9 +10,9 @@ use library::{Entry, Verdict};
 use net::StepFault;
 use world::Carried;
 
-/// Returns what the question answers of the cell of node `k`.
+/// Asks the question of the cell, and returns its answer.
 ///
-/// Errors: `Apart` exactly if the cell is another node's. Cost: that of the question.
+/// Errors: `Apart` exactly if the cell is not that of node `k`. Cost: that of the question.
 pub fn ask_on<T, F: FnOnce(&NodeCell) -> T + Drop>(
     cell: &NodeCell,
     k: u8,
@@ -30,10 +30,10 @@ pub fn ask_on<T, F: FnOnce(&NodeCell) -> T + Drop>(
     Ok(question(cell))
 }
 
-/// Returns what a cell decided on the entry, or `Repeat` if the one decided under its author and
-/// serial number is another one. Returns `None` if nothing is decided.
+/// Returns the verdict of the cell's library on the entry, or `Repeat` if the library decided another entry under the
+/// same author and serial number. Returns `None` if it decided none.
 ///
-/// Cost: that of `Library::status`; one pass over the entries taken over if something is decided.
+/// Cost: that of `Library::status`; if there is a verdict, one pass over the entries taken over.
 pub fn outcome_on(cell: &NodeCell, entry: &Entry) -> Option<Verdict>
     ensures outcome { IsOutcomeOf cell.now entry.now result }
 {
@@ -45,7 +45,7 @@ pub fn outcome_on(cell: &NodeCell, entry: &Entry) -> Option<Verdict>
     }
 }
 
-/// Tells whether the entry is the first under its author and serial number.
+/// Returns whether the entry is the first under its author and serial number.
 fn is_first(entries: &[Option<Carried>], entry: &Entry) -> bool
     ensures { IsTrue result ↔ (first_under entry.now entries.now ≡ Some (record { 0 = entry.now })) }
 {
@@ -57,7 +57,7 @@ fn is_first(entries: &[Option<Carried>], entry: &Entry) -> bool
     false
 }
 
-/// Tells whether an entry is there and has the author and serial number of another.
+/// Returns whether `found` is an entry with the author and serial number of `entry`.
 fn is_under(found: &Option<Carried>, entry: &Entry) -> bool
     ensures { result ≡ is_under entry.now found.now }
 {
@@ -69,7 +69,7 @@ fn is_under(found: &Option<Carried>, entry: &Entry) -> bool
     }
 }
 
-/// Tells whether it is the entry that was found.
+/// Returns whether `found` is this entry.
 fn is_found(found: &Option<Carried>, entry: &Entry) -> bool
     ensures { IsTrue result ↔ (found.now ≡ Some (record { 0 = entry.now })) }
 {

@@ -23,7 +23,7 @@ use synod::{Keep, Weights, copy_value};
 use verify_pool::{Gate, Workers};
 use world::{Carried, Replica};
 
-/// The entries that node `at` has taken over from its log, and its library: that of the first of them, as many as were applied.
+/// The entries that node `at` has taken over from its log, and the library of those applied: the first `applied` of them.
 ///
 /// Contracts see the node's number, those entries, the count applied and what the library holds.
 #[derive(Drop)]
@@ -45,7 +45,7 @@ impl Model for NodeCell {
 }
 
 impl NodeCell {
-    /// Returns the cell of a new node. Does not allocate.
+    /// Creates the cell of a new node. It does not allocate.
     pub(crate) fn new(alloc: Global, at: u8) -> Self
         ensures { result ≡ new_cell at }
     {
@@ -57,14 +57,14 @@ impl NodeCell {
         }
     }
 
-    /// Returns the number of its node.
+    /// Returns the number of the cell's node.
     pub fn at(&self) -> u8
         ensures { result ≡ self.now.at }
     {
         self.at
     }
 
-    /// Returns the library: that of the first entries taken over, as many as were applied. Does not allocate.
+    /// Returns the library: that of the first `applied` entries taken over. It does not allocate.
     pub fn library(&self) -> &Library
         ensures library { result.now.replica ≡ self.now.node.library }
         ensures of_entries { IsCell self.now }
@@ -72,28 +72,28 @@ impl NodeCell {
         self.replica.library()
     }
 
-    /// Returns the entries taken over from its node's log, in order. Does not allocate.
+    /// Returns the entries taken over from the node's log, in order. It does not allocate.
     pub fn entries(&self) -> &[Option<Carried>]
         ensures { result.now ≡ self.now.entries }
     {
         &self.entries
     }
 
-    /// Returns how many entries were applied. Does not allocate.
+    /// Returns the number of entries applied. It does not allocate.
     pub fn applied(&self) -> u32
         ensures { result ≡ self.now.node.applied }
     {
         self.replica.applied()
     }
 
-    /// Tells whether an entry that was taken over is still to be applied.
+    /// Returns whether an entry that was taken over is still to be applied.
     pub fn is_behind(&self) -> bool
         ensures { IsTrue result ↔ self.now.node.applied < length self.now.entries }
     {
         (self.replica.applied() as usize) < self.entries.len()
     }
 
-    /// Gives up what was taken over and applied. Does not allocate.
+    /// Discards the entries taken over, and empties the library. It does not allocate.
     pub(crate) fn give_up(&mut self)
         ensures { self.new ≡ new_cell self.old.at }
     {
@@ -102,7 +102,7 @@ impl NodeCell {
     }
 }
 
-/// Tells whether the cell belongs to that switch: its node is there, and the entries taken over are a prefix of the node's log.
+/// Returns whether the cell belongs to the switch: it has such a node, and the entries taken over are a prefix of its log.
 ///
 /// Cost: the size of the entries taken over, each compared with one of the log.
 pub fn belongs<K: Keep<Carried>>(cell: &NodeCell, switch: &Switch<Carried, K>) -> bool
@@ -112,9 +112,9 @@ pub fn belongs<K: Keep<Carried>>(cell: &NodeCell, switch: &Switch<Carried, K>) -
     begins_log(switch, cell.at, &cell.entries)
 }
 
-/// Takes over the next entry of the node's log. Returns whether there is one.
+/// Takes over the next entry of the node's log, and returns whether there is one.
 ///
-/// Errors: `NoNode` where the switch has no such node; else `Memory`, where an allocation fails: nothing is taken over then.
+/// Errors: `NoNode` if the switch has no such node; else `Memory` if an allocation fails. Nothing is then taken over.
 /// Cost: one entry, copied.
 pub fn take_on<K: Keep<Carried>>(
     cell: &mut NodeCell,
@@ -133,7 +133,7 @@ pub fn take_on<K: Keep<Carried>>(
     add_entry(&mut cell.entries, next)
 }
 
-/// Appends a copy of the next entry, if there is one.
+/// Appends a copy of the next entry, and returns whether there is one.
 fn add_entry(
     entries: &mut Vec<Option<Carried>>,
     next: Option<&Option<Carried>>,
@@ -152,9 +152,9 @@ fn add_entry(
     }
 }
 
-/// Applies the next of the entries taken over. Returns `None` if all are applied.
+/// Applies the next of the entries taken over, and returns its verdict, or `None` if all are applied.
 ///
-/// Errors: `Memory`; the library then stays at its entry. Cost: that of `Library::apply` on the entry.
+/// Errors: `Memory`; the entry is then still to be applied. Cost: that of `Library::apply` on the entry.
 pub fn apply_on(cell: &mut NodeCell) -> Result<Option<Verdict>, StepFault>
     ensures applies { AppliesNext cell.old.node cell.new.node (next_entry cell.old) result }
     ensures rest { cell.new ≡ record cell.old { node = cell.new.node } }
@@ -166,7 +166,7 @@ pub fn apply_on(cell: &mut NodeCell) -> Result<Option<Verdict>, StepFault>
 /// Applies the next of the entries taken over as `apply_on` does, with its proofs checked by workers in parallel. Each worker
 /// passes the gate before each proof. No answer depends on the number of workers.
 ///
-/// Errors: those of `apply_on`, and `Memory` if a proof is heavy and the gate keeps these out. Cost: that of
+/// Errors: those of `apply_on`, and `Memory` if a proof is heavy and the gate keeps heavy proofs out. Cost: that of
 /// `Library::apply_with` on the entry.
 pub fn apply_on_with<G: Gate + Sync, R: Threads + Sync>(
     rt: &R,
@@ -181,7 +181,7 @@ pub fn apply_on_with<G: Gate + Sync, R: Threads + Sync>(
     cell.replica.apply_next_with(rt, next, workers, gate)
 }
 
-/// Returns the entry of that slot, if it is taken over.
+/// Returns the entry of a slot, if it is taken over.
 fn entry_at(entries: &[Option<Carried>], slot: u32) -> Option<&Option<Carried>>
     ensures { option_map (λ e. e.now) result ≡ slice_get entries.now slot }
 {
@@ -198,7 +198,9 @@ pub fn list_on(cell: &NodeCell) -> Result<Vec<Listed>, AllocError>
     cell.replica.library().list()
 }
 
-/// Makes a switch of new nodes, one for each weight, and their cells. Each keep has the record of a new node.
+/// Creates a switch of new nodes, one for each weight, and their cells. Each keep has the record of a new node.
+///
+/// Errors: `Memory`.
 pub fn cells<K: Keep<Carried>>(
     alloc: Global,
     weights: Weights,
@@ -216,7 +218,7 @@ pub fn cells<K: Keep<Carried>>(
     Ok((switch, cells))
 }
 
-/// Makes a new cell for each weight.
+/// Creates a new cell for each weight.
 fn cells_of(alloc: Global, weights: Weights) -> Result<Vec<NodeCell>, AllocError>
     ensures { IfOk result (λ cells. cells.items ≡ new_cells 0 weights) }
 {

@@ -19,8 +19,8 @@ pub enum Ahead {
     Second,
 }
 
-/// Tells which of two cells of one switch has the library with more statements: their logs agree, and so do their libraries.
-/// Does not allocate.
+/// Returns which of two cells of one switch has the library with more statements. The statements of the other are a prefix
+/// of them. It does not allocate.
 ///
 /// Cost: constant; the two counts are compared.
 pub fn compare_on<K: Keep<Carried>>(
@@ -32,12 +32,12 @@ pub fn compare_on<K: Keep<Carried>>(
     requires other { Belongs other.now switch.now }
     ensures { IsAhead result one.now.node.library.statements other.now.node.library.statements }
 {
-    // Their nodes are the switch's, whose history is taken.
+    // The node is one of the switch, and `entry` says that the history is taken.
     prove!(switch.entry(one.at(), 0).is_ok());
     ahead_of(one.library(), other.library())
 }
 
-/// Tells which of two libraries has more statements, where the statements of one are a prefix of those of the other.
+/// Returns which of two libraries has more statements, if the statements of one are a prefix of those of the other.
 fn ahead_of(one: &Library, other: &Library) -> Ahead
     requires { Agree one.now.replica.statements other.now.replica.statements }
     ensures { IsAhead result one.now.replica.statements other.now.replica.statements }

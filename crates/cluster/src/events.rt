@@ -14,7 +14,7 @@ use switch::Switch;
 use synod::{Keep, Value};
 use world::Carried;
 
-/// Offers an entry to node `k`. Returns the count of all packets posted.
+/// Offers an entry to node `k`. Returns the number of packets posted so far.
 ///
 /// Errors and cost: those of `Switch::play`.
 pub fn offer_on<K: Keep<Carried>>(
@@ -28,7 +28,7 @@ pub fn offer_on<K: Keep<Carried>>(
     switch.play(Event::Offer(k, Carried(entry)))
 }
 
-/// Has node `k` begin a ballot. Returns the count of all packets posted.
+/// Begins a ballot at node `k`. Returns the number of packets posted so far.
 ///
 /// Errors and cost: those of `Switch::play`.
 pub fn begin_on<V: Value, K: Keep<V>>(switch: &mut Switch<V, K>, k: u8) -> Result<u64, StepFault>
@@ -38,9 +38,9 @@ pub fn begin_on<V: Value, K: Keep<V>>(switch: &mut Switch<V, K>, k: u8) -> Resul
     switch.play(Event::Begin(k))
 }
 
-/// Delivers the packet of that number to the node that it is addressed to. Returns the count of all packets posted.
+/// Delivers the packet of a number to its receiver. Returns the number of packets posted so far.
 ///
-/// Errors and cost: those of `Switch::play`; a number that is no packet is of no node.
+/// Errors and cost: those of `Switch::play`.
 pub fn deliver_on<V: Value, K: Keep<V>>(
     switch: &mut Switch<V, K>,
     number: u64,
@@ -51,8 +51,8 @@ pub fn deliver_on<V: Value, K: Keep<V>>(
     switch.play(Event::Deliver(number))
 }
 
-/// Restarts the cell's node. The cell is then as new: nothing is taken over, and the library is empty. Returns the count of all
-/// packets posted.
+/// Restarts the cell's node. The cell is then as new: nothing is taken over, and the library is empty. Returns the number of
+/// packets posted so far.
 ///
 /// Errors: those of `Switch::play`; the cell is then as before. Cost: that of `Switch::play`, and of dropping the library.
 pub fn restart_on<K: Keep<Carried>>(

@@ -1,10 +1,9 @@
-//! The nodes of one agreement on the entries of libraries, each with what it has taken over of its log.
+//! The nodes of one agreement on the entries of libraries, each with the entries that it has taken over from its log.
 //!
-//! The contract that the crates above use is that of the calls that are lent locked values: each of `begin_on`, `offer_on`,
+//! The contract that the crates above use is that of the calls that borrow locked values: each of `begin_on`, `offer_on`,
 //! `deliver_on` and `restart_on` is one event of a history that is taken (`Plays` of `switch/specs/Switch.antt`).
-//! `Switch::history` says what is true of every switch, and `NodeCell::library` what is true of every cell. Cells and switch of
-//! one `cells` call go on to belong to each other, and of two such cells `compare_on` tells which library is a prefix of the
-//! other.
+//! `Switch::history` says what is true of every switch, and `NodeCell::library` what is true of every cell. The cells that
+//! `cells` creates belong to its switch after each call of this crate; `compare_on` returns which of two libraries is ahead.
 //!
 //! Read `memory_keep`, `cell`, `log` and `events`, then `asking` and `compare`; the definitions are specs/Cell and Belongs.
 #![tactic(auto)]

@@ -11,7 +11,7 @@ use switch::Switch;
 use synod::Keep;
 use world::Carried;
 
-/// Tells whether node `k` is there, and the entries are a prefix of its log.
+/// Returns whether there is a node `k`, and the entries are a prefix of its log.
 ///
 /// Cost: the size of the entries, each compared with one of the log.
 pub(crate) fn begins_log<K: Keep<Carried>>(
@@ -34,7 +34,7 @@ pub(crate) fn begins_log<K: Keep<Carried>>(
     true
 }
 
-/// Tells whether it is the entry of node `k`'s log at that slot.
+/// Returns whether the entry is that of node `k`'s log at a slot.
 fn is_entry<K: Keep<Carried>>(
     switch: &Switch<Carried, K>,
     k: u8,
@@ -50,7 +50,7 @@ fn is_entry<K: Keep<Carried>>(
     }
 }
 
-/// Tells whether the entry was found: the same no-operation, text or charter of one author and serial number.
+/// Returns whether the entry was found: the same no-operation, text or charter of one author and serial number.
 fn is_found(found: Option<&Option<Carried>>, entry: &Option<Carried>) -> bool
     ensures { IsTrue result ↔ (option_map (λ e. e.now) found.entry ≡ Some entry.now) }
 {
@@ -61,8 +61,8 @@ fn is_found(found: Option<&Option<Carried>>, entry: &Option<Carried>) -> bool
     }
 }
 
-/// Tells whether two entries are the same: two texts, or two charters, of one author and serial
-/// number, with the same bytes or names. Does not allocate.
+/// Returns whether two entries are the same: two texts, or two charters, of one author and serial
+/// number, with the same bytes or names. It does not allocate.
 pub(crate) fn is_same(one: &Entry, other: &Entry) -> bool
     ensures { IsTrue result ↔ (one.now ≡ other.now) }
 {
@@ -84,7 +84,7 @@ pub(crate) fn is_same(one: &Entry, other: &Entry) -> bool
     }
 }
 
-/// Tells whether two texts are the same.
+/// Returns whether two texts are the same.
 fn is_same_text(one: &Submission, other: &Submission) -> bool
     ensures { IsTrue result ↔ (one.now ≡ other.now) }
 {

@@ -10,7 +10,7 @@ use slots::SLOTS;
 use std::alloc::{AllocError, Global};
 use synod::{Change, Failed, Held, Keep, Record, Value, copy_value};
 
-/// An acceptor's store that lasts as long as the process. It fails where an allocation fails.
+/// A node's storage that lasts as long as the process. A call fails if an allocation fails.
 #[derive(Drop)]
 pub struct MemoryKeep<V: Value> {
     alloc: Global,
@@ -20,7 +20,7 @@ pub struct MemoryKeep<V: Value> {
 }
 
 impl<V: Value> MemoryKeep<V> {
-    /// Makes the store of a new node. Does not allocate.
+    /// Creates the storage of a new node. It does not allocate.
     pub fn new(alloc: Global) -> Self
         ensures kept { ⟦<MemoryKeep<V> as Keep<V>>⟧.kept result ≡ new_kept }
         ensures failures { ⟦<MemoryKeep<V> as Keep<V>>⟧.failures result ≡ 0 }
@@ -56,7 +56,9 @@ impl<V: Value> Keep<V> for MemoryKeep<V> {
     }
 }
 
-/// Copies a change, and makes room for it. No record has a slot past the limit.
+/// Returns a copy of a change, and reserves room for it.
+///
+/// Errors: an allocation fails, or the slot is past the limit.
 fn ready_change<V: Value>(kept: &mut Record<V>, change: &Change<V>) -> Result<Change<V>, AllocError>
     ensures change { IfOk result (λ copy. copy ≡ change.now) }
     ensures room { OnOk result (HasRoomFor kept.new.room (Some change.now)) }
@@ -78,7 +80,7 @@ fn ready_change<V: Value>(kept: &mut Record<V>, change: &Change<V>) -> Result<Ch
     }
 }
 
-/// Copies a record.
+/// Returns a copy of a record.
 ///
 /// Cost: the slots up to the last entry, each value copied once.
 fn copy_record<V: Value>(alloc: Global, source: &Record<V>) -> Result<Record<V>, AllocError>
@@ -112,7 +114,7 @@ fn copy_slot<V: Value>(
     Ok(())
 }
 
-/// Copies a ballot and its value.
+/// Returns a copy of an accepted entry.
 fn copy_held<V: Value>(held: &Held<V>) -> Result<Held<V>, AllocError>
     ensures { IfOk result (λ copy. copy ≡ held.now) }
 {

@@ -1,6 +1,6 @@
 -- The words of a line: a verb, then numbers, nodes, entries by their author and serial number.
 -- Source: this project's own form.
--- The code takes one word after another; here a definition has what it reads, and the words after it.
+-- The code takes one word after another; here a definition has the value that it reads, and the words after it.
 use Rattle.std.specs.Prelude.{ℕ, Bool, true, false, List, [], ◌∷◌, Option, Some, None, option_map, option_and_then, nat_lt, if◌then◌else◌}
 use Rattle.numbers.specs.Numbers.{number_of}
 use Rattle.commands.specs.Pieces.{split_at}
@@ -16,7 +16,7 @@ o >>= f = option_and_then f o
 abbrev pub Words : Type 0
 Words = List (List ℕ)
 
--- what the first word and the words after it say
+-- the line that the first word and the words after it write
 abbrev pub by_first : {L : Type 0} → (List ℕ → Words → Option L) → Words → Option L
 by_first by [] = None
 by_first by (verb ∷ ws) = by verb ws
@@ -30,7 +30,7 @@ abbrev pub number_at : Words → Option (ℕ × Words)
 number_at [] = None
 number_at (w ∷ ws) = option_map (λ n. (n, ws)) (number_of w)
 
--- what is read, if no word follows it
+-- the value that is read, if no word follows it
 abbrev pub alone : {A : Type 0} → A × Words → Option A
 alone (x, []) = Some x
 alone (x, w ∷ ws) = None

@@ -35,11 +35,11 @@ abbrev pub ask_or : Option LabelQuestion → List ℕ → Words → Option NodeL
 ask_or (Some kind) verb ws = option_map (λ q. Ask q) (question_asked kind ws)
 ask_or None verb ws = short_node_line verb ws
 
--- a line that alone says this, with none of the lines that follow
+-- a line that takes none of the lines that follow
 abbrev pub stands_alone : {L : Type 0} → Option L → Option (L × ℕ)
 stands_alone said = option_map (λ l. (l, 0)) said
 
--- a line that gives a text, if the verb gives one in this form; else what the line says otherwise
+-- a line that gives a text, if the verb gives one in this form; else the line `said`
 abbrev pub text_or : {L : Type 0} → (Offered → L) → Option TextForm → Option (L × ℕ) → Words → List (List ℕ) → Option (L × ℕ)
 text_or line (Some form) said ws lines = option_map (λ o. (line o.0, o.1)) (text_offered form ws lines)
 text_or line None said ws lines = said

@@ -9,7 +9,7 @@ use Rattle.commands.specs.declared.node_question.NodeQuestion.{NodeQuestion}
 use Rattle.commands.specs.LineWords.{◌>>=◌, Words, node_at}
 use Rattle.commands.specs.Texts.{one_word}
 
--- what a verb asks about a label
+-- the question about a label that a verb asks
 abbrev pub label_question_of : List ℕ → Option LabelQuestion
 label_question_of verb =
     if bytes_eq verb (codes "trace") then Some Trace else (

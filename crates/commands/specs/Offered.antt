@@ -18,7 +18,7 @@ text_offered form ws lines = do
   t ← text_at form e.1 lines
   Some (record { node = (e.0).node; entry = Text (record { author = (e.0).author; serial = (e.0).serial; text = t.0 }) }, t.1)
 
--- the numbers that all these words are
+-- these words as numbers
 abbrev pub numbers_of : Words → Option (List ℕ)
 numbers_of [] = Some []
 numbers_of (w ∷ ws) = do
@@ -26,7 +26,7 @@ numbers_of (w ∷ ws) = do
   ns ← numbers_of ws
   Some (n ∷ ns)
 
--- 1 to 64 numbers that rise
+-- 1 to 64 numbers in rising order
 abbrev pub are_names : List ℕ → Bool
 are_names numbers = nat_lt 0 (length numbers) && nat_lt (length numbers) (MOST_NAMES + 1) && is_rising numbers
 
@@ -35,7 +35,7 @@ abbrev pub rises : Option ℕ → ℕ → Bool
 rises None n = true
 rises (Some last) n = nat_lt last n
 
--- the names of a charter: 1 to 64 numbers that rise
+-- the names of a charter: 1 to 64 numbers in rising order
 abbrev pub names_of : Words → Option (List ℕ)
 names_of ws = do
   names ← numbers_of ws

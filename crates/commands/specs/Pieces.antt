@@ -1,4 +1,4 @@
--- The pieces of a text between the places of one byte: the lines of a script, the words of a line.
+-- The pieces of a text between separators of one byte: the lines of a script, the words of a line.
 -- Source: this project's own form.
 -- The code cuts off one piece after another; here all are listed at once.
 use Rattle.std.specs.Prelude.{ℕ, ◌==◌, List, [], Option, Some, None}

@@ -18,12 +18,12 @@ world_line verb ws =
     if bytes_eq verb (codes "apply") then option_map (λ k. Apply k) (one_node ws) else (
     if bytes_eq verb (codes "show") then option_map (λ n. Show n) (one_number ws) else None))
 
--- the first of two lines that is one
+-- this line if it is one, else a line that both commands have
 abbrev pub or_node_line : Option PlayLine → List ℕ → Words → Option PlayLine
 or_node_line (Some line) verb ws = Some line
 or_node_line None verb ws = option_map (λ l. Node l) (node_line verb ws)
 
--- how a verb gives the text that it offers
+-- the form in which a verb gives the text that it offers
 abbrev pub play_text_form : List ℕ → Option TextForm
 play_text_form verb = form_by (codes "offer") (codes "offer-lines") (codes "offer-bytes") verb
 
@@ -34,6 +34,6 @@ play_alone lines verb ws = stands_alone (or_node_line (world_line verb ws) verb 
 abbrev pub play_line_by : List (List ℕ) → List ℕ → Words → Option (PlayLine × ℕ)
 play_line_by lines verb ws = text_or (λ o. Node (Offer o)) (play_text_form verb) (play_alone lines verb ws) ws lines
 
--- what a line says to `play`, given the lines that follow, and how many of these it takes
+-- the line that these bytes write for `play`, given the lines that follow, and how many of those it takes
 abbrev pub play_line_of : List ℕ → List (List ℕ) → Option (PlayLine × ℕ)
 play_line_of line lines = line_by (play_line_by lines) line

@@ -1,4 +1,4 @@
--- What is left of a script while its lines are taken.
+-- The rest of a script while its lines are taken.
 -- Source: this project's own form.
 -- The code keeps the bytes that are left and counts the lines that it took.
 use Rattle.std.specs.Prelude.{◌≡◌, ℕ, ◌+◌, List, drop}
@@ -8,7 +8,7 @@ pub record Remaining : Type 0 where
   pub number : ℕ
   pub lines : List (List ℕ)
 
--- so many lines more are taken
+-- `count` more lines are taken
 pub record IsPast (count : ℕ) (old new : Remaining) : Type 0 where
   pub number : new.number ≡ old.number + count
   pub lines : new.lines ≡ drop count old.lines

@@ -1,6 +1,6 @@
 -- The lines of a script, or the number of the first that is none of its command's.
 -- Source: this project's own form.
--- The code stops at the first bad line, as here; out of memory may be answered in place of lines, never in place of a bad one.
+-- The code stops at the first bad line, as here; it may return `Memory` in place of the lines, never in place of a bad line.
 use Rattle.std.specs.Prelude.{◌≡◌, ℕ, zero, suc, ◌+◌, List, [], ◌∷◌, Option, Some, None, Result, Ok, Err, IsOk, IsSome, Vec}
 use Rattle.std.specs.declared.alloc.Global.{Global}
 use Rattle.commands.specs.declared.script.LineFault.{LineFault}
@@ -11,29 +11,29 @@ use Rattle.commands.specs.declared.script.TheConstants.{LINE_FEED}
 use Rattle.commands.specs.Pieces.{split_at}
 use Rattle.commands.specs.Remaining.{Remaining, IsPast}
 
--- what a parse of a line answers, if the line says this
+-- the result of parsing a line that writes `said`
 abbrev pub Parses : {A : Type 0} → Option A → Result A LineFault → Type 0
 Parses said (Ok x) = said ≡ Some x
 Parses said (Err Bad) = said ≡ None
 Parses said (Err NoMemory) = IsSome said
 
--- what a parse of a line answers, if the line and those after it say this; it takes the lines of its text
+-- the result of parsing a line that with those after it writes `said`; it takes the lines of its text
 abbrev pub ParsesLine : {A : Type 0} → Option (A × ℕ) → Remaining → Remaining → Result A LineFault → Type 0
 ParsesLine {A = A} said old new (Ok x) = (count : ℕ) × (said ≡ Some (x, count)) × IsPast count old new
 ParsesLine {A = A} said old new (Err Bad) = said ≡ None
 ParsesLine {A = A} said old new (Err NoMemory) = (found : A × ℕ) × (said ≡ Some found) × IsPast found.1 old new
 
--- a line, and what the lines after it say
+-- a line, and the result of the lines after it
 abbrev pub followed : {L : Type 0} → L → Result (List L) ℕ → Result (List L) ℕ
 followed line (Ok lines) = Ok (line ∷ lines)
 followed line (Err bad) = Err bad
 
--- a line, and what those after it say once so many of them are taken as its text
+-- a line, and the result of those after it once `found.1` of them are taken as its text
 abbrev pub with_line : {L : Type 0} → ℕ → Option (L × ℕ) → (ℕ → Result (List L) ℕ) → Result (List L) ℕ
 with_line number None rest = Err number
 with_line number (Some found) rest = followed found.0 (rest found.1)
 
--- what lines say that are numbered from this number, the first so many of which are a text; empty lines are skipped
+-- the result of lines numbered from `number`, the first `count` of which are a text; empty lines are skipped
 abbrev pub script_from : {L : Type 0} → (List ℕ → List (List ℕ) → Option (L × ℕ)) → ℕ → ℕ → List (List ℕ) → Result (List L) ℕ
 script_from said number count [] = Ok []
 script_from said number (suc count) (line ∷ lines) = script_from said (number + 1) count lines
@@ -44,7 +44,7 @@ script_from said number zero ((c ∷ cs) ∷ lines) =
 abbrev pub script_of : {L : Type 0} → (List ℕ → List (List ℕ) → Option (L × ℕ)) → List ℕ → Result (List L) ℕ
 script_of said script = script_from said 1 0 (split_at LINE_FEED script)
 
--- what a parse of a script answers, if the script says this
+-- the result of parsing a script whose result is `said`
 abbrev pub ParsesScript : {L : Type 0} → Result (List L) ℕ → Result (Vec L Global) ScriptFault → Type 0
 ParsesScript said (Ok lines) = said ≡ Ok lines.items
 ParsesScript said (Err (BadLine number)) = said ≡ Err number

@@ -11,7 +11,7 @@ use Rattle.commands.specs.declared.node_line.NodeLine.TheVariants.{Offer}
 use Rattle.commands.specs.Texts.{form_by}
 use Rattle.commands.specs.NodeLines.{node_line, stands_alone, text_or}
 
--- how a verb gives the text that it submits, and how one gives the text that it adds
+-- the form in which a verb gives the text that it submits, or adds
 abbrev pub submit_form : List ℕ → Option TextForm
 submit_form verb = form_by (codes "submit") (codes "submit-lines") (codes "submit-bytes") verb
 
@@ -22,7 +22,7 @@ add_form verb = form_by (codes "add") (codes "add-lines") (codes "add-bytes") ve
 abbrev pub settle_line : List ℕ → Words → Option ServeLine
 settle_line verb ws = if bytes_eq verb (codes "settle") then option_map (λ e. Settle e) (one_entry ws) else None
 
--- the first of two lines that is one
+-- this line if it is one, else a line that both commands have
 abbrev pub or_node_line : Option ServeLine → List ℕ → Words → Option ServeLine
 or_node_line (Some line) verb ws = Some line
 or_node_line None verb ws = option_map (λ l. Node l) (node_line verb ws)
@@ -38,6 +38,6 @@ added_or lines verb ws = text_or (λ o. Add o) (add_form verb) (serve_alone line
 abbrev pub serve_line_by : List (List ℕ) → List ℕ → Words → Option (ServeLine × ℕ)
 serve_line_by lines verb ws = text_or (λ o. Node (Offer o)) (submit_form verb) (added_or lines verb ws) ws lines
 
--- what a line says to `serve`, given the lines that follow, and how many of these it takes
+-- the line that these bytes write for `serve`, given the lines that follow, and how many of those it takes
 abbrev pub serve_line_of : List ℕ → List (List ℕ) → Option (ServeLine × ℕ)
 serve_line_of line lines = line_by (serve_line_by lines) line

@@ -1,4 +1,4 @@
--- The lines of a session of `serve`, and where the text ends that a line begins.
+-- The lines of a session of `serve`, and the end of a text that a line gives on the lines that follow.
 -- Source: this project's own form.
 -- The code reads a session line by line, and the lines of a text before it parses them with the line that gives it.
 use Rattle.std.specs.Prelude.{ℕ, Bool, true, false, List, codes, Option, Some, None, option_map}
@@ -19,16 +19,16 @@ abbrev pub help_or : Bool → Option (ServeLine × ℕ) → Option (SessionLine 
 help_or true said = Some (Help, 0)
 help_or false said = option_map (λ l. (Serve l.0, l.1)) said
 
--- what a line says to a session, given the lines that follow, and how many of these it takes
+-- the line that these bytes write in a session, given the lines that follow, and how many of those it takes
 abbrev pub session_line_of : List ℕ → List (List ℕ) → Option (SessionLine × ℕ)
 session_line_of line lines = help_or (bytes_eq line (codes "help")) (serve_line_of line lines)
 
--- the first of two forms that is one
+-- the first form if there is one, else the other
 abbrev pub or_form : Option TextForm → Option TextForm → Option TextForm
 or_form (Some form) other = Some form
 or_form None other = other
 
--- where a text ends: with the line that is a word alone, or with the line feed after so many bytes
+-- where a text ends: at the first line that is a word alone, or at a line feed after a number of bytes
 pub data End : Type 0 where
   word : List ℕ → End
   bytes : ℕ → End
@@ -49,6 +49,6 @@ text_end_by verb ws = do
   e ← entry_at ws
   end_by form e.1
 
--- where the text ends that the line gives on those that follow, if it gives one there
+-- the end of the text that a line gives on the lines that follow, if it gives one there
 abbrev pub text_end_of : List ℕ → Option End
 text_end_of line = line_by text_end_by line

@@ -1,6 +1,6 @@
 -- The texts that lines offer, and how many of the lines that follow each text takes.
 -- Source: this project's own form.
--- The code takes one line after another, or goes so many bytes ahead; here a text is told from all lines that follow.
+-- The code takes one line after another, or skips a number of bytes; here a text is taken from all lines that follow.
 use Rattle.std.specs.Prelude.{ℕ, ◌+◌, ◌==◌, List, [], ◌∷◌, ◌++◌, take, slice_index, count_by, Option, Some, None, option_map, if◌then◌else◌}
 use Rattle.std.specs.List.{join_with_byte}
 use Rattle.std.specs.Str.{bytes_eq}
@@ -10,7 +10,7 @@ use Rattle.commands.specs.declared.text_form.TextForm.{TextForm}
 use Rattle.commands.specs.declared.text_form.TextForm.TheVariants.{Rest, Lines, Bytes}
 use Rattle.commands.specs.LineWords.{◌>>=◌, Words, alone, one_number}
 
--- how a verb gives a text: it is one of three, for a text on the line, on lines that follow, and as so many bytes
+-- the form in which a verb gives a text: `rest` on the line, `lines` on lines that follow, `bytes` as a number of bytes
 abbrev pub form_by : List ℕ → List ℕ → List ℕ → List ℕ → Option TextForm
 form_by rest lines bytes verb =
     if bytes_eq verb rest then Some Rest else (
@@ -28,11 +28,11 @@ abbrev pub first_bytes : ℕ → List ℕ → Option (List ℕ × ℕ)
 first_bytes n bytes =
     if slice_index bytes n == LINE_FEED then Some (take n bytes, count_by (λ b. b == LINE_FEED) (take n bytes) + 1) else None
 
--- so many bytes of the lines, if a line feed follows them
+-- the first n bytes of the lines, if a line feed follows them
 abbrev pub bytes_before : ℕ → List (List ℕ) → Option (List ℕ × ℕ)
 bytes_before n lines = first_bytes n (join_with_byte LINE_FEED lines)
 
--- a word that alone is left
+-- the only word that is left, if it is not empty
 abbrev pub one_word : Words → Option (List ℕ)
 one_word [] = None
 one_word ([] ∷ ws) = None

@@ -26,7 +26,8 @@ pub fn parse_words<'a>(alloc: Global, words: &'a [&'a str]) -> Result<Request<'a
     }
 }
 
-/// Returns what is told of words that are no command line, or the request for the version.
+/// Returns the fault of words that are no command line or ask for help, or the request for the
+/// version.
 fn answered<'a>(alloc: Global, error: &Error, words: &[&str]) -> Result<Request<'a>, WordsFault> {
     match error.kind() {
         ErrorKind::OutOfMemory => Err(WordsFault::Memory),
@@ -123,7 +124,7 @@ fn labels<'a>(alloc: Global, options: &ArgMatches<'a>) -> Result<Vec<&'a str>, A
     Vec::from_slice(alloc, options.get_strs("labels").unwrap_or(&[]))
 }
 
-/// Returns what the options of `find` seek.
+/// Returns the search that the options of `find` give.
 fn sought<'a>(alloc: Global, options: &ArgMatches<'a>) -> Result<Sought<'a>, WordsFault> {
     let text = options.get_str("pattern").unwrap_or("");
     if options.get_flag("words") {
@@ -187,12 +188,12 @@ fn weather_seed(alloc: Global, options: &ArgMatches) -> Result<Option<u64>, Word
     }
 }
 
-/// Returns the number that an option gives.
+/// Returns the number that an option gives, if it gives one.
 pub(crate) fn number(options: &ArgMatches, name: &str) -> Option<u64> {
     parse_number(options.get_str(name)?.as_bytes())
 }
 
-/// Returns the weights of so many nodes; without the option each weighs 1.
+/// Returns the weights of `nodes` nodes; without the option each weighs 1.
 fn weights(alloc: Global, options: &ArgMatches, nodes: u8) -> Result<Weights, WordsFault>
     requires { (1 ≤ nodes) × (nodes ≤ MOST_NODES) }
 {

@@ -303,7 +303,7 @@ fn command<'a>(alloc: Global, shape: &Shape) -> Result<Command<'a>, AllocError> 
     Ok(command)
 }
 
-/// Makes the argument or option that is described.
+/// Makes an argument or option.
 fn made<'a>(alloc: Global, argument: &Argument) -> Result<Arg<'a>, AllocError> {
     let arg = Arg::new(alloc, argument.name).help(argument.help);
     match argument.form {

@@ -1,17 +1,16 @@
 //! Requests to the program: command lines, and the lines of the scripts of `play` and `serve`.
 //!
 //! The crate above uses `parse_words` (a `Request` of a command line) and one contract:
-//! `parse_script` gives what the definition of the command's lines reads (`specs/PlayLines`,
+//! `parse_script` returns the lines by the definition of the command's lines (`specs/PlayLines`,
 //! `specs/ServeLines`, `specs/SessionLines`), or the number of the first line that is none of them.
 //! No other crate knows `clap`.
 //!
 //! Reading order: `request` (what a command line asks for), `weights` (numbers of a command line),
 //! `grammar` (its commands and options) with `script_help`, `hints` (on files among the words),
-//! `pictured`, `command_line`; `pieces` (a text between separators),
-//! `line_words` (the words of a line), `lines` (the lines of a script), `text_form` (a text on the
-//! line or on those that follow), `offered` (entries), `node_question` (labels), `node_line`,
-//! `play_line`, `serve_line` and `session_line` (what a line asks for), `session_texts` (where a text
-//! ends), `script` (all lines).
+//! `pictured`, `command_line`; `pieces` (a text between separators), `line_words` (the words of a
+//! line), `lines` (the lines of a script), `text_form` (a text on the line or on those that follow),
+//! `offered` (entries), `node_question` (labels), `node_line`, `play_line`, `serve_line` and
+//! `session_line` (what a line asks for), `session_texts` (where a text ends), `script` (all lines).
 #![tactic(auto)]
 
 mod command_line;

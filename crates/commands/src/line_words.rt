@@ -13,7 +13,7 @@ pub const SPACE: u8 = b' ';
 /// The words of a line that are not taken yet.
 pub(crate) type Words<'a> = Pieces<'a, SPACE>;
 
-/// An entry, which its author and number name, and a node.
+/// An entry, named by its author and serial number, and a node.
 #[derive(Clone, Copy, Debug, PartialEq, Eq)]
 pub struct EntryAt {
     pub node: u8,
@@ -39,14 +39,14 @@ impl<'a> Pieces<'a, SPACE> {
         }
     }
 
-    /// Takes a number.
+    /// Takes the next word as a number. Returns `None` if it is none.
     pub fn number(&mut self) -> Option<u64>
         ensures { option_map (λ number. (number, self.new)) result ≡ number_at self.old }
     {
         parse_number(self.take()?)
     }
 
-    /// Takes the number of a node.
+    /// Takes the next word as the number of a node. Returns `None` if it is no number.
     pub fn node(&mut self) -> Option<u8>
         ensures { option_map (λ node. (node, self.new)) result ≡ node_at self.old }
     {
@@ -54,7 +54,7 @@ impl<'a> Pieces<'a, SPACE> {
         Some(node(number))
     }
 
-    /// Takes `K AUTHOR SERIAL`.
+    /// Takes the next three words as `K AUTHOR SERIAL`.
     pub fn entry(&mut self) -> Option<EntryAt>
         ensures { option_map (λ entry. (entry, self.new)) result ≡ entry_at self.old }
     {
@@ -68,7 +68,7 @@ impl<'a> Pieces<'a, SPACE> {
         })
     }
 
-    /// Returns the one number that is left.
+    /// Returns the only word that is left as a number.
     pub fn only_number(mut self) -> Option<u64>
         ensures { result ≡ one_number self.entry }
     {
@@ -79,21 +79,21 @@ impl<'a> Pieces<'a, SPACE> {
         }
     }
 
-    /// Returns the number of a node that alone is left.
+    /// Returns the only word that is left as the number of a node.
     pub fn only_node(self) -> Option<u8>
         ensures { result ≡ one_node self.entry }
     {
         Some(node(self.only_number()?))
     }
 
-    /// Tells whether no word is left.
+    /// Returns whether no word is left.
     pub fn is_done(mut self) -> bool
         ensures { result ≡ nothing_left self.entry }
     {
         self.take().is_none()
     }
 
-    /// Returns the two nodes that are left.
+    /// Returns the only two words that are left as nodes.
     pub fn only_pair(mut self) -> Option<NodePair>
         ensures { result ≡ two_nodes self.entry }
     {
@@ -102,7 +102,7 @@ impl<'a> Pieces<'a, SPACE> {
         Some(NodePair { first, second })
     }
 
-    /// Returns `K AUTHOR SERIAL`, which alone is left.
+    /// Returns the only three words that are left as `K AUTHOR SERIAL`.
     pub fn only_entry(mut self) -> Option<EntryAt>
         ensures { result ≡ one_entry self.entry }
     {
@@ -114,7 +114,7 @@ impl<'a> Pieces<'a, SPACE> {
     }
 }
 
-/// Returns the node of this number, or 255, which is no node, for a number above it.
+/// Returns the node of this number; for a number above 255 it is 255, which is no node.
 fn node(number: u64) -> u8
     ensures { result ≡ node_of number }
 {

@@ -59,7 +59,7 @@ impl<'a> Lines<'a> {
     }
 
     /// Takes the lines up to the first that is the word, and returns those before it, each with its
-    /// line feed. Returns `None` if there is no such line; then those that are left are some.
+    /// line feed. Returns `None` if there is no such line; what is left then is not specified.
     pub(crate) fn take_lines(&mut self, word: &[u8]) -> Option<&'a [u8]>
         ensures { MatchOption result
             (lines_before word.now self.old.lines ≡ None)
@@ -72,7 +72,8 @@ impl<'a> Lines<'a> {
         Some(taken.text)
     }
 
-    /// Takes so many bytes, and the line feed that follows them. Returns `None` if none follows.
+    /// Takes `count` bytes, and the line feed that follows them. Returns `None` if none follows; what
+    /// is left then is not specified.
     pub(crate) fn take_bytes(&mut self, count: u64) -> Option<&'a [u8]>
         ensures { MatchOption result
             (bytes_before count self.old.lines ≡ None)

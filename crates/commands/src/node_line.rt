@@ -61,7 +61,7 @@ pub(crate) fn parse_node_line(
     }
 }
 
-/// Parses the words after a verb, but for entries and labels.
+/// Parses the words after a verb that offers no entry and asks about no label.
 fn parse_short(verb: &[u8], words: Words<'_>) -> Option<NodeLine>
     ensures { result ≡ short_node_line verb.now words.entry }
 {

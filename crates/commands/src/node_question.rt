@@ -27,7 +27,7 @@ pub enum LabelQuestion {
 }
 
 impl LabelQuestion {
-    /// Returns the word that asks it.
+    /// Returns the verb of the question.
     pub fn verb(self) -> &'static [u8] {
         match self {
             LabelQuestion::Trace => b"trace",
@@ -38,8 +38,8 @@ impl LabelQuestion {
         }
     }
 
-    /// Returns the question of a database command about the label. A label that is no UTF-8 is
-    /// that of no statement, and neither is the empty one, which stands for it.
+    /// Returns the question of a database command about the label. For `show` a label that is not
+    /// UTF-8 becomes the empty label; no statement has either.
     ///
     /// Errors: an allocation fails.
     pub fn about(self, alloc: Global, label: &[u8]) -> Result<Question<'_>, AllocError> {
@@ -68,7 +68,7 @@ pub struct NodeQuestion {
     pub label: Bytes,
 }
 
-/// Returns what a verb asks about a label, if it does.
+/// Returns the question about a label that a verb asks, if it asks one.
 pub(crate) fn label_question(verb: &[u8]) -> Option<LabelQuestion>
     ensures { result ≡ label_question_of verb.now }
 {

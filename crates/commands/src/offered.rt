@@ -65,7 +65,7 @@ pub(crate) fn parse_charter(alloc: Global, mut words: Words<'_>) -> Result<Offer
     })
 }
 
-/// Tells whether the words that are left are the names of a charter. Does not allocate.
+/// Returns whether the words that are left are the names of a charter. Does not allocate.
 fn are_names(mut words: Words<'_>) -> bool
     ensures { result ≡ is_some (names_of words.entry) }
 {
@@ -84,7 +84,7 @@ fn are_names(mut words: Words<'_>) -> bool
     count > 0
 }
 
-/// Tells whether the number is above the last one, if there is a last one.
+/// Returns whether the number is above the last one, if there is a last one.
 fn is_above(number: u64, last: Option<u64>) -> bool
     ensures { result ≡ rises last number }
 {
@@ -94,7 +94,7 @@ fn is_above(number: u64, last: Option<u64>) -> bool
     }
 }
 
-/// Returns the numbers that the words are.
+/// Parses each of the words as a number.
 fn numbers(alloc: Global, mut words: Words<'_>) -> Result<Vec<u64>, LineFault>
     ensures { MatchResult result
         (λ numbers. numbers_of words.entry ≡ Some numbers.items)

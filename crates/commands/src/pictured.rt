@@ -29,7 +29,7 @@ fn first_step(alloc: Global, options: &ArgMatches) -> Result<u64, WordsFault> {
     }
 }
 
-/// Returns how many steps, if the option says so.
+/// Returns how many steps are shown, if the option says so.
 fn step_count(alloc: Global, options: &ArgMatches) -> Result<Option<u64>, WordsFault> {
     if options.get_str("events").is_none() {
         return Ok(None);

@@ -1,4 +1,4 @@
-//! The pieces of a text between the places of one byte: the lines of a script, the words of a line.
+//! The pieces of a text between separators of one byte: the lines of a script, the words of a line.
 ghost use Rattle.std.specs.Prelude.{◌≡◌, [], ◌∷◌, ◌==◌, MatchOption, option_map, position};
 ghost use Rattle.commands.specs.Pieces.{split_at, pieces_left};
 
@@ -20,14 +20,14 @@ impl<'a, const SEPARATOR: u8> Model for Pieces<'a, SEPARATOR> {
 }
 
 impl<'a, const SEPARATOR: u8> Pieces<'a, SEPARATOR> {
-    /// Returns what stands between the separators of a text.
+    /// Returns the pieces of a text.
     pub fn new(text: &'a [u8]) -> Pieces<'a, SEPARATOR>
         ensures { result ≡ split_at SEPARATOR text.now }
     {
         Pieces { rest: Some(text) }
     }
 
-    /// Returns the same pieces.
+    /// Returns a copy of the pieces that are left.
     pub fn copy(&self) -> Pieces<'a, SEPARATOR>
         ensures { result ≡ self.now }
     {
@@ -57,7 +57,7 @@ pub(crate) fn cut(bytes: &[u8], separator: u8) -> (&[u8], Option<&[u8]>)
     }
 }
 
-/// Returns the place of the first separator.
+/// Returns the index of the first separator.
 fn find(bytes: &[u8], separator: u8) -> Option<usize>
     ensures { result ≡ position (λ b. b == separator) bytes.now }
 {

@@ -44,7 +44,7 @@ impl Line for PlayLine {
     }
 }
 
-/// Returns how a verb gives the text that it offers, if it does.
+/// Returns the form in which a verb gives the text that it offers, if it offers one.
 fn text_form(verb: &[u8]) -> Option<TextForm>
     ensures { result ≡ play_text_form verb.now }
 {

@@ -27,7 +27,7 @@ pub enum Request<'a> {
         weights: Weights,
         steps: PicturedSteps,
     },
-    /// `serve`: lines are served by nodes that are threads.
+    /// `serve`: lines are carried out by nodes that are threads.
     Serve(Serving),
 }
 
@@ -35,7 +35,7 @@ pub enum Request<'a> {
 #[derive(Drop)]
 pub struct Serving {
     pub weights: Weights,
-    /// How many threads check the proofs of one entry.
+    /// How many threads read one entry and check its proofs.
     pub workers: WorkerCount,
     /// The seed of the weather; `None` for one in which no packet is lost, repeated or delayed.
     pub weather: Option<u64>,
@@ -48,11 +48,11 @@ pub struct Serving {
 pub struct PicturedSteps {
     /// `--from`: the first, counted from 0.
     pub from: u64,
-    /// `--events`: how many, if there are as many; `None` for all from the first on.
+    /// `--events`: how many at most; `None` for all from the first on.
     pub count: Option<u64>,
 }
 
-/// A question about a database, and how the database is taken.
+/// A question about a database, with the options about the database.
 #[derive(Drop)]
 pub struct Asked<'a> {
     pub question: Question<'a>,
@@ -62,7 +62,7 @@ pub struct Asked<'a> {
     pub assumes: bool,
 }
 
-/// The site of a database that is wanted, and how the database is taken.
+/// A request for a site of a database, with the options about the database.
 #[derive(Clone, Copy)]
 pub struct SiteQuestion<'a> {
     /// The path of the folder that the pages are written into.
@@ -78,7 +78,7 @@ pub struct SiteQuestion<'a> {
 pub enum Question<'a> {
     /// `check`: how many `$p` it proves.
     Check,
-    /// `check --all`: how many of its `$p` are proved.
+    /// `check --all`: each `$p` that is not proved, and how many are.
     CheckEach,
     /// `list`: its assertions.
     List,
@@ -91,7 +91,7 @@ pub enum Question<'a> {
     /// `usage`: the `$p` whose proofs cite the statement with the label.
     Usage {
         label: &'a [u8],
-        /// Also those that use it through others.
+        /// Also those that use it indirectly.
         all: bool,
     },
     /// `proof`: the steps of a proof.
@@ -100,7 +100,7 @@ pub enum Question<'a> {
     Extract(Vec<&'a str>),
     /// `show`: the statements with the labels, each as a block of lines.
     Show(Vec<&'a str>),
-    /// `find`: the assertions that have what is sought.
+    /// `find`: the assertions that match a search.
     Find(Sought<'a>),
 }
 
@@ -127,7 +127,7 @@ pub enum ProofForm {
 /// Why words are no request.
 #[derive(Drop)]
 pub enum WordsFault {
-    /// They are no command line, or ask for help. The text is what standard error is to say.
+    /// They are no command line, or ask for help. The text is for standard error.
     Bad { text: String },
     /// An allocation failed.
     Memory,

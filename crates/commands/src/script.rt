@@ -11,7 +11,7 @@ pub const LINE_FEED: u8 = b'\n';
 /// Why a line is not parsed.
 #[derive(Debug, Drop, PartialEq, Eq)]
 pub enum LineFault {
-    /// It is none of the lines of its command.
+    /// The line is none of its command's, or the end of its text is missing.
     Bad,
     /// An allocation failed.
     Memory,
@@ -20,7 +20,7 @@ pub enum LineFault {
 /// Why a script is not parsed.
 #[derive(Debug, Drop, PartialEq, Eq)]
 pub enum ScriptFault {
-    /// A line is none of its command's. The least such line is counted from 1, empty lines too.
+    /// A line is none of its command's. `number` is that of the first, from 1; empty lines count.
     BadLine { number: usize },
     /// An allocation failed.
     Memory,
@@ -45,7 +45,7 @@ pub trait Line: Sized + Drop {
 /// Parses the lines of a script. Each ends with a line feed, which the last may lack; empty ones
 /// are skipped.
 ///
-/// Errors: the least line that is none of the command's; else `Memory` if an allocation fails.
+/// Errors: the first line that is none of the command's; else `Memory` if an allocation fails.
 /// Cost: the size of the script.
 pub fn parse_script<L: Line>(alloc: Global, script: &[u8]) -> Result<Vec<L>, ScriptFault>
     ensures { ParsesScript (script_of L.said script.now) result }
@@ -70,7 +70,7 @@ pub fn parse_script<L: Line>(alloc: Global, script: &[u8]) -> Result<Vec<L>, Scr
     Ok(lines)
 }
 
-/// Appends a line, and tells whether the allocation succeeded.
+/// Appends a line, and returns whether allocation succeeded.
 fn is_pushed<L: Drop>(lines: &mut Vec<L>, line: L) -> bool
     ensures { IsTrue result → lines.new.items ≡ lines.old.items ++ line ∷ [] }
 {

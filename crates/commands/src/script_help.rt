@@ -2,7 +2,7 @@
 use crate::line_words::SPACE;
 use crate::pieces::cut;
 
-/// The lines of `play`.
+/// The lines of `play` that its help lists; it has others too (`NodeLine`).
 pub(crate) const PLAY_LINES: &str = "\
 Lines, K a node from 0:
   offer K AUTHOR SERIAL TEXT         offer a text at node K
@@ -16,8 +16,8 @@ Lines, K a node from 0:
   show N, log K, list K, export K    print a packet, a log, a library
   status K AUTHOR SERIAL             print what its library decided";
 
-/// The lines of `serve`: each after two spaces, and then what it asks for, after two spaces or
-/// more. A session has `help` too.
+/// The lines of `serve`: each after two spaces, and then its meaning, after two spaces or more. A
+/// session has `help` too.
 pub const SERVE_LINES: &str = "\
 Lines, K a node from 0:
   add K AUTHOR SERIAL TEXT           submit a text until it is decided
@@ -46,12 +46,12 @@ Lines, K a node from 0:
 With --live also:
   help                               print these lines";
 
-/// The lines of a session by their first words.
+/// The first words of the lines of a session.
 const SESSION_VERBS: &str = "add, add-lines, add-bytes, submit, submit-lines, submit-bytes, \
     charter, begin, restart, settle, status, why, list, export, log, state, trace, tree, usage, \
     proof, show, compare, events or help";
 
-/// Returns the line of a session that begins with a verb, or the verbs that there are.
+/// Returns the form of the line of a session that begins with a verb, or all verbs if none does.
 pub fn wanted_line(verb: &[u8]) -> &'static str {
     for line in SERVE_LINES.lines() {
         if let Some(line) = line.strip_prefix("  ") {

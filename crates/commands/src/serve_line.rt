@@ -43,7 +43,7 @@ impl Line for ServeLine {
     }
 }
 
-/// Returns how a verb gives the text that it submits, if it does.
+/// Returns the form in which a verb gives the text that it submits, if it submits one.
 pub(crate) fn submitted_form(verb: &[u8]) -> Option<TextForm>
     ensures { result ≡ submit_form verb.now }
 {
@@ -55,7 +55,7 @@ pub(crate) fn submitted_form(verb: &[u8]) -> Option<TextForm>
     )
 }
 
-/// Returns how a verb gives the text that it adds, if it does.
+/// Returns the form in which a verb gives the text that it adds, if it adds one.
 pub(crate) fn added_form(verb: &[u8]) -> Option<TextForm>
     ensures { result ≡ add_form verb.now }
 {

@@ -1,4 +1,4 @@
-//! Where the text ends that a line of `serve` gives on the lines that follow it.
+//! The end of the text that a line of `serve` gives on the lines that follow it.
 ghost use Rattle.std.specs.Prelude.{◌≡◌, option_map};
 ghost use Rattle.commands.specs.SessionLines.{end_by, end_view, or_form, text_end_of};
 ghost use Rattle.commands.specs.ServeLines.{add_form, submit_form};
@@ -10,14 +10,14 @@ use crate::text_form::{TextForm, only_word};
 /// Where a text ends.
 #[derive(Clone, Copy, Debug, PartialEq, Eq)]
 pub enum TextEnd<'a> {
-    /// With the line that is this word alone.
+    /// At the first line that is this word alone.
     AtWord(&'a [u8]),
-    /// With a line feed after so many bytes.
+    /// At a line feed after this many bytes.
     AfterBytes(u64),
 }
 
-/// Returns where the text ends that the line gives on those that follow. Returns `None` if it gives
-/// none there, or is no line of `serve` whatever follows. Does not allocate.
+/// Returns where the text ends that a line gives on the lines that follow it. Returns `None` if it
+/// gives none there, or is no line of `serve` whatever follows. Does not allocate.
 pub fn text_end(line: &[u8]) -> Option<TextEnd<'_>>
     ensures { option_map end_view result ≡ text_end_of line.now }
 {
@@ -27,7 +27,7 @@ pub fn text_end(line: &[u8]) -> Option<TextEnd<'_>>
     end_of(form, words)
 }
 
-/// Returns how a verb gives a text, if it does.
+/// Returns the form in which a verb gives a text, if it gives one.
 fn text_form(verb: &[u8]) -> Option<TextForm>
     ensures { result ≡ or_form (submit_form verb.now) (add_form verb.now) }
 {

@@ -13,7 +13,7 @@ use crate::script::LINE_FEED;
 /// How a line gives the text that it offers.
 #[derive(Clone, Copy, Debug, PartialEq, Eq)]
 pub enum TextForm {
-    /// All that is left of the line.
+    /// The rest of the line.
     Rest,
     /// The lines that follow, each with its line feed, up to the first that is a given word alone.
     Lines,
@@ -21,8 +21,8 @@ pub enum TextForm {
     Bytes,
 }
 
-/// Returns how a verb gives a text, if it is one of these three: that of a text on the line, of one
-/// on the lines that follow, and of one of so many bytes.
+/// Returns the form in which a verb gives a text, if it is one of three verbs: `rest` for a text on
+/// the line, `lines` for one on the lines that follow, `bytes` for one of a given number of bytes.
 pub(crate) fn form_of(verb: &[u8], rest: &[u8], lines: &[u8], bytes: &[u8]) -> Option<TextForm>
     ensures { result ≡ form_by rest.now lines.now bytes.now verb.now }
 {
@@ -57,7 +57,7 @@ pub(crate) fn take_text<'a>(
     }
 }
 
-/// Returns the one word that is left, if it is not empty.
+/// Returns the only word that is left, if it is not empty.
 pub(crate) fn only_word<'a>(mut words: Words<'a>) -> Option<&'a [u8]>
     ensures { option_map (λ word. word.now) result ≡ one_word words.entry }
 {
@@ -91,7 +91,7 @@ impl<'a> Pieces<'a, LINE_FEED> {
         Some(taken)
     }
 
-    /// Takes so many bytes, and the line feed that follows them. Returns `None` if none follows.
+    /// Takes `count` bytes, and the line feed that follows them. Returns `None` if none follows.
     pub fn take_bytes(&mut self, count: u64) -> Option<Taken<'a>>
         ensures text { MatchOption result
             (bytes_before count self.old ≡ None)
@@ -138,7 +138,7 @@ fn lines_until<'a>(all: &'a [u8], word: &[u8]) -> Option<(Taken<'a>, Pieces<'a, 
     None
 }
 
-/// Tells whether a line feed stands at this place.
+/// Returns whether a line feed stands at this index.
 #[tactic(auto, using(std::proofs::lemmas::List::get_or_past))]
 fn is_line_feed_at(bytes: &[u8], place: usize) -> bool
     ensures feed { result ≡ (slice_index bytes.now place == LINE_FEED) }

@@ -9,7 +9,7 @@ use synod::{MOST_NODES, Weights};
 /// The most workers that there may be.
 pub const MOST_WORKERS: usize = 16;
 
-/// How many threads check the proofs of one text: 1 to 16.
+/// How many threads read one text and check its proofs: 1 to 16.
 #[derive(Clone, Copy, Debug)]
 pub struct WorkerCount {
     pub count: usize,
@@ -33,8 +33,8 @@ impl WorkerCount {
     }
 }
 
-/// Parses decimal numbers that are joined by commas. Returns `None` if they are no weights of so
-/// many nodes.
+/// Parses decimal numbers that are joined by commas. Returns `None` if they are no weights of `nodes`
+/// nodes.
 pub(crate) fn parse_weights(text: &[u8], nodes: u8) -> Option<Weights>
     requires { nodes ≤ MOST_NODES }
 {

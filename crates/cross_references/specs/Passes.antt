@@ -1,4 +1,4 @@
--- What the pass over the statements has done.
+-- The state of the pass over the statements.
 -- Source: none; for the private functions.
 -- The code has a list in a vector for each statement.
 use Rattle.std.specs.Prelude.{◌≡◌, ◌⊎◌, ℕ, suc, ◌-◌, ◌<◌, ◌≤◌, IsTrue, List, [], ◌∷◌, ◌++◌, length, map, get_or, Option, Some, None}
@@ -10,22 +10,22 @@ use Rattle.frame.specs.Stored.Hypotheses.{In, AreThose}
 abbrev pub lists_of : List (Vec ℕ) → List (List ℕ)
 lists_of vectors = map (λ (v : Vec ℕ). v.items) vectors
 
--- a position that there may be, as a list
+-- an optional position as a list
 abbrev pub listed_place : Option ℕ → List ℕ
 listed_place None = []
 listed_place (Some position) = position ∷ []
 
--- each position was added last in this round or before, and one that was added in this round is in the list
+-- each position was last added in this round, in an earlier one or never, and those added in this round are in the list
 pub record AreRounds (list rounds : List ℕ) (round : ℕ) : Type 0 where
   pub some : 0 < round
   pub past : (k : ℕ) → get_or rounds k 0 ≤ round
   pub among : (k : ℕ) → get_or rounds k 0 ≡ round → In k list
 
--- the `$a` at c, and those of its list
+-- a is the position c of a `$a`, or stands in the list of c
 abbrev pub Gives : Database → List (List ℕ) → ℕ → ℕ → Type 0
 Gives S lists c a = (IsAxiomAt S c × (a ≡ c)) ⊎ In a (get_or lists (c - 1) [])
 
--- each of the positions is that of one of so many
+-- each position is one of 1 to `count`
 abbrev pub AreWithin : ℕ → List ℕ → Type 0
 AreWithin count positions = (p : ℕ) → In p positions → (0 < p) × (p ≤ count)
 

@@ -15,7 +15,7 @@ use std::alloc::{AllocError, Global};
 /// Returns the positions of the statements that the proof of the statement at an index cites, in ascending order, each once;
 /// none if the statement is no `$p`.
 ///
-/// Errors: an allocation fails. Cost: the size of the proof, whose citations are sorted.
+/// Errors: an allocation fails. Cost: the size of the proof, and the sorting of its citations.
 pub fn cited_at(alloc: Global, library: &Library, index: usize) -> Result<Vec<usize>, AllocError>
     requires { index < length library.now.replica.statements }
     ensures { IfOk result (λ list. AreThose (Cites library.now.replica.statements (suc index)) list.items) }
@@ -74,7 +74,7 @@ fn place_of(places: &[Option<usize>], number: u32) -> Option<usize>
     *places.get(index)?
 }
 
-/// Sorts positions in ascending order, each once.
+/// Sorts positions in ascending order, and keeps each once.
 pub fn order(list: &mut Vec<usize>)
     ensures { AreThose (λ p. In p list.old.items) list.new.items }
 {

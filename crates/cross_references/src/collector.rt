@@ -6,12 +6,12 @@ use crate::citations::order;
 use std::alloc::{AllocError, Global};
 use std::marker::Model;
 
-/// Positions that are collected. Contracts see the list of them.
+/// The positions that were collected in a round. Contracts see their list.
 #[derive(Drop)]
 pub struct Collector {
     alloc: Global,
     list: Vec<usize>,
-    /// For each position the round in which it was added last.
+    /// The round in which each position was last added.
     rounds: Vec<usize>,
     /// The number of this round, from 1.
     round: usize,
@@ -29,7 +29,7 @@ impl Model for Collector {
 }
 
 impl Collector {
-    /// Returns a collector for positions up to this one, which has collected none.
+    /// Returns an empty collector for positions up to `last`.
     pub fn new(alloc: Global, last: usize) -> Result<Collector, AllocError>
         ensures { IfOk result (λ collector. collector ≡ []) }
     {
@@ -42,7 +42,7 @@ impl Collector {
         })
     }
 
-    /// Begins a round, in which none is collected yet.
+    /// Begins a round, in which no position is collected yet.
     pub fn begin(&mut self) -> Result<(), AllocError>
         ensures { OnOk result (self.new ≡ []) }
     {
@@ -64,7 +64,7 @@ impl Collector {
         Ok(())
     }
 
-    /// Adds positions.
+    /// Adds those of the positions that were not added in this round.
     pub fn add_all(&mut self, positions: &[usize]) -> Result<(), AllocError>
         ensures { OnOk result (HasMore (λ p. In p positions.now) self.old self.new) }
     {
@@ -74,7 +74,7 @@ impl Collector {
         Ok(())
     }
 
-    /// Returns the positions in ascending order, each once.
+    /// Returns the positions collected in this round in ascending order, each once.
     pub fn ordered(&self) -> Result<Vec<usize>, AllocError>
         ensures { IfOk result (λ list. AreThose (λ p. In p self.now) list.items) }
     {
@@ -84,14 +84,14 @@ impl Collector {
     }
 }
 
-/// Tells whether a position was added last in this round.
+/// Returns whether a position was added in this round.
 fn is_noted(rounds: &Vec<usize>, position: usize, round: usize) -> bool
     ensures { result ≡ true → get_or rounds.now.items position 0 ≡ round }
 {
     position < rounds.len() && rounds[position] == round
 }
 
-/// Notes the round in which a position was added, if there is a place for it.
+/// Records the round in which a position was added, if the table has a place for it.
 fn note(rounds: &mut Vec<usize>, position: usize, round: usize)
     ensures { rounds.new.items ≡ slice_set rounds.old.items position round }
 {

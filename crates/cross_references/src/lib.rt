@@ -1,7 +1,7 @@
-//! The axioms that each theorem rests on and the theorems that cite each statement: those of all statements of a library, in
-//! one pass.
+//! The axioms that each theorem rests on and the theorems that cite each statement, for all statements of a library in one
+//! pass.
 //!
-//! Reading order: `citations` (what one proof cites), `collector` (positions, each once), `references` (`cross_references`).
+//! Reading order: `citations` (of one proof), `collector` (positions, each once), `references` (`cross_references`).
 #![tactic(auto)]
 
 mod citations;

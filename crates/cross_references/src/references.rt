@@ -16,17 +16,17 @@ use std::alloc::{AllocError, Global};
 /// For each statement of a library, at an index from 0, positions of others from 1, in ascending order.
 #[derive(Drop)]
 pub struct CrossReferences {
-    /// Those of the `$a` that the `$p` rests on.
+    /// The positions of the `$a` that a `$p` rests on; none for another statement.
     pub axioms: Vec<Vec<usize>>,
-    /// Those of the `$p` whose proofs cite the statement.
+    /// The positions of the `$p` whose proofs cite the statement.
     pub users: Vec<Vec<usize>>,
 }
 
 /// Returns the cross references of a library: the answers of `Library::trace` for each `$p` and of `Library::usage` for each
 /// statement, by position.
 ///
-/// Errors: an allocation fails. Cost: the size of the proofs, each read once, and for each citation the list of the axioms
-/// that what it cites rests on. Source: Metamath, 4.2.6 and appendix B.
+/// Errors: an allocation fails. Cost: the size of the proofs, each read once, and for each statement that a proof cites the
+/// list of the axioms that this statement rests on. Source: Metamath, 4.2.6 and appendix B.
 pub fn cross_references(alloc: Global, library: &Library) -> Result<CrossReferences, AllocError>
     ensures { IfOk result (λ found. AreReferences library.now.replica.statements
         (lists_of found.axioms.items) (lists_of found.users.items)) }
@@ -49,7 +49,7 @@ pub fn cross_references(alloc: Global, library: &Library) -> Result<CrossReferen
     Ok(CrossReferences { axioms, users })
 }
 
-/// Returns so many lists without an element.
+/// Returns `count` empty lists.
 fn empty_lists(alloc: Global, count: usize) -> Result<Vec<Vec<usize>>, AllocError>
     ensures { IfOk result (λ lists. lists_of lists.items ≡ replicate count []) }
 {
@@ -83,8 +83,8 @@ fn push_user(users: &mut [Vec<usize>], position: usize, at: usize) -> Result<(),
     Ok(())
 }
 
-/// Returns the positions of the `$a` among these, and of those that the statements there rest on, in ascending order, each
-/// once.
+/// Returns the positions of the `$a` at these positions and of the `$a` that the statements there rest on, in ascending order,
+/// each once.
 fn axioms_at(
     statements: &[Stmt],
     axioms: &[Vec<usize>],
@@ -102,7 +102,7 @@ fn axioms_at(
     collector.ordered()
 }
 
-/// Collects the position, if a `$a` stands there, and those that the statement there rests on.
+/// Collects the position if a `$a` stands there, and the positions of the `$a` that the statement there rests on.
 fn add_given(
     statements: &[Stmt],
     axioms: &[Vec<usize>],
@@ -117,7 +117,7 @@ fn add_given(
     collector.add_all(axioms[position - 1].as_slice())
 }
 
-/// Collects the position of a statement, if it is a `$a`.
+/// Collects the position of a statement if the statement is a `$a`.
 fn add_axiom(statement: &Stmt, position: usize, collector: &mut Collector) -> Result<(), AllocError>
     ensures { OnOk result (HasMore (λ p. IsTrue (is_axiom statement.now) × (p ≡ position)) collector.old collector.new) }
 {

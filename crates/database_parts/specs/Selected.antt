@@ -1,4 +1,4 @@
--- Some of the statements of a database, and an assertion that stands among them as in the whole.
+-- A part of a database, and an assertion that stands in the part as in the whole.
 -- Source: Metamath, 4.2.7: an assertion is its frame, that is its hypotheses, its pairs and its expression.
 -- The code goes through both databases once, in parallel.
 use Rattle.std.specs.Prelude.{◌≡◌, ℕ, IsTrue, List, [], ◌∷◌, map, Option}
@@ -19,7 +19,7 @@ pub data IsPart : Database → Database → Type 0 where
 abbrev pub hypotheses_at : Database → ℕ → Stmt → List (Option Stmt)
 hypotheses_at S at s = map (stmt_at S) (hypotheses (before (bares S) at) s)
 
--- the assertion of the label stands in S and in T, the same in its expression, its proof, its hypotheses and its mandatory pairs
+-- the assertion of the label stands in S and in T with the same expression, proof, mandatory hypotheses and mandatory pairs
 pub record IsKept (S T : Database) (label : Name) : Type 0 where
   pub stmt : Stmt
   pub there : ℕ

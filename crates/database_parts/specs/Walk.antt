@@ -1,6 +1,6 @@
--- How far a database and a part of it were walked in parallel.
--- Source: none; for the private functions of `comparison`.
--- The code keeps of each the scope after the statements that were passed.
+-- The state of a walk over a database and a part of it, in parallel.
+-- Source: none; for the private functions of `comparison`. `AreKept` is also cited by the clause of `is_extract`.
+-- The code keeps for each the scope after the statements that were passed.
 use Rattle.std.specs.Prelude.{◌≡◌, ℕ, ◌≤◌, Bool, true, false, List, map, take, Some}
 use Rattle.mm_lex.specs.Alphabet.{Name, has_name}
 use Rattle.mm_read.specs.declared.stmt.Stmt.{Stmt}
@@ -11,13 +11,13 @@ use Rattle.frame.specs.Citations.{Carries}
 use Rattle.frame.specs.FrameOf.{hypotheses, mandatory_groups}
 use Rattle.database_parts.specs.Selected.{IsPart, IsKept}
 
--- an assertion of one of these labels
+-- the statement is an assertion with one of these labels
 abbrev pub wanted : List Name → Stmt → Bool
 wanted labels (Axiom label expr) = has_name label labels
 wanted labels (Prove label expr proof) = has_name label labels
 wanted labels s = false
 
--- the assertions of these labels among the first so many statements are kept
+-- the assertions of these labels among the first n statements of S are kept in T
 abbrev pub AreKept : Database → Database → List Name → ℕ → Type 0
 AreKept S T labels n = (i : ℕ) (s : Stmt) → i ≤ n → stmt_at S i ≡ Some s → wanted labels s ≡ true → (label : Name) → Carries S i s label → IsKept S T label
 
@@ -26,7 +26,7 @@ pub record IsSameFrame (S T A B : Database) (s : Stmt) : Type 0 where
   pub hypotheses : map (stmt_at S) (hypotheses A s) ≡ map (stmt_at T) (hypotheses B s)
   pub groups : mandatory_groups A s ≡ mandatory_groups B s
 
--- n statements of S were passed and k of T met, after which the scopes stand
+-- n statements of S were passed and k of T met, and the scopes have just these
 pub record IsWalked (S T : Database) (labels : List Name) (n k : ℕ) (whole part : Database) : Type 0 where
   pub whole_is : whole ≡ bares (take n S)
   pub part_is : part ≡ bares (take k T)

@@ -1,4 +1,4 @@
-//! Compares some statements with others that they should be a part of, with the same assertions.
+//! Compares a part of a database with the whole.
 ghost use Rattle.std.specs.Prelude.{◌≡◌, ℕ, ◌+◌, ◌<◌, ◌∷◌, ◌++◌, [], map, length, true, IsTrue, IfOk, Some, slice_get};
 ghost use Rattle.mm_read.specs.Statements.{IsShaped, AreShaped};
 ghost use Rattle.scope.specs.Active.{bare, is_assertion, stmt_at};
@@ -12,21 +12,22 @@ use mm_read::Stmt;
 use scope::{Rule, Scope, Steps};
 use std::alloc::{AllocError, Global};
 
-/// How far both lists were walked.
+/// The state of a walk over both lists in parallel.
 #[derive(Drop)]
 struct Walk {
     /// The scope after the statements of the whole that were passed.
     whole: Scope,
     /// The scope after the statements of the part that were met.
     part: Scope,
-    /// How many these are.
+    /// The number of statements of the part that were met.
     next: usize,
 }
 
-/// Returns whether the statements are some of the others, in order, and have each assertion of these labels that the others have
-/// with its hypotheses and pairs.
+/// Returns true only if the statements of `part` are some of those of `whole`, in order, and have each assertion of `whole`
+/// that has one of the labels, with its proof, hypotheses and pairs.
 ///
-/// Errors: an allocation failed. Cost: a pass over the rules of both, and the frames of these assertions.
+/// Errors: an allocation fails. Cost: a pass over the rules of both, a comparison of each assertion with each label, and the
+/// frames of the assertions that have one.
 pub fn is_extract(
     alloc: Global,
     whole: &[Stmt],
@@ -45,7 +46,7 @@ pub fn is_extract(
     is_walk(alloc, whole, part, labels, &mut walk)
 }
 
-/// Returns whether no difference is found up to the end of both lists, in a walk from the start.
+/// Walks both lists from the start; returns whether no difference is found up to the end of both.
 fn is_walk(
     alloc: Global,
     whole: &[Stmt],
@@ -66,7 +67,7 @@ fn is_walk(
     Ok(walk.next == part.len())
 }
 
-/// Goes on to the next statement of the whole; returns whether no difference is found.
+/// Advances past the next statement of the whole; returns whether no difference is found.
 fn advance(
     alloc: Global,
     whole: &[Stmt],
@@ -110,7 +111,7 @@ fn pass_both(walk: &mut Walk, statement: &Stmt, next: usize) -> Result<bool, All
     accepts(&mut walk.whole, statement)
 }
 
-/// Returns whether the scope accepts the statement.
+/// Adds the statement to the scope; returns whether it is legal there.
 fn accepts(scope: &mut Scope, statement: &Stmt) -> Result<bool, AllocError>
     requires { IsShaped statement.now }
     ensures { IfOk result (λ yes. yes ≡ true → scope.new.statements ≡ scope.old.statements ++ bare statement.now ∷ []) }
@@ -122,7 +123,7 @@ fn accepts(scope: &mut Scope, statement: &Stmt) -> Result<bool, AllocError>
     }
 }
 
-/// Returns whether it is an assertion of one of these labels.
+/// Returns whether the statement is an assertion with one of these labels.
 fn is_wanted(statement: &Stmt, labels: &[&str]) -> bool
     ensures { result ≡ wanted (map (λ label. label.now) labels.now) statement.now }
 {
@@ -133,7 +134,7 @@ fn is_wanted(statement: &Stmt, labels: &[&str]) -> bool
     }
 }
 
-/// Returns whether the statement stands there.
+/// Returns whether the statement stands at an index.
 fn is_at(statements: &[Stmt], index: usize, statement: &Stmt) -> bool
     ensures stands { result ≡ true → slice_get statements.now index ≡ Some statement.now }
     ensures within { result ≡ true → index < length statements.now }
@@ -144,7 +145,7 @@ fn is_at(statements: &[Stmt], index: usize, statement: &Stmt) -> bool
     }
 }
 
-/// Returns whether a statement that comes next in both has the same hypotheses and pairs, where it is an assertion that is wanted.
+/// Returns whether a statement that comes next in both has the same hypotheses and pairs, if it is a wanted assertion.
 fn agrees(
     alloc: Global,
     whole: &[Stmt],
@@ -173,7 +174,7 @@ fn same_frame(whole: &[Stmt], part: &[Stmt], one: &Frame, other: &Frame) -> bool
         && same_groups(one.groups(), other.groups())
 }
 
-/// Returns whether the same statements stand at these positions.
+/// Returns whether the statements at these positions of the two lists are equal.
 fn same_positions(whole: &[Stmt], part: &[Stmt], one: &[usize], other: &[usize]) -> bool
     ensures { result ≡ true → map (stmt_at whole.now) one.now ≡ map (stmt_at part.now) other.now }
 {
@@ -188,7 +189,7 @@ fn same_positions(whole: &[Stmt], part: &[Stmt], one: &[usize], other: &[usize])
     true
 }
 
-/// Returns whether a statement stands at the first position, and the same at the second.
+/// Returns whether a statement stands at the first position, and an equal one at the second.
 fn same_place(whole: &[Stmt], part: &[Stmt], one: usize, other: usize) -> bool
     ensures { result ≡ true → stmt_at whole.now one ≡ stmt_at part.now other }
 {
@@ -201,7 +202,7 @@ fn same_place(whole: &[Stmt], part: &[Stmt], one: usize, other: usize) -> bool
     }
 }
 
-/// Returns whether the lists of variables are the same.
+/// Returns whether the lists of variables are equal.
 fn same_groups(one: &[Words], other: &[Words]) -> bool
     ensures { result ≡ true → one.now ≡ other.now }
 {
@@ -216,7 +217,7 @@ fn same_groups(one: &[Words], other: &[Words]) -> bool
     true
 }
 
-/// Returns whether it is the same statement.
+/// Returns whether two statements are equal.
 fn same_statement(one: &Stmt, other: &Stmt) -> bool
     ensures { result ≡ true → one.now ≡ other.now }
 {
@@ -239,7 +240,7 @@ fn same_statement(one: &Stmt, other: &Stmt) -> bool
     }
 }
 
-/// Returns whether statements with labels are the same.
+/// Returns whether two statements with labels are equal.
 fn same_labelled(one: &Stmt, other: &Stmt) -> bool
     ensures { result ≡ true → one.now ≡ other.now }
 {

@@ -2,7 +2,9 @@
 ghost use Rattle.std.specs.Prelude.{◌≡◌, map};
 ghost use Rattle.mm_lex.specs.Alphabet.{name_eq, has_name};
 
-/// Returns whether the label stands among these. Does not allocate.
+/// Returns whether a label is in a list. Does not allocate.
+///
+/// Cost: a comparison for each label of the list.
 pub fn is_among(label: &[u8], labels: &[&str]) -> bool
     ensures { result ≡ has_name label.now (map (λ label. label.now) labels.now) }
 {
@@ -14,7 +16,7 @@ pub fn is_among(label: &[u8], labels: &[&str]) -> bool
     false
 }
 
-/// Returns whether the text has these bytes.
+/// Returns whether the bytes of the text are these.
 fn is_text(text: &str, bytes: &[u8]) -> bool
     ensures { result ≡ name_eq bytes.now text.now }
 {

@@ -1,8 +1,8 @@
-//! Whether some statements are a part of others, and have some of their assertions as these stand there.
+//! Checks that a database is a part of another and keeps given assertions of it.
 //!
-//! The crate above uses `is_extract`: it says yes only if the first statements are some of the second, in their order, and have
-//! each assertion of the labels with its hypotheses and its mandatory pairs. It judges nothing: the rules alone are asked, which
-//! tell what is active.
+//! The crate above calls `is_extract`, which returns true only if the statements of the part are some of the whole, in their
+//! order, and have each assertion of the labels with its hypotheses and its mandatory pairs. It judges no proof: it uses the
+//! rules to know what is active.
 //!
 //! Reading order: `labels` (a label among others), `comparison`.
 #![tactic(auto)]

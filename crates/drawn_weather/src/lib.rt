@@ -1,5 +1,4 @@
-//! A weather that a generator of random numbers draws, so that a run in bad weather can be made
-//! again from its seed.
+//! A weather that a generator of random numbers draws from a seed.
 //!
 //! Agreement holds in any weather, so no clause says which fates are drawn.
 #![tactic(auto)]
@@ -8,18 +7,19 @@ use nodes::{Fate, Weather};
 use rand_core::utils::NextWord;
 use rand_pcg::Pcg32;
 
-/// How many numbers a fate is drawn from. One of them stands for each fate but `Pass`, so one hint in four does not pass.
+/// How many numbers a fate is drawn from: one stands for each fate but `Pass`, so about one hint in
+/// four does not pass.
 const FATES: u32 = 12;
 
-/// A weather that loses, repeats or delays one hint in four, as a generator draws.
+/// A weather that loses, repeats or delays about one hint in four, as a generator draws.
 #[derive(Drop)]
 pub struct DrawnWeather {
     generator: Pcg32,
 }
 
 impl DrawnWeather {
-    /// Makes the weather of a node. Weathers of one seed and one node draw the same fates; each
-    /// node has a stream of its own.
+    /// Makes the weather of a node. Weathers with the same seed and node draw the same fates; each node
+    /// has its own stream of the generator.
     pub fn new(seed: u64, node: u8) -> DrawnWeather {
         DrawnWeather {
             generator: Pcg32::new(seed, u64::from(node)),

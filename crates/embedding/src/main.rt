@@ -13,7 +13,7 @@ use synod::Weights;
 const GOOD: &[u8] = b"$c wff |- ( ) -> $. $v p q $. wp $f wff p $. wq $f wff q $.
 wi $a wff ( p -> q ) $. ${ min $e |- p $. maj $e |- ( p -> q ) $. mp $a |- q $. $}
 ${ a $e |- p $. b $e |- ( p -> q ) $. th $p |- q $= wp wq a b mp $. $}";
-/// A text that is refused: its proof has the hypotheses in the wrong order.
+/// A text that is refused: its proof cites the hypotheses in the wrong order.
 const WRONG: &[u8] = b"${ c $e |- p $. d $e |- ( p -> q ) $. two $p |- q $= wp wq d c mp $. $}";
 
 fn main(rt: HostRuntime) -> Result<()> {

@@ -1,5 +1,5 @@
 -- A statement as numbers, as plain lists.
--- Metamath, 4.2.6 and 4.2.7: a citation of an assertion needs its mandatory hypotheses. The meaning of the numbers is in `frame`.
+-- Metamath, 4.2.6 and 4.2.7: a citation of an assertion needs its mandatory hypotheses. `frame` says what the numbers mean.
 -- The code keeps the lists of all statements in a few buffers.
 use Rattle.std.specs.Prelude.{◌≡◌, ℕ, Bool, true, List, [], length, map, slice_get, Some}
 use Rattle.entries.specs.declared.assertion_view.Hypothesis.{Hypothesis}
@@ -12,8 +12,8 @@ use Rattle.entries.specs.declared.entry_header.EntryRef.{EntryRef}
 use Rattle.entries.specs.Hypotheses.{told}
 use Rattle.entries.specs.Stored.Spans.{cut, AreSpansIn}
 
--- hypotheses by position, the number and the typecode of each, and groups of variables; for most statements all lists are empty.
--- Whether these are whole, or only what the statement adds to what is active.
+-- hypotheses by position, what each is, its typecode, and groups of variables; for most statements all lists are empty.
+-- `whole`: whether these are all, or only what the statement adds to what is active
 pub record Assertion : Type 0 where
   pub whole : Bool
   pub hypotheses : List ℕ
@@ -34,7 +34,7 @@ pub record Entry : Type 0 where
 abbrev pub assertion_of : AssertionParts → Assertion
 assertion_of p = record { whole = p.whole; hypotheses = p.hypotheses.now; required = map told p.required.now; typecodes = p.typecodes.now; groups = cut p.places.now p.groups.now }
 
--- each hypothesis has its kind and its typecode, and the groups are parts of the places
+-- each hypothesis has its number and its typecode, and the groups are parts of the places
 pub record AreShapedParts (p : AssertionParts) : Type 0 where
   pub paired : length p.required.now ≡ length p.hypotheses.now
   pub headed : length p.typecodes.now ≡ length p.hypotheses.now

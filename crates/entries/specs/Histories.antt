@@ -1,14 +1,14 @@
 -- Stacks of positions whose earlier versions can be read.
 -- Driscoll, Sarnak, Sleator and Tarjan, Making data structures persistent (1989): a stack that is fully persistent.
--- The code keeps of each version its top, and where the version below it stands.
+-- The code stores the top of each version, and the index of the version below it.
 use Rattle.std.specs.Prelude.{◌≡◌, ℕ, ◌≤◌, ◌==◌, Bool, false, nat_lt, nat_le, if◌then◌else◌, List, [], ◌∷◌, ◌++◌, filter, get_or}
 
--- a stack, from the last position back, and the position since which it is so
+-- a stack, from the last position back, and the position at which this version was made
 pub record StackVersion : Type 0 where
   pub since : ℕ
   pub stack : List ℕ
 
--- the stack of the last version that is so since before `at`
+-- the stack of the last version that was made before `at`
 abbrev pub stack_from : List ℕ → List StackVersion → ℕ → List ℕ
 stack_from found [] at = found
 stack_from found (v ∷ vs) at = stack_from (if nat_lt v.since at then v.stack else found) vs at
@@ -16,13 +16,13 @@ stack_from found (v ∷ vs) at = stack_from (if nat_lt v.since at then v.stack e
 abbrev pub stack_at : List StackVersion → ℕ → List ℕ
 stack_at vs at = stack_from [] vs at
 
--- the last version is so since `at`
+-- the last version was made at `at`
 abbrev pub is_changed : ℕ → List StackVersion → Bool
 is_changed at [] = false
 is_changed at (v ∷ []) = v.since == at
 is_changed at (v ∷ w ∷ vs) = is_changed at (w ∷ vs)
 
--- the versions with one more since `at`, unless there is one
+-- the versions with one more made at `at`, unless there is one
 abbrev pub changed : ℕ → List ℕ → List StackVersion → List StackVersion
 changed at stack vs = if is_changed at vs then vs else vs ++ record { since = at; stack = stack } ∷ []
 
@@ -34,11 +34,11 @@ pushed at vs = changed at (at ∷ stack_at vs at) vs
 abbrev pub gone_back : ℕ → ℕ → List StackVersion → List StackVersion
 gone_back at before vs = changed at (stack_at vs before) vs
 
--- the versions that are so since `last` at the latest
+-- the versions that were made at `last` or before
 abbrev pub kept_until : ℕ → List StackVersion → List StackVersion
 kept_until last vs = filter (λ v. nat_le v.since last) vs
 
--- none is so since a later position
+-- none was made at a later position
 abbrev pub IsUntil : ℕ → List StackVersion → Type 0
 IsUntil at [] = Unit {0}
 IsUntil at (v ∷ vs) = (v.since ≤ at) × IsUntil at vs
@@ -57,6 +57,6 @@ AreWith old c vs new = (d : ℕ) → history new d ≡ (if d == c then vs else h
 abbrev pub AreSame : List (List StackVersion) → List (List StackVersion) → Type 0
 AreSame old new = (d : ℕ) → history new d ≡ history old d
 
--- the versions of each number until `last`
+-- the versions of each number that were made at `last` or before
 abbrev pub AreKeptUntil : ℕ → List (List StackVersion) → List (List StackVersion) → Type 0
 AreKeptUntil last old new = (d : ℕ) → history new d ≡ kept_until last (history old d)

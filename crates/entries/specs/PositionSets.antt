@@ -4,7 +4,7 @@
 use Rattle.std.specs.Prelude.{◌≡◌, ℕ, ◌<◌, ◌==◌, nat_lt, if◌then◌else◌, Bool, List, [], ◌∷◌, length, get_or}
 use Rattle.std.specs.List.{filter, list_any}
 
--- the set with this number; a number that is none of theirs is the empty set
+-- the set with this number; the empty set if none has it
 abbrev pub set_at : List (List ℕ) → ℕ → List ℕ
 set_at sets set = get_or sets set []
 

@@ -5,14 +5,14 @@ use Rattle.std.specs.Prelude.{◌≡◌, ℕ, suc, ◌<◌, ◌≤◌, ◌⊎◌
 use Rattle.std.specs.List.{All, Contains}
 use Rattle.std.specs.List.Sorted.{IsStrictlyIncreasing}
 
--- the group has just the indexes at which the symbol stands, in ascending order, and there is one
+-- the group has exactly the indexes at which the symbol stands, in ascending order, and at least one
 pub record IsGroupOf (expr : List ℕ) (symbol : ℕ) (group : List ℕ) : Type 0 where
   pub rises : IsStrictlyIncreasing group
   pub some : 0 < length group
   pub only : All (λ i. slice_get expr i ≡ Some symbol) group
   pub all : (i : ℕ) → slice_get expr i ≡ Some symbol → Contains group i
 
--- each group is that of a symbol, `low` or a greater one, and each symbol is greater than those before
+-- each group is that of a symbol, `low` or a greater one, and each symbol is greater than the earlier ones
 abbrev pub AreGroupsFrom : List ℕ → ℕ → List (List ℕ) → Type 0
 AreGroupsFrom expr low [] = Unit {0}
 AreGroupsFrom expr low (g ∷ groups) = (symbol : ℕ) × (low ≤ symbol) × IsGroupOf expr symbol g × AreGroupsFrom expr (suc symbol) groups

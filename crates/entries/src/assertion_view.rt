@@ -10,10 +10,10 @@ use std::marker::Model;
 /// The typecode of an expression that has no symbols. No symbol has this number.
 pub const NO_TYPECODE: u32 = u32::MAX;
 
-/// Numbers from this one on tell a `$e` by its position, lower ones a `$f` by its variable.
+/// Numbers from this one on stand for a `$e` by its position, lower ones for a `$f` by its variable.
 pub const ESSENTIALS: u32 = 0x8000_0000;
 
-/// A mandatory hypothesis, by numbers of symbols.
+/// A mandatory hypothesis, by a number.
 #[derive(Clone, Copy, Debug, Drop, PartialEq, Eq)]
 pub enum Hypothesis {
     /// A `$f`: the number of its variable.
@@ -22,8 +22,9 @@ pub enum Hypothesis {
     Essential(u32),
 }
 
-/// Returns the hypothesis as one number. A variable or a position that does not fit beside the other kind is reported as a
-/// failed allocation.
+/// Returns the hypothesis as one number.
+///
+/// Errors: a variable or a position of 2^31 or more is reported as a failed allocation.
 pub fn number_of(hypothesis: Hypothesis) -> Result<u32, AllocError>
     ensures { IfOk result (λ n. told n ≡ hypothesis) }
 {
@@ -50,14 +51,14 @@ impl<'a> Model for Hypotheses<'a> {
 }
 
 impl<'a> Hypotheses<'a> {
-    /// Returns the hypotheses that these numbers tell.
+    /// Returns the hypotheses that these numbers stand for.
     pub fn new(numbers: &'a [u32]) -> Hypotheses<'a>
         ensures { result ≡ map told numbers.now }
     {
         Hypotheses { numbers }
     }
 
-    /// Returns how many there are.
+    /// Returns how many hypotheses there are.
     pub fn len(&self) -> usize
         ensures { result ≡ length self.now }
     {
@@ -74,7 +75,7 @@ impl<'a> Hypotheses<'a> {
     }
 }
 
-/// Returns the hypothesis that a number tells.
+/// Returns the hypothesis that a number stands for.
 #[inline(always)]
 fn hypothesis_of(number: u32) -> Hypothesis
     ensures { result ≡ told number }
@@ -86,15 +87,15 @@ fn hypothesis_of(number: u32) -> Hypothesis
     }
 }
 
-/// An assertion by numbers of symbols.
+/// An assertion as a verifier reads it, its symbols as numbers.
 #[derive(Drop)]
 pub struct AssertionView<'a> {
     /// The typecode of each mandatory hypothesis, in order.
     pub typecodes: &'a [u32],
     /// The hypotheses, in order.
     pub hypotheses: Hypotheses<'a>,
-    /// Its expression.
+    /// The symbols of its expression.
     pub conclusion: &'a [u32],
-    /// The variables whose images must be disjoint, each two of a group.
+    /// The variables whose images must be disjoint, pairwise within a group.
     pub groups: Groups<'a>,
 }

@@ -3,14 +3,16 @@ ghost use Rattle.std.specs.Prelude.{◌≡◌, ◌≤◌, ◌<◌, length, slice
 
 use std::alloc::AllocError;
 
-/// The places of a statement from the first one up to the second.
+/// A part of a buffer: the indexes from `from` on that are below `to`.
 #[derive(Clone, Copy, Drop)]
 pub struct BufferPart {
     pub from: u32,
     pub to: u32,
 }
 
-/// Returns a place within one statement, or the number of a row or a label, in 32 bits: more are reported as a failed allocation.
+/// Returns an index in 32 bits.
+///
+/// Errors: an index of 2^32 or more is reported as a failed allocation.
 pub fn place(at: usize) -> Result<u32, AllocError>
     ensures { IfOk result (λ n. n ≡ at) }
 {
@@ -20,7 +22,9 @@ pub fn place(at: usize) -> Result<u32, AllocError>
     Ok(at as u32)
 }
 
-/// Returns what stands between two places.
+/// Returns the part from one index up to another.
+///
+/// Errors: an index of 2^32 or more is reported as a failed allocation.
 pub fn between(from: usize, to: usize) -> Result<BufferPart, AllocError>
     ensures { IfOk result (λ s. (s.from ≡ from) × (s.to ≡ to)) }
 {
@@ -30,7 +34,7 @@ pub fn between(from: usize, to: usize) -> Result<BufferPart, AllocError>
     })
 }
 
-/// Returns a part of the items.
+/// Returns the items from one index up to another.
 pub fn part<T>(items: &[T], from: usize, to: usize) -> &[T]
     requires { (from ≤ to) × (to ≤ length items.now) }
     ensures { result.now ≡ slice_range items.now from to }

@@ -16,7 +16,8 @@ use std::marker::Model;
 /// Statements as numbers. Contracts see the list of them, with plain lists for their parts.
 ///
 /// Inside, a statement is one small record, and the numbers of all stand in one buffer: so what a citation reads of an
-/// assertion is contiguous. Groups are kept beside, since few assertions have them, and what no citation reads too.
+/// assertion is contiguous. Groups, which few assertions have, and the states before, which no citation reads, have buffers
+/// of their own.
 #[derive(Drop)]
 pub struct Entries {
     records: Vec<StatementRecord>,
@@ -25,8 +26,8 @@ pub struct Entries {
     groups: Vec<BufferPart>,
 }
 
-/// The kept form of one statement: its record, what was there before it, its numbers, where its parts stand among them, and
-/// its groups. Parts that are not used are not read.
+/// The stored form of one statement: its record, the state before it, its numbers, where its parts stand among them, and
+/// its groups. A part is read only where it is used.
 #[derive(Clone, Copy, Drop)]
 struct Stored<'a> {
     kept: StatementRecord,
@@ -106,7 +107,7 @@ impl Entries {
         self.stored(index).kept.whole
     }
 
-    /// Returns the parts of the assertion at an index, where they are whole.
+    /// Returns the parts of the assertion at an index, if they are whole.
     pub fn cited(&self, index: usize) -> Option<AssertionView<'_>>
         requires { index < length self.now }
         ensures { (e : Entry) → slice_get self.now index ≡ Some e → IfSome result (AreWhole e) }
@@ -129,7 +130,7 @@ impl Entries {
         })
     }
 
-    /// Returns the kept form of the statement at an index.
+    /// Returns the stored form of the statement at an index.
     #[inline(always)]
     fn stored(&self, index: usize) -> Stored<'_>
         requires { index < length self.now }
@@ -149,7 +150,9 @@ impl Entries {
         }
     }
 
-    /// Appends a statement. If an allocation fails, everything is as before.
+    /// Appends a statement.
+    ///
+    /// Errors: an allocation fails, or the counts no longer fit 32 bits; the list is then as before. Cost: its size.
     pub fn push(
         &mut self,
         header: EntryHeader,
@@ -194,7 +197,7 @@ impl Entries {
         }
     }
 
-    /// Gives back the room of statements that were removed, where it is more than that of those that are there.
+    /// Gives back unused room, as `give_back` does.
     pub fn shrink(&mut self)
         ensures { self.new ≡ self.old }
     {
@@ -205,7 +208,7 @@ impl Entries {
     }
 }
 
-/// Returns the numbers of the statement at an index, which has this record, and where its parts stand among them.
+/// Returns the numbers of the statement at an index, whose record is `kept`, and where its parts stand among them.
 #[inline(always)]
 fn run_at<'a>(
     records: &[StatementRecord],
@@ -267,7 +270,7 @@ fn add(
     )
 }
 
-/// Adds the numbers of an assertion with its parts, or the symbols alone.
+/// Appends the numbers of an assertion with its parts, or the symbols alone.
 fn add_numbers(
     numbers: &mut Vec<u32>,
     parts: &AssertionParts<'_>,
@@ -311,9 +314,8 @@ fn append<T: Copy>(buffer: &mut Vec<T>, items: &[T]) -> Result<(), AllocError>
     Ok(())
 }
 
-/// Requests fifteen times the room of a full buffer's contents: so little is copied while it grows, and little
-/// memory is touched twice. Room that is not used yet is not touched.
-/// If that allocation fails, it grows as it must.
+/// Reserves room for fifteen times as many items again, so that a growing buffer is seldom copied. Unused room is not touched.
+/// If that allocation fails, the buffer keeps its room.
 #[cold]
 fn widen<T>(buffer: &mut Vec<T>)
     ensures { buffer.new.items ≡ buffer.old.items }

@@ -5,7 +5,7 @@ use crate::last_active::LastActive;
 /// The state before a statement.
 #[derive(Clone, Copy, Drop)]
 pub struct StateBefore {
-    /// How many labels there were: the number of its own, where it has one.
+    /// How many labels there were: the number of its own, if it has one.
     pub label: u32,
     /// How many names there were.
     pub names: u32,
@@ -20,7 +20,7 @@ pub struct EntryHeader {
     pub before: StateBefore,
 }
 
-/// A statement that is kept: its kind, the state before it, and the numbers of its symbols.
+/// A stored statement: its kind, the state before it, and the numbers of its symbols.
 #[derive(Clone, Copy, Drop)]
 pub struct EntryRef<'a> {
     pub kind: Kind,

@@ -25,7 +25,7 @@ impl<'a> Model for Groups<'a> {
 }
 
 impl<'a> Groups<'a> {
-    /// Returns these parts of the numbers.
+    /// Returns the lists that are these parts of the numbers.
     pub fn new(spans: &'a [BufferPart], places: &'a [u32]) -> Groups<'a>
         requires { AreSpansIn (length places.now) spans.now }
         ensures { result ≡ cut places.now spans.now }

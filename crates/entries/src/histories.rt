@@ -10,7 +10,7 @@ use std::marker::Model;
 
 /// A stack of positions for each number, with its earlier versions.
 ///
-/// Contracts see the list of these by number, each the list of its versions. A number beyond the list has none.
+/// Contracts see a list that has, by number, the list of its versions. A number beyond the list has none.
 /// Source: Driscoll, Sarnak, Sleator and Tarjan, *Making data structures persistent* (1989).
 #[derive(Drop)]
 pub struct Histories {
@@ -32,7 +32,7 @@ impl Model for Histories {
 }
 
 impl Histories {
-    /// Makes empty stacks without earlier versions.
+    /// Returns empty stacks without earlier versions.
     pub fn new(alloc: Global) -> Histories
         ensures { result ≡ [] }
     {
@@ -43,7 +43,7 @@ impl Histories {
         }
     }
 
-    /// Puts `at` on top of the stack of a number, unless that changed at `at` already.
+    /// Puts `at` on top of the stack of a number, unless that stack changed at `at` already.
     ///
     /// Errors: an allocation fails; everything is then as before. Cost: constant, but for growing tables.
     pub fn push(&mut self, number: u32, at: u32) -> Result<(), AllocError>
@@ -63,7 +63,7 @@ impl Histories {
         pushed
     }
 
-    /// Makes the stack of a number the one that it was at `before`, unless that changed at `at` already.
+    /// Restores the stack of a number as it was at `before`, unless that stack changed at `at` already.
     ///
     /// Errors: an allocation fails; everything is then as before. Cost: a binary search.
     pub fn go_back(&mut self, number: u32, at: u32, before: u32) -> Result<(), AllocError>
@@ -83,9 +83,9 @@ impl Histories {
         gone_back
     }
 
-    /// Takes away what changed after `last`.
+    /// Removes the versions that were made after `last`.
     ///
-    /// Cost: how many versions go. Does not allocate.
+    /// Cost: the number of versions removed. Gives back the room of stacks of which little is left.
     pub fn truncate(&mut self, last: u32)
         ensures { AreKeptUntil last self.old self.new }
     {
@@ -97,9 +97,9 @@ impl Histories {
         }
     }
 
-    /// Gives back the room of versions that were removed, and of the numbers from `count` on that have none.
+    /// Removes the last numbers from `count` on that have no version, and gives back unused room, as `give_back` does.
     ///
-    /// Cost: how many numbers from `count` on have no version.
+    /// Cost: how many numbers are removed.
     pub fn shrink(&mut self, count: usize)
         ensures { AreSame self.old self.new }
     {

@@ -9,20 +9,20 @@ use crate::room::give_back;
 use std::alloc::{AllocError, Global};
 use std::marker::Model;
 
-/// A version of a stack: the stack as it was from a position on.
+/// A version of a stack: the stack as it was after a position.
 #[derive(Clone, Copy, Drop)]
 pub struct Version {
-    /// The position since which the stack is so.
+    /// The position at which this version was made.
     pub since: u32,
-    /// The position on top, or 0 where there is none.
+    /// The position on top, or 0 if there is none.
     pub top: u32,
     /// The index of the version that is this one without its top.
     pub below: u32,
-    /// How many positions there are.
+    /// How many positions the stack has.
     pub height: u32,
 }
 
-/// Returns the version without positions, since a position.
+/// Returns a version without positions, made at `since`.
 pub fn no_positions(since: u32) -> Version
     ensures { (result.since ≡ since) × (result.height ≡ 0) }
 {
@@ -34,7 +34,7 @@ pub fn no_positions(since: u32) -> Version
     }
 }
 
-/// A stack of positions with its earlier versions, in the order of the positions since which they are so.
+/// A stack of positions with its earlier versions, in the order in which they were made.
 ///
 /// Contracts see the list of the versions, each with its stack.
 #[derive(Drop)]
@@ -54,7 +54,7 @@ impl Model for History {
 }
 
 impl History {
-    /// Makes a history without versions.
+    /// Returns a history without versions.
     pub fn new(alloc: Global) -> History
         ensures { result ≡ [] }
     {
@@ -63,7 +63,7 @@ impl History {
         }
     }
 
-    /// Returns whether the last version is so since `at`.
+    /// Returns whether the last version was made at `at`.
     pub fn is_changed(&self, at: u32) -> bool
         ensures { result ≡ is_changed at self.now }
     {
@@ -73,7 +73,9 @@ impl History {
         }
     }
 
-    /// Puts `at` on top, unless the last version is so since `at`.
+    /// Puts `at` on top, unless the last version was made at `at`.
+    ///
+    /// Errors: an allocation fails; everything is then as before.
     pub fn push(&mut self, at: u32) -> Result<(), AllocError>
         requires { IsUntil at self.old }
         ensures pushed { OnOk result (self.new ≡ pushed at self.old) }
@@ -87,7 +89,9 @@ impl History {
         Ok(())
     }
 
-    /// Makes the stack the one that it was at `before`, unless the last version is so since `at`.
+    /// Restores the stack as it was at `before`, unless the last version was made at `at`.
+    ///
+    /// Errors: an allocation fails; everything is then as before. Cost: a binary search.
     pub fn go_back(&mut self, at: u32, before: u32) -> Result<(), AllocError>
         requires { IsUntil at self.old }
         ensures gone_back { OnOk result (self.new ≡ gone_back at before self.old) }
@@ -101,8 +105,7 @@ impl History {
         Ok(())
     }
 
-    /// Takes the last version away, if it is so since a position after `last`, and gives back its room if little is left.
-    /// Returns whether it was.
+    /// Removes the last version if it was made after `last`, and gives back room if little is left. Returns whether it did.
     pub fn pop_after(&mut self, last: u32) -> bool
         ensures { (front : List StackVersion) → (v : StackVersion) → self.old ≡ front ++ v ∷ [] → (result ≡ nat_lt last v.since) × (self.new ≡ (if nat_lt last v.since then front else self.old)) }
     {
@@ -124,7 +127,7 @@ impl History {
         self.versions.is_empty()
     }
 
-    /// Returns the stack that was valid at `at`.
+    /// Returns the stack as it was at `at`: that of the last version made before `at`.
     ///
     /// Cost: a binary search.
     pub fn stack(&self, at: usize) -> PositionStack<'_>
@@ -138,7 +141,7 @@ impl History {
     }
 }
 
-/// Returns the version since `at` that is the last one with `at` on top.
+/// Returns the last version with `at` on top, as made at `at`.
 fn above(versions: &[Version], at: u32) -> Result<Version, AllocError>
     requires versions { AreVersions versions.now }
     requires until { IsUntil at (versions_of versions.now) }
@@ -165,7 +168,7 @@ fn above(versions: &[Version], at: u32) -> Result<Version, AllocError>
     })
 }
 
-/// Returns the version since `at` that is the one valid at `before` once more.
+/// Returns the version that the stack had at `before`, as made at `at`.
 fn again(versions: &[Version], at: u32, before: u32) -> Version
     requires versions { AreVersions versions.now }
     ensures since { result.since ≡ at }
@@ -181,7 +184,7 @@ fn again(versions: &[Version], at: u32, before: u32) -> Version
     }
 }
 
-/// Returns the index of the last version that is so since before `at`.
+/// Returns the index of the last version that was made before `at`.
 fn version_before(versions: &[Version], at: usize) -> Option<usize>
     requires { IsNonDecreasingBy (λ v. v.since) versions.now }
     ensures { IsFound versions.now at result }

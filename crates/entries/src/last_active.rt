@@ -1,6 +1,6 @@
 //! Where to look for what is active at a position.
 
-/// The last active statement of each of four kinds, by position, or 0 where there is none.
+/// The last active statement of each of four kinds, by position, or 0 if there is none.
 #[derive(Clone, Copy, Drop)]
 pub struct LastActive {
     /// `${`

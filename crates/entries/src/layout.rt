@@ -6,7 +6,7 @@ use crate::buffer_part::{item, place};
 use crate::parts::AssertionParts;
 use std::alloc::AllocError;
 
-/// So many numbers stand before the parts of an assertion: how many hypotheses, symbols, groups and variables of groups it has.
+/// How many numbers stand before the parts of an assertion: its counts of hypotheses, symbols, groups and variables of groups.
 pub const COUNTS: usize = 4;
 
 /// Where each part of a statement begins among its numbers, one after the other, and where the last one ends.
@@ -27,7 +27,8 @@ pub struct Layout {
     pub groups: usize,
 }
 
-/// Returns the layout of so many hypotheses, symbols, groups and variables of groups, the first part of which begins there.
+/// Returns the layout of `count` hypotheses, `symbols` symbols, `groups` groups and `places` variables of groups, the first
+/// part of which begins at `typecodes`.
 #[inline(always)]
 pub fn lay(typecodes: usize, count: usize, symbols: usize, groups: usize, places: usize) -> Layout
     requires { (laid typecodes count symbols groups places).end < 2 ^ 64 }
@@ -46,7 +47,7 @@ pub fn lay(typecodes: usize, count: usize, symbols: usize, groups: usize, places
     }
 }
 
-/// Returns the layout of an assertion whose numbers begin here.
+/// Returns the layout of the assertion that begins at the first of these numbers.
 #[inline(always)]
 pub fn assertion_layout(numbers: &[u32]) -> Layout
     requires { COUNTS ≤ length numbers.now }
@@ -61,7 +62,7 @@ pub fn assertion_layout(numbers: &[u32]) -> Layout
     )
 }
 
-/// Returns what stands before the parts.
+/// Returns the counts that stand before the parts.
 pub fn counts(parts: &AssertionParts<'_>) -> Result<[u32; COUNTS], AllocError>
     ensures { IfOk result (λ counts. counts ≡ counts_of parts.now) }
 {

@@ -29,7 +29,7 @@ impl Model for LongExpressions {
 }
 
 impl LongExpressions {
-    /// Makes an empty list. Does not allocate.
+    /// Returns an empty list. Does not allocate.
     pub fn new(alloc: Global) -> LongExpressions
         ensures { result ≡ [] }
     {
@@ -40,7 +40,7 @@ impl LongExpressions {
         }
     }
 
-    /// Returns the places of the symbols of the expression at an index, or `None` where they are not kept.
+    /// Returns the places of the symbols of the expression at an index, or `None` if they are not kept.
     ///
     /// Cost: log n for n expressions.
     pub fn get(&self, index: usize) -> Option<&SymbolPlaces>
@@ -53,9 +53,9 @@ impl LongExpressions {
         }
     }
 
-    /// Keeps the places of the symbols of the expression at an index, which is greater than those before.
+    /// Appends the places of the symbols of the expression at an index, which is greater than the earlier ones.
     ///
-    /// Errors: an allocation fails, or the expression has 2^32 symbols or more; the list is as before.
+    /// Errors: an allocation fails, or the expression has 2^32 symbols or more; the list is then as before.
     /// Cost: n log n for n symbols.
     pub fn push(&mut self, index: usize, expr: &[u32]) -> Result<(), AllocError>
         requires { All (λ e. e.0 < index) self.old }
@@ -73,7 +73,7 @@ impl LongExpressions {
         }
     }
 
-    /// Keeps the expressions of statements with a lower index than `len`. Does not allocate.
+    /// Truncates to the expressions of statements with a lower index than `len`. Does not allocate.
     pub fn truncate(&mut self, len: usize)
         ensures { self.new ≡ filter (λ e. nat_lt e.0 len) self.old }
     {
@@ -85,7 +85,7 @@ impl LongExpressions {
         self.places.truncate(kept);
     }
 
-    /// Gives back the room of expressions that were removed, where it is more than that of those that are there.
+    /// Gives back unused room, as `give_back` does.
     pub fn shrink(&mut self)
         ensures { self.new ≡ self.old }
     {

@@ -10,13 +10,13 @@ use std::alloc::{AllocError, Global};
 use std::cmp::Ordering;
 use std::marker::Model;
 
-/// How many nodes there are at most: sets have numbers of 32 bits.
+/// The largest number of nodes: sets have numbers of 32 bits.
 const MOST_NODES: usize = 0xffff_fffe;
 
 /// How many times as heavy as the other one side may be. A side weighs one more than it has positions.
 const HEAVIER: usize = 3;
 
-/// How many times as heavy as its outer part the inner part of a side is where one rotation does not do.
+/// A side whose inner part is at least so many times as heavy as its outer part needs two rotations.
 const INNER: usize = 2;
 
 /// A set that is not empty: a position, and two earlier sets on either side of it.
@@ -56,7 +56,7 @@ impl Model for PositionSets {
 }
 
 impl PositionSets {
-    /// Makes the empty set alone. Does not allocate.
+    /// Returns the list of the empty set alone. Does not allocate.
     pub fn new(alloc: Global) -> PositionSets
         ensures { result ≡ [] ∷ [] }
     {
@@ -87,7 +87,7 @@ impl PositionSets {
         }
     }
 
-    /// Returns the position at an index, from 0, in ascending order.
+    /// Returns the position of a set at an index, from 0, in ascending order, or `None` if there are fewer.
     ///
     /// Cost: the logarithm of the set's size.
     pub fn get(&self, set: u32, index: usize) -> Option<u32>
@@ -126,7 +126,7 @@ impl PositionSets {
         false
     }
 
-    /// Returns how many positions of a set are below a position: where the set has it, its index.
+    /// Returns how many positions of a set are below a position, which is its index if the set has it.
     ///
     /// Cost: the logarithm of the set's size.
     pub fn rank(&self, set: u32, position: u32) -> usize
@@ -146,7 +146,7 @@ impl PositionSets {
         below
     }
 
-    /// Makes the set with a position in its place, and returns its number; it is the set itself if it has the position.
+    /// Returns the number of the set with one more position: that of the set itself if it has the position, else a new one.
     ///
     /// Errors: an allocation fails, or there would be 2^32 sets; all sets are then as before.
     /// Cost: the logarithm of the set's size, in time and in memory.
@@ -194,7 +194,7 @@ impl PositionSets {
         self.nodes.truncate(size.saturating_sub(1));
     }
 
-    /// Gives back the room of sets that were removed, where it is more than that of those that are there.
+    /// Gives back unused room, as `give_back` does.
     pub fn shrink(&mut self)
         ensures { self.new ≡ self.old }
     {
@@ -214,7 +214,7 @@ impl PositionSets {
         Some(item(nodes, set as usize - 1))
     }
 
-    /// Makes the set with a position in its place, with copies of the nodes on the way to it.
+    /// Makes the set with one more position, with copies of the nodes on the way to it.
     fn put_in(&mut self, set: u32, position: u32) -> Result<u32, AllocError>
         ensures made { IfOk result (IsSet self.new (with_position position (set_at self.old set))) }
         ensures more { Extends self.old self.new }
@@ -252,7 +252,7 @@ impl PositionSets {
         self.join(left, positions[middle], right)
     }
 
-    /// Makes the set of both and a position between, where one side may have become too heavy by one position.
+    /// Makes the set of both and a position between, if one side may be too heavy by one position.
     fn balance(&mut self, left: u32, position: u32, right: u32) -> Result<u32, AllocError>
         requires left { left < length self.old }
         requires right { right < length self.old }

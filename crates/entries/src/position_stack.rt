@@ -5,7 +5,7 @@ ghost use Rattle.{entries.specs.Stored.Versions.IsReadable, entries.specs.Stored
 use crate::history::{Version, no_positions};
 use std::marker::Model;
 
-/// A stack of positions, as it was at some position. Contracts see the list of them, from the last one back.
+/// A stack of positions, as it was at some position. Contracts see the list of its positions, from the last one back.
 #[derive(Drop)]
 pub struct PositionStack<'a> {
     before: &'a [Version],
@@ -24,7 +24,7 @@ impl<'a> Model for PositionStack<'a> {
 }
 
 impl<'a> PositionStack<'a> {
-    /// Makes a stack without positions.
+    /// Returns a stack without positions.
     pub fn empty() -> PositionStack<'a>
         ensures { result ≡ [] }
     {
@@ -34,7 +34,7 @@ impl<'a> PositionStack<'a> {
         }
     }
 
-    /// Makes the stack of a version, of which these are the earlier ones.
+    /// Returns the stack of a version; `before` are the earlier versions.
     pub(crate) fn new(before: &'a [Version], version: Version) -> PositionStack<'a>
         requires { IsReadable before.now version }
         ensures { result ≡ stack_of (versions_of before.now) version }
@@ -67,7 +67,7 @@ impl<'a> PositionStack<'a> {
         }
     }
 
-    /// Takes the last position off and returns it, or `None` if there is none.
+    /// Removes the last position and returns it, or `None` if there is none.
     ///
     /// Cost: one look-up.
     pub fn pop(&mut self) -> Option<u32>

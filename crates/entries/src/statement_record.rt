@@ -1,13 +1,14 @@
-//! How a statement is kept.
+//! How a statement is stored.
 
 use crate::kind::Kind;
 
-/// The record of a statement that is read first: its kind, and where its numbers and its groups begin. They end where those of
-/// the next statement begin.
+/// The record of a statement, which is read first: its kind, and where its numbers and its groups begin. They end where those
+/// of the next statement begin.
 #[derive(Clone, Copy, Drop)]
 pub struct StatementRecord {
+    /// Where its numbers begin.
     pub from: u32,
-    /// How many groups there were before.
+    /// How many groups earlier statements have.
     pub groups: u32,
     pub kind: Kind,
     /// Whether its numbers are those of an assertion with its parts; else they are its symbols alone.

@@ -7,7 +7,7 @@ use crate::groups::Groups;
 use std::alloc::{AllocError, Global};
 use std::marker::Model;
 
-/// How many indexes there can be: a key is a symbol times this, plus its index.
+/// The largest number of indexes: a key is a symbol times this, plus its index.
 const INDEXES: u64 = 4_294_967_296;
 
 /// The indexes of an expression's symbols, grouped by symbol, the least symbol first. Contracts see the list of the groups,
@@ -53,7 +53,7 @@ impl SymbolPlaces {
     }
 }
 
-/// Lists the key of each symbol, in the order of the expression.
+/// Returns the key of each symbol, in the order of the expression.
 fn keys_of(alloc: Global, expr: &[u32]) -> Result<Vec<u64>, AllocError>
     ensures { IfOk result (λ keys. AreKeys expr.now keys.items) }
 {
@@ -67,7 +67,7 @@ fn keys_of(alloc: Global, expr: &[u32]) -> Result<Vec<u64>, AllocError>
     Ok(keys)
 }
 
-/// Lists the keys in ascending order. No two are the same, so `dedup` removes none: by its contract each is below the next.
+/// Returns the keys in ascending order. No two are equal, so `dedup` removes none: by its contract each is below the next.
 fn ordered_keys(alloc: Global, expr: &[u32]) -> Result<Vec<u64>, AllocError>
     ensures { IfOk result (λ keys. AreKeysOf expr.now keys.items) }
 {
@@ -89,7 +89,7 @@ fn is_last(keys: &[u64], at: usize) -> bool
     }
 }
 
-/// Lists the runs of keys of one symbol, in order.
+/// Returns the runs of keys of one symbol, in order.
 fn runs_of(alloc: Global, keys: &[u64]) -> Result<Vec<BufferPart>, AllocError>
     ensures { IfOk result (λ runs. AreRuns keys.now 0 (length keys.now) runs.items) }
 {
@@ -104,7 +104,7 @@ fn runs_of(alloc: Global, keys: &[u64]) -> Result<Vec<BufferPart>, AllocError>
     Ok(runs)
 }
 
-/// Lists the index of each key.
+/// Returns the index of each key.
 fn indexes_of(alloc: Global, keys: &[u64]) -> Result<Vec<u32>, AllocError>
     ensures { IfOk result (λ indexes. indexes.items ≡ map index_of keys.now) }
 {

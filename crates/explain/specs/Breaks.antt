@@ -1,4 +1,4 @@
--- Which rule of proof code tokens break that write no items: the first place at which they do.
+-- The rule of proof code that tokens break, if they write no items, and the first place at which they break it.
 -- Source: Metamath, 4.3 (normal proofs) and appendix B (compressed proofs).
 -- The code reads tokens and letters from left to right.
 use Rattle.std.specs.Prelude.{◌≡◌, ◌≢◌, ℕ, suc, ◌+◌, ◌<◌, ◌≤◌, ◌⊎◌, Bool, not, ◌||◌, IsTrue, IsFalse, List, [], ◌∷◌, ◌++◌, length, flat_map}
@@ -11,7 +11,7 @@ use Rattle.explain.specs.declared.why.LetterBreak.{LetterBreak}
 use Rattle.explain.specs.declared.why.LetterFault.{LetterFault}
 use Rattle.explain.specs.declared.why.LetterFault.TheVariants.{NotLetter, NotEnded, EarlyMark, TooGreat}
 
--- the faults of a token
+-- the token has this fault
 abbrev pub fails : List Name → Test → Name → Bool
 fails mandatory test.Unfinished token = has_byte question_mark token
 fails mandatory test.NotLabel token = not (is_label token)
@@ -30,14 +30,14 @@ pub record IsFirst (test : Name → Bool) (words : List Name) (index : ℕ) (wor
 abbrev pub joined : List Name → List ℕ
 joined words = flat_map (λ word. word) words
 
--- how many marks
+-- the number of marks
 abbrev pub marks_in : List Item → ℕ
 marks_in [] = 0
 marks_in (Mark ∷ items) = suc (marks_in items)
 marks_in (Cite label ∷ items) = marks_in items
 marks_in (Recall k ∷ items) = marks_in items
 
--- the letters end here, or mark
+-- the letters end here, or a mark comes next
 abbrev pub IsEnd : List ℕ → Type 0
 IsEnd [] = Unit {0}
 IsEnd (letter ∷ letters) = letter ≡ 90
@@ -46,7 +46,7 @@ abbrev pub BeginsWith : (ℕ → Type 0) → List ℕ → Type 0
 BeginsWith P [] = ⊥
 BeginsWith P (letter ∷ letters) = P letter
 
--- no letter
+-- the byte is none of A to Z
 abbrev pub IsOther : ℕ → Type 0
 IsOther letter = IsFalse (is_first letter) × IsFalse (is_last letter) × (letter ≢ 90)
 
@@ -54,7 +54,7 @@ IsOther letter = IsFalse (is_first letter) × IsFalse (is_last letter) × (lette
 abbrev pub IsAllowed : ℕ → List ℕ → Type 0
 IsAllowed limit begun = (begun ≡ []) ⊎ ((word : Name) × (n : ℕ) × IsNumber (begun ++ word) n × (n ≤ limit))
 
--- a letter A to Y, with which every word that begins so has a number greater than the limit
+-- a letter A to Y such that every word beginning with `begun` and this letter has a number greater than the limit
 abbrev pub IsOver : ℕ → List ℕ → ℕ → Type 0
 IsOver limit begun letter = IsTrue (is_first letter || is_last letter) × ((word : Name) (n : ℕ) → IsNumber (begun ++ letter ∷ word) n → limit < n)
 
@@ -72,7 +72,7 @@ place_in NotEnded front begun = front
 place_in EarlyMark front begun = front
 place_in TooGreat front begun = front
 
--- the letters before the word write items, and it breaks a rule
+-- the letters before a word write items, letters U to Y may begin the word, and the rest breaks a rule
 pub record IsLetterBreak (labels : List Name) (letters : List ℕ) (broken : LetterBreak) : Type 0 where
   pub front : List ℕ
   pub items : List Item
@@ -87,7 +87,7 @@ pub record IsLetterBreak (labels : List Name) (letters : List ℕ) (broken : Let
 
 -- ---- tokens
 
--- the tokens after `(`, of which the first that is no label to be listed has this index and is this one
+-- this word, at this index, is the first of the tokens after `(` that is no label or is a mandatory one
 pub record IsListing (tokens mandatory : List Name) (index : ℕ) (word : Name) (rest : List Name) : Type 0 where
   pub words : List Name
   pub whole : tokens ≡ begin ∷ words
@@ -120,7 +120,7 @@ pub record AreBroken (tokens mandatory : List Name) (broken : LetterBreak) : Typ
   pub listing : IsListing tokens mandatory index finish rest
   pub letters : IsLetterBreak (mandatory ++ listing.first.front) (joined rest) broken
 
--- the rule that the tokens break, with these mandatory labels; but for a `?` no token has one
+-- the rule that the tokens break under these mandatory labels; no token has a `?`, except if the rule is `Unfinished`
 abbrev pub IsBreak : List Name → List Name → CodeBreak → Type 0
 IsBreak tokens mandatory (Unfinished token) = (word : Name) × (rest : List Name) × IsFirst (fails mandatory test.Unfinished) tokens token word rest
 IsBreak tokens mandatory (NotLabel token) = IsFalse (is_unfinished tokens) × IsNotLabel tokens mandatory token

@@ -1,6 +1,6 @@
--- Faults where an assertion is cited: a hypothesis that requires another result.
+-- Faults of a citation of an assertion: a hypothesis that requires another result.
 -- Source: Metamath, 4.2.6.
--- The code compares numbers; here are expressions, with the images that the results themselves give put in.
+-- The code compares numbers; here are expressions, under the images that the results themselves give.
 use Rattle.std.specs.Prelude.{◌≡◌, ◌≢◌, ℕ, length, List, [], ◌∷◌, map, take, Option, Some, slice_get}
 use Rattle.explain.specs.Words.{Bor, Vec, Name, Stmt, Expr, Database, stmt_at, before, decode, Hypothesis, hypotheses, expr_at, Numbered}
 use Rattle.mm_read.specs.declared.stmt.Stmt.TheVariants as stmt
@@ -16,11 +16,11 @@ use Rattle.explain.specs.ReadImages.{images_read, named_images, AreVariables}
 abbrev pub asks : Database → Images → ℕ → Expr
 asks S σ p = applied σ (expr_at S p)
 
--- these hypotheses require just these results
+-- these hypotheses require exactly these results
 abbrev pub AllFit : Database → Images → List ℕ → List Expr → Type 0
 AllFit S σ ps rs = map (asks S σ) ps ≡ rs
 
--- the k-th hypothesis, at p, requires another result than the one that is there; those before it have theirs
+-- the k-th hypothesis, at p, requires another result than the one that is there; each before it has the one that it requires
 pub record IsOther (S : Database) (σ : Images) (ps : List ℕ) (rs : List Expr) (k p : ℕ) (required there : Expr) : Type 0 where
   pub hypothesis : slice_get ps k ≡ Some p
   pub result : slice_get rs k ≡ Some there
@@ -37,8 +37,8 @@ abbrev pub IsOtherConstant : Option Stmt → Expr → Type 0
 IsOtherConstant (Some (stmt.Float label constant variable)) e = BeginsOther constant e
 IsOtherConstant s e = ⊥
 
--- the first of the mandatory hypotheses of the assertion s at a that requires another result than the one that is there, where
--- the images are those that the results give
+-- the first of the mandatory hypotheses of the assertion s at a that requires another result than the one that is there, under
+-- the images that the results give
 abbrev pub IsMismatch : Database → List Name → ℕ → Stmt → List Expr → Fault → Type 0
 IsMismatch S names a s rs (Expression b p required there) =
     (b ≡ a) × ((k : ℕ) × IsOther S (images_read S (hypotheses (before S a) s) rs) (hypotheses (before S a) s) rs k p (decode names required.items) (decode names there.items))
@@ -61,7 +61,7 @@ IsSaid kind typecode a p required there (Constant b q r) = (b ≡ a) × (q ≡ p
 IsSaid kind typecode a p required there (Expression b q e r) = (b ≡ a) × (q ≡ p) × (e ≡ required) × (r ≡ there)
 IsSaid kind typecode a p required there fault = ⊥
 
--- the results are those that the hypotheses of the assertion s at a require, where the images are those that they give
+-- the results are those that the hypotheses of the assertion s at a require, under the images that the results give
 abbrev pub FitsAll : Numbered → ℕ → Stmt → List (Bor (List ℕ)) → Type 0
 FitsAll f a s results =
     AllFit f.statements (images_read f.statements (hypotheses (before f.statements a) s) (named f.names results)) (hypotheses (before f.statements a) s) (named f.names results)

@@ -1,6 +1,6 @@
--- The outcome of a citation of an assertion, in place of results, one for each of its mandatory hypotheses.
+-- The outcome of a citation of an assertion over results, one for each of its mandatory hypotheses.
 -- Source: Metamath, 4.2.6.
--- The code reads the images off the results, tests them, and puts them into the assertion's expression.
+-- The code reads the images off the results, tests them, and substitutes them in the assertion's expression.
 use Rattle.std.specs.Prelude.{◌≡◌, ℕ, ◌<◌, ◌≤◌, IsTrue, List, length}
 use Rattle.explain.specs.Words.{Name, Stmt, Expr, Database, before, expr_of, decode, AreBelow, hypotheses, mandatory_groups, are_groups_disjoint}
 use Rattle.frame.specs.Substitution.{Images, apply as applied}
@@ -16,7 +16,7 @@ use Rattle.explain.specs.CitationFaults.{AllFit, IsMismatch}
 abbrev pub images_of : Database → ℕ → Stmt → List Expr → Images
 images_of S a s rs = images_read S (hypotheses (before S a) s) rs
 
--- each hypothesis requires the result that is there
+-- each hypothesis requires the result that it has
 abbrev pub DoFit : Database → ℕ → Stmt → List Expr → Type 0
 DoFit S a s rs = AllFit S (images_of S a s rs) (hypotheses (before S a) s) rs
 
@@ -25,7 +25,7 @@ pub record AreTaken (S : Database) (at a : ℕ) (s : Stmt) (rs : List Expr) : Ty
   pub fit : DoFit S a s rs
   pub disjoint : IsTrue (are_groups_disjoint (before S at) (images_of S a s rs) (mandatory_groups (before S a) s))
 
--- the fault of the results: the first mismatch; else two variables that are not disjoint; else there is no room
+-- the fault of the results: the first mismatch; else two variables that are not disjoint; else too long a result
 abbrev pub IsWrong : Database → List Name → ℕ → ℕ → Stmt → List Expr → ℕ → Fault → Type 0
 IsWrong S names at a s rs room (Constant b p there) = IsMismatch S names a s rs (Constant b p there)
 IsWrong S names at a s rs room (Expression b p required there) = IsMismatch S names a s rs (Expression b p required there)

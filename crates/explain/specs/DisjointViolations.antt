@@ -1,6 +1,6 @@
 -- Two variables of an assertion whose images are not disjoint.
 -- Source: Metamath, 4.2.6 (the disjoint variable condition).
--- The code tests images by number; here are names.
+-- The code tests images by number; here they are of names.
 use Rattle.std.specs.Prelude.{◌≡◌, Bool, not, ◌||◌, List, IsTrue, IsFalse}
 use Rattle.explain.specs.Words.{Name, name_eq, has_name, Expr, Database, is_variable, name_at, is_pair, together, Images, image, are_disjoint}
 use Rattle.explain.specs.declared.violation.DisjointViolation.{DisjointViolation}
@@ -9,40 +9,40 @@ use Rattle.explain.specs.declared.violation.DisjointViolation.{DisjointViolation
 abbrev pub is_kept : Database → Name → Name → Bool
 is_kept S u v = not (is_variable S u) || not (is_variable S v) || is_pair S u v
 
--- two variables that no active `$d` has together, or one variable
+-- two variables that no active `$d` has together, or a variable and itself
 pub record IsUnpaired (S : Database) (u v : Name) : Type 0 where
   pub first : IsTrue (is_variable S u)
   pub second : IsTrue (is_variable S v)
   pub disjoint : IsFalse (is_pair S u v)
 
--- v of the expression
+-- v stands in the expression and is unpaired with u
 pub record IsUnpairedIn (S : Database) (u v : Name) (f : Expr) : Type 0 where
   pub stands : IsTrue (has_name v f)
   pub unpaired : IsUnpaired S u v
 
--- one of each expression
+-- u stands in one expression, v in the other, and they are unpaired
 pub record AreShared (S : Database) (u v : Name) (e f : Expr) : Type 0 where
   pub first : IsTrue (has_name u e)
   pub second : IsTrue (has_name v f)
   pub unpaired : IsUnpaired S u v
 
--- the image of x is disjoint from that of y, where y is another
+-- the image of x is disjoint from that of y, if y is another variable
 abbrev pub is_other_disjoint : Database → Images → Name → Name → Bool
 is_other_disjoint S σ x y = name_eq x y || are_disjoint S (image σ x) (image σ y)
 
--- two variables that stand together in a list, with variables of their images
+-- two variables that stand together in a group, with unpaired variables of their images
 pub record IsViolation (S : Database) (names : List Name) (σ : Images) (groups : List (List Name)) (c : DisjointViolation) : Type 0 where
   pub together : IsTrue (together groups (name_at names c.first) (name_at names c.second))
   pub shared : AreShared S (name_at names c.one) (name_at names c.other) (image σ (name_at names c.first)) (image σ (name_at names c.second))
 
--- .. in this list, one of them being x
+-- .. in this group, the first of them being x
 pub record IsViolationWith (S : Database) (names : List Name) (σ : Images) (x : Name) (group : List Name) (c : DisjointViolation) : Type 0 where
   pub first : name_at names c.first ≡ x
   pub second : IsTrue (has_name (name_at names c.second) group)
   pub differ : IsFalse (name_eq x (name_at names c.second))
   pub shared : AreShared S (name_at names c.one) (name_at names c.other) (image σ x) (image σ (name_at names c.second))
 
--- .. both in this list
+-- .. both in this group
 pub record IsViolationIn (S : Database) (names : List Name) (σ : Images) (group : List Name) (c : DisjointViolation) : Type 0 where
   pub first : IsTrue (has_name (name_at names c.first) group)
   pub second : IsViolationWith S names σ (name_at names c.first) group c

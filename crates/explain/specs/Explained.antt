@@ -1,11 +1,11 @@
--- What an item is explained by: the results before it, and that it cannot be done within the limit.
+-- The results that explain an item, and that the item cannot be done within the limit.
 -- Source: Metamath, 4.2.6; the limit is this project's.
 -- The code has the verifier's results, by numbers; here are expressions.
 use Rattle.std.specs.Prelude.{◌≡◌, ℕ, ◌+◌, ◌<◌, ◌≤◌, List, ◌++◌, length, map, Some}
 use Rattle.explain.specs.Words.{Stmt, Expr, Database, expr_of, stmt_at, decode, AllBelow, Numbered, IsHypothesis, IsInstance, premises, behind, named, State, HeldResults, SYMBOLS_LIMIT}
 use Rattle.frame.specs.Substitution.{Images, apply as applied}
 
--- the statement s at i gives e in place of the results above `below`
+-- a citation of the statement s at i replaces the results above `below` by e
 pub data Gives (S : Database) (at i : ℕ) (s : Stmt) (stack below : List Expr) (e : Expr) : Type 0 where
   of_hypothesis : IsHypothesis S at i s → e ≡ expr_of s → stack ≡ below → Gives S at i s stack below e
   of_assertion : (σ : Images) → IsInstance S at i s σ → stack ≡ below ++ premises S i s σ → e ≡ applied σ (expr_of s) → Gives S at i s stack below e
@@ -19,7 +19,7 @@ pub record MayExplain (f : Numbered) (results : HeldResults) : Type 0 where
   pub below : AllBelow (length f.names) results.results.stack
   pub light : results.results.weight ≤ SYMBOLS_LIMIT
 
--- whatever the statement at i gives over the results passes the limit
+-- every result that a citation of the statement at i gives makes the proof too heavy
 abbrev pub CannotCite : Numbered → ℕ → ℕ → HeldResults → Type 0
 CannotCite f at i results =
     (s : Stmt) (below : List Expr) (e : Expr) → stmt_at f.statements i ≡ Some s → Gives f.statements at i s (map (decode f.names) results.results.stack) below e

@@ -1,6 +1,6 @@
--- The first fault of the run over the items of a proof: what fails at an item, or at the end, where all before it goes well.
+-- The first fault of the run over the items of a proof: at an item, or at the end, after all earlier items succeed.
 -- Source: Metamath, 4.2.6 and appendix B; the limit is this project's.
--- The code stops at it.
+-- The code stops at this fault.
 use Rattle.std.specs.Prelude.{◌≡◌, ◌≢◌, ℕ, ◌+◌, ◌-◌, ◌<◌, ◌≤◌, true, IsTrue, List, [], ◌∷◌, ◌++◌, length, take, Some, slice_get}
 use Rattle.explain.specs.Words.{Vec, Name, Stmt, Expr, Database, before, expr_of, is_assertion, decode, hypotheses, Carries, IsHypothesis, Item, Cite, Recall, Mark, SYMBOLS_LIMIT, State, start, IsSaved, Runs}
 use Rattle.explain.specs.declared.reason.Fault.{Fault}
@@ -20,14 +20,14 @@ pub record AreWrong (S : Database) (names : List Name) (at : ℕ) (h : State) (a
   pub count : length results ≡ length (hypotheses (before S a) s)
   pub wrong : IsWrong S names at a s results (SYMBOLS_LIMIT - h.weight) fault
 
--- it gives a result that makes the proof too heavy
+-- a citation of the statement s at i gives a result that makes the proof too heavy
 pub record IsHeavy (S : Database) (at : ℕ) (h : State) (i : ℕ) (s : Stmt) : Type 0 where
   pub below : List Expr
   pub result : Expr
   pub gives : Gives S at i s h.stack below result
   pub heavy : SYMBOLS_LIMIT < h.weight + length result
 
--- the fault where the statement s at i is cited
+-- the fault of a citation of the statement s at i
 abbrev pub FailsAt : Database → List Name → ℕ → State → ℕ → Stmt → Fault → Type 0
 FailsAt S names at h i s (Inactive j) = (j ≡ i) × (i < at) × (IsHypothesis S at i s → ⊥) × (is_assertion s ≡ true → ⊥)
 FailsAt S names at h i s (Later j) = (j ≡ i) × (at ≤ i)
@@ -38,8 +38,8 @@ FailsAt S names at h i s (Together b x y u v) = AreWrong S names at h i s (Toget
 FailsAt S names at h i s Heavy = IsHeavy S at h i s
 FailsAt S names at h i s fault = ⊥
 
--- the fault of an item: a label that no statement carries; the fault where its statement is cited; a recall of what is not
--- marked, or too heavy; a mark of nothing
+-- the fault of an item: a label that no statement carries; the fault of a citation of its statement; a recall of a result that
+-- is not marked, or is too heavy; a mark without a result
 abbrev pub FailsCited : Database → List Name → ℕ → State → Name → Fault → Type 0
 FailsCited S names at h label Unknown = (i : ℕ) (s : Stmt) → Carries S i s label → ⊥
 FailsCited S names at h label fault = (i : ℕ) × (s : Stmt) × Carries S i s label × FailsAt S names at h i s fault
@@ -58,7 +58,7 @@ Fails S names at h (Cite label) fault = FailsCited S names at h label fault
 Fails S names at h (Recall k) fault = FailsRecalled h k fault
 Fails S names at h Mark fault = FailsMarked h fault
 
--- the items run to this, within the limit
+-- the items run to the state h, within the limit
 pub record RunsWell (S : Database) (at : ℕ) (items : List Item) (h : State) : Type 0 where
   pub runs : Runs S at start items h
   pub light : h.weight ≤ SYMBOLS_LIMIT

@@ -1,10 +1,10 @@
 -- Letters of a compressed proof read up to one of them, for the private functions.
 -- Source: Metamath, appendix B.
--- This is the code's way to read; what it finds is told by `Breaks`.
+-- This is the code's way to read; `Breaks` states the faults that it finds.
 use Rattle.std.specs.Prelude.{◌≡◌, ◌≢◌, ℕ, zero, suc, ◌+◌, ◌*◌, ◌<◌, ◌≤◌, IsTrue, IsFalse, List, [], ◌∷◌, ◌++◌, length}
 use Rattle.explain.specs.Words.{list_all, Name, is_first, number_from, before_rest, numbers_from, starts_with_mark}
 
--- how many marks
+-- the number of marks
 abbrev pub zeros : List ℕ → ℕ
 zeros [] = 0
 zeros (zero ∷ numbers) = suc (zeros numbers)

@@ -5,7 +5,7 @@ use Rattle.std.specs.Prelude.{ℕ, ◌<◌, List, [], ◌∷◌, ◌++◌, drop,
 use Rattle.explain.specs.Words.{Name, Stmt, Expr, Database, stmt_at, name_at, decode, Hypothesis, Float, Essential, Images, CodeImages}
 use Rattle.mm_read.specs.declared.stmt.Stmt.TheVariants as stmt
 
--- the result for a `$f`, without its constant, is the image of its variable; for another statement it is none
+-- the result for a `$f`, without its typecode, is the image of its variable; that for another statement gives none
 abbrev pub image_at : Option Stmt → Expr → Images
 image_at (Some (stmt.Float label constant variable)) e = (variable, drop 1 e) ∷ []
 image_at s e = []

@@ -6,7 +6,7 @@ use Rattle.explain.specs.Words.{Vec, contains, nat_cmp, Name, has_name, Expr, Da
 use Rattle.explain.specs.declared.named_images.Image.{Image}
 use Rattle.explain.specs.declared.variable_lists.VariableList.{VariableList}
 
--- the list has the variables of the expression, and no symbol that this has not
+-- the list has the variables of the expression, and no symbol that the expression does not have
 pub record AreVariablesOf (S : Database) (names : List Name) (expr list : List ℕ) : Type 0 where
   pub below : AreBelow (length names) list
   pub each : (v : Name) → IsTrue (has_name v (decode names expr)) → IsTrue (is_variable S v) → IsTrue (has_name v (decode names list))
@@ -22,7 +22,7 @@ AreListsOf S names images lists = ⊥
 abbrev pub AreSeen : List Name → VariableList → Type 0
 AreSeen names v = (x : ℕ) → IsTrue (contains nat_cmp v.seen x) → IsTrue (has_name (name_at names x) (decode names v.list.items))
 
--- the symbol is in the list, if it is a variable, and no other came
+-- the symbol is in the new list if it is a variable, and no other symbol was added
 pub record IsNoted (S : Database) (names : List Name) (old new : VariableList) (code : ℕ) : Type 0 where
   pub seen : AreSeen names new
   pub below : AreBelow (length names) old.list.items → AreBelow (length names) new.list.items

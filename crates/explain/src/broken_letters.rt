@@ -12,15 +12,15 @@ use crate::why::{LetterBreak, LetterFault};
 /// The state before a letter.
 #[derive(Clone, Copy, Drop)]
 pub(crate) struct Front {
-    /// The greatest number that is possible here.
+    /// The greatest number that a word may have here.
     limit: usize,
     /// The value of the letters U to Y of the word that is begun.
     digits: usize,
-    /// Where that word begins, or the next one.
+    /// The index at which that word begins, or the next one.
     begin: usize,
 }
 
-/// Returns the rule that the letters break, where so many labels are numbered; `None` if they write items.
+/// Returns the rule that the letters break, given the number of labels before them; `None` if they write items.
 pub(crate) fn letter_break(letters: &[u8], labels: usize) -> Option<LetterBreak>
     requires { 5 * (labels + length letters.now) + 200 < 2 ^ 64 }
     ensures { (names : List Name) → length names ≡ labels → MatchOption result ((items : List Item) × WritesRow names letters.now items)
@@ -58,7 +58,7 @@ fn begins_with_mark(letters: &[u8]) -> bool
 }
 
 impl Front {
-    /// Returns the state before the next letter, or what this letter breaks.
+    /// Returns the state before the next letter, or the rule that this letter breaks.
     fn read(self, index: usize, letter: u8) -> Result<Front, LetterBreak>
         requires room { 5 * self.limit + 200 < 2 ^ 64 }
         requires index { index + 1 < 2 ^ 64 }

@@ -17,15 +17,17 @@ use std::collections::BTreeSet;
 /// A fault of a token of a proof.
 #[derive(Clone, Copy, Drop)]
 pub(crate) enum Test {
-    /// It has the byte `?`.
+    /// The token has the byte `?`.
     Unfinished,
-    /// It is no label.
+    /// The token is no label.
     NotLabel,
-    /// It is no label that may be listed.
+    /// The token is no label, or is that of a mandatory hypothesis.
     NotListed,
 }
 
-/// Returns the rule of proof code that the tokens break, which write no items under these mandatory labels.
+/// Returns the rule of proof code that the tokens break, which must write no items under these mandatory labels.
+///
+/// Errors: an allocation fails, or there are more than `MOST_LETTERS` tokens, mandatory labels or letters.
 pub(crate) fn code_break(
     alloc: Global,
     tokens: &Words,
@@ -67,7 +69,7 @@ fn compressed_break(
     }
 }
 
-/// Returns the same, by the names of the mandatory labels.
+/// Returns the rule that such a proof breaks, given the names of the mandatory labels.
 fn listed_break(
     alloc: Global,
     tokens: &Words,
@@ -107,9 +109,10 @@ fn listed_break(
     }
 }
 
-/// Returns the first of the words with this fault, and its index; it and the earlier words are passed.
+/// Returns the first of the words with this fault, and its index. Consumes the words up to it.
 ///
-/// Cost: the words, times the logarithm of the number of mandatory labels if their names are given, else times that number.
+/// Cost: the words; for `NotListed` times the logarithm of the number of mandatory labels if their names are given, else times
+/// that number.
 fn first_of<'a>(
     words: &mut WordIter<'a>,
     mandatory: &Words,
@@ -143,7 +146,7 @@ fn fails(token: &[u8], mandatory: &Words, names: Option<&BTreeSet<&[u8]>>, test:
     }
 }
 
-/// Returns the letters of the words.
+/// Returns the letters of the words, joined.
 fn join(alloc: Global, words: &mut WordIter<'_>) -> Result<Vec<u8>, AllocError>
     ensures { IfOk result (λ letters. letters.items ≡ joined words.old) }
 {
@@ -154,7 +157,7 @@ fn join(alloc: Global, words: &mut WordIter<'_>) -> Result<Vec<u8>, AllocError>
     Ok(letters)
 }
 
-/// Returns whether it is one of the labels, whose names may be given as a set.
+/// Returns whether a name is one of the labels, whose names may be given as a set.
 fn has(labels: &Words, names: Option<&BTreeSet<&[u8]>>, name: &[u8]) -> bool
     requires { IfSome names (λ set. AreNames set.now labels.now) }
     ensures { result ≡ has_name name.now labels.now }

@@ -8,7 +8,7 @@ ghost use Rattle.explain.specs.Stored.DisjointPairs.{AreDisjointPairs, IsDisjoin
 use std::alloc::Global;
 use std::collections::BTreeMap;
 
-/// The most pairs that are recorded. After them it begins anew.
+/// The most pairs that are recorded; a full table is cleared before the next one.
 const MOST_PAIRS: usize = 65_536;
 
 /// Two variables of an assertion.
@@ -18,10 +18,10 @@ pub struct VariablePair {
     pub second: u32,
 }
 
-/// Pairs of variables whose images are disjoint, so that a pair that stands in many lists is asked for once.
+/// Pairs of variables whose images are disjoint, so that a pair that stands in many groups is tested once.
 #[derive(Drop)]
 pub struct DisjointPairs {
-    /// The index of a pair. An index only says where to look.
+    /// The index of a pair by its key. An index may be stale: the pair there is compared.
     indexes: BTreeMap<u64, usize>,
     pub pairs: Vec<VariablePair>,
 }
@@ -49,7 +49,7 @@ impl DisjointPairs {
         }
     }
 
-    /// Records a pair, unless an allocation fails.
+    /// Records a pair; if an allocation fails, the pair is not recorded.
     ///
     /// Cost: log n for n pairs.
     pub fn add(&mut self, first: u32, second: u32)

@@ -1,11 +1,11 @@
 //! Why a proof is refused.
 //!
 //! `explain` returns the reason why the tokens of a `$p` do not prove it: the rule of proof code that they break, or the first
-//! fault of the run over the items that they write. It runs only after a refusal. `first_fault` has the verifier run over the
-//! items, and explains the one item that cannot be done by the results before it.
+//! fault of the run over the items that they write. It is called only after a refusal. `first_fault` lets the verifier run
+//! over the items, and explains the item at which the run stops by the results before it.
 //!
-//! Read `why`, `proof_fault`, `code`, `broken_letters`; then `reason`, `named_images`, `variable_lists`, `disjoint_pairs`,
-//! `violation`, `named_citation`, `run`.
+//! Reading order: `why`, `proof_fault`, `code`, `broken_letters`; then `reason`, `named_images`, `variable_lists`,
+//! `disjoint_pairs`, `violation`, `named_citation`, `run`.
 #![tactic(auto)]
 
 mod broken_letters;

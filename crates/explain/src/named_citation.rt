@@ -22,9 +22,9 @@ use std::alloc::{AllocError, Global};
 use subst::SYMBOLS_LIMIT;
 use verify::Results;
 
-/// Explains why the statement at a position cannot be cited, by the results before.
+/// Returns why the statement at a position cannot be cited, given the earlier results.
 ///
-/// Errors: an allocation fails.
+/// Errors: an allocation fails, or the expression that a hypothesis requires is above the limit of a weight.
 pub fn cite(
     alloc: Global,
     frames: &Frames,
@@ -48,7 +48,7 @@ pub fn cite(
     }
 }
 
-/// Explains why an earlier assertion cannot be cited.
+/// Returns why an earlier assertion cannot be cited.
 fn cite_assertion(
     alloc: Global,
     frames: &Frames,
@@ -72,7 +72,7 @@ fn cite_assertion(
     cite_parts(alloc, frames, at, a, mandatory.as_slice(), &cited, results)
 }
 
-/// Explains why an earlier assertion cannot be cited, by its mandatory hypotheses and its parts.
+/// Returns why an earlier assertion cannot be cited, given its mandatory hypotheses and its parts.
 fn cite_parts(
     alloc: Global,
     frames: &Frames,
@@ -146,7 +146,7 @@ pub(crate) enum Concluded {
     Right(Vec<u32>),
 }
 
-/// Returns the result of an assertion for these results, one for each of its hypotheses.
+/// Returns the result of an assertion for these results, one for each of its hypotheses, or the fault of the citation.
 fn conclude(
     alloc: Global,
     frames: &Frames,
@@ -190,7 +190,7 @@ fn conclude(
     }
 }
 
-/// Returns the first hypothesis that requires another result than the one that stands there.
+/// Returns the fault of the first hypothesis that requires another result than the one that stands there.
 fn find_other(
     alloc: Global,
     frames: &Frames,

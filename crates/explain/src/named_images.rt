@@ -1,4 +1,4 @@
-//! The images that the results for `$f` give to variables, substituted in an expression.
+//! The images that the results for `$f` give to variables, and their substitution in an expression.
 ghost use Rattle.std.specs.Prelude.{◌≡◌, ℕ, ◌<◌, ◌≤◌, ◌+◌, ◌^◌, ◌∷◌, ◌++◌, ◌↔◌, [], List, length, drop, IfOk, IfNone, IfSome, IsTrue, MatchOption};
 ghost use Rattle.frame.specs.Below.{AreBelow};
 ghost use Rattle.frame.specs.Substitution.{code_image, code_apply};
@@ -40,7 +40,9 @@ impl<'a> Model for Images<'a> {
 }
 
 impl<'a> Images<'a> {
-    /// Makes the index of images. Cost: n log n for n images.
+    /// Returns the images with their index.
+    ///
+    /// Errors: an allocation fails. Cost: n log n for n images.
     pub fn new(alloc: Global, list: Vec<Image<'a>>) -> Result<Images<'a>, AllocError>
         ensures { IfOk result (λ images. images ≡ list.entry.items) }
     {
@@ -59,7 +61,7 @@ impl<'a> Images<'a> {
         self.list.as_slice()
     }
 
-    /// Returns the index of the image of a symbol, where it has one. Cost: log n for n images.
+    /// Returns the index of the image of a symbol, if it has one. Cost: log n for n images.
     pub fn place(&self, symbol: u32) -> Option<usize>
         ensures { IsPlaced self.now self.now symbol result }
     {
@@ -67,7 +69,7 @@ impl<'a> Images<'a> {
     }
 }
 
-/// Returns the images that results give: the result for a `$f`, without its constant, is that of its variable.
+/// Returns the images that results give: the result for a `$f`, without its typecode, is the image of its variable.
 pub fn read_images<'a>(
     alloc: Global,
     kinds: &Hypotheses<'_>,
@@ -81,7 +83,7 @@ pub fn read_images<'a>(
     Images::new(alloc, list)
 }
 
-/// Returns a list of these images.
+/// Returns the list of these images.
 fn list_images<'a>(
     alloc: Global,
     kinds: &Hypotheses<'_>,
@@ -111,7 +113,7 @@ fn behind_first(expr: &[u32]) -> &[u32]
     &expr[1..]
 }
 
-/// Returns the image of a symbol, or the symbol itself, which is handed in. Cost: log n for n images.
+/// Returns the image of a symbol, or `own`, the symbol alone, if it has none. Cost: log n for n images.
 pub fn image_or<'a>(images: &'a Images<'_>, symbol: u32, own: &'a [u32]) -> &'a [u32]
     requires { own.now ≡ symbol ∷ [] }
     ensures { result.now ≡ code_image (code_images images.entry.now) symbol }
@@ -145,7 +147,7 @@ pub fn apply(
     Ok(Some(applied))
 }
 
-/// Returns whether the symbols are the expression with the images substituted. Nothing is written.
+/// Returns whether the symbols are the expression with the images substituted. Does not allocate.
 ///
 /// Cost: log n for each symbol of the expression and n images, and the symbols that agree.
 pub fn agrees(images: &Images<'_>, expr: &[u32], symbols: &[u32]) -> bool
@@ -161,7 +163,7 @@ pub fn agrees(images: &Images<'_>, expr: &[u32], symbols: &[u32]) -> bool
     rest.is_empty()
 }
 
-/// Returns the symbols behind the image of a symbol, if they begin with it.
+/// Returns the symbols after the image of a symbol, if they begin with that image.
 fn behind_image<'a>(images: &Images<'_>, symbol: u32, symbols: &'a [u32]) -> Option<&'a [u32]>
     ensures some { IfSome result (λ rest. symbols.entry.now ≡ code_image (code_images images.now) symbol ++ rest.now) }
     ensures none { IfNone result ((rest : List ℕ) → symbols.entry.now ≡ code_image (code_images images.now) symbol ++ rest → ⊥) }

@@ -21,7 +21,8 @@ use verify::{Answer, Checker};
 
 /// Returns why the tokens do not prove the `$p` at a position, or `None` if they do.
 ///
-/// It runs after a refusal. Cost: that of judging the proof twice, with whole expressions.
+/// Errors: an allocation fails; an expression that a hypothesis requires is above the limit of a weight; or there are more
+/// than 2^30 tokens, mandatory labels or letters. Cost: that of judging the proof, and of `first_fault`.
 pub fn explain(
     alloc: Global,
     frames: &Frames,

@@ -1,13 +1,13 @@
 //! Why a proof is wrong.
 
-/// Why a proof is wrong. Statements are positions from 1, symbols the numbers of `Frames`.
+/// Why a proof is wrong. Statements are given by their positions from 1, symbols by their numbers in `Frames`.
 #[derive(Debug, Drop)]
 pub enum Reason {
-    /// At an item, counted from 0, something fails.
+    /// An item, counted from 0, has a fault.
     Item { item: usize, fault: Fault },
-    /// So many results are left at the end, and not one.
+    /// The count of the results that are left at the end is not 1.
     Results { count: usize },
-    /// The one result at the end is not what the theorem says.
+    /// The one result at the end is not the theorem's expression.
     Theorem { proved: Vec<u32> },
 }
 
@@ -36,15 +36,15 @@ pub enum Fault {
         hypothesis: usize,
         result: Vec<u32>,
     },
-    /// The result is not the hypothesis with the images substituted.
+    /// The result is not the hypothesis under the substitution.
     Expression {
         assertion: usize,
         hypothesis: usize,
         required: Vec<u32>,
         result: Vec<u32>,
     },
-    /// Two variables of the assertion must be disjoint, and `one` stands in the image of `first`, `other` in that of
-    /// `second`, where no active `$d` has these two together; they may be the same.
+    /// The variables `first` and `second` of the assertion must be disjoint, but `one` stands in the image of `first`, `other`
+    /// in that of `second`, and no active `$d` has `one` and `other` together; these may be the same.
     Together {
         assertion: usize,
         first: u32,
@@ -52,7 +52,7 @@ pub enum Fault {
         one: u32,
         other: u32,
     },
-    /// The results are longer, all together, than the limit.
+    /// The lengths of all results add up to more than the limit.
     Heavy,
     /// There is no result to mark, or none marked with this number.
     Unmarked,

@@ -12,7 +12,8 @@ use frame::Pairs;
 use std::alloc::{AllocError, Global};
 use std::collections::BTreeSet;
 
-/// A variable is found without a search while it is the last one that was added of those with its number modulo this.
+/// The size of the table of recent variables: a variable is found without a search if it was the last one to be added of those
+/// with its number modulo this.
 const RECENT: usize = 256;
 
 /// The variables that were found, each once, in the order in which they came first.
@@ -20,7 +21,7 @@ const RECENT: usize = 256;
 pub struct VariableList {
     list: Vec<u32>,
     seen: BTreeSet<u32>,
-    /// Indexes in the list.
+    /// The index in the list of the last variable that was added with each number modulo `RECENT`.
     recent: [usize; RECENT],
 }
 
@@ -45,7 +46,7 @@ impl VariableList {
     }
 }
 
-/// Returns whether the number stands at that index.
+/// Returns whether a number stands at an index.
 fn is_at(list: &[u32], index: usize, code: u32) -> bool
     ensures { IsTrue result → slice_get list.now index ≡ Some code }
 {
@@ -57,7 +58,7 @@ fn is_at(list: &[u32], index: usize, code: u32) -> bool
 
 /// Returns the variables of an expression, each once, in the order in which they come first.
 ///
-/// Errors: an allocation fails. Cost: the symbols, with a logarithm for those of many variables.
+/// Errors: an allocation fails. Cost: the symbols, times a logarithm if there are many variables.
 fn variables_of(alloc: Global, pairs: &Pairs<'_>, symbols: &[u32]) -> Result<Vec<u32>, AllocError>
     requires { AreBelow (length pairs.now.names) symbols.now }
     ensures { IfOk result (λ list. AreVariablesOf pairs.now.statements pairs.now.names symbols.now list.items) }
@@ -92,7 +93,7 @@ pub fn variable_lists(
     Ok(lists)
 }
 
-/// Returns the list of the image of a symbol, or the symbol itself, which is handed in.
+/// Returns the list of the image of a symbol, or `own`, the symbol alone, if it has no image.
 pub fn list_or<'a>(
     images: &Images<'_>,
     lists: &'a [Vec<u32>],

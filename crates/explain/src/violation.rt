@@ -18,7 +18,7 @@ use entries::Groups;
 use frame::Pairs;
 use std::alloc::{AllocError, Global};
 
-/// Two variables of an assertion, and a variable in the image of each, which no active `$d` has together.
+/// Two variables of an assertion, and a variable in the image of each; no active `$d` has these two together.
 #[derive(Clone, Copy, Drop)]
 pub struct DisjointViolation {
     pub first: u32,
@@ -27,10 +27,10 @@ pub struct DisjointViolation {
     pub other: u32,
 }
 
-/// Returns the first violation of the images of variables that stand together in one of the lists.
+/// Returns the first violation of the images of variables that stand together in one of the groups.
 ///
-/// Errors: an allocation fails. Cost: the symbols of the images, each once; for each two variables of a list a look-up; and that of
-/// `shared` once for each pair of variables, of the first 65,536 that are recorded.
+/// Errors: an allocation fails. Cost: the symbols of the images, each once; for each two variables of a group a look-up, and
+/// that of `shared` for each pair that is not among the at most 65,536 recorded as disjoint.
 pub fn find_violation(
     alloc: Global,
     pairs: &Pairs<'_>,
@@ -53,7 +53,7 @@ pub fn find_violation(
     Ok(violation_of(pairs, images, lists.as_slice(), groups, &mut found))
 }
 
-/// Returns the same, by the lists of the variables of the images.
+/// Returns the first violation, given the lists of the variables of the images.
 fn violation_of(
     pairs: &Pairs<'_>,
     images: &Images<'_>,
@@ -80,7 +80,7 @@ fn violation_of(
     None
 }
 
-/// Returns whether the list at an index is equal to the one before it.
+/// Returns whether the group at an index is equal to the one before it.
 fn is_repeated(groups: &Groups<'_>, index: usize) -> bool
     requires { index < length groups.now }
     ensures { IsTrue result → (0 < index) × (slice_get groups.now index ≡ slice_get groups.now (index - 1)) }
@@ -88,9 +88,9 @@ fn is_repeated(groups: &Groups<'_>, index: usize) -> bool
     index > 0 && groups.get(index) == groups.get(index - 1)
 }
 
-/// Returns the first violation of the images of variables of one list.
+/// Returns the first violation of the images of variables of one group.
 ///
-/// Cost: for each two variables of the list that of `shared_by`.
+/// Cost: for each two variables of the group that of `shared_by`.
 fn violation_in(
     pairs: &Pairs<'_>,
     images: &Images<'_>,
@@ -116,7 +116,7 @@ fn violation_in(
     None
 }
 
-/// Returns the first violation of the image of a variable with those of the others of a list.
+/// Returns the first violation between the image of a variable and those of the others of a group.
 fn violation_with(
     pairs: &Pairs<'_>,
     images: &Images<'_>,
@@ -157,8 +157,8 @@ fn violation_with(
     None
 }
 
-/// Returns a variable of the image of one variable and one of that of another, which are the same or stand together in no active
-/// `$d`, unless the two were found disjoint; records that they are.
+/// Returns a variable of the image of `first` and one of that of `second` which are the same or stand together in no active
+/// `$d`; `None` if the images are disjoint, which is then recorded.
 ///
 /// Cost: that of looking the pair up; if it is not recorded, also that of `shared`.
 fn shared_by(
@@ -197,7 +197,7 @@ fn shared_by(
     }
 }
 
-/// Returns a variable of the one expression and one of the other, which are the same or stand together in no active `$d`.
+/// Returns a variable of each expression such that the two are the same or stand together in no active `$d`.
 ///
 /// Cost: the product of their symbols, times that of `Pairs::has`.
 fn shared(pairs: &Pairs<'_>, left: &[u32], right: &[u32]) -> Option<(u32, u32)>
@@ -215,7 +215,7 @@ fn shared(pairs: &Pairs<'_>, left: &[u32], right: &[u32]) -> Option<(u32, u32)>
     None
 }
 
-/// Returns a variable of the expression that is this one or stands with it in no active `$d`, where this is a variable.
+/// Returns a variable of the expression that is `one` or stands with it in no active `$d`; `None` if `one` is no variable.
 fn not_with(pairs: &Pairs<'_>, one: u32, right: &[u32]) -> Option<u32>
     requires one { one < length pairs.now.names }
     requires right { AreBelow (length pairs.now.names) right.now }

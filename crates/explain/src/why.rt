@@ -12,7 +12,7 @@ pub enum WhyUnproved {
     Run { items: Items, reason: Reason },
 }
 
-/// Which rule of proof code tokens break; tokens are indexed from 0. Source: Metamath, 4.3 and appendix B.
+/// The rule of proof code that tokens break; tokens are indexed from 0. Source: Metamath, 4.3 and appendix B.
 #[derive(Clone, Copy, Debug, Drop)]
 pub enum CodeBreak {
     /// The first token with the byte `?`.
@@ -27,22 +27,23 @@ pub enum CodeBreak {
     Letters(LetterBreak),
 }
 
-/// Where the letters of a compressed proof break a rule: a letter by its index from 0 among those of all tokens after `)`.
+/// The rule that the letters of a compressed proof break, and a letter by its index from 0 among those of all tokens after
+/// `)`.
 #[derive(Clone, Copy, Debug, Drop)]
 pub struct LetterBreak {
     pub letter: usize,
     pub fault: LetterFault,
 }
 
-/// A fault of the letters; all letters before it write items.
+/// A fault of the letters at an index; all letters before it write items, or begin the word in which it stands.
 #[derive(Clone, Copy, Debug, Drop)]
 pub enum LetterFault {
     /// The byte is none of A to Z.
     NotLetter,
-    /// The letters U to Y from here on are ended by no letter A to T.
+    /// No letter A to T ends the letters U to Y that begin here.
     NotEnded,
     /// A mark stands before any number.
     EarlyMark,
-    /// The word that begins here has a number greater than all labels and marks so far.
+    /// The word that begins here has a number greater than the count of labels and marks so far.
     TooGreat,
 }

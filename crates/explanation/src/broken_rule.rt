@@ -17,7 +17,8 @@ struct Broken<'a> {
     rule: Rule,
 }
 
-/// Writes which rule the statement breaks, by what, and where the other declaration stands.
+/// Writes the rule that the statement breaks, and, if there are such, the symbol or label that breaks it and the place of the
+/// other declaration.
 pub(crate) fn explain_rule(
     alloc: Global,
     page: &mut Page<'_>,
@@ -57,7 +58,7 @@ fn explain_open(alloc: Global, page: &mut Page<'_>, broken: &Broken<'_>) {
     page.push(b"this block is never closed\n");
 }
 
-/// Writes `LINE:COLUMN: ` of a token of a statement.
+/// Writes `LINE:COLUMN: ` for a token of a statement.
 pub(crate) fn push_start(
     alloc: Global,
     page: &mut Page<'_>,
@@ -69,7 +70,7 @@ pub(crate) fn push_start(
     page.push(b": ");
 }
 
-/// Writes `LINE:COLUMN` of a token of a statement.
+/// Writes `LINE:COLUMN` for a token of a statement.
 pub(crate) fn push_token_place(
     alloc: Global,
     page: &mut Page<'_>,
@@ -191,7 +192,7 @@ fn explain_label(
     push_other(alloc, page, broken, label_of(stmt), other);
 }
 
-/// Writes how the other statement declares the name, and where.
+/// Writes the use that the other statement makes of the name, and the place of it.
 fn push_other(alloc: Global, page: &mut Page<'_>, broken: &Broken<'_>, name: &[u8], other: usize) {
     let Some(stmt) = broken.statements.get(other.saturating_sub(1)) else {
         page.push(b"\n");
@@ -204,7 +205,7 @@ fn push_other(alloc: Global, page: &mut Page<'_>, broken: &Broken<'_>, name: &[u
     page.push(b"\n");
 }
 
-/// Returns how a statement declares a name, and the token at which it does.
+/// Returns the words for the use that a statement makes of a name, and the number of the token that has it, from 1.
 fn told(stmt: &Stmt, name: &[u8]) -> (&'static [u8], usize) {
     match stmt {
         Stmt::Const(names) => (
@@ -220,7 +221,7 @@ fn told(stmt: &Stmt, name: &[u8]) -> (&'static [u8], usize) {
     }
 }
 
-/// Returns where a name stands among these.
+/// Returns the index of a name among these, 0 if it is not there.
 fn place_in(names: &mm_lex::Words, name: &[u8]) -> usize {
     let mut index = 0usize;
     let mut left = names.iter();

@@ -45,14 +45,14 @@ fn push_mandatory(page: &mut Page<'_>, theorem: &Theorem<'_>, token: usize) {
     page.push(b" and may not be listed\n");
 }
 
-/// Writes where the tokens cannot be read, and why.
+/// Writes the place at which the tokens cannot be read, and the words that say why.
 fn push_break(page: &mut Page<'_>, theorem: &Theorem<'_>, spot: Spot, words: &[u8]) {
     push_unread(page, theorem, spot);
     page.push(words);
     page.push(b"\n");
 }
 
-/// Writes where the tokens cannot be read.
+/// Writes the place at which the tokens cannot be read.
 fn push_unread(page: &mut Page<'_>, theorem: &Theorem<'_>, spot: Spot) {
     theorem.push_spot(page, spot);
     page.push(b" cannot be read\n  ");

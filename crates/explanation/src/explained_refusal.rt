@@ -29,11 +29,11 @@ pub enum DatabaseFault {
     Unfinished { statement: usize },
 }
 
-/// Returns the lines that say why the text is refused, at most 65,536 bytes; none if it is not
-/// refused for that. The name of its file, if there is one, stands before each place.
+/// Returns the lines that say why the text is refused, at most 65,536 bytes. They are unspecified if it
+/// does not have this fault. The name of its file, if given, stands before each place.
 ///
-/// Errors: an allocation fails. Cost: that of reading the text and of its statements once more, and of judging the one
-/// proof twice.
+/// Errors: an allocation fails, or those of `explain::explain`. Cost: a few passes over the text, that of
+/// adding its statements once more, and for a proof that of `explain::explain`.
 pub fn explain_refusal(
     alloc: Global,
     name: Option<&str>,
@@ -47,11 +47,11 @@ pub fn explain_refusal(
     page.into_lines()
 }
 
-/// Returns the lines that say why a text is refused behind the statements of a library, at most 65,536 bytes. The first
-/// `before` bytes of the text write these statements, each with its line feed on a line of its own; places are counted in the
-/// rest. A statement of the fault is counted from the first of the library.
+/// Returns the lines that say why a text is refused after the statements of a library, at most 65,536 bytes. The first
+/// `before` bytes of `text` write these statements, a line each; places are counted in the rest. The number in `fault` counts
+/// from the first statement of the library.
 ///
-/// Errors: an allocation fails. Cost: as that of `explain_refusal`.
+/// Errors and cost: those of `explain_refusal`.
 pub fn explain_behind(
     alloc: Global,
     text: &[u8],
@@ -66,9 +66,9 @@ pub fn explain_behind(
 }
 
 /// Returns the lines that say why the proof of the `$p` at a position is not right, at most 65,536
-/// bytes; none if it is, or if no `$p` stands there. The statements are those of the text.
+/// bytes; none if it is right, or if no `$p` stands there. The statements are those of the text.
 ///
-/// Errors: an allocation fails. Cost: that of judging the proof twice, and of going over the text.
+/// Errors: those of `explain::explain`. Cost: that of `explain::explain`, and that of going over the text.
 pub fn explain_unproved(
     alloc: Global,
     name: Option<&str>,

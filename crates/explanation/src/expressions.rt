@@ -3,14 +3,14 @@
 use crate::written_lines::Page;
 use frame::Frames;
 
-/// The most symbols of an expression that are written.
+/// The greatest number of symbols of an expression that are written.
 const MOST_SYMBOLS: usize = 400;
 
-/// The most bytes of an expression that are written, with a space before each symbol.
+/// The greatest number of bytes of an expression that are written, with a space before each symbol.
 const MOST_EXPRESSION_BYTES: usize = 4_096;
 
-/// Writes the symbols of an expression, with a space before each. Cuts a long one before the first symbol that is too
-/// many or goes beyond the most bytes, and writes the number of its symbols.
+/// Writes the symbols of an expression, with a space before each. Cuts a long one before the first symbol that goes beyond
+/// either limit, and writes the number of its symbols.
 ///
 /// Cost: the bytes that are written.
 pub(crate) fn push_expression(page: &mut Page<'_>, frames: &Frames, expr: &[u32]) {

@@ -10,7 +10,7 @@ pub(crate) struct Spot {
     pub(crate) byte: usize,
 }
 
-/// Returns where the item of that index begins: its token, or the first letter of its word or mark.
+/// Returns where the item at an index begins: its token, or the first letter of its word or mark.
 pub(crate) fn spot_of(proof: &Words, item: usize) -> Spot {
     if is_compressed(proof) {
         word_spot(proof, item)
@@ -22,7 +22,7 @@ pub(crate) fn spot_of(proof: &Words, item: usize) -> Spot {
     }
 }
 
-/// Returns where the word or mark of that index begins among the letters; after the last token if there are fewer.
+/// Returns where the word or mark at an index begins among the letters; after the last token if there are fewer.
 fn word_spot(proof: &Words, item: usize) -> Spot {
     let mut is_past = false;
     let mut left = proof.iter();
@@ -49,7 +49,7 @@ fn word_spot(proof: &Words, item: usize) -> Spot {
     Spot { token, byte: 0 }
 }
 
-/// Returns where the letter of that index stands, of all tokens after `)`; after the last token if there are fewer.
+/// Returns where the letter at an index among those of all tokens after `)` stands; after the last token if there are fewer.
 pub(crate) fn letter_spot(proof: &Words, letter: usize) -> Spot {
     let mut is_past = false;
     let mut left = proof.iter();
@@ -68,12 +68,12 @@ pub(crate) fn letter_spot(proof: &Words, letter: usize) -> Spot {
     Spot { token, byte: 0 }
 }
 
-/// Returns whether a letter ends a word, or marks.
+/// Returns whether a letter ends a word or is a mark.
 fn ends_item(letter: u8) -> bool {
     letter.is_ascii_uppercase() && (letter <= b'T' || letter == b'Z')
 }
 
-/// Returns which step the item is: how many citations and recalls stand up to it.
+/// Returns the number of the step that the item is: the count of citations and recalls up to it.
 pub(crate) fn step_of(numbers: &[u32], item: usize) -> usize {
     numbers
         .iter()

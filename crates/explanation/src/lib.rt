@@ -1,11 +1,13 @@
 //! Explains in words why a database is refused, with the place in the text.
 //!
-//! `explain_refusal` writes the lines of an explanation, at most 65,536 bytes; it runs only after a
-//! refusal and reads the text again. `explain_unproved` writes them for one `$p` of statements that
+//! `explain_refusal` returns the lines of an explanation, at most 65,536 bytes; it is called only after
+//! a refusal and reads the text again. `explain_unproved` returns them for one `$p` of statements that
 //! the caller has read. The explanation rests on the clauses of `places`, `rule_violation` and `explain`;
-//! the words have no contract. Read `explained_refusal`, `written_lines`, `text_fault`,
-//! `shape_fault`, `broken_rule` with `statement_symbols`; `proof` with `text_tokens`, `theorem`,
-//! `item_spots`, `step_fault`, `expressions` and `code_break`.
+//! the words have no contract.
+//!
+//! Reading order: `explained_refusal`, `written_lines`, `text_fault`, `shape_fault`, `broken_rule` with
+//! `statement_symbols`; `proof` with `text_tokens`, `theorem`, `item_spots`, `step_fault`, `expressions`
+//! and `code_break`.
 #![tactic(auto)]
 
 mod broken_rule;

@@ -56,7 +56,7 @@ fn explain_in(
     }
 }
 
-/// Writes it for the `$p` at a position of the statements, which are those of the text.
+/// Writes the same for the `$p` at a position of statements that were read from the text.
 pub(crate) fn explain_entered(
     alloc: Global,
     page: &mut Page<'_>,
@@ -120,7 +120,7 @@ fn explain_step(
     push_fault(page, theorem, frames, fault);
 }
 
-/// Writes that more or fewer results than one are left.
+/// Writes that another number of results than one is left.
 fn explain_results(page: &mut Page<'_>, theorem: &Theorem<'_>, count: usize) {
     theorem.push_end(page);
     page.push(b" is wrong at its end\n  it leaves ");
@@ -140,7 +140,7 @@ fn explain_other(page: &mut Page<'_>, frames: &Frames, theorem: &Theorem<'_>, pr
     page.push(b"\n");
 }
 
-/// Returns the expression of the statement at a position; nothing if none stands there.
+/// Returns the expression of the statement at a position, empty if none stands there.
 fn expr_at(frames: &Frames, at: usize) -> &[u32] {
     if at == 0 || at > frames.len() {
         return &[];
@@ -148,7 +148,7 @@ fn expr_at(frames: &Frames, at: usize) -> &[u32] {
     frames.expr(at)
 }
 
-/// Writes which step of the proof the item is, and what it cites.
+/// Writes the number of the step that the item is, and the label that it cites, if it is a citation.
 fn push_step(page: &mut Page<'_>, items: &Items, item: usize) {
     let parts = items.parts();
     page.push(b" is wrong at step ");

@@ -3,7 +3,7 @@
 use mm_lex::Words;
 use mm_read::Stmt;
 
-/// Returns the label of a statement; nothing if it has none.
+/// Returns the label of a statement, empty if it has none.
 pub(crate) fn label_of(stmt: &Stmt) -> &[u8] {
     match stmt {
         Stmt::Float { label, .. } => label.as_bytes(),
@@ -14,7 +14,7 @@ pub(crate) fn label_of(stmt: &Stmt) -> &[u8] {
     }
 }
 
-/// Returns which token of a statement its first symbol is, from 1.
+/// Returns the number of the token of a statement that is its first symbol, from 1.
 pub(crate) fn symbols_before(stmt: &Stmt) -> usize {
     match stmt {
         Stmt::Const(_) => 2,
@@ -24,7 +24,7 @@ pub(crate) fn symbols_before(stmt: &Stmt) -> usize {
     }
 }
 
-/// Returns the symbol at an index, from 0; nothing if there is none.
+/// Returns the symbol at an index, from 0, or an empty one if there is none.
 pub(crate) fn symbol_at(stmt: &Stmt, index: usize) -> &[u8] {
     match stmt {
         Stmt::Const(names) => word_at(names, index),
@@ -48,7 +48,7 @@ pub(crate) fn symbol_at(stmt: &Stmt, index: usize) -> &[u8] {
     }
 }
 
-/// Returns the word at an index, from 0; nothing if there is none.
+/// Returns the word at an index, from 0, or an empty one if there is none.
 pub(crate) fn word_at(words: &Words, index: usize) -> &[u8] {
     words.iter().nth(index).unwrap_or(b"")
 }

@@ -82,7 +82,7 @@ fn push_few(page: &mut Page<'_>, takes: usize, there: usize) {
     page.push(b"\n");
 }
 
-/// Writes that a result has another typecode than that of a `$f`.
+/// Writes that the result for a `$f` has another typecode.
 fn push_constant(
     page: &mut Page<'_>,
     theorem: &Theorem<'_>,

@@ -1,4 +1,4 @@
-//! Bytes and comments at fault.
+//! Faults of bytes and comments.
 ghost use Rattle.mm_lex.specs.TextFaults.{IsCommentFault};
 
 use crate::written_lines::Page;
@@ -53,7 +53,7 @@ fn explain_comment(page: &mut Page<'_>, text: &[u8], offset: usize)
     }
 }
 
-/// Writes where after an offset a `$)` is only a part of a token, if there is one.
+/// Writes the place of the first `$)` after an offset that is only a part of a token, if there is one.
 fn explain_glued(page: &mut Page<'_>, text: &[u8], offset: usize) {
     let Some(rest) = text.get(offset..) else {
         return;
@@ -72,12 +72,12 @@ fn explain_glued(page: &mut Page<'_>, text: &[u8], offset: usize) {
     }
 }
 
-/// Tells whether a byte stands between tokens.
+/// Returns whether a byte is white.
 fn is_space(byte: u8) -> bool {
     byte == b' ' || byte == b'\t' || byte == b'\n' || byte == 12 || byte == b'\r'
 }
 
-/// Tells whether a token has `$)` as a part.
+/// Returns whether a token contains `$)`.
 fn has_end(token: &[u8]) -> bool {
     let mut last = 0;
     for byte in token {

@@ -28,7 +28,7 @@ impl<'a> Model for TextTokens<'a> {
 }
 
 impl<'a> TextTokens<'a> {
-    /// Finds the tokens of a text.
+    /// Returns a text with the places of its tokens.
     ///
     /// Errors: a fault of its bytes or comments; an allocation fails. Cost: the size of the text.
     pub fn new(alloc: Global, text: &'a [u8]) -> Result<TextTokens<'a>, LexFault>
@@ -45,8 +45,8 @@ impl<'a> TextTokens<'a> {
         self.text
     }
 
-    /// Returns where a token of a statement begins, both counted from 1; the end of the text if
-    /// there is no such token.
+    /// Returns the offset at which a token of a statement begins, both counted from 1; the end of the
+    /// text if there is no such token.
     pub(crate) fn start_of(&self, statement: usize, token: usize) -> usize {
         if statement == 0 || token == 0 {
             return self.text.len();

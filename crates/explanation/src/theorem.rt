@@ -61,7 +61,7 @@ impl<'a> Theorem<'a> {
         self.push_spot(page, Spot { token, byte: 0 });
     }
 
-    /// Returns the label of the statement at a position.
+    /// Returns the label of the statement at a position, empty if there is none.
     pub(crate) fn label_at(&self, at: usize) -> &'a [u8] {
         match self.statements.get(at.saturating_sub(1)) {
             Some(stmt) => label_of(stmt),
@@ -69,7 +69,7 @@ impl<'a> Theorem<'a> {
         }
     }
 
-    /// Returns the typecode of the `$f` at a position.
+    /// Returns the typecode of the `$f` at a position, empty if another statement stands there.
     pub(crate) fn constant_at(&self, at: usize) -> &'a [u8] {
         match self.statements.get(at.saturating_sub(1)) {
             Some(Stmt::Float { constant, .. }) => constant.as_bytes(),

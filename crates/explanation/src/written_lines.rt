@@ -1,4 +1,4 @@
-//! The lines that are written.
+//! The lines of an explanation.
 
 ghost use Rattle.std.specs.Prelude.{◌≤◌, length, IfOk};
 
@@ -7,20 +7,20 @@ use mm_lex::Span;
 use places::line_and_column;
 use std::alloc::{AllocError, Global};
 
-/// The most bytes of an explanation.
+/// The greatest number of bytes of an explanation.
 pub const MOST_BYTES: usize = 65_536;
 
-/// The last line of an explanation that has more bytes.
+/// The last line of an explanation that is cut.
 const CUT: &[u8] = b"\n  the explanation is cut here: it has more than 65536 bytes\n";
 
-/// The lines of an explanation, or nothing if an allocation failed. Keeps one byte more than the most, and drops the rest.
+/// The lines of an explanation, or nothing if an allocation failed. Keeps one byte more than `MOST_BYTES`, and drops the rest.
 #[derive(Drop)]
 pub(crate) struct Page<'a> {
     lines: Vec<u8>,
     /// The name of the file that stands before each place, if there is one.
     name: Option<&'a str>,
     is_refused: bool,
-    /// How many bytes of the text are statements of a library, a line each, before the text that is explained.
+    /// The number of bytes of the text, before the part that is explained, that are statements of a library, a line each.
     before: usize,
 }
 
@@ -55,12 +55,12 @@ impl<'a> Page<'a> {
         Ok(lines)
     }
 
-    /// Records that memory ran out.
+    /// Records that an allocation failed.
     pub(crate) fn refuse(&mut self) {
         self.is_refused = true;
     }
 
-    /// Appends words, or as much of them as fits; the rest is dropped.
+    /// Appends bytes, as many as fit; the rest is dropped.
     pub(crate) fn push(&mut self, words: &[u8]) {
         let room = (MOST_BYTES + 1).saturating_sub(self.lines.len());
         let kept = words.get(..room).unwrap_or(words);
@@ -75,8 +75,8 @@ impl<'a> Page<'a> {
         self.push(buffer.format(number).as_bytes());
     }
 
-    /// Writes `LINE:COLUMN`, both counted in the text that is explained, after the name of the file and a colon if there is a
-    /// name; or, before that text, which statement of the library stands there.
+    /// Writes `LINE:COLUMN`, counted in the part that is explained, after the name of the file and a colon if there is a name;
+    /// for an offset before that part, the number of the statement of the library that stands there.
     pub(crate) fn push_place(&mut self, text: &[u8], offset: usize) {
         let before = self.before;
         let within = offset.min(text.len());
@@ -98,7 +98,7 @@ impl<'a> Page<'a> {
     }
 }
 
-/// Returns the token at a place; nothing if the place is none.
+/// Returns the token at a place, empty if the place is not in the text.
 pub(crate) fn word(text: &[u8], span: Span) -> &[u8] {
     match text.get(span.start..span.end) {
         Some(word) => word,

@@ -1,6 +1,6 @@
 -- Extracts of a database.
 -- Source: this project's profile; Metamath, 4.2 (what makes a database good).
--- The code chooses statements, judges the choice, and gives the whole where the choice is not enough.
+-- The code chooses statements, judges the choice, and returns the whole if the choice is not enough.
 use Rattle.std.specs.Prelude.{ℕ, List}
 use Rattle.std.specs.List.{AllByRecursion}
 use Rattle.mm_lex.specs.Alphabet.{Name}

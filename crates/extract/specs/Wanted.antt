@@ -25,28 +25,28 @@ pub record NamesHypothesis (S : Database) (label : Name) : Type 0 where
   pub carries : Carries S position stmt label
   pub other : IsFalse (is_assertion stmt)
 
--- the fault of a label after others
+-- the fault of a label that stands after others
 abbrev pub IsWrong : Database → List Name → Name → ExtractFault → Type 0
 IsWrong S earlier label NoLabel = HasNoLabel S label
 IsWrong S earlier label NotAssertion = NamesHypothesis S label
 IsWrong S earlier label SameLabel = NamesAssertion S label × (has_name label earlier ≡ true)
 IsWrong S earlier label Memory = ⊥
 
--- nothing is wrong with it
+-- the label is not wrong
 abbrev pub IsRight : Database → List Name → Name → Type 0
 IsRight S earlier label = NamesAssertion S label × (has_name label earlier ≡ false)
 
--- the fault of it, if any
+-- the fault of the label, if it is wrong
 abbrev pub IsJudged : Database → List Name → Name → Option ExtractFault → Type 0
 IsJudged S earlier label None = IsRight S earlier label
 IsJudged S earlier label (Some fault) = IsWrong S earlier label fault
 
--- nothing is wrong with the labels, which stand after others
+-- no label of a list that stands after others is wrong
 abbrev pub AreRight : Database → List Name → List Name → Type 0
 AreRight S earlier [] = Unit {0}
 AreRight S earlier (label ∷ labels) = IsRight S earlier label × AreRight S (earlier ++ label ∷ []) labels
 
--- the first label with which something is wrong, and what
+-- the fault of the first wrong label of a list that stands after others
 abbrev pub IsFirstWrong : Database → List Name → List Name → ExtractFault → Type 0
 IsFirstWrong S earlier [] fault = ⊥
 IsFirstWrong S earlier (label ∷ labels) fault =

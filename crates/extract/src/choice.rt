@@ -12,13 +12,13 @@ use std::alloc::{AllocError, Global};
 struct Block {
     /// The position of its `${`.
     open: usize,
-    /// How many `$f`, `$e` and `$d` are active before it.
+    /// The number of `$f`, `$e` and `$d` that are active before it.
     active: usize,
     /// Whether an assertion in it is taken.
     used: bool,
 }
 
-/// The records of a symbol, by positions, 0 for none.
+/// The records of a symbol: positions, 0 for none.
 #[derive(Drop)]
 struct SymbolRecord {
     /// Its last declaration.
@@ -27,11 +27,11 @@ struct SymbolRecord {
     float: usize,
     /// An active `$e` that is taken and has it.
     given_by: usize,
-    /// The last assertion that is taken and has it as a variable, or whose proof has.
+    /// The last assertion that is taken and has it as a variable, in its expression or in its proof.
     variable_of: usize,
 }
 
-/// The records of a walk up the statements, which are taken where they are marked.
+/// The records of a walk from the first statement to the last. A statement that is marked is taken.
 #[derive(Drop)]
 struct Choice<'a> {
     alloc: Global,
@@ -43,9 +43,9 @@ struct Choice<'a> {
     records: Vec<SymbolRecord>,
     /// The positions of the active `$f`, `$e` and `$d`.
     active: Vec<usize>,
-    /// How many of these were passed by an assertion that is taken.
+    /// The number of these before the last assertion that is taken.
     passed: usize,
-    /// The variables of an assertion that no `$e` had that was taken before it.
+    /// The variables of an assertion that no `$e` taken before it has.
     own: Vec<usize>,
     /// The active `$d`.
     disjoint: DisjointLists,
@@ -55,11 +55,11 @@ struct Choice<'a> {
 }
 
 /// Returns for each statement whether it is taken: the assertions of the labels, all that their proofs name, the hypotheses of
-/// these, the `$d` that have two of their variables, the declarations of the symbols of all these, and the blocks that are not
-/// empty then.
+/// these, the `$d` that have two of their variables, the declarations of the symbols of all these, and the blocks in which an
+/// assertion is taken.
 ///
-/// Cost: the statements, each `$e` and `$d` once; for each assertion that is taken its own expression and proof, and of the active
-/// `$d` those that `DisjointLists::find` goes over; for each variable of a `$e` that is taken the active `$d` that have it.
+/// Cost: the statements, each `$e` and `$d` once; for each assertion that is taken its own expression and proof, and the
+/// active `$d` that `DisjointLists::find` goes over; for each variable of a `$e` that is taken the active `$d` that have it.
 pub(crate) fn choose(
     alloc: Global,
     library: &Library,
@@ -85,7 +85,7 @@ pub(crate) fn choose(
 }
 
 impl<'a> Choice<'a> {
-    /// Goes on to the statement at a position.
+    /// Advances past the statement at a position.
     fn visit(&mut self, at: usize, statement: &Stmt) -> Result<(), AllocError> {
         match statement {
             Stmt::Open => self.open(at)?,
@@ -112,7 +112,7 @@ impl<'a> Choice<'a> {
         Ok(())
     }
 
-    /// Closes the last block, and takes it where it is used.
+    /// Closes the last block, and takes it if it is used.
     fn close(&mut self, at: usize) {
         let Some(block) = self.blocks.pop() else {
             return;
@@ -130,7 +130,7 @@ impl<'a> Choice<'a> {
         }
     }
 
-    /// Takes back what was recorded of a statement that is no longer active.
+    /// Removes the records of a statement that is no longer active.
     fn end(&mut self, position: usize) {
         match statement_at(self.library.statements(), position) {
             Some(Stmt::Disj(names)) => {
@@ -155,7 +155,7 @@ impl<'a> Choice<'a> {
         }
     }
 
-    /// Takes back that the `$e` at a position has a symbol.
+    /// Removes the record that the `$e` at a position has a symbol.
     fn take_back(&mut self, position: usize, name: &[u8]) {
         let Some(code) = self.symbols.find(name) else {
             return;
@@ -223,7 +223,7 @@ impl<'a> Choice<'a> {
         Ok(())
     }
 
-    /// Takes what an assertion needs, where it is taken.
+    /// Takes the statements that an assertion needs, if it is taken.
     fn assertion(
         &mut self,
         at: usize,
@@ -247,7 +247,7 @@ impl<'a> Choice<'a> {
         Ok(())
     }
 
-    /// Takes the declarations of the symbols of an assertion, and the `$f` of its variables, which are recorded.
+    /// Takes the declarations of the symbols of an assertion and the `$f` of its variables, and records these variables.
     fn symbols_of(&mut self, at: usize, expr: &Words) -> Result<(), AllocError> {
         for name in expr.iter() {
             self.declaration(name);
@@ -283,7 +283,7 @@ impl<'a> Choice<'a> {
         Ok(())
     }
 
-    /// Takes the `$f` of a symbol of the `$e` at a position, if it is a variable, which is recorded.
+    /// Takes the `$f` of a symbol of the `$e` at a position and records the symbol, if it is a variable.
     fn give(&mut self, position: usize, name: &[u8]) -> Result<(), AllocError> {
         let Some(code) = self.symbols.find(name) else {
             return Ok(());
@@ -301,7 +301,7 @@ impl<'a> Choice<'a> {
         Ok(())
     }
 
-    /// Takes the `$f` at a position.
+    /// Takes the `$f` at a position, and the declarations of its symbols.
     fn float(&mut self, position: usize) {
         if let Some(
             Stmt::Float {
@@ -360,7 +360,7 @@ impl<'a> Choice<'a> {
         Ok(())
     }
 
-    /// Takes the `$d` that are to be taken.
+    /// Takes the `$d` of `due`.
     fn take_due(&mut self) {
         for index in 0..self.due.len() {
             if let Some(position) = self.due.get(index).copied() {

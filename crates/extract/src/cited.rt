@@ -1,12 +1,12 @@
-//! The statements that assertions rest on: those that their proofs name, and those that these name.
+//! The statements that assertions rest on: those that their proofs name, and those that the proofs of these name.
 use frame::Frames;
 use library::Library;
 use mm_lex::Words;
 use mm_read::Stmt;
 use std::alloc::{AllocError, Global};
 
-/// Returns for each statement whether it has one of the labels, or the proof of one that is marked names it. A proof names
-/// earlier statements, so the statements are walked down.
+/// Returns for each statement whether it is marked: if it has one of the labels, or the proof of a marked statement names it.
+/// A proof names earlier statements, so the walk goes from the last statement to the first.
 pub(crate) fn named(
     alloc: Global,
     library: &Library,
@@ -28,8 +28,7 @@ pub(crate) fn named(
     Ok(marks)
 }
 
-/// Marks the statements that the labels of a proof name: all tokens of a normal proof, those in the parentheses of a compressed
-/// one.
+/// Marks the statements that a proof names: by all tokens of a normal proof, by those in the parentheses of a compressed one.
 fn mark_named(frames: &Frames, proof: &Words, marks: &mut [bool]) {
     for token in proof.iter() {
         if token == b")".as_slice() {
@@ -39,7 +38,7 @@ fn mark_named(frames: &Frames, proof: &Words, marks: &mut [bool]) {
     }
 }
 
-/// Marks a position, counted from 1.
+/// Marks the statement at a position, counted from 1, if one stands there.
 pub(crate) fn mark(marks: &mut [bool], position: Option<usize>) {
     if let Some(position) = position {
         if position > 0 && position <= marks.len() {
@@ -48,7 +47,7 @@ pub(crate) fn mark(marks: &mut [bool], position: Option<usize>) {
     }
 }
 
-/// Returns whether the position is marked.
+/// Returns whether the statement at a position is marked.
 pub(crate) fn is_marked(marks: &[bool], position: usize) -> bool {
     position > 0 && position <= marks.len() && marks[position - 1]
 }

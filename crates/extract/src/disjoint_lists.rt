@@ -1,4 +1,4 @@
-//! The active `$d` of a walk, and which of them have two variables of an assertion.
+//! The active `$d` of a walk over the statements, and which of them have two variables of an assertion.
 use crate::cited::is_marked;
 use std::alloc::{AllocError, Global};
 
@@ -6,24 +6,24 @@ use std::alloc::{AllocError, Global};
 #[derive(Clone, Copy)]
 struct DisjointList {
     position: usize,
-    /// How many of its variables are given.
+    /// The number of its variables that are given.
     given: usize,
-    /// The last assertion of whose variables it was counted how many it has.
+    /// The last assertion whose variables were counted in it.
     counted_for: usize,
-    /// How many it has of these.
+    /// The number of variables that were counted for that assertion.
     count: usize,
 }
 
 /// The active `$d` of a symbol.
 #[derive(Drop)]
 struct ListsOfSymbol {
-    /// Their indexes, ascending, without some of those that are taken.
+    /// Their indexes, ascending, without some of the `$d` that are taken.
     indexes: Vec<usize>,
-    /// Whether it is given.
+    /// Whether the symbol is given.
     given: bool,
-    /// How many of the indexes were looked at, as an assertion's that is taken.
+    /// The number of indexes that were looked at for an assertion that is taken.
     compared: usize,
-    /// How often a variable had been given then.
+    /// The `time` of `DisjointLists` at which they were looked at.
     time: usize,
 }
 
@@ -33,9 +33,9 @@ pub(crate) struct DisjointLists {
     lists: Vec<DisjointList>,
     /// The lists of each symbol, by its number.
     symbols: Vec<ListsOfSymbol>,
-    /// How many of the lists were passed by an assertion that is taken.
+    /// The number of lists that the last assertion that is taken has looked at.
     passed: usize,
-    /// How often a variable was given.
+    /// The number of times that a variable was given.
     time: usize,
 }
 
@@ -61,7 +61,7 @@ impl DisjointLists {
         Ok(())
     }
 
-    /// Puts the `$d` at a position on top, without variables.
+    /// Pushes the `$d` at a position, without variables.
     pub(crate) fn push(&mut self, position: usize) -> Result<(), AllocError> {
         self.lists.push(DisjointList {
             position,
@@ -85,7 +85,7 @@ impl DisjointLists {
         Ok(())
     }
 
-    /// Takes a variable from the `$d` on top.
+    /// Removes a variable from the `$d` on top.
     pub(crate) fn remove(&mut self, code: usize) {
         let top = self.lists.len().saturating_sub(1);
         let Some(symbol) = self.symbols.get_mut(code) else {
@@ -97,13 +97,13 @@ impl DisjointLists {
         symbol.compared = symbol.compared.min(symbol.indexes.len());
     }
 
-    /// Takes the `$d` on top away, from which its variables were taken.
+    /// Removes the `$d` on top, whose variables were removed before.
     pub(crate) fn pop(&mut self) {
         let _list = self.lists.pop();
         self.passed = self.passed.min(self.lists.len());
     }
 
-    /// Gives a variable, and appends the positions of the `$d` that have it and another one that is given.
+    /// Makes a variable given, and appends the positions of the `$d` that have it and another given variable.
     ///
     /// Cost: the `$d` that have it.
     pub(crate) fn give(&mut self, code: usize, due: &mut Vec<usize>) -> Result<(), AllocError> {
@@ -120,7 +120,7 @@ impl DisjointLists {
         Ok(())
     }
 
-    /// Takes back that a variable is given.
+    /// Makes a variable no longer given.
     ///
     /// Cost: the `$d` that have it.
     pub(crate) fn take_back(&mut self, code: usize) {
@@ -137,10 +137,10 @@ impl DisjointLists {
     }
 
     /// Appends the positions of the `$d` that are not marked and have two variables of the assertion at a position: its own,
-    /// each once, and those that are given.
+    /// each listed once, and those that are given.
     ///
-    /// Cost: the `$d` that have an own variable, but of the variable that has most of them only those that were not looked at
-    /// since a variable was given; a logarithm for each.
+    /// Cost: the `$d` that have an own variable, times a logarithm; for the variable with the most `$d`, only those that were
+    /// not looked at since a variable was last given.
     pub(crate) fn find(
         &mut self,
         at: usize,
@@ -161,7 +161,7 @@ impl DisjointLists {
         Ok(())
     }
 
-    /// Returns that of the variables that has most `$d`, and is not given.
+    /// Returns the variable with the most `$d` among those that are not given, or `usize::MAX` if all are.
     fn most(&self, own: &[usize]) -> usize {
         let mut most = usize::MAX;
         for code in own {
@@ -172,8 +172,8 @@ impl DisjointLists {
         most
     }
 
-    /// Counts a variable of the assertion at a position in the `$d` that have it. The variable `most` is counted in each `$d` that
-    /// is met.
+    /// Counts a variable of the assertion at a position in the `$d` that have it. In each `$d` that is met the variable `most`
+    /// is counted too, if the `$d` has it.
     fn count_for(
         &mut self,
         at: usize,
@@ -195,8 +195,8 @@ impl DisjointLists {
         Ok(())
     }
 
-    /// Counts in a `$d` one more variable of the assertion at a position, and at first those that are given and one more if it has
-    /// the variable with most `$d`; appends its position if it has two.
+    /// Counts one more variable of the assertion at a position in a `$d`, if `counts`; appends the position of the `$d` if it
+    /// has two. The first call for an assertion begins with those that are given, and one more if `more`.
     fn meet(
         &mut self,
         at: usize,
@@ -219,7 +219,7 @@ impl DisjointLists {
         Ok(())
     }
 
-    /// Removes from the `$d` of a symbol those that are marked, from a place on, and records that all were looked at.
+    /// Removes the marked `$d` from those of a symbol, from a place on, and records that all were looked at.
     fn forget_taken(&mut self, code: usize, from: usize, marks: &[bool]) {
         let mut kept = from;
         for place in from..self.count(code) {
@@ -269,7 +269,7 @@ impl DisjointLists {
         }
     }
 
-    /// Returns how many `$d` of a symbol are recorded.
+    /// Returns the number of `$d` that are recorded for a symbol.
     fn count(&self, code: usize) -> usize {
         match self.symbols.get(code) {
             Some(symbol) => symbol.indexes.len(),
@@ -277,7 +277,7 @@ impl DisjointLists {
         }
     }
 
-    /// Returns how many of these were looked at since the last variable was given.
+    /// Returns the number of these that were looked at since the last variable was given.
     fn compared(&self, code: usize) -> usize {
         match self.symbols.get(code) {
             Some(symbol) if symbol.time == self.time => symbol.compared,

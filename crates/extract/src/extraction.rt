@@ -13,12 +13,12 @@ use library::{Entry, Library, Submission};
 use mm_read::push_line;
 use std::alloc::{AllocError, Global};
 
-/// Returns statements of the library with the assertions of these labels, in the export form: those with all that their proofs
-/// use, and little else.
+/// Returns good statements of the library, in the export form: the assertions of these labels with all that their proofs use,
+/// and little else.
 ///
-/// Errors: what is wrong with the first label that is no assertion's or that stands before, even if every allocation fails;
-/// `Memory` in place of an answer alone. Cost: that of the proofs taken, and a pass over the rules of all statements.
-/// Source: Metamath, 4.2.
+/// Errors: `NoLabel`, `NotAssertion` or `SameLabel` for the first wrong label, even if every allocation fails; else `Memory`.
+/// Cost: that of judging the proofs taken, a pass over the rules of all statements, and a comparison of each label with each
+/// assertion and each earlier label. Source: Metamath, 4.2.
 pub fn extract(alloc: Global, library: &Library, labels: &[&str]) -> Result<Vec<u8>, ExtractFault>
     ensures extract { IfOk result (λ text. IsExtract library.now.replica.statements (map (λ label. label.now) labels.now) text.items) }
     ensures wrong { (fault : Fault) → IsFirstWrong library.now.replica.statements [] (map (λ label. label.now) labels.now) fault → result ≡ Err fault }
@@ -30,7 +30,7 @@ pub fn extract(alloc: Global, library: &Library, labels: &[&str]) -> Result<Vec<
     }
 }
 
-/// Returns the text of the chosen statements if they are enough, and else of all.
+/// Returns the text of the chosen statements if they are an extract, else that of all statements.
 fn taken(alloc: Global, library: &Library, labels: &[&str]) -> Result<Vec<u8>, AllocError>
     requires { AreRight library.now.replica.statements [] (map (λ label. label.now) labels.now) }
     ensures { IfOk result (λ text. IsExtract library.now.replica.statements (map (λ label. label.now) labels.now) text.items) }
@@ -39,7 +39,7 @@ fn taken(alloc: Global, library: &Library, labels: &[&str]) -> Result<Vec<u8>, A
     taken_by(alloc, library, labels, &mut part)
 }
 
-/// Returns that text, by an empty library for the chosen statements, which stays empty if they are not good.
+/// Returns that text, given an empty library: it takes the chosen statements, and stays empty if they are not good.
 fn taken_by(
     alloc: Global,
     library: &Library,
@@ -69,7 +69,7 @@ fn chosen(alloc: Global, library: &Library, labels: &[&str]) -> Result<Vec<u8>, 
     Ok(text)
 }
 
-/// Adds the statements of a text, if they are good.
+/// Adds the statements of a text to a library, if they are good there.
 fn add_text(text: Vec<u8>, part: &mut Library) -> Result<(), AllocError> {
     let text = Bytes::from_vec(text).map_err(AllocError::from)?;
     let entry = Entry::Text(Submission {

@@ -1,14 +1,14 @@
-//! Why assertions are not taken out of a library.
+//! Why assertions are not extracted from a library.
 use std::alloc::AllocError;
 
-/// Why assertions are not taken out of a library.
+/// Why assertions are not extracted from a library.
 #[derive(Clone, Copy, Debug, Drop, PartialEq, Eq)]
 pub enum ExtractFault {
     /// No statement has the label.
     NoLabel,
-    /// The statement that has it is a hypothesis.
+    /// The statement with the label is a hypothesis.
     NotAssertion,
-    /// The label stands before in the list.
+    /// The label stands earlier in the list.
     SameLabel,
     /// An allocation failed.
     Memory,

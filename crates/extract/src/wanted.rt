@@ -11,7 +11,8 @@ use database_parts::is_among;
 use frame::{Frames, is_assertion};
 use mm_read::Stmt;
 
-/// Returns the fault of the first label that is no assertion's, or that stands before; `None` if there is none. Does not allocate.
+/// Returns the fault of the first label that no assertion has or that stands earlier in the list; `None` if no label is
+/// wrong. Does not allocate.
 pub(crate) fn first_wrong(
     frames: &Frames,
     statements: &[Stmt],
@@ -33,7 +34,7 @@ pub(crate) fn first_wrong(
     None
 }
 
-/// Returns the fault of a label after others, or `None`.
+/// Returns the fault of a label that stands after others, if it is wrong.
 fn wrong(
     frames: &Frames,
     statements: &[Stmt],

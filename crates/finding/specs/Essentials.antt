@@ -11,12 +11,12 @@ use Rattle.finding.specs.declared.sought.Sought.{Sought}
 use Rattle.finding.specs.declared.sought.Sought.TheVariants.{WithHypotheses}
 use Rattle.finding.specs.Found.{HasIn, essential_at}
 
--- the list has positions of `$e` with the pattern among the first n statements: all that are active after these
+-- the list has positions of `$e` with the pattern among the first n statements, and all of those that are active after them
 pub record AreKept (p : List Part) (S : Database) (n : ℕ) (list : List ℕ) : Type 0 where
   pub each : (k : ℕ) → k < length list → (get_or list k 0 ≤ n) × HasIn p (essential_at S (get_or list k 0))
   pub all : (i : ℕ) → i ≤ n → HasIn p (essential_at S i) → is_active (bares S) i (n + 1) ≡ true → (k : ℕ) × (k < length list) × (get_or list k 0 ≡ i)
 
--- that is so if a pattern in hypotheses is sought
+-- the list is such if a pattern is sought in hypotheses, and any list otherwise
 abbrev pub AreNoted : Sought → Database → ℕ → List ℕ → Type 0
 AreNoted (WithHypotheses p) S n list = AreKept p S n list
 AreNoted sought S n list = Unit {0}
@@ -25,7 +25,7 @@ AreNoted sought S n list = Unit {0}
 abbrev pub IsSomeHypothesis : Database → ℕ → ℕ → Type 0
 IsSomeHypothesis F at i = (s : Stmt) × IsHypothesis F at i s
 
--- so many of the list are left if the last ones go that are no hypotheses active at `at`
+-- the count that is left of a list after removing from its end what is no hypothesis active at `at`
 pub record IsLeft (F : Database) (at : ℕ) (list : List ℕ) (left : ℕ) : Type 0 where
   pub within : left ≤ length list
   pub gone : (k : ℕ) → left ≤ k → k < length list → IsSomeHypothesis F at (get_or list k 0) → ⊥

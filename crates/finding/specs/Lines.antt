@@ -7,7 +7,7 @@ use Rattle.mm_read.specs.declared.stmt.Stmt.{Stmt}
 use Rattle.mm_read.specs.declared.stmt.Stmt.TheVariants.{Axiom, Prove}
 use Rattle.mm_read.specs.Statements.{Database}
 
--- the label of an assertion and its expression
+-- the label and the expression of an assertion; nothing for another statement
 abbrev pub found_line : Stmt → List ℕ
 found_line (Axiom label expr) = label ++ codes " " ++ spaced expr ++ codes "\n"
 found_line (Prove label expr proof) = label ++ codes " " ++ spaced expr ++ codes "\n"
@@ -20,7 +20,7 @@ line_if is s = if is then found_line s else []
 abbrev pub IsLineIf : Type 0 → Stmt → List ℕ → Type 0
 IsLineIf counts s line = (counts × (line ≡ found_line s)) ⊎ ((counts → ⊥) × (line ≡ []))
 
--- the lines of exactly those of the statements that count, in order; the first of them stands at an index
+-- the lines of exactly the statements that count, in order; the first statement has this index
 abbrev pub AreFoundLines : (ℕ → Stmt → Type 0) → ℕ → Database → List ℕ → Type 0
 AreFoundLines counts index [] lines = lines ≡ []
 AreFoundLines counts index (s ∷ S) lines =

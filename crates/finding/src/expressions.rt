@@ -7,9 +7,9 @@ use mm_read::Stmt;
 use patterns::Pattern;
 use std::alloc::{AllocError, Global};
 
-/// Tells whether there is an expression, and has the pattern.
+/// Returns whether there is an expression and it has the pattern.
 ///
-/// Cost: at most the size of the expression times that of the pattern.
+/// Errors: an allocation fails. Cost: at most the size of the expression times that of the pattern.
 pub(crate) fn has_in(
     alloc: Global,
     pattern: &Pattern<'_>,
@@ -36,7 +36,7 @@ fn symbols_of(alloc: Global, expr: &Words) -> Result<Vec<&[u8]>, AllocError>
     Ok(symbols)
 }
 
-/// Returns the expression of an assertion.
+/// Returns the expression of a statement, if it is an assertion.
 pub(crate) fn assertion_expr(statement: &Stmt) -> Option<&Words>
     ensures { option_map (λ e. e.now) result ≡ assertion_expr statement.now }
 {
@@ -46,7 +46,7 @@ pub(crate) fn assertion_expr(statement: &Stmt) -> Option<&Words>
     }
 }
 
-/// Returns the expression of an `$e`.
+/// Returns the expression of a statement, if it is an `$e`.
 pub(crate) fn essential_expr(statement: &Stmt) -> Option<&Words>
     ensures { option_map (λ e. e.now) result ≡ essential_expr statement.now }
 {

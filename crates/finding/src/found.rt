@@ -43,7 +43,7 @@ pub fn found_lines(
 }
 
 /// Appends the position of a statement to those of the `$e` that have what is sought, if hypotheses
-/// are looked at and it is one.
+/// are searched and the statement is such an `$e`.
 fn note(
     alloc: Global,
     sought: &Sought<'_>,
@@ -64,7 +64,7 @@ fn note(
     }
 }
 
-/// Tells whether the statement at an index is an assertion that has what is sought.
+/// Returns whether the statement at an index is an assertion that has what is sought.
 fn counts(
     alloc: Global,
     searched: &Searched<'_>,
@@ -87,7 +87,7 @@ fn counts(
     has(alloc, searched, sought, essentials, index, statement)
 }
 
-/// Tells whether the assertion at an index has what is sought.
+/// Returns whether the assertion at an index has what is sought.
 fn has(
     alloc: Global,
     searched: &Searched<'_>,
@@ -122,7 +122,7 @@ fn has(
     }
 }
 
-/// Returns the description of the statement at an index; nothing if there is none.
+/// Returns the description of the statement at an index, empty if it has none.
 fn description_at<'a>(text: &'a [u8], descriptions: &[Option<Span>], index: usize) -> &'a [u8]
     ensures { result.now ≡ description_at text.now descriptions.now index }
 {
@@ -135,7 +135,7 @@ fn description_at<'a>(text: &'a [u8], descriptions: &[Option<Span>], index: usiz
     }
 }
 
-/// Returns the bytes of a span, those that are in the text.
+/// Returns the bytes of a span, as far as it lies in the text.
 fn contents(text: &[u8], span: Span) -> &[u8]
     ensures { result.now ≡ word text.now span }
 {

@@ -10,7 +10,8 @@ use mm_read::Stmt;
 use patterns::Pattern;
 use std::alloc::{AllocError, Global};
 
-/// Appends the position of a statement to those of the `$e` that have the pattern, if it is one.
+/// Appends the position of a statement to those of the `$e` that have the pattern, if it is such an
+/// `$e`.
 ///
 /// Errors: an allocation fails. Cost: that of `has_in`.
 pub(crate) fn note_essential(
@@ -28,7 +29,7 @@ pub(crate) fn note_essential(
     push_if(essentials, has, at)
 }
 
-/// Appends a position, if it is asked for.
+/// Appends a position if `is` is true.
 fn push_if(positions: &mut Vec<usize>, is: bool, at: usize) -> Result<(), AllocError>
     ensures pushed { IsTrue is → OnOk result (positions.new.items ≡ positions.old.items ++ at ∷ []) }
     ensures same { IsFalse is → OnOk result (positions.new.items ≡ positions.old.items) }
@@ -39,10 +40,10 @@ fn push_if(positions: &mut Vec<usize>, is: bool, at: usize) -> Result<(), AllocE
     Ok(())
 }
 
-/// Drops the last positions that are not those of hypotheses active at a position. Tells whether
-/// one is left.
+/// Removes positions from the end until the last one is that of a hypothesis active at `at`. Returns
+/// whether one is left.
 ///
-/// Cost: a constant, and how many are dropped.
+/// Cost: the positions removed, and a constant.
 pub(crate) fn has_active(frames: &Frames, at: usize, positions: &mut Vec<usize>) -> bool
     requires place { (1 ≤ at) × (at ≤ length frames.now.statements) }
     ensures left { IsLeft frames.now.statements at positions.old.items
@@ -56,8 +57,8 @@ pub(crate) fn has_active(frames: &Frames, at: usize, positions: &mut Vec<usize>)
     left > 0
 }
 
-/// Returns how many positions are left if the last ones go that are not those of hypotheses active
-/// at a position.
+/// Returns how many positions are left after removing from the end those that are not of hypotheses
+/// active at `at`.
 fn count_left(frames: &Frames, at: usize, positions: &[usize]) -> usize
     requires place { (1 ≤ at) × (at ≤ length frames.now.statements) }
     ensures { IsLeft frames.now.statements at positions.now result }
@@ -72,7 +73,7 @@ fn count_left(frames: &Frames, at: usize, positions: &[usize]) -> usize
     0
 }
 
-/// Tells whether the statement at `position` is a hypothesis that is active at `at`.
+/// Returns whether the statement at `position` is a hypothesis that is active at `at`.
 fn is_active(frames: &Frames, at: usize, position: usize) -> bool
     requires place { (1 ≤ at) × (at ≤ length frames.now.statements) }
     ensures { IsTrue result ↔ IsSomeHypothesis frames.now.statements at position }

@@ -1,6 +1,6 @@
 //! The assertions that a search finds, as lines.
 //!
-//! The crate above uses `found_lines`: exactly the assertions that have what is sought, in order.
+//! The crate above calls `found_lines`, which returns exactly the assertions that have what is sought, in order.
 //!
 //! Reading order: `sought` (what is sought, and where), `expressions` (a pattern in an expression),
 //! `hypotheses` (in an `$e` of an assertion), `found` (the lines).

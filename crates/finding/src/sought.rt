@@ -4,7 +4,7 @@ use mm_lex::Span;
 use mm_read::Stmt;
 use patterns::{Pattern, SearchWords};
 
-/// A pattern or words that assertions are searched for.
+/// A pattern or words, and the part of an assertion in which they are sought.
 #[derive(Drop)]
 pub enum Sought<'a> {
     /// A pattern in the expression.

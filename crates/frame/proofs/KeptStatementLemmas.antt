@@ -90,7 +90,7 @@ module _ (es : List Entry) (names labels : List Name) (m a : ℕ) (e : Entry) (d
   -- ---- groups
 
   -- a number is that of a `$f` just where its name is mandatory
-  mandatory-is : (c : ℕ) → c < length names → is_typed places c ≡ is_mandatory front_of own (name_at names c)
+  pub mandatory-is : (c : ℕ) → c < length names → is_typed places c ≡ is_mandatory front_of own (name_at names c)
   mandatory-is c low =
       ap (list_any (is_typed_by c)) kept.required_kept ∙ (sym (list_any-map (required_at es) (is_typed_by c) d.hypotheses)
       ∙ both_ways (list_any (λ p. is_typed_by c (required_at es p)) d.hypotheses) (is_mandatory front_of own (name_at names c)) there back)

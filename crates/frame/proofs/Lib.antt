@@ -44,5 +44,7 @@ pub mod LabelLemmas
 pub mod PositionLemmas
 pub mod LongExpressionLemmas
 pub mod PairSearchLemmas
+pub mod PairFactLemmas
+pub mod CitingListLemmas
 pub mod ShrunkStorage
 mod Rows

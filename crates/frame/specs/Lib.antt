@@ -10,6 +10,7 @@ pub mod AssertionView
 pub mod ExprPlaces
 pub mod Bound
 pub mod AtPosition
+pub mod PairFacts
 pub mod LastActive
 pub mod Laws
 pub mod Stored

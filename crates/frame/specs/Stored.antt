@@ -12,5 +12,6 @@ pub mod Stacks
 pub mod LongExpressions
 pub mod Whole
 pub mod PairSearch
+pub mod PairLists
 pub mod GivenSets
 pub mod Merged

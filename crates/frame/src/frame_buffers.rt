@@ -1,10 +1,11 @@
 //! Buffers for the parts of an assertion.
-ghost use Rattle.std.specs.Prelude.{◌≡◌, length, false};
+ghost use Rattle.std.specs.Prelude.{◌≡◌, ◌++◌, ◌∷◌, [], length, false, OnOk};
 ghost use Rattle.{entries.specs.Entries.AreShapedParts, entries.specs.Entries.assertion_of, entries.specs.Entries.partless};
 
+use entries::buffer_part::between;
 use entries::{AssertionParts, BufferPart};
 use scope::Stack;
-use std::alloc::Global;
+use std::alloc::{AllocError, Global};
 use std::marker::Model;
 
 /// The mandatory hypotheses and groups of an assertion, in buffers that serve one after another.
@@ -79,6 +80,21 @@ impl FrameBuffers {
         hypotheses
             .saturating_add(groups)
             .saturating_add(self.places.len())
+    }
+
+    /// Appends a group of two variables.
+    pub(crate) fn add_pair(&mut self, x: u32, y: u32) -> Result<(), AllocError>
+        ensures groups { OnOk result (self.new.groups ≡ self.old.groups ++ (x ∷ y ∷ []) ∷ []) }
+        ensures hypotheses { self.new.hypotheses ≡ self.old.hypotheses }
+        ensures required { self.new.required ≡ self.old.required }
+        ensures typecodes { self.new.typecodes ≡ self.old.typecodes }
+    {
+        let from = self.places.len();
+        self.places.push(x)?;
+        self.places.push(y)?;
+        let span = between(from, self.places.len())?;
+        self.groups.push(span)?;
+        Ok(())
     }
 
     /// Empties the buffers, which keep their room.

@@ -1,13 +1,15 @@
 //! The statements of a database by position.
 ghost use Rattle.std.specs.Prelude.{◌≡◌, ◌≤◌, [], IfOk, length, Some, option_map, OnOk, IfSome};
-ghost use Rattle.{mm_read.specs.declared.stmt.Stmt.Stmt as Statement, names.specs.Codes.name_at, names.specs.Codes.decode, scope.specs.Active.before, scope.specs.Active.stmt_at, scope.specs.Active.label_of, scope.specs.Active.expr_of, frame.specs.AtPosition.IsPosition, frame.specs.AtPosition.ArePositions, frame.specs.AtPosition.AreLegal, frame.specs.AtPosition.IsMeaning, frame.specs.FrameOf.HasAssertion, frame.specs.FrameOf.hypotheses, frame.specs.AssertionView.AreBuffersOf, frame.specs.AssertionView.IsViewOf, frame.specs.ExprPlaces.AreExprPlaces, frame.specs.Below.AreBelow};
+ghost use Rattle.{mm_read.specs.declared.stmt.Stmt.Stmt as Statement, names.specs.Codes.name_at, names.specs.Codes.decode, scope.specs.Active.before, scope.specs.Active.stmt_at, scope.specs.Active.label_of, scope.specs.Active.expr_of, frame.specs.AtPosition.IsPosition, frame.specs.AtPosition.ArePositions, frame.specs.AtPosition.AreLegal, frame.specs.AtPosition.IsMeaning, frame.specs.FrameOf.HasAssertion, frame.specs.FrameOf.hypotheses, frame.specs.AssertionView.AreBuffersOf, frame.specs.AssertionView.AreCitingLists, frame.specs.AssertionView.IsCited, frame.specs.AssertionView.IsViewOf, frame.specs.PairFacts.AreFacts, frame.specs.ExprPlaces.AreExprPlaces, frame.specs.Below.AreBelow};
 
 use crate::at_position::{is_active_at, last_active_at};
+use crate::citing_lists::fill_for_citation;
 use crate::frame_buffers::FrameBuffers;
 use crate::given_sets::GivenSets;
 use crate::make::fill_from_hypotheses;
 use crate::mandatory_view::{MandatoryView, missing};
 use crate::meaning::Meaning;
+use crate::pair_facts::PairFacts;
 use crate::pairs::Pairs;
 use crate::shape::has_label;
 use crate::storage::Storage;
@@ -208,6 +210,42 @@ impl Frames {
             hypotheses: Hypotheses::new(&frame_buffers.required),
             conclusion: self.expr(a),
             groups: Groups::new(&frame_buffers.groups, &frame_buffers.places),
+        }
+    }
+
+    /// Makes lists by which the assertion at a position can be cited. Its disjoint variables are asked for pair by pair where
+    /// that costs less than going through the active `$d`.
+    ///
+    /// Errors: an allocation fails. Cost: the size of its hypotheses, which are sorted; and the symbols of the active `$d`,
+    /// or for each two of its variables those `$d` that earlier calls with the same facts have not passed and some 64 more,
+    /// whichever are fewer, times a constant.
+    pub fn fill_lists(
+        &self,
+        a: usize,
+        facts: &mut PairFacts,
+        buffers: &mut FrameBuffers,
+    ) -> Result<(), AllocError>
+        requires assertion { (s : Statement) × HasAssertion self.now.statements a s }
+        requires facts { AreFacts self.now facts.old }
+        ensures facts { AreFacts self.now facts.new }
+        ensures lists { OnOk result (AreCitingLists self.now.statements self.now.names a buffers.new) }
+    {
+        buffers.clear();
+        self.mandatory(a, &mut buffers.hypotheses)?;
+        fill_for_citation(self.alloc, &self.storage, a, facts, buffers)
+    }
+
+    /// Returns the parts by which the assertion at a position can be cited, by the lists that `fill_lists` made of it.
+    pub fn cited_by<'a>(&'a self, a: usize, buffers: &'a FrameBuffers) -> AssertionView<'a>
+        requires assertion { (s : Statement) × HasAssertion self.now.statements a s }
+        requires lists { AreCitingLists self.now.statements self.now.names a buffers.now }
+        ensures { (s : Statement) → stmt_at self.now.statements a ≡ Some s → IsCited self.now.statements self.now.names a s result }
+    {
+        AssertionView {
+            typecodes: &buffers.typecodes,
+            hypotheses: Hypotheses::new(&buffers.required),
+            conclusion: self.expr(a),
+            groups: Groups::new(&buffers.groups, &buffers.places),
         }
     }
 

@@ -3,13 +3,14 @@
 //! `Frames` keeps the statements of a database by position, and reads off them what a verifier needs: what a citation means at a
 //! statement, the parts of an assertion, and the disjoint variables. `frame` collects the `Frame` of one assertion from
 //! what is active. Reading order: `storage`, `shape`, `frame_buffers`; `symbol_numbers`, `at_position`, `stacks`, `declare`, `mandatory`,
-//! `make`, `extend` (appending and truncating); `meaning`, `frames`, `row`, `pair_memo`, `pairs`, `active_disjoint` (queries); `assertion`,
+//! `make`, `extend` (appending and truncating); `meaning`, `frames`, `row`, `pair_memo`, `pair_facts`, `pairs`, `active_disjoint`, `citing_lists` (queries); `assertion`,
 //! `one_frame`; `laws`.
 #![tactic(auto)]
 
 mod active_disjoint;
 mod assertion;
 mod at_position;
+mod citing_lists;
 mod declare;
 mod extend;
 mod frame_buffers;
@@ -21,6 +22,7 @@ mod mandatory;
 mod mandatory_view;
 mod meaning;
 mod one_frame;
+mod pair_facts;
 mod pair_memo;
 mod pairs;
 mod row;
@@ -37,6 +39,7 @@ pub use laws::groups_are_pairs;
 pub use mandatory_view::MandatoryView;
 pub use meaning::Meaning;
 pub use one_frame::frame;
+pub use pair_facts::{PairFact, PairFacts};
 pub use pair_memo::PairMemo;
 pub use pairs::Pairs;
 pub use row::Row;

@@ -26,7 +26,7 @@ fn typecode(codes: &[u32]) -> u32
 }
 
 /// Returns what the hypothesis at a position is.
-fn hypothesis(entry: EntryRef<'_>, position: u32) -> Hypothesis
+pub fn hypothesis(entry: EntryRef<'_>, position: u32) -> Hypothesis
     requires { HasTwo entry.kind entry.symbols.now }
     ensures { result ≡ required_by position entry.entry.kind entry.entry.symbols.now }
 {
@@ -37,7 +37,7 @@ fn hypothesis(entry: EntryRef<'_>, position: u32) -> Hypothesis
 }
 
 /// Appends the hypotheses, each as one number, and their typecodes.
-fn describe(
+pub fn describe(
     storage: &Storage,
     hypotheses: &[u32],
     required: &mut Vec<u32>,

@@ -7,7 +7,7 @@ use Rattle.std.specs.Prelude.{◌≡◌, ℕ, ◌==◌, Bool, true, false, ◌||
 abbrev pub is_markup : ℕ → Bool
 is_markup b = b == 38 || (b == 60 || (b == 62 || b == 34))
 
--- the character reference that stands for one of them
+-- the character reference of one of these four
 abbrev pub reference : ℕ → List ℕ
 reference b = if b == 38 then codes "&amp;" else if b == 60 then codes "&lt;" else if b == 62 then codes "&gt;" else codes "&quot;"
 
@@ -17,13 +17,13 @@ html_byte b = if is_markup b then reference b else b ∷ []
 abbrev pub html_text : List ℕ → List ℕ
 html_text text = flat_map html_byte text
 
--- the escaped text reads as the text: bytes that are none of the four as themselves, references as what they stand for
+-- the escaped text reads as the text: each reference as its byte, each byte that is none of the four as itself
 pub data ReadsAs : List ℕ → List ℕ → Type 0 where
   reads_none : ReadsAs [] []
   reads_plain : (b : ℕ) (written text : List ℕ) → is_markup b ≡ false → ReadsAs written text → ReadsAs (b ∷ written) (b ∷ text)
   reads_reference : (b : ℕ) (written text : List ℕ) → is_markup b ≡ true → ReadsAs written text → ReadsAs (reference b ++ written) (b ∷ text)
 
--- `"` and `\` after a `\`
+-- a `\` before `"` and `\`
 abbrev pub quoted_byte : ℕ → List ℕ
 quoted_byte b = if b == 34 || b == 92 then 92 ∷ b ∷ [] else b ∷ []
 

@@ -1,10 +1,13 @@
-//! Bytes of a database inside a page, and inside quotes of a picture.
+//! Bytes of a database inside a page, and inside the quotes of a picture.
 ghost use Rattle.std.specs.Prelude.{◌≡◌, ◌++◌, OnOk};
 ghost use Rattle.markup.specs.Escapes.{html_byte, html_text, ReadsAs, quoted_byte, quoted_text};
 
 use std::alloc::AllocError;
 
-/// Appends the bytes as text of a page: none of them can be read as markup.
+/// Appends the bytes as text of a page, so that none of them is read as markup: `&`, `<`, `>` and `"` become character
+/// references.
+///
+/// Errors: an allocation fails. Cost: the bytes.
 pub fn push_html(page: &mut Vec<u8>, bytes: &[u8]) -> Result<(), AllocError>
     ensures written { OnOk result (page.new.items ≡ page.old.items ++ html_text bytes.now) }
     ensures reads { ReadsAs (html_text bytes.now) bytes.now }
@@ -31,7 +34,9 @@ fn push_html_byte(page: &mut Vec<u8>, byte: u8) -> Result<(), AllocError>
     }
 }
 
-/// Appends the bytes as text between quotes.
+/// Appends the bytes as text between quotes of the DOT language: with a `\` before each `"` and `\`.
+///
+/// Errors: an allocation fails. Cost: the bytes.
 pub fn push_quoted(picture: &mut Vec<u8>, bytes: &[u8]) -> Result<(), AllocError>
     ensures { OnOk result (picture.new.items ≡ picture.old.items ++ quoted_text bytes.now) }
 {

@@ -1,4 +1,4 @@
-//! Text of a database among the markup of a page, and between the quotes of a picture.
+//! Escapes text of a database for an HTML page, and for the quotes of a picture in the DOT language.
 //!
 //! Reading order: `escapes`.
 #![tactic(auto)]

@@ -31,13 +31,13 @@ abbrev pub starts_white : List ℕ → Bool
 starts_white [] = true
 starts_white (b ∷ bytes) = is_white b
 
--- a visible byte at `at` before these spans: it lengthens the first where the next byte is visible too
+-- a visible byte at `at` before these spans: it is a span of its own if the next byte is white, else it lengthens the first
 abbrev pub with_byte : ℕ → Bool → List Span → List Span
 with_byte at true spans = record { start = at; end = at + 1 } ∷ spans
 with_byte at false [] = record { start = at; end = at + 1 } ∷ []
 with_byte at false (s ∷ spans) = record { start = at; end = s.end } ∷ spans
 
--- the maximal runs of bytes that are not white, the first byte standing at `at`
+-- the maximal runs of bytes that are not white, if the first byte is at `at`
 abbrev pub runs_from : ℕ → List ℕ → List Span
 runs_from at [] = []
 runs_from at (b ∷ bytes) =

@@ -1,4 +1,4 @@
--- The words between two places of a text, and after a place: tokens, comments taken out.
+-- The words between two places of a text, and after a place: the tokens outside comments.
 -- Source: Metamath, 4.1.1 and 4.1.2.
 -- The code goes on from place to place; here the runs between two places, or after one, are cut at the comments.
 use Rattle.std.specs.Prelude.{◌≡◌, ℕ, ◌<◌, ◌≤◌, List, [], ◌∷◌, ◌++◌, length, Option, Some, None}
@@ -24,7 +24,7 @@ pub record HasBetween (text : List ℕ) (from at : ℕ) (ws : List Name) : Type 
 abbrev pub AreBehind : List ℕ → ℕ → List Name → Type 0
 AreBehind text at ws = (tokens : List Span) × Cuts text (runs_behind text at) tokens × (words text tokens ≡ ws)
 
--- so many tokens stand after a place
+-- `count` tokens stand after a place
 abbrev pub CountBehind : List ℕ → ℕ → ℕ → Type 0
 CountBehind text at count = (ws : List Name) × AreBehind text at ws × (length ws ≡ count)
 

@@ -1,6 +1,6 @@
 -- Where the comment ends that is open at a place of the text.
 -- Source: Metamath, 4.1.2 (a comment runs to the next `$)`; comments do not nest).
--- The code goes from one run to the next; here the runs after the place are cut in one.
+-- The code goes from one run to the next; here the list of runs after the place is cut once.
 use Rattle.std.specs.Prelude.{◌≡◌, ℕ, ◌<◌, ◌≤◌, List, ◌∷◌, ◌++◌, length, drop}
 use Rattle.mm_lex.specs.declared.span.Span.{Span}
 use Rattle.mm_lex.specs.declared.comment.CommentEnd.{CommentEnd}

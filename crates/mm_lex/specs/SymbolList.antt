@@ -8,14 +8,14 @@ use Rattle.mm_lex.specs.Alphabet.{Name, is_symbol, word}
 use Rattle.mm_lex.specs.Tokens.{IsWordAt}
 use Rattle.mm_lex.specs.Between.{HasBetween, AreBehind}
 
--- symbols more, that stand between two places
+-- more symbols, which stand between two places
 pub record AddsSymbols (text : List ℕ) (from at : ℕ) (old new : List Name) : Type 0 where
   pub more : List Name
   pub whole : new ≡ old ++ more
   pub between : HasBetween text from at more
   pub symbols : IsTrue (list_all is_symbol more)
 
--- after these symbols stands a token that is none
+-- after these symbols stands a token that is no symbol
 pub record EndsSymbols (text : List ℕ) (from : ℕ) (ws : List Name) (s : Span) : Type 0 where
   pub token : IsWordAt text s
   pub later : from < s.end

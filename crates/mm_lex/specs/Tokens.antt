@@ -41,7 +41,7 @@ abbrev pub AreParts : List ℕ → List Part → Type 0
 AreParts text [] = Unit {0}
 AreParts text (p ∷ ps) = IsPart text p × AreParts text ps
 
--- these runs of the text are plain words and whole comments, and the plain words outside are the tokens
+-- these runs of the text are plain words and whole comments; the plain words outside the comments are the tokens
 pub record Cuts (text : List ℕ) (spans tokens : List Span) : Type 0 where
   pub first : List Span
   pub parts : List Part

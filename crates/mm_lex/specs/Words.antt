@@ -1,4 +1,4 @@
--- A list of words kept in one buffer, with one space between two.
+-- A list of words in one buffer, with one space between two.
 -- Source: a word is a token (Metamath, 4.1.1); the single spaces are this project's export form.
 -- The code keeps the buffer; contracts see the list of its words.
 use Rattle.std.specs.Prelude.{ℕ, Bool, false, ◌==◌, IsTrue, List, [], ◌∷◌}

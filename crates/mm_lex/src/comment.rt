@@ -12,9 +12,9 @@ use memchr::memchr;
 pub(crate) enum CommentEnd {
     /// At a `$)`: the offset of the byte after it.
     Closed(usize),
-    /// It meets another `$(` first: the offset of that.
+    /// At no `$)` before another `$(`: the offset of that.
     Nested(usize),
-    /// It never ends.
+    /// Neither follows.
     Unclosed,
 }
 
@@ -39,7 +39,7 @@ pub(crate) fn comment_end(text: &[u8], from: usize) -> CommentEnd
     CommentEnd::Unclosed
 }
 
-/// Returns where the run stands that has the next `$`, or the end of the text.
+/// Returns the offset from which to look for the run with the next `$`, or the end of the text if there is no `$`.
 fn plain_end(text: &[u8], at: usize) -> usize
     requires { at ≤ length text.now }
     ensures { PassesPlain text.now at result }
@@ -50,7 +50,7 @@ fn plain_end(text: &[u8], at: usize) -> usize
     }
 }
 
-/// Returns where the last white byte ends, or 0.
+/// Returns the offset after the last white byte, or 0 if there is none.
 fn white_end(text: &[u8]) -> usize
     ensures within { result ≤ length text.now }
     ensures white { 0 < result → IsTrue (is_white (slice_index text.now (result - 1))) }

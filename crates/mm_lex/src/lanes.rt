@@ -6,7 +6,7 @@ ghost use Rattle.mm_lex.specs.Tokens.{IsClean};
 
 use std::simd::prelude::*;
 
-/// How many bytes are looked at together.
+/// How many bytes are compared at once.
 pub(crate) const LANES: usize = 16;
 
 /// Returns how many bytes at the start of a text without a bad byte are not white.
@@ -26,7 +26,7 @@ pub(crate) fn count_visible(text: &[u8]) -> usize
     at + count_one_by_one(&text[at..])
 }
 
-/// Returns how many of the first bytes come before one that is white: in a text without a bad byte, one up to the space.
+/// Returns how many of the first 16 bytes come before one up to the space: in a text without a bad byte, a white one.
 fn count_in_lanes(text: &[u8]) -> usize
     requires room { 16 ≤ length text.now }
     ensures count { result ≡ position_or_len (λ b. nat_le b 32) (take 16 text.now) }
@@ -56,7 +56,7 @@ pub(crate) fn count_white(text: &[u8]) -> usize
     first_visible(text).unwrap_or(text.len())
 }
 
-/// Returns how many of the first bytes come before one above the space.
+/// Returns how many of the first 16 bytes come before one above the space.
 fn count_low_in_lanes(text: &[u8]) -> usize
     requires room { 16 ≤ length text.now }
     ensures count { result ≡ position_or_len (λ b. nat_lt 32 b) (take 16 text.now) }

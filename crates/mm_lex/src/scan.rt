@@ -11,7 +11,7 @@ use crate::span::Span;
 use crate::visible_run::{is_closer, is_opener, next_run};
 use std::alloc::Global;
 
-/// Returns the tokens of a text, in order, its comments taken out.
+/// Returns the tokens of a text, in order, comments excluded.
 ///
 /// Errors: `Text`, the first byte that no text may have, also inside a comment; else `Comment`, the
 /// first token that breaks the rules of comments; else `Memory`. The first two are returned even if
@@ -73,7 +73,8 @@ fn add_token(spans: &mut Vec<Span>, refused: bool, span: Span) -> bool
     refused || spans.push(span).is_err()
 }
 
-/// Returns the first byte that no text may have. A text without one is read once, many bytes at a time.
+/// Returns the offset of the first byte that no text may have, or `None` if there is none. A text without one is read once,
+/// many bytes at a time.
 pub fn first_bad_byte(text: &[u8]) -> Option<usize>
     ensures { result ≡ position (λ b. not (is_allowed b)) text.now }
 {
@@ -90,7 +91,7 @@ fn find_bad_byte(text: &[u8]) -> Option<usize>
         .position(|b| !(b.is_ascii_graphic() || b.is_ascii_whitespace()))
 }
 
-/// Returns whether a text may have all of these bytes.
+/// Returns whether each byte is one that a text may have.
 fn are_allowed(text: &[u8]) -> bool
     ensures { result ≡ list_all is_allowed text.now }
 {

@@ -1,4 +1,4 @@
-//! Measures how far a text goes on as symbols with one space between two, many bytes at a time.
+//! Counts the bytes at the start of a text that are symbols with one space between two, many bytes at a time.
 ghost use Rattle.std.specs.Prelude.{◌≡◌, ◌+◌, ◌-◌, ◌<◌, ◌≤◌, not, length, take, drop};
 ghost use Rattle.std.specs.List.{prefix_len};
 ghost use Rattle.mm_lex.specs.Stored.Stretch.{stretch, ends_here, lanes_end};
@@ -22,7 +22,7 @@ pub(crate) fn count_spaced(text: &[u8]) -> usize
     at + count_one_by_one(&text[at..])
 }
 
-/// Returns how many of the first bytes come before the one at which the symbols end.
+/// Returns how many of the first 16 bytes come before the one at which the symbols end.
 fn count_in_lanes(text: &[u8]) -> usize
     requires room { 16 < length text.now }
     ensures count { result ≡ prefix_len not (lanes_end (take 16 text.now) (take 16 (drop 1 text.now))) }

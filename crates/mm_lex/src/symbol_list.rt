@@ -16,9 +16,10 @@ use crate::words::Words;
 use memchr::memchr;
 use std::alloc::{AllocError, Global};
 
-/// Returns the symbols after `from`, and the token after them that is no symbol, or none at the end of the text.
+/// Returns the symbols from `from` on, and the token after them that is no symbol, or `None` at the end of the text.
 ///
-/// Errors: `Comment`, where the comments after `from` are at fault before that token; `Memory`. Cost: their own size.
+/// Errors: `Comment`, if the comments after `from` are at fault before that token; `Memory`. Cost: the size of the text up to
+/// that token.
 pub fn symbols(alloc: Global, text: &[u8], from: usize) -> Result<(Words, Option<Span>), LexFault>
     requires clean { IsClean text.now }
     requires place { from ≤ length text.now }
@@ -55,7 +56,8 @@ fn with_room(alloc: Global, text: &[u8]) -> Result<Words, AllocError>
     Words::with_capacity(alloc, room)
 }
 
-/// Appends symbols as long as they stand in pieces with one space between two; returns the place after them.
+/// Appends the symbols from `from` on in pieces with one space between two, as far as there are such pieces; returns the
+/// offset from which to go on.
 fn push_pieces(words: &mut Words, text: &[u8], from: usize) -> Result<usize, AllocError>
     requires clean { IsClean text.now }
     requires place { from ≤ length text.now }
@@ -74,7 +76,7 @@ fn push_pieces(words: &mut Words, text: &[u8], from: usize) -> Result<usize, All
     Ok(at)
 }
 
-/// Returns whether no word goes on at a place.
+/// Returns whether no word goes on at an offset.
 fn is_behind_word(text: &[u8], at: usize) -> bool
     requires { at ≤ length text.now }
     ensures { result ≡ starts_white (drop at text.now) }

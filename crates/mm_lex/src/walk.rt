@@ -1,4 +1,4 @@
-//! From token to token through a text, without a list of their places.
+//! Walks from token to token through a text, without a list of them.
 ghost use Rattle.std.specs.Prelude.{◌≤◌, length, IfOk, IfErr};
 ghost use Rattle.mm_lex.specs.Tokens.{IsClean};
 ghost use Rattle.mm_lex.specs.Between.{IsNextToken, CountBehind, StopsBehind};
@@ -8,9 +8,9 @@ use crate::fault::LexFault;
 use crate::span::Span;
 use crate::visible_run::{is_closer, is_opener, next_run};
 
-/// Returns the next token at or after `at`, or `None`.
+/// Returns the next token at or after `at`, or `None` if none is left.
 ///
-/// Errors: `Comment`, where the comments after `at` are at fault before another token.
+/// Errors: `Comment`, if the comments after `at` are at fault before the next token. Cost: the size of the text up to its end.
 #[inline(always)]
 pub fn next_token(text: &[u8], at: usize) -> Result<Option<Span>, LexFault>
     requires clean { IsClean text.now }
@@ -38,7 +38,7 @@ pub fn next_token(text: &[u8], at: usize) -> Result<Option<Span>, LexFault>
 
 /// Returns how many tokens stand at or after `at`.
 ///
-/// Errors: `Comment`, where the comments after `at` are at fault. Cost: the size of the rest of the text.
+/// Errors: `Comment`, if the comments after `at` are at fault. Cost: the size of the rest of the text.
 pub fn count_tokens(text: &[u8], at: usize) -> Result<usize, LexFault>
     requires clean { IsClean text.now }
     requires place { at ≤ length text.now }

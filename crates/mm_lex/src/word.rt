@@ -1,4 +1,4 @@
-//! One word, kept inline where it is short.
+//! One word, stored inline if it is short.
 ghost use Rattle.std.specs.Prelude.{◌≡◌, IsTrue, IfOk};
 ghost use Rattle.mm_lex.specs.Words.{is_word};
 ghost use Rattle.mm_lex.specs.Stored.WordBytes.{bytes_of, AreCounted};
@@ -14,7 +14,7 @@ const INLINE: usize = 22;
 enum WordBytes {
     /// The first `len` of these.
     Inline { len: u8, bytes: [u8; INLINE] },
-    /// All of these: one pointer, so that a word is no larger for it.
+    /// All of these, behind one pointer, so that a `Word` is no larger.
     Heap(Box<Vec<u8>>),
 }
 
@@ -37,7 +37,9 @@ impl Model for Word {
 }
 
 impl Word {
-    /// Makes the word with these bytes. Does not allocate for a word of at most 22 bytes.
+    /// Returns the word with these bytes. Does not allocate for a word of at most 22 bytes.
+    ///
+    /// Errors: an allocation fails.
     pub fn new(alloc: Global, bytes: &[u8]) -> Result<Word, AllocError>
         requires { IsTrue (is_word bytes.now) }
         ensures { IfOk result (λ word. word ≡ bytes.now) }
@@ -57,7 +59,9 @@ impl Word {
         }
     }
 
-    /// Copies the word.
+    /// Returns an equal word.
+    ///
+    /// Errors: an allocation fails.
     pub fn copy(&self, alloc: Global) -> Result<Word, AllocError>
         ensures { IfOk result (λ word. word ≡ self.now) }
     {

@@ -6,10 +6,10 @@ ghost use Rattle.mm_lex.specs.Words.{spaced, words_of, AreWords};
 use std::marker::Model;
 use std::simd::prelude::*;
 
-/// How many bytes are looked at together.
+/// How many bytes are compared at once.
 const FIRST: usize = 8;
 
-/// Goes over the words of a list in order. Contracts see the words that are left.
+/// An iterator over the words of a list. Contracts see the words that are left.
 #[derive(Drop)]
 pub struct WordIter<'a> {
     text: &'a [u8],
@@ -75,7 +75,7 @@ fn split_word<'a>(text: &'a [u8]) -> (&'a [u8], &'a [u8])
     }
 }
 
-/// Returns the place of the first space. Most words end among the first bytes, which are looked at together.
+/// Returns the index of the first space. Most words end among the first 8 bytes, which are compared at once.
 fn find_space(text: &[u8]) -> Option<usize>
     ensures place { result ≡ position (λ b. b == 32) text.now }
     ensures within { IfSome result (λ end. end < length text.now) }
@@ -89,7 +89,7 @@ fn find_space(text: &[u8]) -> Option<usize>
     text.iter().position(|b| *b == b' ')
 }
 
-/// Returns how many of the first bytes come before a space.
+/// Returns how many of the first 8 bytes come before a space.
 fn count_before_space(text: &[u8]) -> usize
     requires room { 8 ≤ length text.now }
     ensures count { result ≡ position_or_len (λ b. b == 32) (take 8 text.now) }

@@ -42,6 +42,8 @@ impl Words {
     }
 
     /// Appends a word.
+    ///
+    /// Errors: an allocation fails; the list is then as before.
     pub fn push(&mut self, word: &[u8]) -> Result<(), AllocError>
         requires { IsTrue (is_word word.now) }
         ensures ok { OnOk result (self.new ≡ self.old ++ word.now ∷ []) }
@@ -51,6 +53,8 @@ impl Words {
     }
 
     /// Appends the words of a text that has one space between two of them.
+    ///
+    /// Errors: an allocation fails; the list is then as before.
     pub fn push_text(&mut self, text: &[u8]) -> Result<(), AllocError>
         requires { AreWords (words_of text.now) }
         ensures ok { OnOk result (self.new ≡ self.old ++ words_of text.now) }
@@ -89,7 +93,9 @@ impl Words {
         self.text.is_empty()
     }
 
-    /// Copies the list into a buffer of its own size.
+    /// Returns an equal list, in a buffer of its own size.
+    ///
+    /// Errors: an allocation fails.
     pub fn copy(&self, alloc: Global) -> Result<Words, AllocError>
         ensures { IfOk result (λ words. words ≡ self.now) }
     {
@@ -121,7 +127,7 @@ fn push_words(text: &mut Vec<u8>, more: &[u8]) -> Result<(), AllocError>
     added
 }
 
-/// Returns how many words a text has: one more than its spaces, where it is not empty.
+/// Returns how many words a text has: one more than its spaces, if it is not empty.
 fn count_words(text: &[u8]) -> usize
     ensures { result ≡ length (words_of text.now) }
 {

@@ -1,6 +1,6 @@
 -- The export form: the one text in which a list of statements is written.
 -- Source: this project's choice; each statement is its tokens (Metamath, 4.1).
--- The code copies the words as they are kept.
+-- The code copies the words as they are stored.
 use Rattle.std.specs.Prelude.{ℕ, List, [], ◌∷◌, ◌++◌, flat_map}
 use Rattle.mm_lex.specs.Alphabet.{Name}
 use Rattle.mm_lex.specs.Words.{spaced}
@@ -16,7 +16,7 @@ line_of s = spaced (stmt_tokens s) ++ 10 ∷ []
 abbrev pub export_of : Database → List ℕ
 export_of S = flat_map line_of S
 
--- the statement with this proof in place of its own, where it has one
+-- the statement with this proof in place of its own, if it has one
 abbrev pub with_proof : Stmt → List Name → Stmt
 with_proof (Prove label expr old) proof = Prove label expr proof
 with_proof s proof = s

@@ -10,7 +10,7 @@ use Rattle.mm_read.specs.declared.keyword.Keyword.TheVariants.{Open, Close, Cons
 use Rattle.mm_read.specs.declared.fault.ReadFault.{ReadFault}
 use Rattle.mm_read.specs.declared.fault.ReadFault.TheVariants.{Text, Shape, Memory}
 
--- the keywords at which a statement is known
+-- the keywords that decide the shape of a statement
 abbrev pub keywords : List Name
 keywords =
     codes "${" ∷ codes "$}" ∷ codes "$c" ∷ codes "$v" ∷ codes "$d" ∷ codes "$f" ∷ codes "$e" ∷ codes "$a" ∷ codes "$p" ∷ []
@@ -27,12 +27,12 @@ IsKeyword Axiom w = w ≡ codes "$a"
 IsKeyword Prove w = w ≡ codes "$p"
 IsKeyword Other w = IsFalse (has_name w keywords)
 
--- this follows symbols and ends no list of at least so many by this keyword
+-- what follows the symbols `ws` ends no list of at least `least` symbols with this keyword
 abbrev pub EndsNoList : ℕ → Name → List Name → List Name → Type 0
 EndsNoList least end ws [] = Unit {0}
 EndsNoList least end ws (t ∷ rest) = IsFalse (is_symbol t) × ((length ws < least) ⊎ IsFalse (name_eq t end))
 
--- these tokens begin with no such list, and this one is the first that does not fit, the first token having this number
+-- these tokens begin with no such list, and `token` is the first that does not fit, counted from `number`
 pub record StopsList (tokens : List Name) (number least : ℕ) (end : Name) (token : ℕ) : Type 0 where
   pub ws : List Name
   pub rest : List Name
@@ -41,7 +41,7 @@ pub record StopsList (tokens : List Name) (number least : ℕ) (end : Name) (tok
   pub place : token ≡ number + length ws
   pub stop : EndsNoList least end ws rest
 
--- the tokens after a place do so
+-- the tokens after a place begin with no such list
 pub record IsListStop (text : List ℕ) (at number least : ℕ) (end : Name) (token : ℕ) : Type 0 where
   pub few : token + at ≤ number + length text
   pub stops : (tokens : List Name) → AreBehind text at tokens → StopsList tokens number least end token
@@ -52,7 +52,7 @@ IsListFault text at number least end (Text fault) = StopsBehind text at fault
 IsListFault text at number least end (Shape token) = IsListStop text at number least end token
 IsListFault text at number least end Memory = Unit {0}
 
--- no token, or first one that does not fit
+-- there is no token, or the first does not fit
 abbrev pub StartsOtherwise : (Name → Bool) → List Name → Type 0
 StartsOtherwise fits [] = Unit {0}
 StartsOtherwise fits (t ∷ rest) = IsFalse (fits t)

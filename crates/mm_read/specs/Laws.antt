@@ -16,7 +16,7 @@ abbrev pub SpelledOrFaulty : Type 0
 SpelledOrFaulty =
     (tokens : List Name) → ((S : Database) × AreShaped S × (spelled S ≡ tokens)) ⊎ ((token : ℕ) × IsShapeFault tokens token)
 
--- the token that fits nowhere is one
+-- at most one token is the one that fits nowhere
 abbrev pub OneShapeFault : Type 0
 OneShapeFault = (tokens : List Name) (t u : ℕ) → IsShapeFault tokens t → IsShapeFault tokens u → t ≡ u
 

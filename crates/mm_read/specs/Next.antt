@@ -16,17 +16,17 @@ pub record IsNext (text : List ℕ) (at : ℕ) (s : Stmt) (next : ℕ) : Type 0 
   pub later : at < next
   pub between : HasBetween text at next (stmt_tokens s)
 
--- the statement stands there, where these tokens stand before `at`
+-- the statement begins with these tokens, which end at `at`, and ends at `next`
 abbrev pub IsNextAfter : List ℕ → List Name → ℕ → Stmt → ℕ → Type 0
 IsNextAfter text before at s next = (from : ℕ) → from < at → HasBetween text from at before → IsNext text from s next
 
--- why no statement stands there: the comments after `at` are at fault, or the tokens after it, after these, begin none
+-- why there is no such statement: the comments after `at` are at fault, or these tokens and those after `at` begin none
 abbrev pub IsFaultAfter : List ℕ → List Name → ℕ → ReadFault → Type 0
 IsFaultAfter text before at (Text fault) = StopsBehind text at fault
 IsFaultAfter text before at (Shape token) = (tokens : List Name) → AreBehind text at tokens → IsShapeFault (before ++ tokens) token
 IsFaultAfter text before at Memory = Unit {0}
 
--- one statement more, up to a later place
+-- one more statement, up to a later place
 pub record IsOneMore (text : List ℕ) (at next : ℕ) (old new : Database) : Type 0 where
   pub statement : Stmt
   pub whole : new ≡ old ++ statement ∷ []

@@ -24,7 +24,7 @@ abbrev pub has_two : Expr → Bool
 has_two [] = false
 has_two (w ∷ ws) = not (is_empty ws)
 
--- the statement is of one of the nine shapes
+-- the statement holds what its shape may hold
 abbrev pub is_shaped : Stmt → Bool
 is_shaped Open = true
 is_shaped Close = true

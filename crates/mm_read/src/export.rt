@@ -12,7 +12,8 @@ use std::alloc::{AllocError, Global};
 
 /// Returns the statements as a text: each is its tokens with one space between two, and a line feed.
 ///
-/// Cost: the text's own size. Source: Metamath, 4.1; one space and one line feed are this project's choice.
+/// Errors: an allocation fails. Cost: the text's own size.
+/// Source: Metamath, 4.1; one space and one line feed are this project's choice.
 pub fn spell(alloc: Global, statements: &[Stmt]) -> Result<Vec<u8>, AllocError>
     requires { AreShaped statements.now }
     ensures text { IfOk result (λ text. text.items ≡ export_of statements.now) }
@@ -25,7 +26,9 @@ pub fn spell(alloc: Global, statements: &[Stmt]) -> Result<Vec<u8>, AllocError>
     Ok(text)
 }
 
-/// Appends the statement's line. On an error the text is as before.
+/// Appends the statement's line.
+///
+/// Errors: an allocation fails; the text is then as before. Cost: the line's own size.
 pub fn push_line(text: &mut Vec<u8>, statement: &Stmt) -> Result<(), AllocError>
     requires { IsShaped statement.now }
     ensures line { OnOk result (text.new.items ≡ text.old.items ++ line_of statement.now) }
@@ -48,7 +51,9 @@ pub fn push_line(text: &mut Vec<u8>, statement: &Stmt) -> Result<(), AllocError>
     }
 }
 
-/// Appends the statement's line with this word in place of its proof, if it has one. On an error the text is as before.
+/// Appends the statement's line, with this word in place of its proof if it has one.
+///
+/// Errors: an allocation fails; the text is then as before. Cost: the line's own size.
 pub fn push_line_with_proof(
     text: &mut Vec<u8>,
     statement: &Stmt,
@@ -161,7 +166,7 @@ fn gap_before(text: &[u8]) -> &[u8]
     if text.is_empty() { b"" } else { b" " }
 }
 
-/// Appends all of the parts, or nothing.
+/// Appends all of the parts, or nothing if an allocation fails.
 fn push_parts(text: &mut Vec<u8>, parts: &[&[u8]]) -> Result<(), AllocError>
     ensures ok { OnOk result (text.new.items ≡ text.old.items ++ flat_map (λ part. part.now) parts.now) }
     ensures same { OnErr result (text.new.items ≡ text.old.items) }

@@ -9,8 +9,8 @@ use std::alloc::{AllocError, AllocFailed};
 pub enum ReadFault {
     /// The text has no tokens; this holds its `Text` or `Comment`.
     Text(LexFault),
-    /// The first token, counted from 1 with the comments taken out, after which no list of statements can go on; or the
-    /// count of tokens plus 1.
+    /// The first token, counted from 1 without comments, after which no list of statements can go on; or the count of
+    /// tokens plus 1, if the last statement is not finished.
     Shape { token: usize },
     /// An allocation failed.
     Memory,

@@ -1,4 +1,4 @@
-//! Tokens as words, labels and keywords.
+//! The keywords among the tokens.
 ghost use Rattle.std.specs.Prelude.{◌≡◌, ◌≤◌, [], ◌∷◌, IsTrue, length};
 ghost use Rattle.mm_lex.specs.Alphabet.{word};
 ghost use Rattle.mm_lex.specs.Words.{is_word};
@@ -6,7 +6,7 @@ ghost use Rattle.mm_read.specs.Front.{IsKeyword};
 
 use mm_lex::Span;
 
-/// A keyword at which a statement is known, or another token.
+/// A keyword that decides the shape of a statement, or another token.
 #[derive(Clone, Copy)]
 pub enum Keyword {
     Open,
@@ -21,7 +21,7 @@ pub enum Keyword {
     Other,
 }
 
-/// Returns the keyword that this token is.
+/// Returns the keyword that this token is, or `Other`.
 pub fn keyword_of(token: &[u8]) -> Keyword
     ensures { IsKeyword result token.now }
 {
@@ -31,7 +31,7 @@ pub fn keyword_of(token: &[u8]) -> Keyword
     }
 }
 
-/// Returns the keyword of `$` and this letter.
+/// Returns the keyword of `$` and this letter, or `Other`.
 fn keyword_of_letter(letter: u8) -> Keyword
     ensures { IsKeyword result (36 ∷ letter ∷ []) }
 {

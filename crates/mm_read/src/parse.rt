@@ -13,16 +13,16 @@ use crate::stmt::Stmt;
 use mm_lex::{LexFault, count_tokens, first_bad_byte, next_token};
 use std::alloc::Global;
 
-/// How many bytes of text are read between two requests for room.
+/// How many bytes of text are read between two such allocations.
 const STRETCH: usize = 90_000;
 
-/// How many bytes of room are requested: more than the statements of a stretch mostly take.
+/// How many bytes are allocated at once: more than the statements of a stretch usually take.
 const ROOM: usize = 120_000;
 
 /// Returns the statements that the text writes.
 ///
-/// Errors: `Text`, a fault of the tokens, even if every allocation fails; else `Shape`, the first token that fits
-/// nowhere; `Memory` in place of that or of the statements. Cost: the size of the text.
+/// Errors: `Text`, the first bad byte or else the first fault of the comments, even if every allocation fails; else `Shape`,
+/// the first token that fits nowhere; `Memory` in place of that or of the statements. Cost: the size of the text.
 /// Source: Metamath, 4.1 and appendix E.
 pub fn read(alloc: Global, text: &[u8]) -> Result<Vec<Stmt>, ReadFault>
     ensures found { IfOk result (λ statements. Reads text.now statements.items) }
@@ -63,7 +63,7 @@ fn statements(alloc: Global, text: &[u8]) -> Result<Vec<Stmt>, ReadFault>
     }
 }
 
-/// Appends the next statement; returns the place after it, or `None` if no token is left.
+/// Appends the next statement; returns the offset after it, or `None` if no token is left.
 fn add_next(
     alloc: Global,
     statements: &mut Vec<Stmt>,
@@ -84,18 +84,17 @@ fn add_next(
     Ok(Some(next))
 }
 
-/// Requests room and releases it, once a stretch of the text. The pieces of later statements come out of it: so a heap
-/// that grows by no more than it must, as that of a thread may, grows once for some hundred of them. If the request
-/// fails, nothing is lost.
+/// Allocates room and frees it, once a stretch of the text. Later statements are allocated in it: so a heap that grows by no
+/// more than it must, as that of a thread may, grows once for hundreds of them. If the allocation fails, nothing is lost.
 fn ask_for_room(alloc: Global, at: usize, next: usize) {
     if at / STRETCH != next / STRETCH {
         let _ = Vec::<u8>::with_capacity(alloc, ROOM);
     }
 }
 
-/// Returns why the whole text is refused, where statements end at `at` and this fault hinders the next one.
+/// Returns why the whole text is refused, if the earlier statements end at `at` and `fault` says why none follows.
 ///
-/// Errors: the fault of the comments after `at`, which comes first.
+/// Errors: the fault of the comments after `at`, which comes before `fault`.
 fn first_fault(text: &[u8], at: usize, fault: ReadFault) -> Result<ReadFault, LexFault>
     requires clean { IsClean text.now }
     requires place { at ≤ length text.now }

@@ -1,4 +1,4 @@
-//! The parts of a statement, each after a place of the text.
+//! The parts of a statement, each from an offset of the text on.
 ghost use Rattle.std.specs.Prelude.{◌≡◌, ◌<◌, ◌≤◌, ◌∷◌, ◌++◌, [], length, nat_le, IsTrue, IfOk, IfErr};
 ghost use Rattle.std.specs.List.{list_all};
 ghost use Rattle.mm_lex.specs.Alphabet.{name_eq, is_symbol};
@@ -11,10 +11,10 @@ use crate::keyword::token;
 use mm_lex::{Word, Words, is_symbol, next_token, symbols};
 use std::alloc::Global;
 
-/// Returns the symbols after `at`, at least `least`, up to the token `end`, and the place of the byte after that.
+/// Returns the symbols after `at`, at least `least` of them, up to the token `end`, and the offset after that token.
 ///
-/// `number` is that of the first token after `at` in its statement. Errors: `Text`, where the comments are at fault
-/// before the end of the list; the number of the token that does not fit; `Memory`.
+/// `number` is that of the first token after `at` in its statement. Errors: `Text`, if the comments are at fault
+/// before the end of the list; `Shape`, the number of the token that does not fit; `Memory`.
 pub fn symbols_until(
     alloc: Global,
     text: &[u8],
@@ -43,7 +43,7 @@ pub fn symbols_until(
     })
 }
 
-/// Returns whether there are so many words. Cost: none for a count of up to one, else the size of their text.
+/// Returns whether there are at least `least` words. Cost: constant for up to one, else the size of their text.
 fn has_least(words: &Words, least: usize) -> bool
     ensures { result ≡ nat_le least (length words.now) }
 {
@@ -54,9 +54,10 @@ fn has_least(words: &Words, least: usize) -> bool
     }
 }
 
-/// Returns the next token as a word, if it is a symbol, and the place of the byte after it.
+/// Returns the next token as a word, and the offset after it.
 ///
-/// `number` is that of the token in its statement.
+/// `number` is that of the token in its statement. Errors: `Text`, if the comments before it are at fault; `Shape`, its
+/// number, if it is no symbol or there is none; `Memory`.
 pub fn next_symbol(
     alloc: Global,
     text: &[u8],
@@ -79,9 +80,10 @@ pub fn next_symbol(
     Err(ReadFault::Shape { token: number })
 }
 
-/// Returns the place after the next token, if that is `end`.
+/// Returns the offset after the next token, which has to be `end`.
 ///
-/// `number` is that of the token in its statement.
+/// `number` is that of the token in its statement. Errors: `Text`, if the comments before it are at fault; `Shape`, its
+/// number, if it is not `end` or there is none.
 pub fn pass_token(text: &[u8], at: usize, number: usize, end: &[u8]) -> Result<usize, ReadFault>
     requires clean { IsClean text.now }
     requires place { at ≤ length text.now }

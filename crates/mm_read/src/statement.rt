@@ -12,9 +12,9 @@ use crate::stmt::Stmt;
 use mm_lex::{Span, Word, is_label, next_token};
 use std::alloc::Global;
 
-/// Returns the statement whose first token stands at `first`, and the place of the byte after it.
+/// Returns the statement whose first token stands at `first`, and the offset after it.
 ///
-/// Errors: `Text`, where the comments are at fault before its end; the number from 1 of its token that fits nowhere;
+/// Errors: `Text`, if the comments are at fault before its end; `Shape`, the number, from 1, of its token that fits nowhere;
 /// `Memory`. Cost: the statement's own size.
 pub fn statement(alloc: Global, text: &[u8], first: Span) -> Result<(Stmt, usize), ReadFault>
     requires clean { IsClean text.now }

@@ -1,4 +1,4 @@
--- Names by number: the code of a name is the place where it stands first in a list of names, from 0.
+-- Names by number: the code of a name is the index at which it stands first in a list of names.
 -- Source: this project's form of keeping names.
 -- The code looks a name up in a table of keys; the model has the list of names.
 use Rattle.std.specs.Prelude.{◌≡◌, ℕ, zero, suc, true, false, IsTrue, nat_lt, List, [], ◌∷◌, ◌++◌, length, map, position, Option, if◌then◌else◌}
@@ -21,7 +21,7 @@ AreCodes names codes = IsTrue (list_all (λ n. nat_lt n (length names)) codes)
 abbrev pub code_of : List Name → Name → Option ℕ
 code_of names x = position (name_eq x) names
 
--- the names after one is given a code: it keeps the one it has, or goes last
+-- the names after one is given a code: a new name goes last
 abbrev pub with_name : List Name → Name → List Name
 with_name names x = if has_name x names then names else names ++ x ∷ []
 
@@ -34,7 +34,7 @@ abbrev pub AreDistinct : List Name → Type 0
 AreDistinct [] = Unit {0}
 AreDistinct (x ∷ names) = (has_name x names ≡ false) × AreDistinct names
 
--- the code of a name, and one above the last where it has none
+-- the code of a name, or one above the last if it has none
 abbrev pub number_in : List Name → Name → ℕ
 number_in names x = position_or_len (name_eq x) names
 

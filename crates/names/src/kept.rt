@@ -13,8 +13,8 @@ use crate::texts::Texts;
 use entries::give_back;
 use std::alloc::{AllocError, Global};
 
-/// The key of each name that stands in the table, and `APART` for one that stands in the overflow. Entries after
-/// the last name have no meaning.
+/// The key of each name that stands in the table, and `APART` for one that stands in the overflow. Keys after
+/// that of the last name have no meaning.
 #[derive(Drop)]
 pub struct Kept {
     pub keys: Vec<u64>,
@@ -50,7 +50,7 @@ impl Kept {
         (number as usize) < texts.len() && self.keys[number as usize] == key
     }
 
-    /// Records the key of the next name.
+    /// Records the key of the next name, whose code is `code`.
     pub(crate) fn push(&mut self, code: usize, key: u64) -> Result<(), AllocError>
         requires { code ≤ length self.old.keys.items }
         ensures overflow { self.new.overflow ≡ self.old.overflow }
@@ -64,7 +64,7 @@ impl Kept {
         Ok(())
     }
 
-    /// Makes room for the keys of so many more names, if allocation succeeds.
+    /// Makes room for the keys of `more` names, if allocation succeeds.
     pub(crate) fn reserve(&mut self, more: usize)
         ensures keys { self.new.keys.items ≡ self.old.keys.items }
         ensures overflow { self.new.overflow ≡ self.old.overflow }
@@ -72,7 +72,7 @@ impl Kept {
         let _ = self.keys.reserve(more);
     }
 
-    /// Puts a name into the overflow.
+    /// Puts a name that stands in the table into the overflow.
     pub(crate) fn set_apart(
         &mut self,
         alloc: Global,
@@ -91,7 +91,7 @@ impl Kept {
         Ok(())
     }
 
-    /// Keeps the first `count` keys, and gives back the room of the others, where it is more than that of these.
+    /// Truncates to the first `count` keys, and gives back unused room, as `give_back` does.
     pub(crate) fn shrink(&mut self, count: usize)
         requires { count ≤ length self.old.keys.items }
         ensures overflow { self.new.overflow ≡ self.old.overflow }
@@ -102,7 +102,7 @@ impl Kept {
         give_back(&mut self.keys);
     }
 
-    /// Forgets the names from a number on.
+    /// Removes the names from the number `len` on from the overflow.
     pub(crate) fn truncate(&mut self, texts: &Texts, len: usize)
         requires kept { AreKept self.old texts.now }
         requires distinct { AreDistinct texts.now }

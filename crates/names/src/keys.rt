@@ -2,10 +2,10 @@
 ghost use Rattle.std.specs.Prelude.{◌≡◌, ◌≢◌, ◌+◌, ◌*◌, ◌^◌, ◌<◌, ◌≤◌, length};
 ghost use Rattle.names.specs.Stored.Keys.{AreBytes, digits, picked, eight, spread_of, mixed, key_of};
 
-/// From this length on the key of a name is a hint. A shorter name shares its key with no other.
+/// From this length on the key of a name is a hint, which other names may share. A shorter name shares its key with no other.
 pub(crate) const LONG: usize = 8;
 
-/// The hints are the numbers from this one on.
+/// Hints are the numbers from this one on.
 const HINTS: u64 = 0x8000_0000_0000_0000;
 
 /// An odd number whose bits are spread evenly: 2^64 by the golden ratio.
@@ -27,7 +27,7 @@ pub(crate) fn key(name: &[u8]) -> u64
     }
 }
 
-/// Returns the key of a name that has some bytes, and is not long.
+/// Returns the key of a name of one to seven bytes.
 pub(crate) fn short_key(name: &[u8]) -> u64
     requires some { 1 ≤ length name.now }
     requires short { length name.now < LONG }
@@ -43,7 +43,7 @@ pub(crate) fn short_key(name: &[u8]) -> u64
     bytes * 8 + name.len() as u64
 }
 
-/// Returns the first byte, the middle one and the last one, so that one, two and three bytes are read in the same way.
+/// Returns the first, the middle and the last byte as one number, so that one, two and three bytes are read in the same way.
 fn few_bytes(name: &[u8]) -> u64
     requires some { 1 ≤ length name.now }
     requires few { length name.now < 4 }
@@ -54,7 +54,7 @@ fn few_bytes(name: &[u8]) -> u64
     digit(name[0], digit(name[len / 2], digit(name[len - 1], 0)))
 }
 
-/// Returns the first four bytes and the last three.
+/// Returns the first four bytes and the last three as one number.
 fn more_bytes(name: &[u8]) -> u64
     requires some { 4 ≤ length name.now }
     requires few { length name.now < 8 }
@@ -67,7 +67,7 @@ fn more_bytes(name: &[u8]) -> u64
     digit(name[0], digit(name[1], first))
 }
 
-/// Returns the eight bytes from a place on.
+/// Returns the eight bytes from an index on as one number.
 fn eight_bytes(name: &[u8], at: usize) -> u64
     requires { at + 8 ≤ length name.now }
     ensures { result ≡ digits (eight name.now at) }
@@ -85,7 +85,7 @@ fn digit(byte: u8, above: u64) -> u64
     byte as u64 + 256 * above
 }
 
-/// Returns the hint at a longer name: its length and its bytes by eights, of which the last may overlap those before them.
+/// Returns the hint of a longer name, which mixes its length and its bytes by eights; the last eight may overlap those before.
 pub(crate) fn hint(name: &[u8]) -> u64
     requires { LONG ≤ length name.now }
     ensures key { result ≡ key_of name.now }
@@ -99,13 +99,14 @@ pub(crate) fn hint(name: &[u8]) -> u64
     mix(front, eight_bytes(name, len - 8)) % HINTS + HINTS
 }
 
+/// Returns the hint with eight more bytes mixed in.
 fn mix(hint: u64, bytes: u64) -> u64
     ensures { result ≡ mixed hint bytes }
 {
     spread(hint.wrapping_add(bytes))
 }
 
-/// Returns a number whose lowest bytes all bits of this one reach: the highest bytes of its product.
+/// Returns a number whose lowest bytes depend on all bits of this one: they are the highest bytes of `FACTOR` times it.
 pub(crate) fn spread(number: u64) -> u64
     ensures { result ≡ spread_of number }
 {

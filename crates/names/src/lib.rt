@@ -1,8 +1,8 @@
 //! Names by number: `NameTable` is a list of distinct names that gives each of them a code.
 //!
-//! The crates above use `NameTable::find`, `add` and `name`: a name's code is its place in the list, and the name of a code
-//! is the one that stands there. Read `names`; `texts` keeps the bytes, `table` finds a code by the key of its name, `keys`
-//! makes keys, `kept` has them by code, and `overflow` has the names that found no slot in the table.
+//! The crates above use `NameTable::find`, `add` and `name`: a name's code is its index in the list. Read `names`; `texts`
+//! stores the bytes, `table` finds a code by the key of its name, `keys` makes keys, `kept` stores them by code, and
+//! `overflow` has the names that found no slot in the table.
 #![tactic(auto)]
 
 mod kept;

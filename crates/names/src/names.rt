@@ -10,16 +10,16 @@ use crate::texts::Texts;
 use std::alloc::{AllocError, Global};
 use std::marker::Model;
 
-/// Names, none of them twice. The code of a name is its place, from 0. Contracts see the list.
+/// A list of distinct names. The code of a name is its index. Contracts see the list.
 ///
-/// The bytes of all names stand in one buffer. A table tells a name's code by its key, which for a name
-/// of at most seven bytes no other name has. A name that finds no slot within few steps goes into a sorted overflow.
+/// The bytes of all names stand in one buffer. A table maps a name's key to its code; a name of at most seven bytes shares its
+/// key with no other. A name that finds no free slot within 32 steps goes into a sorted overflow.
 #[derive(Drop)]
 pub struct NameTable {
     texts: Texts,
     kept: Kept,
     slots: Vec<Slot>,
-    /// An upper bound on the slots that are taken, with those of names that were removed.
+    /// An upper bound on the slots that are taken, those of removed names included.
     taken: usize,
 }
 
@@ -48,7 +48,9 @@ impl NameTable {
         }
     }
 
-    /// Copies the table.
+    /// Returns an equal table.
+    ///
+    /// Errors: an allocation fails. Cost: the size of all names.
     pub fn copy(&self, alloc: Global) -> Result<NameTable, AllocError>
         ensures { IfOk result (λ names. names ≡ self.now) }
     {
@@ -71,8 +73,10 @@ impl NameTable {
         self.texts.len()
     }
 
-    /// Returns the code of a name that has one. Cost: one pass over the name and 32 looks at the table at most; where it is not
-    /// found there, the logarithm of the number of names in the overflow, in comparisons.
+    /// Returns the code of a name, or `None` if it has none.
+    ///
+    /// Cost: one pass over the name and 32 slots of the table at most; if it is not found there, also the logarithm of the
+    /// number of names in the overflow, in comparisons.
     #[inline(always)]
     pub fn find(&self, name: &[u8]) -> Option<usize>
         ensures code { result ≡ code_of self.now name.now }
@@ -91,7 +95,9 @@ impl NameTable {
         self.texts.get(code)
     }
 
-    /// Returns the code of a name, giving it one if it has none.
+    /// Returns the code of a name, and appends the name if it has none.
+    ///
+    /// Errors: an allocation fails, or there are 2^32 - 1 names already; the list is then as before.
     pub fn code(&mut self, alloc: Global, name: &[u8]) -> Result<usize, AllocError>
         ensures name { IfOk result (λ n. (n < length self.new) × (name_at self.new n ≡ name.now)) }
         ensures known { IfOk result (λ n. n < length self.old → self.new ≡ self.old) }
@@ -108,7 +114,10 @@ impl NameTable {
         }
     }
 
-    /// Gives the next code to a name that has none.
+    /// Appends a name that is not in the list, and returns its code.
+    ///
+    /// Errors: an allocation fails, or there are 2^32 - 1 names already; the list is then as before. Cost: that of `find`; the
+    /// number of names if the table grows.
     pub fn add(&mut self, alloc: Global, name: &[u8]) -> Result<usize, AllocError>
         requires { has_name name.now self.old ≡ false }
         ensures code { IfOk result (λ n. n ≡ length self.old) }
@@ -138,7 +147,7 @@ impl NameTable {
         Ok(code)
     }
 
-    /// Makes room for so many more names, if allocation succeeds: no new table is made while they are added.
+    /// Makes room for `more` names, if allocation succeeds: no new table is made while they are added.
     pub fn reserve(&mut self, alloc: Global, more: usize)
         ensures { self.new ≡ self.old }
     {
@@ -147,7 +156,7 @@ impl NameTable {
         let _ = self.make_room(alloc, more);
     }
 
-    /// Makes a new table where more than seven eighths of this one would be taken with so many more.
+    /// Makes a new table if more than seven eighths of this one would be taken with `more` names.
     fn make_room(&mut self, alloc: Global, more: usize) -> Result<(), AllocError>
         ensures { self.new ≡ self.old }
     {
@@ -157,7 +166,7 @@ impl NameTable {
         Ok(())
     }
 
-    /// Makes a new table, with room for as many names again, and for `more`.
+    /// Makes a new table, with room for as many names again, or for `more` if that is greater.
     fn renew(&mut self, alloc: Global, more: usize) -> Result<(), AllocError>
         ensures { self.new ≡ self.old }
     {
@@ -166,7 +175,9 @@ impl NameTable {
         Ok(())
     }
 
-    /// Truncates to the first `len` names.
+    /// Truncates to the first `len` names. Does not allocate.
+    ///
+    /// Cost: constant; the number of removed names if some are in the overflow.
     pub fn truncate(&mut self, len: usize)
         ensures { self.new ≡ take len self.old }
     {
@@ -177,10 +188,10 @@ impl NameTable {
         self.texts.truncate(len);
     }
 
-    /// Gives back the room of names that were removed, where it is more than that of those that are there. Makes a new table
-    /// if there are more than eight slots for each name; if that allocation fails, the table stays.
+    /// Gives back unused room, as `entries::give_back` does. Makes a new table if there are more than eight slots for each
+    /// name; if that allocation fails, the table stays.
     ///
-    /// Cost: a constant; where room is given back, the names that are there, which are fewer than those that were removed.
+    /// Cost: constant; if room is given back, the size of all names.
     pub fn shrink(&mut self, alloc: Global)
         ensures { self.new ≡ self.old }
     {

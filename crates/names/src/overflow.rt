@@ -1,4 +1,4 @@
-//! Names that found no place in the table.
+//! Names that found no slot in the table.
 ghost use Rattle.std.specs.Prelude.{◌≡◌, ◌≢◌, IsTrue, None, Some, OnOk};
 ghost use Rattle.mm_lex.specs.Alphabet.{Name};
 ghost use Rattle.names.specs.Stored.Keys.{AreBytes};
@@ -8,8 +8,8 @@ use crate::keys::{LONG, key};
 use std::alloc::{AllocError, Global};
 use std::collections::BTreeMap;
 
-/// The numbers of names in order, of short ones by their keys and of others by their bytes: a look-up compares the
-/// name with few of the others, whatever they are.
+/// The numbers of names, of short ones by their keys and of others by their bytes, in sorted maps: a look-up compares a name
+/// with few others, whatever names an author picks.
 #[derive(Drop)]
 pub struct Overflow {
     pub short: BTreeMap<u64, u32>,
@@ -32,7 +32,7 @@ impl Overflow {
         self.short.is_empty() && self.long.is_empty()
     }
 
-    /// Returns the number of a name.
+    /// Returns the number of a name, or `None` if it is not there.
     pub(crate) fn get(&self, name: &[u8]) -> Option<u32>
         ensures { result ≡ number_of self.now name.now }
     {

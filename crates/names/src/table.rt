@@ -1,4 +1,4 @@
-//! The table in which the numbers of names are found.
+//! The table in which the codes of names are found; it calls them numbers.
 ghost use Rattle.std.specs.Prelude.{◌≡◌, ◌≢◌, ◌+◌, ◌⊎◌, ℕ, ◌<◌, ◌≤◌, ◌^◌, [], length, get_or, IfOk, OnOk, IfSome, None, true, false};
 ghost use Rattle.mm_lex.specs.Alphabet.{Name};
 ghost use Rattle.names.specs.Codes.{name_at, code_of, AreDistinct};
@@ -14,19 +14,19 @@ use crate::overflow::Overflow;
 use crate::texts::{Texts, item};
 use std::alloc::{AllocError, Global};
 
-/// Marks a slot that no name has.
+/// Marks a free slot.
 pub(crate) const NO_NAME: u32 = 4294967295;
 
-/// How many slots are looked at for one name. A name that finds none of them free goes into the overflow.
+/// How many slots are looked at for one name. If none of them is free, the name goes into the overflow.
 pub(crate) const REACH: usize = 32;
 
 /// How many slots the first table has.
 pub(crate) const FIRST_SLOTS: usize = 16;
 
-/// So many numbers fit into half a key.
+/// How many values half a key has.
 const HALVES: u64 = 0x1_0000_0000;
 
-/// Half of the key of a name, and the number of the name, or `NO_NAME`. The whole key is kept by the number.
+/// The lower half of the key of a name, and the number of the name, or `NO_NAME`. `Kept` has the whole key.
 #[derive(Clone, Copy, Drop)]
 pub struct Slot {
     pub half: u32,
@@ -50,8 +50,8 @@ pub(crate) fn make_slot(key: u64, number: u32) -> Slot
     }
 }
 
-/// Returns where to look in a step: first by the key's spread, and then one slot further on than the step before went. The
-/// length of a table is a power of two.
+/// Returns the index of the slot that a step looks at: the first by the key's spread; the nth further step goes on by n slots.
+/// `len` is a power of two.
 fn place(key: u64, step: usize, len: usize) -> usize
     requires some { 0 < len }
     requires near { step < REACH }
@@ -61,7 +61,7 @@ fn place(key: u64, step: usize, len: usize) -> usize
     (spread(key) as usize).wrapping_add(step * (step + 1) / 2) & (len - 1)
 }
 
-/// Returns how many steps a search takes at most.
+/// Returns the largest number of steps of a search.
 fn steps(len: usize) -> usize
     ensures within { result ≤ len }
     ensures near { result ≤ REACH }
@@ -70,7 +70,7 @@ fn steps(len: usize) -> usize
     if len < REACH { len } else { REACH }
 }
 
-/// Returns the slot of a step.
+/// Returns the slot that a step looks at.
 fn look(slots: &[Slot], key: u64, step: usize) -> Slot
     requires within { step < length slots.now }
     requires near { step < REACH }
@@ -79,7 +79,7 @@ fn look(slots: &[Slot], key: u64, step: usize) -> Slot
     item(slots, place(key, step, slots.len()))
 }
 
-/// Returns the number of a name that has one. Most short names stand in the first slot, and no text is read.
+/// Returns the number of a name, or `None` if it has none. Most short names stand in the first slot, and no text is read.
 #[inline(always)]
 pub(crate) fn search(slots: &[Slot], kept: &Kept, texts: &Texts, name: &[u8]) -> Option<usize>
     requires found { AreFound slots.now kept.now.overflow texts.now }
@@ -148,14 +148,14 @@ fn search_on(slots: &[Slot], kept: &Kept, texts: &Texts, name: &[u8]) -> Option<
     search_apart(&kept.overflow, texts, name)
 }
 
-/// Returns whether no name that meets this slot first has a number.
+/// Returns whether a name whose first slot is this one has no number.
 fn is_end(slot: Slot, kept: &Kept) -> bool
     ensures { result ≡ true → (slot.number ≡ NO_NAME) × ((x : Name) → number_of kept.now.overflow x ≡ None) }
 {
     slot.number == NO_NAME && kept.overflow.is_empty()
 }
 
-/// Returns the number of a name in the overflow.
+/// Returns the number of a name in the overflow, or `None` if it is not there.
 fn search_apart(overflow: &Overflow, texts: &Texts, name: &[u8]) -> Option<usize>
     requires { AreDistinct texts.now }
     ensures some { IfSome result (λ n. code_of texts.now name.now ≡ Some n) }
@@ -170,7 +170,7 @@ fn search_apart(overflow: &Overflow, texts: &Texts, name: &[u8]) -> Option<usize
     }
 }
 
-/// Returns whether a number is that of the name with this key. The key of a short name tells that it is.
+/// Returns whether a number is that of the name with this key. For a short name the key decides.
 fn is_name(kept: &Kept, texts: &Texts, number: u32, key: u64, name: &[u8]) -> bool
     requires kept { AreKept kept.now texts.now }
     requires key { key ≡ key_of name.now }
@@ -192,7 +192,7 @@ fn is_text(texts: &Texts, number: u32, name: &[u8]) -> bool
     (number as usize) < texts.len() && texts.get(number as usize) == name
 }
 
-/// Returns the first slot for this key that no name has.
+/// Returns the index of the first free slot for this key, or `None` if the steps meet none.
 pub(crate) fn free_place(slots: &[Slot], key: u64) -> Option<usize>
     ensures { IfSome result (IsFree slots.now key) }
 {
@@ -204,7 +204,8 @@ pub(crate) fn free_place(slots: &[Slot], key: u64) -> Option<usize>
     None
 }
 
-/// Makes new slots for the texts, with room for as many again, and for `more`. A text in the overflow stays there.
+/// Makes new slots for the texts, with room for as many again, or for `more` if that is greater. A text in the overflow stays
+/// there.
 pub(crate) fn table(
     alloc: Global,
     texts: &Texts,
@@ -255,7 +256,7 @@ fn settle(
     }
 }
 
-/// Returns so many slots that no name has.
+/// Returns `count` free slots.
 fn free_slots(alloc: Global, count: usize) -> Result<Vec<Slot>, AllocError>
     ensures { IfOk result (λ slots. AreUnused slots.items) }
 {
@@ -265,7 +266,7 @@ fn free_slots(alloc: Global, count: usize) -> Result<Vec<Slot>, AllocError>
     Ok(slots)
 }
 
-/// Returns the length of a table of which so many texts and as many again, or `more` where that is more, take at most seven
+/// Returns the length of a table of which `count` texts and as many again, or `more` if that is greater, take at most seven
 /// eighths.
 fn slots_for(count: usize, more: usize) -> usize {
     let texts = count.saturating_add(count.max(more));

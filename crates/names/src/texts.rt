@@ -36,7 +36,7 @@ impl Texts {
         }
     }
 
-    /// Copies the texts.
+    /// Returns the same texts.
     pub(crate) fn copy(&self, alloc: Global) -> Result<Texts, AllocError>
         ensures { IfOk result (λ texts. texts ≡ self.now) }
     {
@@ -45,7 +45,7 @@ impl Texts {
         Ok(Texts { bytes, ends })
     }
 
-    /// Returns how many there are.
+    /// Returns how many texts there are.
     pub(crate) fn len(&self) -> usize
         ensures { result ≡ length self.now }
     {
@@ -76,7 +76,7 @@ impl Texts {
         Ok(())
     }
 
-    /// Makes room for so many more texts, though not for their bytes, if allocation succeeds.
+    /// Makes room for `more` texts, though not for their bytes, if allocation succeeds.
     pub(crate) fn reserve(&mut self, more: usize)
         ensures { self.new ≡ self.old }
     {
@@ -94,7 +94,7 @@ impl Texts {
         }
     }
 
-    /// Gives back the room of texts that were removed, where it is more than that of those that are there.
+    /// Gives back unused room, as `give_back` does.
     pub(crate) fn shrink(&mut self)
         ensures { self.new ≡ self.old }
     {

@@ -14,15 +14,15 @@ IsAfter size weights events w = after size weights events ≡ Ok w
 abbrev pub IsProposed : {V : Type 0} → World V → Ballot → ℕ → Option V → Type 0
 IsProposed {V} w b s v = (p : Packet V) × Contains w.packets p × (p.body ≡ Accept b s v)
 
--- one value a ballot and slot
+-- at most one value for each ballot and slot
 abbrev pub OneValue : {V : Type 0} → World V → Type 0
 OneValue {V} w = (b : Ballot) (s : ℕ) (u v : Option V) → IsProposed w b s u → IsProposed w b s v → u ≡ v
 
--- the value of a later ballot is the one chosen under an earlier
+-- the value of a later ballot is the one chosen under an earlier ballot
 abbrev pub LaterValue : {V : Type 0} → World V → Type 0
 LaterValue {V} w = (b c : Ballot) (s : ℕ) (u v : Option V) → IsChosenAt w.weights w.votes_cast b s u → IsProposed w c s v → is_under b c ≡ true → u ≡ v
 
--- what is chosen at a slot is chosen once
+-- the values chosen at a slot in the two worlds are equal
 abbrev pub ChosenAgree : {V : Type 0} → World V → World V → Type 0
 ChosenAgree {V} w x = (s : ℕ) (u v : Option V) → IsChosen w.weights w.votes_cast s u → IsChosen x.weights x.votes_cast s v → u ≡ v
 

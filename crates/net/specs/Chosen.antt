@@ -20,7 +20,7 @@ pub record IsChosenAt {V : Type 0} (weights : List ℕ) (votes : List (Vote V)) 
   pub majority : is_quorum weights voters ≡ true
   pub voted : (k : ℕ) → voters k ≡ true → Contains votes (vote k ballot slot value)
 
--- they did so under some ballot
+-- a quorum voted for the value at the slot under some ballot
 pub record IsChosen {V : Type 0} (weights : List ℕ) (votes : List (Vote V)) (slot : ℕ) (value : Option V) : Type 0 where
   pub ballot : Ballot
   pub chosen : IsChosenAt weights votes ballot slot value

@@ -1,6 +1,6 @@
--- The kept part of a node, and the one change that an event makes of it.
--- Source: Lamport, Paxos Made Simple, section 2.5: an acceptor must remember, in stable storage, what it promised and accepted.
--- The code stores the change before it posts anything; here both are of one step.
+-- The kept part of a node, and the one change that an event makes to it.
+-- Source: Lamport, Paxos Made Simple, section 2.5: an acceptor must remember in stable storage what it promised and accepted.
+-- The code stores the change before it posts anything; here both are in one step.
 use Rattle.std.specs.Prelude.{◌≢◌, ℕ, List, [], ◌∷◌, Option, Some, None, Result, Ok, Err, slice_get}
 use Rattle.net.specs.Words.{option_map, Packet, Change, Refusal, Kept, Node, Stepped, kept_of, offered, begun, on_packet, restarted, Event, Offer, Begin, Deliver, Restart, StepFault}
 use Rattle.net.specs.World.{World, happens}
@@ -9,7 +9,7 @@ use Rattle.net.specs.World.{World, happens}
 abbrev pub kept_part : {V : Type 0} → World V → ℕ → Option (Kept V)
 kept_part w k = option_map kept_of (slice_get w.nodes k)
 
--- the node of an event: that of a Deliver is the one that the packet is addressed to
+-- the node of an event: that of a Deliver is the receiver of the packet
 abbrev pub addressed : {V : Type 0} → List (Packet V) → Event V → Option ℕ
 addressed packets (Offer k v) = Some k
 addressed packets (Begin k) = Some k
@@ -31,14 +31,14 @@ abbrev pub change_delivered : {V : Type 0} → World V → Option (Packet V) →
 change_delivered w None = None
 change_delivered w (Some p) = change_at (λ n. Ok (on_packet n p)) (slice_get w.nodes p.to)
 
--- the change that the step of the event makes of the kept part of its node
+-- the change that the step of the event makes to the kept part of its node
 abbrev pub change_of : {V : Type 0} → (V → ℕ) → World V → Event V → Option (Change V)
 change_of size w (Offer k v) = change_at (λ n. offered size n v) (slice_get w.nodes k)
 change_of size w (Begin k) = change_at begun (slice_get w.nodes k)
 change_of size w (Deliver number) = change_delivered w (slice_get w.packets number)
 change_of size w (Restart k) = change_at (λ n. Ok (restarted n)) (slice_get w.nodes k)
 
--- of the events that follow none is node k's
+-- none of the events that follow is node k's
 abbrev pub AreOfOthers : {V : Type 0} → (V → ℕ) → ℕ → Result (World V) StepFault → List (Event V) → Type 0
 AreOfOthers size k r [] = Unit {0}
 AreOfOthers size k (Err fault) (e ∷ es) = Unit {0}

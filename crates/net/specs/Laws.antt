@@ -17,7 +17,7 @@ AtTwoMoments {V} fact = (size : V → ℕ) (weights : List ℕ) (early late : Li
 
 -- Agreement.
 
--- under one ballot one value at most is proposed for a slot
+-- under one ballot at most one value is proposed for a slot
 abbrev pub BallotsHaveOneValue : Type 0 → Type 0
 BallotsHaveOneValue V = Always {V = V} (λ events w. OneValue w)
 
@@ -43,8 +43,8 @@ LogEntriesWereOffered V = Always {V = V} (λ events w. LogsOffered events w)
 
 -- The kept part.
 
--- after an event of node k and a restart of it, whatever happens at other nodes in between, and so whether or not any packet of the
--- event is delivered there, the kept part is the one before the event, with the change of the event
+-- after an event of node k and a restart of k, whatever happens at other nodes in between, and so whether or not any packet of
+-- the event is delivered to them, the kept part is the one before the event, with the change of the event
 abbrev pub KeptPartSurvives : Type 0 → Type 0
 KeptPartSurvives V = (size : V → ℕ) (weights : List ℕ) (events others : List (Event V)) (e : Event V) (k : ℕ) (w x y : World V)
     → IsAfter size weights events w → happens size w e ≡ Ok x → node_of w e ≡ Some k → AreOfOthers size k (Ok x) others

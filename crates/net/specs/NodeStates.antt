@@ -1,4 +1,4 @@
--- What a node tells of itself after some events.
+-- The state that a node reports after some events.
 -- Source: Lamport, Paxos Made Simple, 2.2 and 2.4.
 -- The code reads the node of this moment.
 use Rattle.std.specs.Prelude.{ℕ, Option, None, Result, Ok, Err, slice_get, option_map}

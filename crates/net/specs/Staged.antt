@@ -49,7 +49,7 @@ step_of (steps made) n = made.step
 step_of (restarts posts None) n = restarted n
 step_of (restarts posts (Some kept)) n = reloaded n kept
 
--- the node can commit it: it is the one that staged it, with at least the room; a loaded record is its own
+-- the node is as it was when it staged the work, with at least that room; a loaded record is its kept part
 abbrev pub IsReadyAt : {V : Type 0} → Core V → StagedWork V → Type 0
 IsReadyAt c (steps made) = (c.node ≡ made.before.node) × HasAtLeast made.before c
 IsReadyAt c (restarts posts None) = posts ≡ to_others c.node.me c.node.weights (Ask 0)
@@ -74,7 +74,7 @@ pub record IsEventAt {V : Type 0} (size : V → ℕ) (w : World V) (k : ℕ) (e 
   pub change : change_of size w e ≡ change_answered r
   pub node : node_of w e ≡ Some k
 
--- in every world with at least these packets in which node k has that state
+-- the event has the result r in every world with at least these packets in which node k has that state
 abbrev pub ComesTo : {V : Type 0} → (V → ℕ) → List (Packet V) → ℕ → Node V → Event V → Result (Stepped V) Refusal → Type 0
 ComesTo {V} size packets k n e r = (w : World V) (more : List (Packet V)) → w.packets ≡ packets ++ more → slice_get w.nodes k ≡ Some n → IsEventAt size w k e r
 
@@ -88,14 +88,14 @@ pub record IsStagedAt {V : Type 0} (old new : Core V) (k : ℕ) (e : Event V) (s
   pub kind : IsOfEvent e due.work
   pub posts : AllByRecursion (IsPost (length old.node.weights)) (posts_of due.work)
 
--- it is staged; or its refusal is returned, or Memory if it meets none
+-- the event is staged; or its refusal is returned, or Memory if it meets none
 abbrev pub Readies : {V : Type 0} → Core V → Core V → ℕ → Event V → Result (Stepped V) Refusal → Result (StagedEvent V) StepFault → Type 0
 Readies old new k e (Ok step) (Ok due) = IsStagedAt old new k e step due
 Readies old new k e (Ok step) (Err fault) = fault ≡ Memory
 Readies old new k e (Err met) (Ok due) = ⊥
 Readies old new k e (Err met) (Err fault) = fault ≡ fault_of met
 
--- an event is staged, by its result at the node
+-- an event is staged, according to its result at the node
 abbrev pub ReadiesEvent : {V : Type 0} → (V → ℕ) → List (Packet V) → Core V → Core V → ℕ → Event V → Result (StagedEvent V) StepFault → Type 0
 ReadiesEvent size packets old new k (Offer j v) result = Readies old new k (Offer j v) (offered size old.node v) result
 ReadiesEvent size packets old new k (Begin j) result = Readies old new k (Begin j) (begun old.node) result
@@ -142,7 +142,7 @@ Gives size net e (Ok w) (Err fault) = fault ≡ Memory
 Gives size net e (Err met) (Ok due) = ⊥
 Gives size net e (Err met) (Err fault) = fault ≡ met
 
--- there is room for so many more packets and events
+-- there is room for these numbers of further packets and events
 pub record HasRoom {V : Type 0} (net : NetView V) (packets events : ℕ) : Type 0 where
   pub for_packets : length net.packets + packets ≤ net.packet_room
   pub for_events : length net.taken.events + events ≤ net.event_room

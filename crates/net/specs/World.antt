@@ -1,6 +1,6 @@
 -- The world of the nodes after a list of events: each event is the step of its node, and every packet ever posted is kept.
 -- Source: Lamport, Paxos Made Simple, sections 2.1 and 3 (messages may be lost, repeated and delayed, agents restart).
--- The code keeps the nodes and packets of one moment and the events that led there; the world here also remembers every vote ever cast.
+-- The code keeps the nodes and packets of one moment and the events that led there; the world here also has every vote.
 use Rattle.std.specs.Prelude.{ℕ, suc, ◌+◌, ◌==◌, List, [], ◌∷◌, ◌++◌, Option, Some, None, Result, Ok, Err, slice_get, slice_set, if◌then◌else◌}
 use Rattle.net.specs.Words.{Packet, Change, Round, Promise, Entry, Refusal, Node, Stepped, new_node, log_of, offered, begun, on_packet, restarted, MOST_EVENTS, Event, Offer, Begin, Deliver, Restart, StepFault, Busy, LogFull, RoundsSpent, TooLong, Memory, NoNode, NoPacket, EventsSpent}
 use Rattle.synod.specs.declared.refusal.Refusal.TheVariants.{Busy as NodeBusy, LogFull as NodeLogFull, RoundsSpent as NodeRoundsSpent, TooLong as NodeTooLong, Memory as NodeMemory}
@@ -17,7 +17,7 @@ abbrev pub nodes_from : {V : Type 0} → List ℕ → ℕ → List ℕ → List 
 nodes_from weights k [] = []
 nodes_from weights k (w ∷ ws) = new_node k weights ∷ nodes_from weights (suc k) ws
 
--- before any event
+-- the world before any event
 abbrev pub start : {V : Type 0} → List ℕ → World V
 start weights = record { weights = weights; nodes = nodes_from weights 0 weights; packets = []; votes_cast = []; taken = 0 }
 
@@ -36,7 +36,7 @@ votes_after k (Some (Round r)) votes = votes
 votes_after k (Some (Promise b)) votes = votes
 votes_after k (Some (Entry s h)) votes = vote k h.ballot s h.value ∷ votes
 
--- node k made the step, and its posts go to the end of the packets
+-- node k made the step, and its posts are appended to the packets
 abbrev pub stepped : {V : Type 0} → World V → ℕ → Stepped V → World V
 stepped w k step = record {
   weights = w.weights;
@@ -74,7 +74,7 @@ all_happen size [] r = r
 all_happen size (e ∷ es) (Err fault) = Err fault
 all_happen size (e ∷ es) (Ok w) = all_happen size es (happens size w e)
 
--- the world after these events, or the fault that the first of them to be refused meets; size is how long a value is
+-- the world after these events, or the fault of the first that is refused; size gives the length of a value
 abbrev pub after : {V : Type 0} → (V → ℕ) → List ℕ → List (Event V) → Result (World V) StepFault
 after size weights events = all_happen size events (Ok (start weights))
 
@@ -86,7 +86,7 @@ log_at (Some n) = log_of n
 abbrev pub log : {V : Type 0} → World V → ℕ → List (Option V)
 log w k = log_at (slice_get w.nodes k)
 
--- the log of node k and the packets after some events; nothing if they meet a fault
+-- the log of node k and the packets after some events; empty if one of them meets a fault
 abbrev pub log_after : {V : Type 0} → Result (World V) StepFault → ℕ → List (Option V)
 log_after (Ok w) k = log w k
 log_after (Err fault) k = []

@@ -1,11 +1,12 @@
+//! The faults of events.
 ghost use Rattle.std.specs.Prelude.{◌≡◌};
 
 use std::alloc::AllocError;
 use synod::{Failed, Refusal};
 use thiserror::Error;
 
-/// Why an event was refused. If several apply, the first in this order is returned: `EventsSpent`, `NoNode`, `NoPacket`,
-/// `TooLong`, `LogFull`, `RoundsSpent`, `Busy`, `Memory`.
+/// Why an event was refused. A world returns the first fault that applies, in this order: `EventsSpent`, `NoNode`,
+/// `NoPacket`, `TooLong`, `LogFull`, `RoundsSpent`, `Busy`, `Memory`.
 #[derive(Debug, Clone, Copy, PartialEq, Eq, Error)]
 pub enum StepFault {
     /// 64 values are waiting at the node.
@@ -32,7 +33,7 @@ pub enum StepFault {
     /// The run has `MOST_EVENTS` events.
     #[error("no event is left")]
     EventsSpent,
-    /// A store failed. Only in a cluster.
+    /// A store or a load failed. Only in a cluster.
     #[error("the store failed")]
     Device,
     /// The node is down. Only in a cluster.
@@ -41,7 +42,7 @@ pub enum StepFault {
     /// The cluster was stopped. Only in a cluster.
     #[error("the cluster is stopped")]
     Stopped,
-    /// Two libraries differ. Only in a cluster.
+    /// A cell is not its node's, or does not belong to the switch. Only in a cluster.
     #[error("the libraries are apart")]
     Apart,
 }

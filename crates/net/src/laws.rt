@@ -1,7 +1,10 @@
+//! The laws of agreement, as contracts of functions that do nothing.
 ghost use Rattle.net.specs.Laws.{BallotsHaveOneValue, LaterBallotsKeepChosen, ChosenValuesAgree, LogEntriesAreChosen, LogsOfNodesAgree, LogEntriesWereOffered, KeptPartSurvives, LogsOnlyGrow, RestartEmptiesLog};
 
-/// Agreement: holds after any events that are taken, whatever was lost, repeated or delayed and whoever restarted, for
-/// any weights and any values. Source: Lamport, Paxos Made Simple, section 2.2.
+/// States agreement after any events that are taken, whatever was lost, repeated or delayed and whichever nodes
+/// restarted, for any weights and any values.
+///
+/// Source: Lamport, Paxos Made Simple, section 2.2.
 pub fn agreement<V>()
     ensures one_value { BallotsHaveOneValue V }
     ensures later_value { LaterBallotsKeepChosen V }
@@ -11,13 +14,15 @@ pub fn agreement<V>()
     ensures logs_offered { LogEntriesWereOffered V }
 {}
 
-/// The law of the kept part: after an event of a node and a restart of it, its kept part is the earlier one with the
-/// change of the event, whether or not any packet of the event is ever delivered. Source: Lamport, Paxos Made Simple, section 2.5.
+/// States that after an event of a node and a restart of that node its kept part is the earlier one with the change of
+/// the event, whether or not any packet of the event is ever delivered.
+///
+/// Source: Lamport, Paxos Made Simple, section 2.5.
 pub fn kept_part<V>()
     ensures { KeptPartSurvives V }
 {}
 
-/// The law of growing logs: the log of a node only grows, except that a restart empties it.
+/// States that the log of a node only grows, except that a restart empties it.
 pub fn logs_grow<V>()
     ensures grows { LogsOnlyGrow V }
     ensures restart { RestartEmptiesLog V }

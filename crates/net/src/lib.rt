@@ -1,8 +1,8 @@
 //! All nodes and all packets of one agreement on any values, driven by events.
 //!
 //! The contract that the crates above use is `agreement`, which `Net::history` states for every net: whatever was lost,
-//! repeated or delayed and whoever restarted, the logs of any two nodes at any two moments agree. `kept_part` states what
-//! survives a restart, `logs_grow` that nothing else shortens a log.
+//! repeated or delayed and whichever nodes restarted, the logs of any two nodes at any two moments agree. `kept_part` states
+//! what survives a restart, `logs_grow` that nothing else shortens a log.
 //!
 //! Read `event` and `fault`, then the definitions: specs/World, Chosen, Agree, KeptPart, Laws, Taken, History; then `laws`,
 //! `staged` (an event that is ready to be taken), `net` and `node_state`.

@@ -52,6 +52,8 @@ impl<V: Value> Net<V> {
     ghost use Rattle.net.specs.declared.fault.StepFault.TheVariants.{NoNode, NoPacket, Memory};
 
     /// Creates a world of new nodes.
+    ///
+    /// Errors: `Memory`.
     pub fn new(alloc: Global, weights: Weights) -> Result<Self, StepFault>
         ensures new { IfOk result (λ net. net.taken ≡ record { weights = weights; events = [] }) }
         ensures world { IfOk result (λ net. AreOfWorld V.bytes net.taken net.cores net.packets) }
@@ -65,7 +67,7 @@ impl<V: Value> Net<V> {
         })
     }
 
-    /// Stages an event, or returns the first fault that it meets, or `Memory` if it meets none. Only the reserved room changes.
+    /// Stages an event, or returns the first fault that it meets, or `Memory` if it meets none. Only reserved room changes.
     ///
     /// Cost: that of the step at its node.
     pub fn ready(&mut self, event: Event<V>) -> Result<StagedEvent<V>, StepFault>
@@ -88,7 +90,7 @@ impl<V: Value> Net<V> {
         Ok(due)
     }
 
-    /// Returns the node of an event: that of a delivery is the receiver of the packet.
+    /// Returns the node of an event: for a delivery the receiver of the packet, or `None` if there is no such packet.
     pub fn node_of(&self, event: &Event<V>) -> Option<u8>
         ensures { result ≡ addressed self.now.packets event.now }
     {
@@ -118,7 +120,9 @@ impl<V: Value> Net<V> {
         ready_event(node, k, event, &self.packets)
     }
 
-    /// Reserves room for more packets and events.
+    /// Reserves room for `packets` more packets and `events` more events.
+    ///
+    /// Errors: `Memory`.
     pub fn room(&mut self, packets: usize, events: usize) -> Result<(), StepFault>
         ensures room { OnOk result (HasRoom self.new packets events) }
         ensures only_memory { IsOkUnless result Memory }
@@ -161,7 +165,7 @@ impl<V: Value> Net<V> {
         Ok(self.commit(due))
     }
 
-    /// Returns the events taken, the oldest first. None of them meets a fault, and agreement holds at each of their moments.
+    /// Returns the events taken, the oldest first. None of them meets a fault, and agreement holds after every prefix of them.
     pub fn history(&self) -> &[Event<V>]
         ensures events { result.now ≡ self.now.taken.events }
         ensures few { length self.now.taken.events ≤ MOST_EVENTS }
@@ -171,7 +175,7 @@ impl<V: Value> Net<V> {
         &self.events
     }
 
-    /// Returns entry `slot` of the log of node `k`. It does not allocate.
+    /// Returns entry `slot` of the log of node `k`, or `NoNode`. It does not allocate.
     pub fn entry(&self, k: u8, slot: u32) -> Result<Option<&Option<V>>, StepFault>
         ensures entry { IfOk result (λ found. MatchOption found (slice_get (log_after (world_of V.bytes self.now.taken) k) slot ≡ None) (λ entry. slice_get (log_after (world_of V.bytes self.now.taken) k) slot ≡ Some entry.now)) }
         ensures below { IfOk result (λ found. IsSome found → slot < SLOTS) }
@@ -186,7 +190,7 @@ impl<V: Value> Net<V> {
 
     /// Returns the log of node `k`: the entries that it learned, up to its first gap.
     ///
-    /// Cost: the log; each value is copied once.
+    /// Errors: `NoNode`; else `Memory`. Cost: the log; each value is copied once.
     pub fn log(&self, k: u8) -> Result<Vec<Option<V>>, StepFault>
         ensures log { IfOk result (λ entries. entries.items ≡ log_after (world_of V.bytes self.now.taken) k) }
         ensures no_node { length self.now.taken.weights ≤ k → result ≡ Err NoNode }
@@ -198,7 +202,7 @@ impl<V: Value> Net<V> {
         }
     }
 
-    /// Returns the packet of a number, from 0 in the order of posting. It does not allocate.
+    /// Returns the packet of a number, from 0 in the order of posting, or `NoPacket`. It does not allocate.
     pub fn packet(&self, number: u64) -> Result<&Packet<V>, StepFault>
         ensures found { IfOk result (λ packet. slice_get (packets_after (world_of V.bytes self.now.taken)) number ≡ Some packet.now) }
         ensures no_packet { (result ≡ Err NoPacket) ↔ (slice_get (packets_after (world_of V.bytes self.now.taken)) number ≡ None) }

@@ -10,7 +10,7 @@ impl<V: Value> Net<V> {
     ghost use Rattle.net.specs.Taken.{world_of};
     ghost use Rattle.net.specs.declared.fault.StepFault.TheVariants.{NoNode};
 
-    /// Returns what node `k` tells of itself. It does not allocate.
+    /// Returns the state of node `k`, or `NoNode`. It does not allocate.
     pub fn state(&self, k: u8) -> Result<NodeState, StepFault>
         ensures state { IfOk result
             (λ state. state_after (world_of V.bytes self.now.taken) k ≡ Some state) }

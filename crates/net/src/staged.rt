@@ -45,7 +45,7 @@ impl<V: Value> StagedEvent<V> {
         self.at
     }
 
-    /// Returns the change that it makes of the kept part of its node, if any.
+    /// Returns the change that the event makes to the kept part of its node, if any.
     pub fn change(&self) -> Option<&Change<V>>
         ensures { MatchOption result (change_in self.now.work ≡ None) (λ change. change_in self.now.work ≡ Some change.now) }
     {
@@ -55,7 +55,7 @@ impl<V: Value> StagedEvent<V> {
         }
     }
 
-    /// Returns the packets that it posts, in order.
+    /// Returns the packets that the event posts, in order.
     pub fn posts(&self) -> &[Packet<V>]
         ensures { result.now ≡ posts_of self.now.work }
     {
@@ -65,7 +65,7 @@ impl<V: Value> StagedEvent<V> {
         }
     }
 
-    /// Makes a restart start from `stored`; other events are unchanged.
+    /// Sets the record that a restart starts from; other events are unchanged.
     pub fn load(&mut self, stored: Record<V>)
         ensures { self.new ≡ with_record self.old stored.kept }
     {

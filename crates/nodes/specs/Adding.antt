@@ -1,6 +1,6 @@
--- The outcome of an entry at a node, for one who sees it through.
+-- The outcome of an entry at a node, as `Desk::add` returns it.
 -- Source: this project's profile.
--- The code lets the lock go before it answers, so what is said is said of some cell.
+-- The code releases the lock before it returns, so the definitions speak of some cell.
 use Rattle.std.specs.Prelude.{◌≡◌, ◌⊎◌, ℕ, Option}
 use Rattle.cluster.specs.Outcome.{IsOutcomeOf}
 use Rattle.library.specs.declared.entry.Entry.{Entry}
@@ -20,7 +20,7 @@ pub record IsOutcome (k : ℕ) (entry : Entry) (outcome : Option Verdict) : Type
 abbrev pub IsAskFault : StepFault → Type 0
 IsAskFault fault = (fault ≡ Apart) ⊎ (fault ≡ NoNode)
 
--- the fault of one of the steps by which an entry is seen through
+-- the fault of one of the steps by which an entry is added
 abbrev pub IsAddFault : ℕ → Entry → StepFault → Type 0
 IsAddFault k entry fault =
     (fault ≡ Memory) ⊎ IsAskFault fault

@@ -1,6 +1,6 @@
 -- The answers of a desk: those of the calls of a cluster on the values under the locks.
 -- Source: this project's profile.
--- The code lets the locks go before it answers, so what is said is said of some such values.
+-- The code releases the locks before it returns, so the definitions speak of some such values.
 use Rattle.std.specs.Prelude.{◌≡◌, ◌⊎◌, ℕ, List, [], ◌∷◌, Option, Result, Ok, Err}
 use Rattle.nodes.specs.Words.{Listed, Verdict, status, listed, Carried, Ahead, Event, Deliver, Restart, StepFault, Apart, Stopped, carried_size, SwitchView, Plays, Belongs, IsAhead, Cell, IsCell}
 
@@ -11,14 +11,14 @@ pub record IsListed (k : ℕ) (list : List Listed) : Type 0 where
   pub is_cell : IsCell cell
   pub lists : list ≡ listed cell.node.library.statements
 
--- the verdict of the library of node k's cell on the author's entry of that number
+-- the verdict of the library of node k's cell on the author's entry of that serial number
 pub record IsStatus (k author serial : ℕ) (verdict : Option Verdict) : Type 0 where
   pub cell : Cell
   pub at : cell.at ≡ k
   pub is_cell : IsCell cell
   pub decides : verdict ≡ status cell.node.library.decided author serial
 
--- the cells of nodes j and k, of one switch, compare so
+-- this is how the libraries of the cells of nodes j and k, of one switch, compare
 pub record IsCompared (j k : ℕ) (ahead : Ahead) : Type 0 where
   pub switch : SwitchView Carried
   pub one : Cell
@@ -31,17 +31,17 @@ pub record IsCompared (j k : ℕ) (ahead : Ahead) : Type 0 where
 
 -- The event that a call at a desk plays on the switch under the lock.
 
--- a call answers as the switch answers the event: where it is taken, with some count of packets, else with its fault
+-- the result of a call is that of the event at the switch: some count of packets if it is taken, else its fault
 abbrev pub AnswersAs : {A : Type 0} → SwitchView Carried → SwitchView Carried → Event Carried → Result A StepFault → Type 0
 AnswersAs old new e (Ok answer) = (count : ℕ) × Plays carried_size old new e (Ok count)
 AnswersAs old new e (Err fault) = Plays carried_size old new e (Err fault)
 
--- packets are delivered one after another, whatever each delivery is answered
+-- packets are delivered one after another, whatever the result of each delivery
 abbrev pub DeliversAll : SwitchView Carried → SwitchView Carried → List ℕ → Type 0
 DeliversAll old new [] = new ≡ old
 DeliversAll old new (number ∷ numbers) = (mid : SwitchView Carried) × (answer : Result ℕ StepFault) × Plays carried_size old mid (Deliver number) answer × DeliversAll mid new numbers
 
--- some switch answers the event so
+-- the event has this result at some switch
 pub record IsPlayed (e : Event Carried) (answer : Result ℕ StepFault) : Type 0 where
   pub old : SwitchView Carried
   pub new : SwitchView Carried

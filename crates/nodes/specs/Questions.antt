@@ -1,6 +1,6 @@
 -- The answers to questions at a desk about what a node has, and about the history.
 -- Source: this project's profile.
--- The code lets the lock go before it answers, so what is said is said of some cell, or of some switch.
+-- The code releases the lock before it returns, so the definitions speak of some cell, or of some switch.
 use Rattle.std.specs.Prelude.{◌≡◌, ℕ, List, Some, IsOk}
 use Rattle.net.specs.NodeStates.{state_after}
 use Rattle.switch.specs.Switch.{is_down_at}
@@ -17,7 +17,7 @@ pub record IsHistory (history : List (Event Carried)) : Type 0 where
   pub taken : IsOk (world_of carried_size switch)
   pub events : history ≡ switch.history
 
--- what node k of some switch tells of itself, and how many entries some cell of it applied
+-- the state of node k of some switch, and the number of entries that some cell of node k applied
 pub record IsStanding (k : ℕ) (standing : NodeStanding) : Type 0 where
   pub cell : Cell
   pub of_node : IsCellAt k cell

@@ -12,12 +12,12 @@ is_node k (Some j) = j == k
 abbrev pub is_own : {V : Type 0} → World V → ℕ → Event V → Bool
 is_own w k e = is_node k (node_of w e)
 
--- how many of the events are node k's own
+-- the number of the events that are node k's own
 abbrev pub own_events : {V : Type 0} → World V → ℕ → List (Event V) → ℕ
 own_events w k [] = 0
 own_events w k (e ∷ es) = (if is_own w k e then 1 else 0) + own_events w k es
 
--- the counts of so many nodes from node k on, in order
+-- the counts of a number of nodes from node k on, in order
 abbrev pub own_counts : {V : Type 0} → World V → ℕ → ℕ → List (Event V) → List ℕ
 own_counts w k zero events = []
 own_counts w k (suc n) events = own_events w k events ∷ own_counts w (suc k) n events

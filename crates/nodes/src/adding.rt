@@ -1,4 +1,4 @@
-//! Seeing an entry through to its verdict at a node.
+//! Submitting an entry until its verdict is known at a node.
 ghost use Rattle.std.specs.Prelude.{◌≡◌, ◌≤◌, ◌<◌, Err, IfErr, IfOk, IsErr, IsOkUnless};
 ghost use Rattle.net.specs.declared.fault.StepFault.TheVariants.{Apart, NoNode};
 ghost use Rattle.nodes.specs.Adding.{IsAddFault, IsOutcome};
@@ -13,35 +13,35 @@ use synod::{Keep, Role};
 use verify_pool::Gate;
 use world::Carried;
 
-/// How often an entry is submitted at most.
+/// The greatest number of times that an entry is submitted.
 const MOST_TRIES: u32 = 17;
 
-/// How many turns are waited at least after the first try; after each further one, twice as many.
+/// The least number of turns to wait after the first try; it doubles with each further try.
 const FIRST_WAIT: u64 = 1024;
 
-/// How often the wait is doubled at most. So all waits together have fewer than 10,000,000 turns.
+/// The greatest number of times that the wait doubles. So all waits together have fewer than 10,000,000 turns.
 const MOST_DOUBLINGS: u32 = 9;
 
-/// In how many turns the outcome is asked once, since an ask takes the lock that the node needs.
+/// The number of turns from one question for the outcome to the next: each takes the lock that the node needs.
 const TURNS_AN_ASK: u64 = 64;
 
 /// The golden ratio's fraction of 2^64: the fractions of its multiples lie far from one another.
 const GOLDEN: u64 = 0x9E37_79B9_7F4A_7C15;
 
 impl<G: Gate, K: Keep<Carried>> Desk<G, K> {
-    /// Submits an entry at node `k`, again and again until a verdict on it is known there. Returns
-    /// the verdict, or `Repeat` if the entry decided under this author and serial number is another
-    /// one; `None` if after 17 tries nothing is known there.
+    /// Submits an entry at node `k`, repeatedly until a verdict on it is known there. Returns the
+    /// verdict, or `Repeat` if another entry was decided under this author and serial number; `None`
+    /// if after 17 tries nothing is known there.
     ///
-    /// The first try has the node begin a ballot if it does not lead, each later one always: a slot
+    /// The first try begins a ballot at the node if it does not lead, each later one always: a slot
     /// whose packets were lost stays open until a ballot proposes it again, even at a node that
-    /// leads, and every later slot waits for it. Each try waits longer than the one before it, and
-    /// each node for another time, so that two that begin ballots do not keep stopping each other.
-    /// An entry that is submitted several times is decided once.
+    /// leads, and every later slot waits for it. Up to the tenth, each try waits longer than the one
+    /// before it, and the waits of two nodes differ, so that two that begin ballots do not keep
+    /// stopping each other. An entry that is submitted several times is decided once.
     ///
-    /// Errors: those of `submit` but `Busy`, and those of `begin`; `Apart` where the cell is not of
-    /// its node; `Memory`. After an error of a later try the entry may still be decided. Cost: 17
-    /// events of each kind and 10,000,000 turns at most, and one pass over the entries of the node.
+    /// Errors: those of `submit` except `Busy`, and those of `begin`; `Apart` if the cell is not that
+    /// of its node; `Memory`. After an error the entry may still be decided. Cost: at most 17 offers,
+    /// 17 ballots and 10,000,000 turns, and one pass over the entries of the node.
     pub fn add<R: Wait>(&self, rt: &R, k: u8, entry: &Entry) -> Result<Option<Verdict>, StepFault>
         ensures outcome { IfOk result (IsOutcome k entry.now) }
         ensures no_node { self.now ≤ k → IsErr result }
@@ -64,7 +64,7 @@ impl<G: Gate, K: Keep<Carried>> Desk<G, K> {
         self.outcome(rt, k, entry)
     }
 
-    /// Submits a copy of the entry at node `k`, unless too many wait there.
+    /// Submits a copy of the entry at node `k`, unless too many values wait there.
     fn submit_again<R: Wait>(&self, rt: &R, k: u8, entry: &Entry) -> Result<(), StepFault>
         ensures { IfErr result (IsAddFault k entry.now) }
     {
@@ -74,7 +74,7 @@ impl<G: Gate, K: Keep<Carried>> Desk<G, K> {
         }
     }
 
-    /// Tells whether node `k` leads.
+    /// Returns whether node `k` leads.
     fn leads<R: Wait>(&self, rt: &R, k: u8) -> bool {
         let shared = self.shared.switch.lock(rt);
         match shared.switch.state(k) {
@@ -83,7 +83,7 @@ impl<G: Gate, K: Keep<Carried>> Desk<G, K> {
         }
     }
 
-    /// Returns the outcome of the entry at node `k` once it is known, or after so many turns.
+    /// Returns the outcome of the entry at node `k` once it is known, or after `turns` turns.
     fn awaited<R: Wait>(
         &self,
         rt: &R,
@@ -117,8 +117,8 @@ impl<G: Gate, K: Keep<Carried>> Desk<G, K> {
     }
 }
 
-/// Returns how many turns node `k` waits after a try, from 0: more than after the one before it,
-/// and up to twice as many as that by a fraction drawn for the node and the try.
+/// Returns the number of turns that node `k` waits after try `turn`, from 0: `FIRST_WAIT`, doubled for
+/// each try up to `MOST_DOUBLINGS` times, plus a fraction of that, drawn for the node and the try.
 fn wait_after(k: u8, turn: u32) -> u64 {
     let least = FIRST_WAIT << turn.min(MOST_DOUBLINGS);
     let drawn = (u64::from(turn) * 256 + u64::from(k) + 1).wrapping_mul(GOLDEN) >> 32;

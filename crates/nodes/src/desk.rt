@@ -15,7 +15,8 @@ use synod::Keep;
 use verify_pool::Gate;
 use world::Carried;
 
-/// A desk of a cluster. Its calls take the locks themselves, and may wait for them. Contracts see the count of the nodes.
+/// A desk of a cluster, at which any thread may call. Its calls take the locks, and may wait for them. Contracts see the
+/// number of nodes.
 #[derive(Drop)]
 pub struct Desk<G: Gate, K: Keep<Carried>> {
     pub(crate) shared: Arc<SharedNodes<G, K>>,
@@ -33,7 +34,7 @@ impl<G: Gate, K: Keep<Carried>> Model for Desk<G, K> {
 impl<G: Gate, K: Keep<Carried>> Desk<G, K> {
     /// Offers an entry at node `k`.
     ///
-    /// Errors: `Stopped` once the cluster is stopped; else those of `cluster::offer_on`.
+    /// Errors and cost: those of `Switch::play`; `Stopped` once the cluster is stopped.
     pub fn submit<R: Wait>(&self, rt: &R, k: u8, entry: Entry) -> Result<(), StepFault>
         ensures offered { OnOk result ((count : ℕ) × IsPlayed (Offer k (record { 0 = entry })) (Ok count)) }
         ensures refused { IfErr result (IsPlayFault (Offer k (record { 0 = entry }))) }
@@ -41,9 +42,9 @@ impl<G: Gate, K: Keep<Carried>> Desk<G, K> {
         self.play(rt, Event::Offer(k, Carried(entry)))
     }
 
-    /// Has node `k` begin a ballot.
+    /// Begins a ballot at node `k`.
     ///
-    /// Errors: `Stopped` once the cluster is stopped; else those of `cluster::begin_on`.
+    /// Errors and cost: those of `Switch::play`; `Stopped` once the cluster is stopped.
     pub fn begin<R: Wait>(&self, rt: &R, k: u8) -> Result<(), StepFault>
         ensures begun { OnOk result ((count : ℕ) × IsPlayed (Begin k) (Ok count)) }
         ensures refused { IfErr result (IsPlayFault (Begin k)) }
@@ -69,8 +70,9 @@ impl<G: Gate, K: Keep<Carried>> Desk<G, K> {
 
     /// Restarts node `k` with the record that its keep has.
     ///
-    /// Errors: `Stopped` once the cluster is stopped; `EventsSpent` and then `NoNode` where there is no such node; `Apart` where the
-    /// cell is not of its node; else those of `cluster::restart_on`.
+    /// Errors: `Stopped` once the cluster is stopped; if there is no such node, `EventsSpent` if no event is left and else
+    /// `NoNode`; `Apart` if the cell is not that of its node; else those of `cluster::restart_on`. Cost: that of
+    /// `cluster::restart_on`.
     pub fn restart<R: Wait>(&self, rt: &R, k: u8) -> Result<(), StepFault>
         ensures restarted { OnOk result ((count : ℕ) × IsPlayed (Restart k) (Ok count)) }
         ensures refused { k < self.now → IfErr result (IsRestartFault k) }
@@ -98,7 +100,7 @@ impl<G: Gate, K: Keep<Carried>> Desk<G, K> {
 
     /// Returns the assertions of node `k`'s library, in order.
     ///
-    /// Errors: `NoNode`; else `Apart` where the cell is not of its node; else `Memory`. Cost: one pass over all statements.
+    /// Errors: `NoNode`; else `Apart` if the cell is not that of its node; else `Memory`. Cost: one pass over all statements.
     pub fn list<R: Wait>(&self, rt: &R, k: u8) -> Result<Vec<Listed>, StepFault>
         ensures listed { IfOk result (λ list. IsListed k list.items) }
         ensures no_node { self.now ≤ k → result ≡ Err NoNode }
@@ -113,7 +115,7 @@ impl<G: Gate, K: Keep<Carried>> Desk<G, K> {
 
     /// Returns the verdict of node `k`'s library on the author's entry of that serial number, if it is decided there.
     ///
-    /// Errors: `NoNode`; else `Apart` where the cell is not of its node. Cost: that of `Library::status`.
+    /// Errors: `NoNode`; else `Apart` if the cell is not that of its node. Cost: that of `Library::status`.
     pub fn status<R: Wait>(
         &self,
         rt: &R,
@@ -132,10 +134,10 @@ impl<G: Gate, K: Keep<Carried>> Desk<G, K> {
         Ok(node.cell.library().status(author, serial))
     }
 
-    /// Tells which of two nodes has the library with more statements.
+    /// Returns which of two nodes has the library with more statements.
     ///
-    /// Errors: `NoNode`; else `Apart` where one of the two cells is not of the switch, or not of its node. Cost: the size of the
-    /// entries that both nodes took over, each compared with one of the log.
+    /// Errors: `NoNode`; else `Apart` if one of the two cells does not belong to the switch, or is not that of its node.
+    /// Cost: the size of the entries that both nodes took over, each compared with one of the log.
     pub fn compare<R: Wait>(&self, rt: &R, j: u8, k: u8) -> Result<Ahead, StepFault>
         ensures compared { IfOk result (λ ahead. (j ≡ k) ⊎ IsCompared j k ahead) }
         ensures no_node { (self.now ≤ j) ⊎ (self.now ≤ k) → result ≡ Err NoNode }

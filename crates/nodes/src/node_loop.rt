@@ -10,10 +10,10 @@ use synod::Keep;
 use verify_pool::Gate;
 use world::Carried;
 
-/// How many waiting hints a node takes at most at once: each lock is taken once for all of them.
+/// The most hints that a node takes at once: each lock is taken once for all of them.
 const MOST_HINTS: usize = 32;
 
-/// Takes the waiting hints, turn after turn, until the channel ends.
+/// Takes the waiting hints, up to `MOST_HINTS` at once, until the channel ends.
 pub(crate) fn run_node<
     G: Gate + Sync + Drop,
     K: Keep<Carried> + Drop,

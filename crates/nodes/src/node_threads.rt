@@ -27,8 +27,8 @@ use synod::{Keep, Weights};
 use verify_pool::{Gate, Workers};
 use world::Carried;
 
-/// The running node threads. It stays in its thread. If it is dropped without `stop`, its threads stay blocked. Contracts see the
-/// count of the nodes.
+/// The running node threads. It cannot be sent to another thread. If it is dropped without `stop`, the node threads stay
+/// blocked. Contracts see the number of nodes.
 #[derive(Drop)]
 pub struct Cluster<G: Gate, K: Keep<Carried>> {
     alloc: Global,
@@ -48,10 +48,10 @@ impl<G: Gate, K: Keep<Carried>> Model for Cluster<G, K> {
     ghost invariant = { λ c. vec_len (arc_value c.shared).cells ≡ c.nodes };
 }
 
-/// Starts the nodes' threads: for each weight a node with its keep, whose record is that of a new node, and its weather. The proofs
-/// of each entry that a node applies are checked by `workers` threads.
+/// Starts the nodes' threads: for each weight a node with its keep, whose record is that of a new node, and its weather. The
+/// proofs of each entry that a node applies are checked by `workers` threads. Each entry and each proof passes `gate` first.
 ///
-/// Errors: `Memory`, where an allocation fails or a thread cannot be started; those that were started have ended.
+/// Errors: `Memory`, if an allocation fails or a thread cannot be started; the threads that were started have then ended.
 pub fn start<
     G: Gate + Send + Sync + Drop + 'static,
     W: Weather + Send + Drop + 'static,
@@ -88,7 +88,7 @@ pub fn start<
     }
 }
 
-/// Makes the locks, and the receiving ends of the nodes' channels.
+/// Creates the locks, and the receiving ends of the nodes' channels.
 fn share<G: Gate + Drop, K: Keep<Carried>>(
     alloc: Global,
     weights: Weights,
@@ -119,7 +119,7 @@ fn share<G: Gate + Drop, K: Keep<Carried>>(
     }
 }
 
-/// Makes a lock for each cell.
+/// Creates a lock for each cell.
 fn locks(alloc: Global, cells: Vec<NodeCell>) -> Result<Vec<Mutex<SharedCell>>, AllocError>
     ensures { IfOk result (λ locks. vec_len locks ≡ vec_len cells) }
 {
@@ -130,7 +130,7 @@ fn locks(alloc: Global, cells: Vec<NodeCell>) -> Result<Vec<Mutex<SharedCell>>, 
     Ok(locks)
 }
 
-/// Makes a channel for each of so many nodes.
+/// Creates a channel for each of `nodes` nodes.
 fn channels(
     alloc: Global,
     nodes: u8,
@@ -182,9 +182,9 @@ impl<G: Gate, K: Keep<Carried>> Cluster<G, K> {
         Ok(())
     }
 
-    /// Returns a desk of the cluster, for any thread.
+    /// Creates a desk of the cluster, for any thread.
     ///
-    /// Errors: too many desks are there.
+    /// Errors: there are too many desks.
     pub fn desk(&self) -> Result<Desk<G, K>, AllocError>
         ensures { IfOk result (λ desk. desk ≡ self.now) }
     {
@@ -192,7 +192,7 @@ impl<G: Gate, K: Keep<Carried>> Cluster<G, K> {
         Ok(Desk { shared })
     }
 
-    /// Ends the channels, and joins the threads. Does not allocate.
+    /// Ends the channels, and joins the threads. It does not allocate.
     fn end<R: Threads + Wait>(&mut self, rt: &R)
         ensures { self.new ≡ self.old }
     {
@@ -208,7 +208,8 @@ impl<G: Gate, K: Keep<Carried>> Cluster<G, K> {
 
     /// Ends the channels, joins the threads, and counts each node's events.
     ///
-    /// Errors: `Stopped` where it was stopped before; else `Memory`, and the cluster goes on. Cost: one pass over the history.
+    /// Errors: `Stopped` if the cluster was stopped before; else `Memory`, and the cluster goes on. Cost: one pass over the
+    /// history.
     pub fn stop<R: Threads + Wait>(&mut self, rt: &R) -> Result<Report, StepFault>
         ensures report { IfOk result (λ report. (switch : SwitchView Carried) × IsReport switch self.old report.handled.items) }
         ensures faults { IfErr result (λ fault. (fault ≡ Stopped) ⊎ (fault ≡ Memory)) }

@@ -14,22 +14,22 @@ use synod::{Keep, NodeState, Value};
 use verify_pool::Gate;
 use world::Carried;
 
-/// How a node stands.
+/// The state of a node and of its cell.
 #[derive(Clone, Copy, PartialEq, Eq)]
 pub struct NodeStanding {
     /// The state that it reports.
     pub state: NodeState,
-    /// How many entries of its log were applied.
+    /// The number of entries of its log that were applied.
     pub applied: u32,
-    /// Whether it is down, since a store of its keep failed.
+    /// Whether it is down, since a call of its keep failed.
     pub is_down: bool,
 }
 
 impl<G: Gate, K: Keep<Carried>> Desk<G, K> {
-    /// Returns what the question answers of node `k`'s cell. The node waits meanwhile, so a
-    /// question makes its answer and prints nothing.
+    /// Asks the question of node `k`'s cell, and returns its answer. The node waits meanwhile, so
+    /// the question should not print.
     ///
-    /// Errors: `NoNode`; else `Apart` where the cell is not of its node. Cost: that of the question.
+    /// Errors: `NoNode`; else `Apart` if the cell is not that of its node. Cost: that of the question.
     pub fn ask<R: Wait, T, F: FnOnce(&NodeCell) -> T + Drop>(
         &self,
         rt: &R,
@@ -46,9 +46,10 @@ impl<G: Gate, K: Keep<Carried>> Desk<G, K> {
         ask_on(&node.cell, k, question)
     }
 
-    /// Returns how node `k` stands. Its cell and the switch are locked meanwhile.
+    /// Returns the state of node `k` and of its cell. The cell and the switch are locked meanwhile. It does not
+    /// allocate.
     ///
-    /// Errors: `NoNode`; else `Apart` where the cell is not of its node. Does not allocate.
+    /// Errors: `NoNode`; else `Apart` if the cell is not that of its node.
     pub fn standing<R: Wait>(&self, rt: &R, k: u8) -> Result<NodeStanding, StepFault>
         ensures standing { IfOk result (IsStanding k) }
         ensures no_node { self.now ≤ k → result ≡ Err NoNode }
@@ -70,8 +71,8 @@ impl<G: Gate, K: Keep<Carried>> Desk<G, K> {
 
     /// Returns the events of the history so far. The switch is locked while they are copied.
     ///
-    /// Errors: `Memory`. Cost: the count of the events and of the names of their charters; texts
-    /// are shared.
+    /// Errors: `Memory`. Cost: the number of events and of names of their charters; texts are
+    /// shared.
     pub fn history<R: Wait>(&self, rt: &R) -> Result<Vec<Event<Carried>>, StepFault>
         ensures history { IfOk result (λ events. IsHistory events.items) }
         ensures only_memory { IsOkUnless result Memory }
@@ -81,7 +82,7 @@ impl<G: Gate, K: Keep<Carried>> Desk<G, K> {
     }
 }
 
-/// Copies events.
+/// Returns a copy of events.
 fn copied(alloc: Global, events: &[Event<Carried>]) -> Result<Vec<Event<Carried>>, AllocError>
     ensures { IfOk result (λ copy. copy.items ≡ events.now) }
 {
@@ -92,7 +93,7 @@ fn copied(alloc: Global, events: &[Event<Carried>]) -> Result<Vec<Event<Carried>
     Ok(copy)
 }
 
-/// Copies an event.
+/// Returns a copy of an event.
 fn copied_event(event: &Event<Carried>) -> Result<Event<Carried>, AllocError>
     ensures { IfOk result (λ copy. copy ≡ event.now) }
 {

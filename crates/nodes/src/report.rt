@@ -1,4 +1,4 @@
-//! The report of a cluster: how many events each node took part in.
+//! The report of a cluster: the number of events of each node.
 ghost use Rattle.std.specs.Prelude.{◌≡◌, ◌+◌, ◌<◌, ◌≤◌, replicate, sum};
 ghost use Rattle.net.specs.declared.event.TheConstants.{MOST_EVENTS};
 ghost use Rattle.nodes.specs.Report.{IsReport, with_one};
@@ -7,7 +7,8 @@ use cluster::Switch;
 use synod::Keep;
 use world::Carried;
 
-/// How many events each node took part in: its offers, ballots and restarts, and the deliveries of packets addressed to it.
+/// The number of events of each node (`handled`), and their sum (`events`). The events of a node are its offers, ballots and
+/// restarts, and the deliveries of packets addressed to it.
 #[derive(Drop)]
 pub struct Report {
     pub events: u64,
@@ -34,7 +35,7 @@ pub(crate) fn count_events<K: Keep<Carried>>(
     Report { events, handled }
 }
 
-/// Adds one to the count of a node. Returns how many counts it raised: none if there is no such node.
+/// Adds one to the count of a node. Returns 1, or 0 if there is no such node.
 fn add_one(counts: &mut Vec<u64>, node: Option<u8>) -> u64
     requires { sum counts.old.items < MOST_EVENTS }
     ensures counts { counts.new.items ≡ with_one 0 node counts.old.items }

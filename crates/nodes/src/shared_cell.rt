@@ -15,7 +15,7 @@ pub(crate) struct SharedCell {
 }
 
 impl SharedCell {
-    /// Makes a shared cell of a cell whose next entry was not tried yet.
+    /// Wraps a cell whose next entry was not tried yet.
     pub fn new(cell: NodeCell) -> Self
         ensures { result.cell ≡ cell }
     {
@@ -26,7 +26,7 @@ impl SharedCell {
         }
     }
 
-    /// Counts packets, and tells whether the next entry is to be tried.
+    /// Counts packets, and returns whether the next entry is to be tried.
     pub fn is_due(&mut self, packets: usize) -> bool
         ensures { self.new.cell ≡ self.old.cell }
     {

@@ -17,8 +17,9 @@ use synod::Keep;
 use verify_pool::{Gate, LightGate, Place, Workers};
 use world::Carried;
 
-/// The locks of a cluster. A node's lock is taken before the switch's, and of two nodes' locks the lower one first; the senders'
-/// lock is never taken while the switch's is held. The lock of heavy proofs is taken under one node's lock, and none under it.
+/// The locks of a cluster. A node's lock is taken before the switch's, and of two nodes' locks that of the lower number
+/// first; the senders' lock is never taken while the switch's is held. The lock of heavy proofs is taken under one node's
+/// lock, and none under it.
 #[derive(Drop)]
 pub(crate) struct SharedNodes<G: Gate, K: Keep<Carried>> {
     pub alloc: Global,
@@ -33,12 +34,12 @@ pub(crate) struct SharedNodes<G: Gate, K: Keep<Carried>> {
 }
 
 impl<G: Gate, K: Keep<Carried>> SharedNodes<G, K> {
-    /// Tells whether the cluster was stopped.
+    /// Returns whether the cluster was stopped.
     pub fn is_stopped<R: Wait>(&self, rt: &R) -> bool {
         self.senders.lock(rt).is_empty()
     }
 
-    /// Returns the lock of node `k`.
+    /// Returns the lock of node `k`, or `NoNode`.
     pub fn cell(&self, k: u8) -> Result<&Mutex<SharedCell>, StepFault>
         ensures found { k < vec_len self.now.cells → IsOk result }
         ensures no_node { vec_len self.now.cells ≤ k → result ≡ Err NoNode }
@@ -50,7 +51,7 @@ impl<G: Gate, K: Keep<Carried>> SharedNodes<G, K> {
         }
     }
 
-    /// Sends each hint into the channel of its node. One that the channel refuses is a lost packet.
+    /// Sends each hint into the channel of its node. A hint that the channel refuses is a lost packet.
     pub fn send<R: Wait>(&self, rt: &R, hints: &[Hint]) {
         let senders = self.senders.lock(rt);
         for hint in hints {
@@ -60,8 +61,9 @@ impl<G: Gate, K: Keep<Carried>> SharedNodes<G, K> {
         }
     }
 
-    /// Delivers packets at node `k` one after another, takes over what its log has then, sends the hints of their posts, and applies.
-    /// Where an allocation fails, an entry is taken over at a later hint, and applied at a later one of those at which it is due.
+    /// Delivers packets at node `k` one after another, takes over the new entries of its log, sends the hints of the posts,
+    /// and applies the entries. If an allocation fails, an entry is taken over at a later hint, and applied at a later one
+    /// at which it is due.
     pub fn handle<R: Threads + Wait + Sync>(&self, rt: &R, k: u8, packets: &[u64])
     where
         G: Sync,
@@ -82,7 +84,7 @@ impl<G: Gate, K: Keep<Carried>> SharedNodes<G, K> {
         }
     }
 
-    /// Applies the entries taken over one by one, and passes the gate before each. Postpones the entry for which an allocation fails.
+    /// Applies the entries taken over, and passes the gate before each. Postpones an entry for which an allocation fails.
     fn apply_all<R: Threads + Wait + Sync>(&self, rt: &R, node: &mut SharedCell, k: u8)
     where
         G: Sync,
@@ -101,8 +103,8 @@ impl<G: Gate, K: Keep<Carried>> SharedNodes<G, K> {
         }
     }
 
-    /// Applies the next entry that was taken over; returns whether it is applied. An entry that fails without heavy proofs is
-    /// applied once more, under the lock of heavy proofs.
+    /// Applies the next entry that was taken over, and returns whether that succeeded. An entry that fails while heavy proofs
+    /// are kept out is tried once more, under the lock of heavy proofs.
     fn apply_next<R: Threads + Wait + Sync>(&self, rt: &R, node: &mut SharedCell) -> bool
     where
         G: Sync,
@@ -115,7 +117,7 @@ impl<G: Gate, K: Keep<Carried>> SharedNodes<G, K> {
         apply_on_with(rt, &mut node.cell, self.workers, gate).is_ok()
     }
 
-    /// Tells which of two nodes is ahead, `low` being the lower number.
+    /// Returns which of two nodes is ahead, or `Apart`; `low` is the lower number.
     pub fn compare<R: Wait>(&self, rt: &R, low: u8, high: u8) -> Result<Ahead, StepFault>
         ensures compared { IfOk result (IsCompared low high) }
         ensures only_apart { low < vec_len self.now.cells → high < vec_len self.now.cells → IsOkUnless result Apart }
@@ -131,14 +133,15 @@ impl<G: Gate, K: Keep<Carried>> SharedNodes<G, K> {
     }
 }
 
-/// Tells whether the cell is node `k`'s and belongs to that switch: two locks share no fact, so this is tested where both are held.
+/// Returns whether the cell is node `k`'s and belongs to the switch: two locks share no fact, so this is tested while both are
+/// held.
 fn is_at<K: Keep<Carried>>(cell: &NodeCell, k: u8, switch: &Switch<Carried, K>) -> bool
     ensures { IsTrue result → (cell.now.at ≡ k) × Belongs cell.now switch.now }
 {
     cell.at() == k && belongs(cell, switch)
 }
 
-/// Takes over the entries that the node's log has beyond those taken over.
+/// Takes over the further entries of the node's log, as far as allocations succeed.
 fn take_all<K: Keep<Carried>>(cell: &mut NodeCell, switch: &Switch<Carried, K>) {
     for _entry in 0..SLOTS {
         match take_on(cell, switch) {

@@ -11,14 +11,14 @@ use std::mem;
 use synod::Keep;
 use world::Carried;
 
-/// A packet that was posted, and the node that it is for.
+/// The number of a packet that was posted, and its receiver.
 #[derive(Clone, Copy)]
 pub(crate) struct Hint {
     pub node: u8,
     pub number: u64,
 }
 
-/// The switch, and how many packets were posted when its last event was taken.
+/// The switch, and the number of packets posted when its last event was taken.
 #[derive(Drop)]
 pub(crate) struct SharedSwitch<K: Keep<Carried>> {
     pub switch: Switch<Carried, K>,
@@ -26,7 +26,7 @@ pub(crate) struct SharedSwitch<K: Keep<Carried>> {
 }
 
 impl<K: Keep<Carried>> SharedSwitch<K> {
-    /// Takes a switch that has posted nothing yet.
+    /// Wraps a switch that has posted nothing yet.
     pub fn new(switch: Switch<Carried, K>) -> Self {
         SharedSwitch { switch, posted: 0 }
     }
@@ -42,8 +42,8 @@ impl<K: Keep<Carried>> SharedSwitch<K> {
         Ok(self.hints(alloc, before, count))
     }
 
-    /// Restarts the cell's node. Returns the hints of the packets by which it asks each of the `others` once. The
-    /// packets of the event that the node owed, if it was down, have no hint: they are lost.
+    /// Restarts the cell's node. Returns the hints of the packets by which it asks the other nodes, `others` in number.
+    /// The packets of the event that the node owed, if it was down, have no hint: they are lost.
     ///
     /// Errors and cost: those of `cluster::restart_on`.
     pub fn restart(
@@ -59,8 +59,8 @@ impl<K: Keep<Carried>> SharedSwitch<K> {
         Ok(self.hints(alloc, count.saturating_sub(others), count))
     }
 
-    /// Delivers packets one after another. Returns the hints of the packets that these deliveries post. A delivery that is refused
-    /// posts nothing.
+    /// Delivers packets one after another. Returns the hints of the packets that these deliveries post. A delivery that is
+    /// refused posts nothing.
     pub fn deliver_all(&mut self, alloc: Global, packets: &[u64]) -> Vec<Hint>
         ensures { DeliversAll self.old.switch self.new.switch packets.now }
     {
@@ -71,7 +71,7 @@ impl<K: Keep<Carried>> SharedSwitch<K> {
         self.hints(alloc, before, self.posted)
     }
 
-    /// Returns the hints of the packets of these numbers. Where an allocation fails, that hint and all after it are lost.
+    /// Returns the hints of the packets `from..to`. If an allocation fails, that hint and all after it are lost.
     fn hints(&self, alloc: Global, from: u64, to: u64) -> Vec<Hint> {
         let mut hints = Vec::new(alloc);
         for number in from..to {
@@ -86,7 +86,7 @@ impl<K: Keep<Carried>> SharedSwitch<K> {
         hints
     }
 
-    /// Returns the fault that an event meets whose node is not there.
+    /// Returns the fault of an event whose node does not exist.
     pub fn without_node(&self) -> StepFault
         ensures { (result ≡ EventsSpent) ⊎ (result ≡ NoNode) }
     {

@@ -13,9 +13,9 @@ pub enum Fate {
     Later,
 }
 
-/// Decides how the network treats each packet. A node's thread asks it before each hint.
+/// Decides how the network treats each hint. A node's thread asks it once for each.
 pub trait Weather {
-    /// Returns the fate of the hint of that packet.
+    /// Returns the fate of the hint of packet `number`.
     fn turn(&mut self, number: u64) -> Fate;
 }
 

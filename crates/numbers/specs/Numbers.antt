@@ -1,6 +1,6 @@
 -- Decimal numbers, as a script and a command line write them.
 -- Source: positional notation; leading zeros are allowed, a sign is not.
--- The code reads the digits once, and stops where the value no longer fits; here they are all read.
+-- The code stops at the first digit with which the value no longer fits; here all digits are read.
 use Rattle.std.specs.Prelude.{ℕ, ◌+◌, ◌-◌, ◌*◌, ◌^◌, nat_lt, List, [], ◌∷◌, Option, Some, None, if◌then◌else◌}
 use Rattle.std.specs.Char.{is_ascii_digit}
 

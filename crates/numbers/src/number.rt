@@ -40,7 +40,7 @@ fn with_digit(value: u64, digit: u8) -> Option<u64>
 
 /// Appends the digits of a number, without leading zeros.
 ///
-/// Errors: an allocation fails; what is in the text then is not specified.
+/// Errors: an allocation fails; the text is then not specified.
 pub fn push_number(text: &mut Vec<u8>, number: u64) -> Result<(), AllocError>
     ensures { OnOk result (text.new.items ≡ text.old.items ++ decimal number) }
 {

@@ -1,6 +1,6 @@
 -- Faults of comments, and where a comment begins; the first token of the statement in which a token stands.
 -- Source: Metamath, 4.1.2 (comments do not nest) and 4.1 (each statement ends with `$.`, but for `${` and `$}`).
--- The code looks at the text up to the fault alone.
+-- The code looks only at the text up to the fault.
 use Rattle.std.specs.Prelude.{ℕ, ◌-◌, ◌<◌, ◌≤◌, List, IsTrue, IsFalse, take, slice_index_or, []}
 use Rattle.mm_lex.specs.declared.span.Span.{Span}
 use Rattle.mm_lex.specs.Alphabet.{Name, runs}
@@ -10,15 +10,14 @@ use Rattle.places.specs.declared.comments.CommentFault.{CommentFault}
 use Rattle.places.specs.declared.comments.CommentFault.TheVariants.{Stray, Inside, Unclosed}
 use Rattle.places.specs.Places.{ends}
 
--- a `$)` outside a comment; a `$(` where the text before it has a comment that it does not close, from `outer` on;
--- a `$(` before which all comments are closed
+-- a `$)` outside a comment; a `$(` before which a comment is open, from `outer` on; a `$(` before which no comment is open
 abbrev pub IsCommentCase : List ℕ → ℕ → CommentFault → Type 0
 IsCommentCase text offset Stray = IsStrayCloser text (runs text) offset
 IsCommentCase text offset (Inside outer) = IsCommentFault (take offset text) outer
 IsCommentCase text offset Unclosed = (tokens : List Span) × AreTokens (take offset text) tokens
 
--- the statement of this token, from 0, begins here: at the first token or after one that ends a statement, and none of
--- those between ends one
+-- the statement of the token at this index begins at `start`: the first token or one after a token that ends a statement, and
+-- none of those between ends one
 pub record BeginsStatement (tokens : List Name) (token start : ℕ) : Type 0 where
   pub before : start ≤ token
   pub behind : 0 < start → IsTrue (ends (slice_index_or tokens (start - 1) []))

@@ -1,4 +1,4 @@
--- The descriptions of the statements of a text: each the last comment between the statement before and its first token.
+-- The descriptions of the statements of a text: each the last comment between the previous statement and its first token.
 -- Source: Metamath, 4.4 (a description is the comment right before the label).
 -- The code goes once over the runs; here the text is cut at its comments, and each token has the comment right before it.
 use Rattle.std.specs.Prelude.{◌≡◌, ℕ, List, [], ◌∷◌, ◌++◌, length, drop, flat_map, Option, Some, None}
@@ -7,7 +7,7 @@ use Rattle.mm_lex.specs.Alphabet.{runs}
 use Rattle.mm_lex.specs.Tokens.{Part, Cuts}
 use Rattle.mm_read.specs.Statements.{Database, stmt_tokens}
 
--- the place of what stands between the delimiters of a comment
+-- the place of the contents of a comment, between its delimiters
 abbrev pub contents : Part → Span
 contents p = record { start = p.begin.end; end = p.end.start }
 

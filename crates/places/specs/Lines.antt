@@ -1,6 +1,6 @@
 -- The line and the column of an offset of a text, both counted from 1.
 -- Source: this project's explanations; LF ends a line, and columns count bytes.
--- The code goes over the bytes once; here the beginning of a line is told by what stands around it.
+-- The code goes over the bytes; here the beginning of a line is defined by the bytes around it.
 use Rattle.std.specs.Prelude.{◌≡◌, ◌≢◌, ℕ, ◌+◌, ◌-◌, ◌<◌, ◌≤◌, ◌==◌, List, take, count_by, slice_index}
 
 -- the byte that ends a line

@@ -16,7 +16,7 @@ pub record HasToken (S : Database) (statement token : ℕ) : Type 0 where
   pub first : 1 ≤ token
   pub within : token ≤ length (stmt_tokens stmt)
 
--- which token of the text that is, counted from 0: those of earlier statements stand before it
+-- the index of that token in the text: those of earlier statements stand before it
 abbrev pub index_of : Database → ℕ → ℕ → ℕ
 index_of S statement token = length (spelled (take (statement - 1) S)) + (token - 1)
 
@@ -27,11 +27,11 @@ pub record IsPlaceOf (text : List ℕ) (S : Database) (statement token : ℕ) (p
   pub written : words text tokens ≡ spelled S
   pub here : slice_get tokens (index_of S statement token) ≡ Some place
 
--- no statement goes on after this token
+-- this token ends a statement
 abbrev pub ends : Name → Bool
 ends w = name_eq w (codes "$.") || name_eq w (codes "${") || name_eq w (codes "$}")
 
--- the index of the first token after so many tokens that end a statement
+-- the index of the first token after n tokens that end a statement
 abbrev pub behind_ends : ℕ → List Name → ℕ
 behind_ends zero ws = 0
 behind_ends (suc n) [] = 0

@@ -23,7 +23,7 @@ abbrev pub begun : Walk → Name → List (Option Span)
 begun (Inside start begins) w = []
 begun (Outside last begins) w = if name_eq w opener then [] else if begins then last ∷ [] else []
 
--- those of all statements that begin with one of the runs
+-- the descriptions of all statements that begin with one of the runs
 abbrev pub walk_over : List ℕ → Walk → List Span → List (Option Span)
 walk_over text walk [] = []
 walk_over text walk (r ∷ spans) = begun walk (word text r) ++ walk_over text (after_run walk (word text r) r) spans

@@ -4,7 +4,7 @@ ghost use Rattle.places.specs.CommentFaults.{IsCommentCase};
 
 use mm_lex::{LexFault, count_tokens};
 
-/// The fault of a comment.
+/// A fault of the comments of a text.
 #[derive(Clone, Copy, Debug, Drop, PartialEq, Eq)]
 pub enum CommentFault {
     /// A `$)` stands outside a comment.
@@ -15,7 +15,7 @@ pub enum CommentFault {
     Unclosed,
 }
 
-/// Returns the fault of the comment at the offset at which the text's comments are at fault.
+/// Returns what is wrong at the offset at which the text's comments are at fault.
 ///
 /// Does not allocate. Cost: the size of the text before the offset.
 pub fn comment_fault(text: &[u8], offset: usize) -> CommentFault

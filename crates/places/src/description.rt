@@ -14,7 +14,7 @@ use mm_lex::Span;
 use runs::next_run;
 use std::alloc::{AllocError, Global};
 
-/// Where a walk over the runs of a text stands.
+/// The state of a walk over the runs of a text.
 #[derive(Clone, Copy, Drop)]
 enum Walk {
     /// Inside the comment whose contents begin at `start`.
@@ -32,9 +32,9 @@ enum Walk {
     },
 }
 
-/// Returns for each statement of a text that reads as statements, in order, the place of its
-/// description: what stands between the delimiters of the last comment between the statement before
-/// and its own first token, or `None` if there is no comment.
+/// Returns the place of the description of each statement, in order, of a text that reads as
+/// statements: the contents of the last comment between the previous statement and its first token,
+/// or `None` if there is no comment.
 ///
 /// Errors: an allocation fails. Cost: the size of the text, however many statements it has.
 /// Source: Metamath, 4.4.
@@ -57,7 +57,7 @@ pub fn descriptions(alloc: Global, text: &[u8]) -> Result<Vec<Option<Span>>, All
     Ok(list)
 }
 
-/// Returns a place from which the walk goes on as from `at`, after runs that change nothing in it.
+/// Returns an offset from which the walk goes on as from `at`, after runs that change nothing in it.
 ///
 /// Does not allocate. Cost: the bytes up to the next `$`.
 fn goes_on_at(text: &[u8], at: usize, walk: Walk) -> usize
@@ -73,7 +73,7 @@ fn goes_on_at(text: &[u8], at: usize, walk: Walk) -> usize
     }
 }
 
-/// Tells whether no run changes the walk, or begins a statement, but one that begins with `$`.
+/// Returns whether only a run that begins with `$` changes the walk or begins a statement.
 fn is_waiting(walk: Walk) -> bool
     ensures { IsTrue result → IsWaiting walk }
 {
@@ -83,7 +83,7 @@ fn is_waiting(walk: Walk) -> bool
     }
 }
 
-/// Returns where the run stands that has the next `$`, or else the last run.
+/// Returns the offset of the run that has the next `$`, or of the last run if there is no `$`.
 fn dull_end(text: &[u8], at: usize) -> usize
     requires { at ≤ length text.now }
     ensures { PassesDull text.now at result }
@@ -93,7 +93,7 @@ fn dull_end(text: &[u8], at: usize) -> usize
     at + white_end(plain)
 }
 
-/// Returns how many bytes stand before the first `$`; all if there is none.
+/// Returns how many bytes stand before the first `$`, or all if there is none.
 fn count_plain(text: &[u8]) -> usize
     ensures within { result ≤ length text.now }
     ensures plain { (k : ℕ) → k < result → slice_index text.now k ≡ 36 → ⊥ }
@@ -104,7 +104,7 @@ fn count_plain(text: &[u8]) -> usize
     }
 }
 
-/// Returns where the last white byte ends, or 0.
+/// Returns the offset after the last white byte, or 0 if there is none.
 fn white_end(text: &[u8]) -> usize
     ensures within { result ≤ length text.now }
     ensures white { 0 < result → IsTrue (is_white (slice_index text.now (result - 1))) }
@@ -148,7 +148,7 @@ fn begun(walk: Walk, word: &[u8]) -> Option<Option<Span>>
     }
 }
 
-/// Returns where the walk stands after the run of this word.
+/// Returns the state of the walk after the run of this word.
 fn after_run(walk: Walk, word: &[u8], run: Span) -> Walk
     ensures { result ≡ after_run walk word.now run }
 {

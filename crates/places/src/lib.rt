@@ -1,8 +1,8 @@
 //! Finds places in a text.
 //!
-//! `line_and_column` counts lines and columns up to an offset. `place_of` gives the place of a token of a statement in a text
-//! that reads as statements, `statement_at` the statement in which a token stands. `comment_fault` says what is wrong with a
-//! comment and where that began. `descriptions` gives the place of the comment that describes each statement. Read
+//! `line_and_column` returns the line and the column of an offset. `place_of` returns the place of a token of a statement in a
+//! text that reads as statements, `statement_at` the first token of the statement in which a token stands. `comment_fault`
+//! returns what is wrong with a comment. `descriptions` returns the place of the comment that describes each statement. Read
 //! `lines_and_columns`, `place`, `comments`, `description`.
 #![tactic(auto)]
 

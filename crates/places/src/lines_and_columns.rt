@@ -32,7 +32,7 @@ fn line_at(text: &[u8], offset: usize) -> usize
     memchr_iter(b'\n', &text[..offset]).count() + 1
 }
 
-/// Returns where the line of an offset begins.
+/// Returns the offset at which the line of an offset begins.
 fn line_start(text: &[u8], offset: usize) -> usize
     requires { offset ≤ length text.now }
     ensures { BeginsLine text.now offset result }

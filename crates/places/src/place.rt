@@ -11,9 +11,10 @@ ghost use Rattle.places.specs.CommentFaults.{BeginsStatement};
 use mm_lex::{LexFault, Span, tokens};
 use std::alloc::Global;
 
-/// Returns the place of a token of a statement, both counted from 1, in a text that reads as statements.
+/// Returns the place of a token of a statement, both counted from 1, in a text that reads as statements; `None` if too few
+/// tokens are there.
 ///
-/// Errors: those of a text without tokens. Cost: the size of the text.
+/// Errors: those of `mm_lex::tokens`. Cost: the size of the text.
 pub fn place_of(
     alloc: Global,
     text: &[u8],
@@ -30,7 +31,10 @@ pub fn place_of(
     Ok(place_within(text, spans.as_slice(), statement, token))
 }
 
-/// Returns the place of a token of a statement, among the places of the text's tokens.
+/// Returns the place of a token of a statement, both counted from 1, or `None` if too few tokens are there. `spans` are the
+/// places of the text's tokens.
+///
+/// Cost: the number of tokens before it.
 pub fn place_within(text: &[u8], spans: &[Span], statement: usize, token: usize) -> Option<Span>
     requires words { All (IsWordAt text.now) spans.now }
     requires some { (1 ≤ statement) × (1 ≤ token) }
@@ -41,7 +45,10 @@ pub fn place_within(text: &[u8], spans: &[Span], statement: usize, token: usize)
     rest.get(token - 1).copied()
 }
 
-/// Returns which token is the first of the statement of this number, from 1; tokens count from 0.
+/// Returns the index in `spans` of the first token of a statement, counted from 1, or the count of tokens if there are fewer
+/// statements.
+///
+/// Cost: the number of tokens before it.
 pub fn first_token(text: &[u8], spans: &[Span], statement: usize) -> usize
     requires words { All (IsWordAt text.now) spans.now }
     requires some { 1 ≤ statement }
@@ -60,14 +67,16 @@ pub fn first_token(text: &[u8], spans: &[Span], statement: usize) -> usize
     spans.len()
 }
 
-/// Returns whether no statement goes on after this token.
+/// Returns whether this token ends a statement.
 pub(crate) fn ends(word: &[u8]) -> bool
     ensures { result ≡ ends word.now }
 {
     word == b"$.".as_slice() || word == b"${".as_slice() || word == b"$}".as_slice()
 }
 
-/// Returns which token is the first of the statement in which the token at an index stands; tokens count from 0.
+/// Returns the index in `spans` of the first token of the statement in which the token at index `token` stands.
+///
+/// Cost: the number of tokens before that.
 pub fn statement_at(text: &[u8], spans: &[Span], token: usize) -> usize
     requires words { All (IsWordAt text.now) spans.now }
     requires within { token ≤ length spans.now }

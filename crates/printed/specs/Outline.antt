@@ -23,7 +23,7 @@ proof_of s = []
 abbrev pub outline_line : ℕ → Stmt → List ℕ
 outline_line number s = decimal number ++ codes " " ++ line_of (with_proof s (decimal (length (proof_of s)) ∷ []))
 
--- the lines of these statements, numbered from a number on
+-- the lines of these statements, numbered from `number` on
 abbrev pub lines_from : ℕ → Database → List ℕ
 lines_from number [] = []
 lines_from number (s ∷ S) = outline_line number s ++ lines_from (number + 1) S

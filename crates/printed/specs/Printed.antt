@@ -84,19 +84,19 @@ verdict_text Nothing = codes "nothing"
 verdict_text Repeat = codes "repeat"
 verdict_text (Refused cause) = codes "refused " ++ cause_text cause
 
--- a verdict, or a word where nothing was decided
+-- a verdict, or a word if nothing was decided
 abbrev pub decided_text : Option Verdict → List ℕ → List ℕ
 decided_text None undecided = undecided
 decided_text (Some verdict) undecided = verdict_text verdict
 
--- a log, on one line
+-- an entry of a log, after a space; a log, on one line
 abbrev pub logged_text : Option Entry → List ℕ
 logged_text entry = codes " " ++ entry_text entry
 
 abbrev pub log_text : List (Option Entry) → List ℕ
 log_text log = codes "log" ++ flat_map logged_text log
 
--- the assertions of a library: their count, and a line for each
+-- the line of an assertion; the assertions of a library: their count, and a line for each
 abbrev pub listed_text : Listed → List ℕ
 listed_text l = (if l.proved then codes "proved " else codes "axiom ") ++ l.label ++ codes "\n"
 

@@ -1,4 +1,4 @@
--- What a node tells of itself, on one line.
+-- The state of a node, on one line.
 -- Source: this project's own form.
 -- The code appends each part to the answer.
 use Rattle.std.specs.Prelude.{ℕ, Bool, List, [], ◌++◌, codes, decimal, if◌then◌else◌}

@@ -16,7 +16,7 @@ label_line label = label ++ codes "\n"
 abbrev pub node_line : Database → ℕ → ℕ → List ℕ
 node_line S depth at = decimal depth ++ codes " " ++ label_or_none (stmt_at S at) ++ codes "\n"
 
--- a line a node, parents before children, children in order
+-- a line for each node, parents before children, children in order
 abbrev mutual
   pub tree_lines : Database → ℕ → Derivation → List ℕ
   tree_lines S depth (hyp i) = node_line S depth i

@@ -12,7 +12,7 @@ use mm_read::{Stmt, push_line};
 use numbers::push_number;
 use std::alloc::AllocError;
 
-/// Appends `ok` and how many packets were posted so far.
+/// Appends `ok` and how many packets were posted so far, on one line.
 pub fn push_posted(text: &mut Vec<u8>, posted: u64) -> Result<(), AllocError>
     ensures { OnOk result (text.new.items
         ≡ text.old.items ++ (codes "ok " ++ decimal posted ++ codes "\n")) }
@@ -50,7 +50,7 @@ fn push_verdict_or(
     }
 }
 
-/// Appends a log: each entry, or `idle` for a no-operation.
+/// Appends a log on one line: each entry, or `idle` for a no-operation.
 pub fn push_log(text: &mut Vec<u8>, log: &[Option<Entry>]) -> Result<(), AllocError>
     ensures { OnOk result (text.new.items ≡ text.old.items ++ (log_text log.now ++ codes "\n")) }
 {
@@ -61,7 +61,9 @@ pub fn push_log(text: &mut Vec<u8>, log: &[Option<Entry>]) -> Result<(), AllocEr
     text.extend_from_slice(b"\n")
 }
 
-/// Appends the assertions of a library.
+/// Appends the count of the assertions of a library, and a line for each.
+///
+/// Cost: the size of all statements.
 pub fn push_library(text: &mut Vec<u8>, library: &Library) -> Result<(), AllocError>
     ensures { OnOk result (text.new.items
         ≡ text.old.items ++ list_text (listed library.now.replica.statements)) }

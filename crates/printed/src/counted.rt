@@ -1,4 +1,4 @@
-//! Answers of several lines, which begin with the count of their lines, and what a node learned.
+//! Answers of several lines, which begin with the count of their lines, and the entries of a node.
 ghost use Rattle.std.specs.Prelude.{◌≡◌, ◌++◌, ◌==◌, codes, count_by, flat_map, OnOk};
 ghost use Rattle.printed.specs.Counted.{carried_text, counted_text};
 
@@ -10,9 +10,7 @@ use world::Carried;
 /// The byte that ends a line.
 const LINE_FEED: u8 = b'\n';
 
-/// Appends a word, the count of the lines, and the lines.
-///
-/// Errors: an allocation fails. Cost: the size of the lines.
+/// Appends a word, the count of the lines, and the lines, each with its line feed.
 pub fn push_counted(text: &mut Vec<u8>, word: &[u8], lines: &[u8]) -> Result<(), AllocError>
     ensures { OnOk result (text.new.items ≡ text.old.items ++ counted_text word.now lines.now) }
 {
@@ -30,9 +28,7 @@ fn line_feeds(text: &[u8]) -> usize
     text.iter().filter(|byte| **byte == LINE_FEED).count()
 }
 
-/// Appends what a node learned, on one line: each entry, or `idle` for a no-operation.
-///
-/// Errors: an allocation fails. Cost: the count of the entries.
+/// Appends the entries that a node learned, on one line: each entry, or `idle` for a no-operation.
 pub fn push_learned(text: &mut Vec<u8>, entries: &[Option<Carried>]) -> Result<(), AllocError>
     ensures { OnOk result (text.new.items
         ≡ text.old.items ++ (codes "log" ++ flat_map carried_text entries.now ++ codes "\n")) }

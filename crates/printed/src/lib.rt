@@ -1,12 +1,14 @@
 //! The texts that the program prints of databases, verdicts, packets, libraries and derivations.
-//! Each `push_` call appends a text to an answer.
+//! Each `push_` call appends a text to an answer. Unless its comment says otherwise, it fails only if
+//! an allocation fails, and its cost is the size of the text. After a failure the answer is not
+//! specified.
 //!
-//! The crate above uses the clause of each call, which gives exactly the text of `specs/Printed`,
-//! `specs/Trees` or `specs/Outline`.
+//! The crate above uses the clause of each call, which gives exactly the text of a definition in
+//! `specs`.
 //!
 //! Reading order: `verdict_text`, `packets`, `answers` (logs, lists and exports), `counted`,
-//! `states`, `tree_text`;
-//! `broken_rules` (the first statement of a database that breaks a rule) and `outline`.
+//! `states`, `tree_text`; `broken_rules` (the first statement of a database that breaks a rule) and
+//! `outline`.
 #![tactic(auto)]
 
 mod answers;

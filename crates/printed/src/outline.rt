@@ -62,7 +62,7 @@ fn lines(alloc: Global, statements: &[Stmt]) -> Result<Vec<u8>, AllocError>
     Ok(bytes)
 }
 
-/// Appends the line of the statement of this number.
+/// Appends the line of a statement, with its number.
 fn push_statement(bytes: &mut Vec<u8>, number: usize, statement: &Stmt) -> Result<(), AllocError>
     requires { IsShaped statement.now }
     ensures { OnOk result (bytes.new.items ≡ bytes.old.items ++ outline_line number statement.now) }
@@ -84,7 +84,7 @@ fn proof_len(statement: &Stmt) -> usize
     }
 }
 
-/// Appends the last line.
+/// Appends the last line, which says whether all rules are kept.
 fn push_rules_line(bytes: &mut Vec<u8>, broken: Option<(usize, Rule)>) -> Result<(), AllocError>
     ensures { OnOk result (bytes.new.items ≡ bytes.old.items ++ rules_line broken) }
 {
@@ -97,7 +97,7 @@ fn push_rules_line(bytes: &mut Vec<u8>, broken: Option<(usize, Rule)>) -> Result
     }
 }
 
-/// Returns a line of these words and this number.
+/// Returns a line of some words and a number.
 fn refusal(alloc: Global, words: &[u8], number: usize) -> Result<Vec<u8>, AllocError>
     ensures { IfOk result (λ bytes. bytes.items ≡ numbered_line words.now number) }
 {

@@ -8,9 +8,7 @@ use numbers::push_number;
 use std::alloc::AllocError;
 use synod::{NodeState, Role};
 
-/// Appends what a node tells of itself, how many entries it applied, and whether it is down.
-///
-/// Errors: an allocation fails.
+/// Appends the state of a node, how many entries it applied, and whether it is down, on one line.
 pub fn push_state(
     text: &mut Vec<u8>,
     state: &NodeState,
@@ -67,7 +65,7 @@ fn push_count(text: &mut Vec<u8>, name: &[u8], number: u64) -> Result<(), AllocE
     push_number(text, number)
 }
 
-/// Appends that the node is down, if it is, and the end of the line.
+/// Appends ` down` if the node is down, and the end of the line.
 fn push_down(text: &mut Vec<u8>, is_down: bool) -> Result<(), AllocError>
     ensures { OnOk result (text.new.items ≡ text.old.items ++ down_text is_down) }
 {

@@ -12,7 +12,9 @@ use std::alloc::AllocError;
 use verify::Tree;
 
 /// Appends a line for each node of a derivation over these statements, parents before children,
-/// children in order: its depth, a space, its label. The first node has the depth that is given.
+/// children in order: its depth, a space, its label. The root has the depth that is given.
+///
+/// Errors: an allocation fails; a depth is 2^64, which no derivation of a library reaches.
 pub fn push_tree(
     text: &mut Vec<u8>,
     statements: &[Stmt],
@@ -35,7 +37,9 @@ pub fn push_tree(
     }
 }
 
-/// Returns the depth of the children of a node, which every derivation of a library has.
+/// Returns the depth of the children of a node.
+///
+/// Errors: it is 2^64.
 fn depth_below(depth: u64) -> Result<u64, AllocError>
     ensures { IfOk result (λ below. below ≡ depth + 1) }
 {

@@ -7,7 +7,7 @@ use numbers::push_number;
 use scope::Rule;
 use std::alloc::AllocError;
 
-/// Appends the verdict, with the cause of a refusal.
+/// Appends the verdict, with the cause of a refusal, without a line feed.
 pub fn push_verdict(text: &mut Vec<u8>, verdict: Verdict) -> Result<(), AllocError>
     ensures { OnOk result (text.new.items ≡ text.old.items ++ verdict_text verdict) }
 {

@@ -14,7 +14,7 @@ use Rattle.printed.specs.Trees.{label_line, tree_lines}
 abbrev pub labels_text : List ℕ → List Name → List ℕ
 labels_text word labels = counted_text word (flat_map label_line labels)
 
--- the answer to the question about the label; nothing is said of that to `show` and to `proof`
+-- the answer to the question about the label; nothing is said of the answers to `show` and `proof`
 abbrev pub IsLabelAnswer : Database → LabelQuestion → Name → List ℕ → Type 0
 IsLabelAnswer S Trace label text =
     (labels : List Name) × IsTrace S label labels × (text ≡ labels_text (codes "trace") labels)

@@ -20,11 +20,10 @@ use printed::{push_assertions, push_labels, push_tree};
 use std::alloc::{AllocError, Global};
 use std::io::Write;
 
-/// Writes the answer to a question about a library whose statements stand in the text, as those of
-/// the same numbers.
+/// Writes the answer to a question about a library. `text` has the same statements, in order.
 ///
-/// Errors: those of the question, before anything is written; `Output` if a write fails. If an
-/// allocation fails while a proof is written, `Memory` after some of its steps.
+/// Errors: those of the question, before anything is written; `Output` if a write fails; `Memory` if
+/// an allocation fails, perhaps after some steps of a proof.
 pub fn write_answer<O: Write>(
     alloc: Global,
     library: &Library,
@@ -66,7 +65,7 @@ pub fn write_answer<O: Write>(
     }
 }
 
-/// Returns `proved` and the number of `$p`.
+/// Returns the line `proved N`, with the number of `$p`.
 fn proved(alloc: Global, statements: &[Stmt]) -> Result<Vec<u8>, AllocError> {
     let mut line = Vec::from_slice(alloc, b"proved ")?;
     push_number(&mut line, count_of_proofs(statements) as u64)?;
@@ -74,14 +73,14 @@ fn proved(alloc: Global, statements: &[Stmt]) -> Result<Vec<u8>, AllocError> {
     Ok(line)
 }
 
-/// Returns `proved`, how many `$p` are proved, and of how many, where all are.
+/// Returns the line `proved N of N`, with the number of `$p`.
 fn all_proved(alloc: Global, statements: &[Stmt]) -> Result<Vec<u8>, AllocError> {
     let mut line = Vec::new(alloc);
     push_proved(&mut line, statements, 0)?;
     Ok(line)
 }
 
-/// Appends `proved`, how many `$p` are proved, and of how many, where so many are not.
+/// Appends the line `proved N of M`: there are M `$p`, and all but `unproved` of them are proved.
 pub fn push_proved(
     line: &mut Vec<u8>,
     statements: &[Stmt],

@@ -15,13 +15,13 @@ use std::thread::Threads;
 use unproved::Entered;
 use verify_pool::Workers;
 
-/// How many labels are named.
+/// How many labels are named at most.
 const MOST_NAMED: usize = 10;
 
 /// Prints the answer about the statements of a text, each `$p` that is not proved taken as a `$a`;
-/// returns the exit status. Which these are goes to `faults`.
+/// returns the exit status. How many these are and the first labels go to `faults`.
 ///
-/// The library is left to the end of the process, which frees all of it at once.
+/// The library is leaked: the end of the process frees all of it at once.
 pub fn answer_assuming<R: AllocGlobal + Threads + Sync, O: Write, F: Write>(
     rt: &R,
     asked: &Asked<'_>,
@@ -36,8 +36,8 @@ pub fn answer_assuming<R: AllocGlobal + Threads + Sync, O: Write, F: Write>(
     answered
 }
 
-/// Returns a library of the statements of a text, each `$p` that is not proved taken as a `$a`.
-/// Which these are goes to `faults`.
+/// Returns a library of the statements of a text, each `$p` that is not proved taken as a `$a`. How
+/// many these are and the first labels go to `faults`.
 pub fn assume_unproved<R: AllocGlobal + Threads + Sync, F: Write>(
     rt: &R,
     entered: Entered,
@@ -59,7 +59,7 @@ fn tell_assumed<F: Write>(alloc: Global, entered: &Entered, unproved: &[usize], 
     }
 }
 
-/// Returns the line that tells how many theorems are taken as axioms, and the labels of the first.
+/// Returns the line that says how many theorems are taken as axioms, with the labels of the first.
 fn assumed_line(
     alloc: Global,
     entered: &Entered,
@@ -85,7 +85,7 @@ fn assumed_line(
     Ok(line)
 }
 
-/// Returns the label of the `$p` at a position; nothing if none stands there.
+/// Returns the label of the `$p` at a position, or no byte if none stands there.
 fn label_at(statements: &[Stmt], at: usize) -> &[u8] {
     match statements.get(at.saturating_sub(1)) {
         Some(Stmt::Prove { label, .. }) => label.as_bytes(),

@@ -13,8 +13,8 @@ use std::io::{Read, Write};
 use std::sync::Wait;
 use std::thread::Threads;
 
-/// Runs the command of these words as `run_with` does, without a folder: `pages` is refused, as an
-/// output that cannot be written.
+/// Runs the command of these words as `run_with` does, without a folder: `pages` is refused, like
+/// an output that cannot be written.
 pub fn run<
     R: AllocGlobal + Threads + Wait + Copy + Send + Sync + Drop + 'static,
     I: Read,
@@ -24,12 +24,13 @@ pub fn run<
     run_with(rt, words, input, output, faults, &mut NoFolder)
 }
 
-/// Runs the command of these words, which do not have the program's own name, and returns the exit
-/// status. The files that `pages` writes go into a folder that `folder` opens.
+/// Runs the command of these words, without the program's own name, and returns the exit status. The
+/// files that `pages` writes go into a folder that `folder` opens.
 ///
-/// 0 is good (the version too), 1 a refusal (of the input, of a line, out of memory) or a failed
-/// write, 2 a bad command line, bad weights or a bad script. The text of a bad command line and of
-/// bad weights goes to `faults`, and so does the reason of a refusal; all else goes to `output`.
+/// The status is 0 if all is good (the version too), 1 after a refusal (of the input, of a line, out
+/// of memory) or a failed write, 2 for a bad command line, help, bad weights or a bad script. Answers,
+/// refusals and the bad lines of scripts go to `output`; all else that is printed (help, the text of
+/// a bad command line, explanations, notes, the progress of `pages`) goes to `faults`.
 pub fn run_with<
     R: AllocGlobal + Threads + Wait + Copy + Send + Sync + Drop + 'static,
     I: Read,

@@ -44,8 +44,8 @@ pub fn print_outline<I: Read, O: Write, F: Write>(
 
 /// Prints the answer to a question about a database, and returns the exit status.
 ///
-/// The proofs are checked by as many threads as the machine offers, on which no answer depends. The
-/// library is left to the end of the process, which frees all of it at once.
+/// `Workers::offered` threads read the text and check its proofs; no answer depends on their number.
+/// The library is leaked: the end of the process frees all of it at once.
 pub fn ask<R: AllocGlobal + Threads + Sync, I: Read, O: Write, F: Write>(
     rt: &R,
     asked: &Asked<'_>,
@@ -60,7 +60,7 @@ pub fn ask<R: AllocGlobal + Threads + Sync, I: Read, O: Write, F: Write>(
     answered
 }
 
-/// Adds a text to an empty library, and prints the answer about that.
+/// Adds a text to an empty library, and prints the answer about the library.
 fn ask_library<R: AllocGlobal + Threads + Sync, O: Write, F: Write>(
     rt: &R,
     asked: &Asked<'_>,
@@ -84,7 +84,7 @@ fn ask_library<R: AllocGlobal + Threads + Sync, O: Write, F: Write>(
     }
 }
 
-/// Returns the verdict on the text as the first entry of an author.
+/// Adds a text to an empty library as the first entry of an author, and returns the verdict.
 pub fn judge<R: Threads + Sync>(
     rt: &R,
     library: &mut Library,
@@ -98,8 +98,8 @@ pub fn judge<R: Threads + Sync>(
     library.apply_with(rt, Some(&entry), Workers::offered(rt), &OpenGate)
 }
 
-/// Prints the answer about a library whose statements stand in the text as these numbers, and
-/// returns the exit status. The reason of a refusal goes to `faults`.
+/// Prints the answer about a library, and returns the exit status. `text` has the same statements,
+/// in order. The reason of a refusal goes to `faults`.
 pub fn answer_good<O: Write, F: Write>(
     alloc: Global,
     library: &Library,
@@ -126,8 +126,8 @@ fn note_emptiness<F: Write>(library: &Library, question: &Question<'_>, faults: 
     }
 }
 
-/// Prints the answer about a text that is refused: the refusal, unless the question bears `$p` that
-/// are not proved.
+/// Prints the answer about a text that is refused: the refusal, unless a `$p` is not proved and the
+/// question is answered nevertheless.
 fn answer_refused<R: AllocGlobal + Threads + Sync, O: Write, F: Write>(
     rt: &R,
     asked: &Asked<'_>,

@@ -1,4 +1,4 @@
-//! Answers about what a node has, at a desk of the nodes that `serve` starts.
+//! Answers about a node, asked at a desk of the nodes that `serve` starts.
 ghost use Rattle.std.specs.Prelude.{◌≡◌, ◌++◌, ◌≤◌, ℕ, List, Err, IfOk, OnOk, codes, flat_map};
 ghost use Rattle.cluster.specs.Cell.{Cell};
 ghost use Rattle.net.specs.declared.event.Event.{Event as TakenEvent};
@@ -54,7 +54,7 @@ impl<R: Wait> Asked<'_, R> {
         Ok(text.extend_from_slice(made.as_slice())?)
     }
 
-    /// Appends how a node stands.
+    /// Appends the state of a node.
     pub fn push_state(&self, node: u8, text: &mut Vec<u8>) -> Result<(), Fault>
         ensures { OnOk result ((standing : NodeStanding) × IsStanding node standing
             × (text.new.items ≡ text.old.items

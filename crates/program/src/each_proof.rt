@@ -22,16 +22,17 @@ use std::thread::Threads;
 use unproved::Entered;
 use verify_pool::Workers;
 
-/// How many lines are explained.
+/// How many lines are explained at most.
 const MOST_EXPLAINED: usize = 100;
 
-/// Tells whether the answer to a question is known although some `$p` are not proved.
+/// Returns whether a question is answered even if some `$p` are not proved.
 pub fn bears_unproved(asked: &Asked<'_>) -> bool {
     asked.assumes || matches!(asked.question, Question::CheckEach)
 }
 
-/// Tells whether a byte `?` stands outside the comments of a text, so that a proof is unfinished.
-/// No answer depends on it: such a text is not judged whole before its proofs are judged one by one.
+/// Returns whether a byte `?` stands outside the comments of a text, so that a proof may be
+/// unfinished. No answer depends on this: such a text is just not judged whole before its proofs are
+/// judged one by one.
 ///
 /// Cost: the size of the text.
 pub fn may_be_unfinished(text: &[u8]) -> bool {
@@ -47,8 +48,8 @@ pub fn may_be_unfinished(text: &[u8]) -> bool {
     false
 }
 
-/// Answers a question that bears `$p` that are not proved; returns the exit status, or `None` if the
-/// text does not read or breaks a rule.
+/// Answers a question that is answered even if some `$p` are not proved; returns the exit status, or
+/// `None` if the text is too long, does not read or breaks a rule.
 pub fn answer_bearing<R: AllocGlobal + Threads + Sync, O: Write, F: Write>(
     rt: &R,
     asked: &Asked<'_>,
@@ -66,8 +67,8 @@ pub fn answer_bearing<R: AllocGlobal + Threads + Sync, O: Write, F: Write>(
     Ok(Some(status))
 }
 
-/// Returns the statements of a text with their frames, or `None` if it does not read or breaks a
-/// rule.
+/// Returns the statements of a text with their frames, or `None` if it is too long, does not read or
+/// breaks a rule.
 pub fn enter_text<R: AllocGlobal + Threads + Sync>(
     rt: &R,
     text: NamedText<'_>,
@@ -82,10 +83,10 @@ pub fn enter_text<R: AllocGlobal + Threads + Sync>(
     }
 }
 
-/// Prints a line for each `$p` of a text that is not proved, how many are proved, and the reasons of
-/// the first lines on `faults`; returns the exit status.
+/// Prints a line for each `$p` of a text that is not proved and how many are proved, and explains the
+/// first lines on `faults`; returns the exit status.
 ///
-/// The statements are left to the end of the process, which frees all of them at once.
+/// The statements are leaked: the end of the process frees all of them at once.
 fn print_each<R: AllocGlobal + Threads + Sync, O: Write, F: Write>(
     rt: &R,
     text: NamedText<'_>,
@@ -117,7 +118,7 @@ fn print_unproved<R: AllocGlobal + Threads + Sync, O: Write, F: Write>(
     Ok(1)
 }
 
-/// Returns the line of each `$p` at these positions, and how many of the others are proved.
+/// Returns a line for each `$p` at these positions, and the line that counts the proved ones.
 fn lines(alloc: Global, entered: &Entered, unproved: &[usize]) -> Result<Vec<u8>, AllocError>
     requires { All (IsWithin (length entered.now)) unproved.now }
 {
@@ -130,7 +131,7 @@ fn lines(alloc: Global, entered: &Entered, unproved: &[usize]) -> Result<Vec<u8>
     Ok(lines)
 }
 
-/// Prints the reasons of the first lines, if allocation succeeds.
+/// Explains the first `MOST_EXPLAINED` lines, if allocation succeeds.
 fn explain_each<F: Write>(
     alloc: Global,
     text: NamedText<'_>,

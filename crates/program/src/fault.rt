@@ -35,10 +35,10 @@ pub enum Fault {
     /// A picture has no room for the steps of a run.
     #[error("refused TooLarge")]
     LongRun,
-    /// A line is none of its command's. The least such line is counted from 1, empty lines too.
+    /// A line is none of its command's. `number` is that of the first, from 1; empty lines count.
     #[error("bad line {number}")]
     BadLine { number: usize },
-    /// A line of a session is none, and this may stand there.
+    /// A line of a session is none of `serve`'s. `wanted` says what may stand there.
     #[error("bad line {number}: {wanted}")]
     NoLine { number: usize, wanted: &'static str },
     /// A write failed: nothing more is printed.
@@ -47,7 +47,9 @@ pub enum Fault {
 }
 
 impl Fault {
-    /// Writes the line that says so, unless the fault is that nothing can be written.
+    /// Writes the line of this fault, and flushes the output.
+    ///
+    /// Errors: `Output` if a write fails, and always if this fault is `Output`.
     pub fn write<O: Write>(&self, output: &mut O) -> Result<(), Fault> {
         if let Fault::Output = self {
             return Err(Fault::Output);
@@ -56,7 +58,7 @@ impl Fault {
         print(output, b"")
     }
 
-    /// Returns the exit status that it asks for: 2 for a bad line, else 1.
+    /// Returns the exit status of this fault: 2 for a bad line, else 1.
     pub fn status(&self) -> u8 {
         match self {
             Fault::BadLine { .. } | Fault::NoLine { .. } => 2,
@@ -64,7 +66,7 @@ impl Fault {
         }
     }
 
-    /// Prints that line, and returns the exit status: 1 if it cannot be written.
+    /// Writes the line of this fault, and returns the exit status: 1 if the line cannot be written.
     pub fn print<O: Write>(&self, output: &mut O) -> u8 {
         match self.write(output) {
             Ok(()) => self.status(),
@@ -72,8 +74,8 @@ impl Fault {
         }
     }
 
-    /// Prints that line, and on the standard error why the input or the output is at fault; returns
-    /// the exit status, as `print` does.
+    /// Writes the line of this fault, and to `faults` a sentence if the input, the output or a long
+    /// run is at fault; returns the exit status, as `print` does.
     pub fn end<O: Write, F: Write>(&self, output: &mut O, faults: &mut F) -> u8 {
         match self.write(output) {
             Ok(()) => {
@@ -87,7 +89,7 @@ impl Fault {
         }
     }
 
-    /// Writes to the standard error why the input or the output is at fault, if it can be written.
+    /// Writes the sentence of this fault to `faults`, if it has one and it can be written.
     fn tell<F: Write>(&self, faults: &mut F) {
         let words = match self {
             Fault::Input => b"standard input cannot be read\n".as_slice(),

@@ -81,7 +81,7 @@ fn counted(alloc: Global, word: &[u8], lines: &[u8]) -> Result<Vec<u8>, AllocErr
     Ok(text)
 }
 
-/// Returns the answer to a question of which the database command writes the lines.
+/// Returns the answer to `show` or `proof`: the lines of the database command, after their count.
 fn written_answer(
     alloc: Global,
     library: &Library,
@@ -103,8 +103,8 @@ fn written_answer(
     Ok(counted(alloc, asked.kind.verb(), lines.as_slice())?)
 }
 
-/// Returns the text in which the places of the statements are told, if the question tells places:
-/// the export of the library, since its texts are not kept.
+/// Returns the text in which places are counted, empty if the answer has no places: the export of the
+/// library, since its texts are not kept.
 fn text_of(alloc: Global, library: &Library, kind: LabelQuestion) -> Result<Vec<u8>, AllocError> {
     match kind {
         LabelQuestion::Show => library.export(),
@@ -112,7 +112,7 @@ fn text_of(alloc: Global, library: &Library, kind: LabelQuestion) -> Result<Vec<
     }
 }
 
-/// Tells which of two libraries of one world has more statements.
+/// Returns which of two libraries has more statements.
 pub fn ahead_of(one: &Library, other: &Library) -> Ahead
     ensures first { (result ≡ First)
         ↔ (length other.now.replica.statements < length one.now.replica.statements) }
@@ -132,7 +132,7 @@ pub fn ahead_of(one: &Library, other: &Library) -> Ahead
     }
 }
 
-/// Returns the line that tells which node is ahead.
+/// Returns the line that says which node is ahead.
 pub fn ahead_line(ahead: Ahead) -> &'static [u8] {
     match ahead {
         Ahead::First => b"first\n",

@@ -19,9 +19,9 @@ use unproved::Entered;
 
 /// Writes a page of each assertion of a database into the folder that is asked for, a list of them
 /// and a style sheet; returns the exit status. The reason of a refusal goes to `faults`, and so does
-/// how many of many pages are written.
+/// the progress if there are many pages.
 ///
-/// The library is left to the end of the process, which frees all of it at once.
+/// The library is leaked: the end of the process frees all of it at once.
 pub fn print_pages<R: AllocGlobal + Threads + Sync, I: Read, O: Write, F: Write, S: Folder>(
     rt: &R,
     asked: SiteQuestion<'_>,
@@ -38,14 +38,14 @@ pub fn print_pages<R: AllocGlobal + Threads + Sync, I: Read, O: Write, F: Write,
     answered
 }
 
-/// Where the answer goes, and the reasons.
+/// The writers of the answer and of reasons.
 #[derive(Drop)]
 struct Streams<'a, O, F> {
     output: &'a mut O,
     faults: &'a mut F,
 }
 
-/// Adds a text to an empty library, and writes the pages of that.
+/// Adds a text to an empty library, and writes the pages of the library.
 fn judge_and_print<R: AllocGlobal + Threads + Sync, O: Write, F: Write, S: Folder>(
     rt: &R,
     asked: SiteQuestion<'_>,
@@ -115,9 +115,8 @@ fn assume_and_print<R: AllocGlobal + Threads + Sync, O: Write, F: Write, S: Fold
     answered
 }
 
-/// Writes the files of the site of a library that was read from a text, and returns the exit status. The
-/// name of a file that cannot be written goes to the faults, and so does how many of many pages are
-/// written.
+/// Writes the files of the site of a library that was read from a text, and returns the exit status.
+/// The name of a file that cannot be written goes to the faults, and so does the progress.
 fn print_site<O: Write, F: Write, S: Folder>(
     alloc: Global,
     library: &Library,

@@ -12,7 +12,7 @@ use synod::Weights;
 /// Reads a script, makes its run, prints the picture of some steps, and returns the exit status.
 /// A line that is refused leaves no mark, and questions are not answered.
 ///
-/// Errors: `BadLine`; `LongRun`; `Memory`, before anything is printed; `Output`.
+/// Errors: `Input`; `BadLine`; `LongRun`; `Memory`, before anything is printed; `Output`.
 pub fn print_picture<I: Read, O: Write>(
     alloc: Global,
     weights: Weights,
@@ -47,7 +47,7 @@ fn part_of(steps: PicturedSteps) -> Part {
     }
 }
 
-/// Returns a number as an index.
+/// Returns a number as an index, or the greatest index if the number is greater.
 fn at_most(number: u64) -> usize {
     usize::try_from(number).unwrap_or(usize::MAX)
 }

@@ -45,7 +45,7 @@ impl Answers<PlayLine> for World {
     }
 }
 
-/// Does what a line asks for that `serve` has too, and appends its answer.
+/// Carries out a line that `serve` has too, and appends its answer.
 fn answer_node_line(world: &mut World, line: NodeLine, text: &mut Vec<u8>) -> Result<(), Fault> {
     match line {
         NodeLine::Offer(offered) => {

@@ -27,9 +27,10 @@ struct Proof<'a> {
     steps: &'a ProofTable,
 }
 
-/// Writes what is asked of the proof of a label.
+/// Writes the steps of the proof of a label, in the form that is asked for.
 ///
-/// Errors: those of `Library::items`; `Output`; if an allocation fails, `Memory`, after some steps.
+/// Errors: those of `Library::items`; `Output`; `Memory` if an allocation fails, perhaps after some
+/// steps.
 pub fn write_proof<O: Write>(
     alloc: Global,
     library: &Library,
@@ -122,7 +123,7 @@ fn write_theorem<O: Write>(
     Ok(())
 }
 
-/// Returns the neighbours of a theorem whose description is not shown.
+/// Returns the neighbours of a theorem, without its description.
 fn neighbours_of<'a>(axioms: &'a [u32], users: &'a [u32]) -> Neighbours<'a> {
     Neighbours {
         axioms,

@@ -1,4 +1,4 @@
-//! A database that is refused: the line that is printed of it, and the reason in words.
+//! A database that is refused: the line that is printed, and the reason in words.
 use crate::fault::Fault;
 use crate::named_text::NamedText;
 use crate::streams::print;
@@ -11,7 +11,7 @@ use std::io::Write;
 
 /// Prints the line of a text that is refused, and the reason on `faults`; returns the exit status.
 ///
-/// If an allocation fails for the reason, the line stands alone.
+/// If an allocation for the reason fails, only the line is printed.
 pub fn print_refusal<O: Write, F: Write>(
     alloc: Global,
     text: NamedText<'_>,
@@ -34,7 +34,7 @@ fn refusal_line(alloc: Global, cause: Cause) -> Result<Vec<u8>, AllocError> {
     Ok(line)
 }
 
-/// Returns the fault that is explained; `None` for a charter, which no database has.
+/// Returns the fault to explain for a cause; `None` for `NotChartered`, which is no fault of a text.
 pub fn fault_of(cause: Cause) -> Option<DatabaseFault> {
     match cause {
         Cause::TooLong => Some(DatabaseFault::TooLong),
@@ -66,7 +66,7 @@ pub fn print_outline_reason<F: Write>(alloc: Global, text: NamedText<'_>, faults
     }
 }
 
-/// Returns the fault that the outline of a text tells, if there is one.
+/// Returns the fault for which the outline refuses a text, if there is one.
 fn outline_fault(alloc: Global, text: &[u8]) -> Result<Option<DatabaseFault>, AllocError> {
     match read(alloc, text) {
         Ok(statements) => match first_broken_rule(alloc, statements.as_slice())? {

@@ -11,19 +11,20 @@ const ANSWER_ROOM: usize = 128;
 
 /// Nodes that answer the lines of a script.
 pub trait Answers<L> {
-    /// Does what a line asks for, and appends its answer to a text. Returns why it is refused, if
-    /// it is; the text is then discarded.
+    /// Carries out a line, and appends its answer to a text.
+    ///
+    /// Errors: the line is refused; the text is then discarded.
     fn answer(&mut self, line: L, text: &mut Vec<u8>) -> Result<(), Fault>;
 }
 
-/// Where the lines of a script come from.
+/// A source of the lines of a script.
 pub trait Source<L> {
     /// Returns the next line, or `None` at the end.
     ///
-    /// Errors: no further line can be had.
+    /// Errors: no further line can be read.
     fn next_line(&mut self) -> Result<Option<L>, Fault>;
 
-    /// Tells whether someone may wait for an answer before the next line is there.
+    /// Returns whether someone may wait for an answer before giving the next line.
     fn is_live(&self) -> bool;
 }
 
@@ -46,7 +47,7 @@ pub fn read_script<L: Line, I: Read>(alloc: Global, input: &mut I) -> Result<Vec
 /// Prints the answer to each line, and returns the exit status. If the source is live, each answer
 /// is flushed.
 ///
-/// Errors: no further line can be had; an allocation fails before anything is printed; a write
+/// Errors: no further line can be read; an allocation fails before anything is printed; a write
 /// fails.
 pub fn answer_lines<L: Drop, N: Answers<L>, S: Source<L>, O: Write>(
     alloc: Global,
@@ -69,7 +70,7 @@ pub fn answer_lines<L: Drop, N: Answers<L>, S: Source<L>, O: Write>(
     Ok(status)
 }
 
-/// Prints the answer to a line, and returns the exit status that it asks for. The text is a buffer.
+/// Prints the answer to a line, and returns its exit status. `text` is a buffer that is reused.
 fn print_answer<L: Drop, N: Answers<L>, O: Write>(
     nodes: &mut N,
     line: L,

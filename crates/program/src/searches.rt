@@ -1,11 +1,11 @@
-//! The command `find`: the assertions that have what is sought.
+//! The command `find`: the assertions that match a search.
 use finding::{Searched, Sought, found_lines};
 use library::Library;
 use mm_lex::Span;
 use places::descriptions;
 use std::alloc::{AllocError, Global};
 
-/// Returns a line for each assertion of a library that has what is sought.
+/// Returns a line for each assertion of a library that matches a search.
 pub fn found(
     alloc: Global,
     library: &Library,
@@ -22,7 +22,7 @@ pub fn found(
     found_lines(alloc, &searched, sought)
 }
 
-/// Returns the places of the descriptions of a text, if they are looked at.
+/// Returns the places of the descriptions of a text, or an empty list if the search reads none.
 fn descriptions_for(
     alloc: Global,
     text: &[u8],

@@ -24,10 +24,10 @@ use std::sync::Wait;
 use std::thread;
 use std::thread::Threads;
 
-/// How many turns `settle` waits at most.
+/// For how many turns `settle` waits at most.
 const MOST_TURNS: u32 = 10_000_000;
 
-/// In how many turns `settle` asks once, since an ask takes the lock that the node needs.
+/// `settle` asks once in this many turns, since each ask takes the lock that the node needs.
 const TURNS_AN_ASK: u32 = 64;
 
 /// Reads the script unless it is a session, starts the nodes, prints the answers to the lines, and
@@ -92,14 +92,14 @@ impl<R: Wait> Answers<ServedLine> for Asked<'_, R> {
     }
 }
 
-/// Appends the lines of a session, after their count.
+/// Appends the help of a session, after the count of its lines.
 fn push_help(alloc: Global, text: &mut Vec<u8>) -> Result<(), Fault> {
     let mut lines = Vec::from_slice(alloc, SERVE_LINES.as_bytes())?;
     lines.push(LINE_FEED)?;
     Ok(push_counted(text, b"help", lines.as_slice())?)
 }
 
-/// Does what a line of a script asks for, and appends its answer.
+/// Carries out a line of a script, and appends its answer.
 fn answer_serve_line<R: Wait>(
     asked: &Asked<'_, R>,
     line: ServeLine,
@@ -117,7 +117,8 @@ fn answer_serve_line<R: Wait>(
     }
 }
 
-/// Submits an entry at a node until its verdict is known there, and returns it.
+/// Submits an entry at a node until its verdict is known there, and returns the verdict; `None` if
+/// it is not known after the tries of `Desk::add`.
 fn added<R: Wait>(rt: &R, desk: &NodesDesk, offered: &Offered) -> Result<Option<Verdict>, StepFault>
     ensures outcome { IfOk result (IsOutcome offered.now.node offered.now.entry) }
     ensures no_node { desk.now ≤ offered.now.node → IsErr result }
@@ -125,7 +126,7 @@ fn added<R: Wait>(rt: &R, desk: &NodesDesk, offered: &Offered) -> Result<Option<
     desk.add(rt, offered.node, &offered.entry)
 }
 
-/// Does what a line asks for that `play` has too, and appends its answer.
+/// Carries out a line that `play` has too, and appends its answer.
 fn answer_node_line<R: Wait>(
     asked: &Asked<'_, R>,
     line: NodeLine,
@@ -167,7 +168,7 @@ fn push_node_list<R: Wait>(
     Ok(())
 }
 
-/// Returns what the node's library decided on the entry, if it did.
+/// Returns the verdict of the node's library on the entry, if it is decided there.
 fn status<R: Wait>(rt: &R, desk: &NodesDesk, at: EntryAt) -> Result<Option<Verdict>, StepFault>
     ensures status { IfOk result (IsStatus at.node at.author at.serial) }
     ensures no_node { desk.now ≤ at.node → result ≡ Err NoNode }
@@ -176,7 +177,7 @@ fn status<R: Wait>(rt: &R, desk: &NodesDesk, at: EntryAt) -> Result<Option<Verdi
     desk.status(rt, at.node, at.author, at.serial)
 }
 
-/// Returns the status as soon as it is known, or after `MOST_TURNS` turns.
+/// Returns the status as soon as it is known; `None` if it is not known after `MOST_TURNS` turns.
 fn settled<R: Wait>(rt: &R, desk: &NodesDesk, at: EntryAt) -> Result<Option<Verdict>, StepFault>
     ensures status { IfOk result (IsStatus at.node at.author at.serial) }
     ensures no_node { desk.now ≤ at.node → result ≡ Err NoNode }

@@ -28,7 +28,7 @@ pub type NodesDesk = Desk<OpenGate, MemoryKeep<Carried>>;
 /// Starts a node for each weight, with the weather that the seed draws, or a clear one without a
 /// seed. Each thread passes the gate at once.
 ///
-/// Errors: `Memory` if an allocation fails; no thread is left then.
+/// Errors: `Memory` if an allocation fails or a thread cannot be started; then no thread runs on.
 pub fn start_nodes<R: Threads + Wait + Copy + Send + Sync + Drop + 'static>(
     rt: &R,
     alloc: Global,
@@ -56,7 +56,7 @@ pub fn start_nodes<R: Threads + Wait + Copy + Send + Sync + Drop + 'static>(
     )
 }
 
-/// Returns so many keeps of new nodes.
+/// Returns `count` keeps of new nodes.
 fn keeps(alloc: Global, count: u8) -> Result<Vec<MemoryKeep<Carried>>, AllocError>
     ensures count { IfOk result (λ keeps. vec_len keeps ≡ count) }
     ensures new { IfOk result (λ keeps. AllByRecursion

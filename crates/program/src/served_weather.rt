@@ -10,7 +10,7 @@ use std::alloc::{AllocError, Global};
 pub enum ServedWeather {
     /// Each packet is delivered.
     Clear,
-    /// One packet in four is lost, repeated or delayed.
+    /// About one packet in four is lost, repeated or delayed.
     Drawn(DrawnWeather),
 }
 
@@ -23,7 +23,7 @@ impl Weather for ServedWeather {
     }
 }
 
-/// Returns the weather of each of so many nodes; without a seed it is clear.
+/// Returns a weather for each of `nodes` nodes, clear without a seed.
 pub fn weathers(
     alloc: Global,
     nodes: u8,

@@ -11,7 +11,7 @@ use std::alloc::{AllocError, Global};
 use std::io::{BufRead, BufReader, ErrorKind, Read};
 use std::vec::IntoIter;
 
-/// A line that `serve` answers, or why it has no other answer.
+/// A line that `serve` answers, or the fault that is printed in its place.
 pub type ServedLine = Result<SessionLine, Fault>;
 
 /// The lines of a script that was read whole.
@@ -49,7 +49,7 @@ impl Source<ServedLine> for Script {
 pub struct Session<'a, I: Read> {
     alloc: Global,
     input: BufReader<&'a mut I>,
-    /// The line that is done, with the lines of its text.
+    /// The bytes of the line that was read last, and of the lines of its text.
     text: Vec<u8>,
     /// How many lines were read.
     number: usize,
@@ -99,7 +99,7 @@ impl<'a, I: Read> Session<'a, I> {
         Ok(None)
     }
 
-    /// Parses what is read, whose first line has this number. Returns `None` if that line is empty.
+    /// Parses the line that was read last, which has this number. Returns `None` if it is empty.
     fn parsed(&self, number: usize) -> Result<Option<SessionLine>, Fault> {
         match parse_script::<SessionLine>(self.alloc, self.text.as_slice()) {
             Ok(mut lines) => Ok(lines.pop()),
@@ -111,7 +111,7 @@ impl<'a, I: Read> Session<'a, I> {
         }
     }
 
-    /// Appends the lines of the text that the line gives, if it gives one on those that follow.
+    /// Appends the following lines that are the text of the line, if it gives its text there.
     fn read_text(&mut self) -> Result<(), Fault> {
         let line = self.text.len();
         match text_end(first_line(self.text.as_slice())) {
@@ -126,7 +126,7 @@ impl<'a, I: Read> Session<'a, I> {
         }
     }
 
-    /// Appends lines until there are so many bytes, or the input ends.
+    /// Appends lines until there are `wanted` bytes in all, or the input ends.
     fn read_bytes(&mut self, wanted: usize) -> Result<(), Fault> {
         for _ in 0..u64::MAX {
             if self.text.len() >= wanted || !self.read_line()? {
@@ -136,7 +136,7 @@ impl<'a, I: Read> Session<'a, I> {
         Ok(())
     }
 
-    /// Appends lines until one is the word alone, or the input ends.
+    /// Appends lines up to the first that is the word alone, or to the end of the input.
     fn read_until(&mut self, word: &[u8]) -> Result<(), Fault> {
         for _ in 0..u64::MAX {
             let start = self.text.len();

@@ -8,7 +8,7 @@ use places::{Position, descriptions, line_and_column};
 use statement_blocks::{Shown, push_block};
 use std::alloc::{AllocError, Global};
 
-/// Where the statements of a text stand in it.
+/// A text, and the ends of its statements.
 #[derive(Drop)]
 struct Written<'a> {
     /// The name of the file, which stands before each place.
@@ -73,7 +73,7 @@ fn ends(alloc: Global, text: &[u8]) -> Result<Vec<usize>, AllocError> {
     Ok(ends)
 }
 
-/// Returns the byte after the `$` at an offset, if the two make a run.
+/// Returns the byte after the `$` at an offset, if the two stand alone between white bytes.
 fn keyword(text: &[u8], at: usize) -> Option<u8> {
     let begins = match at.checked_sub(1) {
         Some(before) => is_white(text, before),
@@ -86,7 +86,7 @@ fn keyword(text: &[u8], at: usize) -> Option<u8> {
     }
 }
 
-/// Tells whether no byte of a run stands at an offset.
+/// Returns whether a white byte or the end of the text stands at an offset.
 fn is_white(text: &[u8], at: usize) -> bool {
     match text.get(at) {
         Some(byte) => byte.is_ascii_whitespace(),
@@ -124,7 +124,7 @@ fn push_shown(
     push_block(alloc, blocks, &shown)
 }
 
-/// Returns the offset after the statement before the one at a position.
+/// Returns the offset at which the statement before the one at a position ends; 0 for the first.
 fn begin(written: &Written<'_>, at: usize) -> usize {
     match at.checked_sub(2) {
         Some(before) => written.ends.get(before).copied().unwrap_or(0),
@@ -132,8 +132,8 @@ fn begin(written: &Written<'_>, at: usize) -> usize {
     }
 }
 
-/// Returns the text of the statement at a position, with all comments between the statement before,
-/// which ends at `begin`, and it. Read alone, the part has the same description.
+/// Returns the text of the statement at a position with all comments before it, from `begin`, where
+/// the previous statement ends. Read alone, this part has the same description.
 fn part<'a>(written: &Written<'a>, begin: usize, at: usize) -> &'a [u8] {
     match written.ends.get(at.saturating_sub(1)) {
         Some(end) => written.text.get(begin..*end).unwrap_or(b""),
@@ -141,7 +141,7 @@ fn part<'a>(written: &Written<'a>, begin: usize, at: usize) -> &'a [u8] {
     }
 }
 
-/// Returns where the first token of a part of the text stands that begins at `begin`.
+/// Returns the line and column of the first token of a part of the text that begins at `begin`.
 fn position(
     alloc: Global,
     written: &Written<'_>,
@@ -158,7 +158,8 @@ fn position(
     Ok(line_and_column(written.text, offset.min(written.text.len())))
 }
 
-/// Returns the first of these places in a text, if the first statement has a description.
+/// Returns the description of the first statement of a text, if it has one; `places` are the places
+/// of its descriptions.
 fn first_description<'a>(text: &'a [u8], places: &[Option<Span>]) -> Option<&'a [u8]> {
     match places.first() {
         Some(Some(span)) => text.get(span.start..span.end),

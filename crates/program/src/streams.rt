@@ -12,7 +12,7 @@ pub fn read_text<I: Read>(alloc: Global, input: &mut I) -> Result<Vec<u8>, Fault
     read_at_most(alloc, input, MOST_BYTES + 1)
 }
 
-/// Reads the whole input, or so many of its first bytes.
+/// Reads the whole input, or its first `most` bytes.
 ///
 /// Room for a text is reserved first, if allocation succeeds: what is read then stays where it is,
 /// and pages that stay empty cost nothing.
@@ -36,6 +36,8 @@ pub fn read_at_most<I: Read>(alloc: Global, input: &mut I, most: usize) -> Resul
 }
 
 /// Writes a text and flushes the writer.
+///
+/// Errors: `Output` if the writer fails.
 pub fn print<W: Write>(writer: &mut W, text: &[u8]) -> Result<(), Fault> {
     writer.write_all(text)?;
     writer.flush()?;

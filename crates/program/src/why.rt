@@ -1,5 +1,5 @@
-//! Why an entry is refused at a node: it is judged again behind exactly the statements that stood
-//! when it was decided.
+//! Why an entry is refused at a node: the entry is judged again after exactly the statements that
+//! stood when it was decided.
 use crate::fault::Fault;
 use crate::refused_texts::fault_of;
 use bytes::Bytes;
@@ -16,11 +16,11 @@ use std::collections::BTreeSet;
 /// The decision of a node on an entry.
 #[derive(Drop)]
 pub enum Decision {
-    /// Nothing.
+    /// Nothing is decided.
     Unknown,
-    /// It was added.
+    /// The entry was added.
     Added,
-    /// It was refused.
+    /// The entry was refused.
     Refused(RefusedEntry),
 }
 
@@ -31,11 +31,11 @@ pub struct RefusedEntry {
     entry: Entry,
     /// The texts that were added before it, in order.
     added: Vec<Bytes>,
-    /// The statements of the library, a line each. Those of these texts come first.
+    /// The statements of the library, a line each. Those of `added` come first.
     export: Vec<u8>,
 }
 
-/// Returns what a library decided on an entry. Its entries are those that were applied, in order.
+/// Returns what a library decided on an entry. `entries` are those that it applied, in order.
 ///
 /// Errors: an allocation fails. Cost: the size of the library, and the count of the entries.
 pub fn decided(
@@ -97,7 +97,7 @@ pub fn push_why(alloc: Global, text: &mut Vec<u8>, decision: &Decision) -> Resul
     }
 }
 
-/// Returns the lines that tell why an entry is refused.
+/// Returns the lines that say why an entry is refused.
 fn reason(alloc: Global, refused: &RefusedEntry) -> Result<Vec<u8>, AllocError> {
     match (&refused.entry, fault_of(refused.cause)) {
         (Entry::Text(submission), Some(fault)) => {
@@ -127,7 +127,7 @@ fn explanation(
     explain_behind(alloc, whole.as_slice(), before.len(), behind(fault, count))
 }
 
-/// Tells whether a fault is that of a statement.
+/// Returns whether a fault names a statement.
 fn tells_statement(fault: DatabaseFault) -> bool {
     !matches!(
         fault,
@@ -135,7 +135,7 @@ fn tells_statement(fault: DatabaseFault) -> bool {
     )
 }
 
-/// Returns the fault of a statement that has so many others before it.
+/// Returns the fault with its statement counted after `count` others.
 fn behind(fault: DatabaseFault, count: usize) -> DatabaseFault {
     match fault {
         DatabaseFault::Rule { statement, rule } => DatabaseFault::Rule {
@@ -165,7 +165,7 @@ fn statement_count(alloc: Global, texts: &[Bytes]) -> Result<usize, AllocError> 
     Ok(count)
 }
 
-/// Returns so many of the first lines.
+/// Returns the first `count` lines.
 fn first_lines(lines: &[u8], count: usize) -> &[u8] {
     let mut rest = lines;
     for _line in 0..count {

@@ -1,6 +1,6 @@
 -- The names of labels as a set.
--- Source: none.
--- The code puts the mandatory labels in order before it looks listed labels up among them.
+-- Source: this project's form.
+-- The code makes the set of the mandatory labels before it looks listed labels up among them.
 use Rattle.std.specs.Prelude.{◌≡◌, List}
 use Rattle.std.specs.BTreeSet.{BTreeSet, contains}
 use Rattle.std.specs.Ordering.{nat_cmp}
@@ -8,6 +8,6 @@ use Rattle.std.specs.Cmp.Lexicographic.{slice_cmp}
 use Rattle.std.specs.Borrow.{Bor}
 use Rattle.mm_lex.specs.Alphabet.{Name, has_name}
 
--- the set has just the names of the labels
+-- the set has exactly the names of the labels
 abbrev pub AreNames : BTreeSet (Bor Name) → List Name → Type 0
 AreNames names labels = (label : Bor Name) → contains (λ a b. slice_cmp nat_cmp a.now b.now) names label ≡ has_name label.now labels

@@ -11,7 +11,7 @@ use Rattle.proof_code.specs.Writes.{is_unfinished, Writes, IsMalformed}
 abbrev pub NumbersByFormula : Type 0
 NumbersByFormula = (word : Name) (n : ℕ) → IsNumber word n ↔ (number_of word ≡ Some n)
 
--- tokens write one list of items at most
+-- tokens write at most one list of items
 abbrev pub OneListOfItems : Type 0
 OneListOfItems = (tokens mandatory : List Name) (a b : List Item) → Writes tokens mandatory a → Writes tokens mandatory b → a ≡ b
 

@@ -33,7 +33,7 @@ is_last letter = nat_le 65 letter && nat_le letter 84
 abbrev pub is_first : ℕ → Bool
 is_first letter = nat_le 85 letter && nat_le letter 89
 
--- the number by the formula, where the letters before came to n: U to Y count 1 to 5 in base 5, A to T then 1 to 20 in base 20
+-- the number by the formula, if the letters before come to n: U to Y count 1 to 5 in base 5, A to T then 1 to 20 in base 20
 abbrev pub number_from : ℕ → Name → Option ℕ
 number_from n [] = None
 number_from n (letter ∷ word) =

@@ -30,7 +30,7 @@ more_labels n found = option_map (λ f. (n + f.0, f.1)) found
 abbrev pub behind_none : Bool → Option (List ℕ) → Option (ℕ × List ℕ)
 behind_none fresh letters = if fresh then option_map (λ l. (0, l)) letters else None
 
--- how many labels there are, and the letters after them; `fresh` tells whether a word begins here
+-- how many labels there are, and the letters after them; `fresh`: whether a word begins here
 abbrev pub counted : Bool → List ℕ → Option (ℕ × List ℕ)
 counted fresh [] = None
 counted fresh (b ∷ text) =

@@ -7,7 +7,7 @@ use Rattle.mm_lex.specs.Alphabet.{Name, name_eq, is_label}
 use Rattle.proof_code.specs.Letters.{is_first, is_last}
 use Rattle.proof_code.specs.Writes.{finish}
 
--- the bytes of a text, its spaces taken out
+-- the bytes of a text without its spaces
 abbrev pub letters_of : List ℕ → List ℕ
 letters_of [] = []
 letters_of (byte ∷ text) = if byte == 32 then letters_of text else byte ∷ letters_of text
@@ -20,7 +20,7 @@ starts_with_mark (letter ∷ letters) = letter == 90
 abbrev pub with_number : ℕ → ℕ → Option (List ℕ) → Option (List ℕ)
 with_number limit number rest = if nat_le number limit then option_map (λ numbers. number ∷ numbers) rest else None
 
--- the numbers of the letters, 0 for a mark, where the letters U to Y of the word that is begun come to `digits`
+-- the numbers of the letters, 0 for a mark, if the letters U to Y of the word that is begun come to `digits`
 abbrev pub numbers_from : ℕ → ℕ → List ℕ → Option (List ℕ)
 numbers_from limit digits [] = if digits == 0 then Some [] else None
 numbers_from limit digits (letter ∷ letters) =

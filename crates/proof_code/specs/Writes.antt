@@ -37,7 +37,7 @@ Means labels marks number (Cite label) = (k : ℕ) × (number ≡ k + 1) × (sli
 Means labels marks number (Recall k) = (number ≡ length labels + k) × (1 ≤ k) × (k ≤ marks)
 Means labels marks number Mark = ⊥
 
--- the row of words and marks gives the items, where some marks stand before
+-- the row of words and marks gives the items, if `marks` marks stand before it
 abbrev pub AreItems : List Name → ℕ → List Name → List Item → Type 0
 AreItems labels marks [] [] = Unit {0}
 AreItems labels marks [] (item ∷ items) = ⊥
@@ -59,7 +59,8 @@ pub record WritesRow (labels : List Name) (letters : List ℕ) (items : List Ite
   pub means : AreItems labels 0 row items
   pub starts : IsTrue (starts_with_result items)
 
--- the tokens are `(`, the listed labels, `)` and the letters, which spaces may cut anywhere; the mandatory labels come before the listed ones
+-- the tokens are `(`, the listed labels, `)` and the letters, which spaces may cut anywhere; the mandatory labels are numbered
+-- before the listed ones
 pub record WritesCompressed (tokens mandatory : List Name) (items : List Item) : Type 0 where
   pub listed : List Name
   pub rest : List Name

@@ -19,12 +19,12 @@ pub fn is_compressed(tokens: &Words) -> bool
     matches!(tokens.iter().next(), Some([b'(']))
 }
 
-/// Returns the items of a compressed proof, where `mandatory` are the labels of the mandatory hypotheses in frame order.
+/// Returns the items of a compressed proof. `mandatory` are the labels of the mandatory hypotheses in frame order.
 ///
 /// Errors: `Unfinished` if a token has the byte `?`, else `Malformed` if the tokens write no items, both even
-/// if every allocation fails. Cost: the sizes of the tokens and of the mandatory labels, times the logarithm of
-/// their number (if the mandatory labels cannot be put in order since an allocation fails, each listed label is
-/// compared with each of them). Source: Metamath, appendix B.
+/// if every allocation fails; else `Memory`. Cost: the sizes of the tokens and of the mandatory labels, times the
+/// logarithm of their number (if an allocation fails, each listed label may be compared with each mandatory one).
+/// Source: Metamath, appendix B.
 pub fn packed(alloc: Global, tokens: &Words, mandatory: &Words) -> Result<Items, CodeFault>
     requires { IsTrue (is_compressed tokens.now) }
     ensures items { IfOk result (λ items. WritesPacked tokens.now mandatory.now items) }
@@ -48,7 +48,7 @@ pub fn packed(alloc: Global, tokens: &Words, mandatory: &Words) -> Result<Items,
     }
 }
 
-/// Returns how many labels there are, each with a byte or more and a space after it.
+/// Returns how many labels there are: at most 2^62, since each takes at least a byte, and a space stands between two.
 fn count_labels(labels: &Words) -> usize
     ensures count { result ≡ length labels.now }
     ensures few { result ≤ 2 ^ 62 }
@@ -70,15 +70,16 @@ fn shares_label(alloc: Global, mandatory: &Words, words: WordIter<'_>, count: us
     }
 }
 
-/// Returns whether it is one of the labels.
+/// Returns whether a label is among others.
 fn is_among(label: &[u8], labels: &Words) -> bool
     ensures { result ≡ has_name label.now labels.now }
 {
     labels.iter().any(|other| label == other)
 }
 
-/// Returns the names of the labels in order, or `None` if an allocation failed. Cost: the size of the labels,
-/// times the logarithm of their number.
+/// Returns the set of the labels, or `None` if an allocation failed.
+///
+/// Cost: the size of the labels, times the logarithm of their number.
 #[tactic(auto, using(crate::proofs::LabelNameLemmas::names_more))]
 pub fn names_of<'a>(alloc: Global, labels: &'a Words) -> Option<BTreeSet<&'a [u8]>>
     ensures { IfSome result (λ names. AreNames names labels.entry.now) }

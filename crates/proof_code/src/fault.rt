@@ -11,9 +11,9 @@ use std::alloc::AllocError;
 pub enum CodeFault {
     /// Some token has the byte `?`.
     Unfinished,
-    /// No token has, and the tokens write no list of items.
+    /// No token has it, and the tokens write no items.
     Malformed,
-    /// An allocation failed.
+    /// An allocation failed, or there are too many labels or letters (`MOST_LETTERS`).
     Memory,
 }
 
@@ -25,7 +25,9 @@ pub fn is_unfinished(tokens: &Words) -> bool
     tokens.as_text().contains(&b'?')
 }
 
-/// Returns the items, or `None` if the tokens write none. Errors: out of memory, if the reader reported that.
+/// Returns the items, or `None` if the tokens write none.
+///
+/// Errors: `AllocError`, if the fault is `Memory`.
 pub fn written(items: Result<Items, CodeFault>) -> Result<Option<Items>, AllocError>
     ensures found { IfOk result (λ found. MatchOption found
         ((items ≡ Err CodeFault.Unfinished) ⊎ (items ≡ Err CodeFault.Malformed)) (λ found. items ≡ Ok found)) }

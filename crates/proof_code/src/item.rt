@@ -11,6 +11,6 @@ pub enum Item {
     Cite(Word),
     /// Recalls a marked result, counted from 1 in the order of the marks.
     Recall(usize),
-    /// Marks the result of the item before.
+    /// Marks the result of the previous item.
     Mark,
 }

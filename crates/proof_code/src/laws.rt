@@ -1,17 +1,17 @@
 //! Laws of the definitions, each the contract of a function that does nothing.
 ghost use Rattle.proof_code.specs.Laws.{NumbersByFormula, OneListOfItems, OneAnswerEach};
 
-/// A word's place in the order of all words is the number that base 5 and base 20 give.
+/// States that a word's place in the order of all words is the number that base 5 and base 20 give.
 pub fn numbers_by_formula()
     ensures { NumbersByFormula }
 {}
 
-/// Tokens write one list of items at most.
+/// States that tokens write at most one list of items.
 pub fn one_list_of_items()
     ensures { OneListOfItems }
 {}
 
-/// Tokens write items, or are unfinished, or are malformed, and no two of these.
+/// States that tokens write items, or are unfinished, or are malformed, and no two of these.
 pub fn one_answer()
     ensures { OneAnswerEach }
 {}

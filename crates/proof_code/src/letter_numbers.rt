@@ -1,7 +1,7 @@
 //! The letters of a compressed proof, and the numbers that they write.
 //!
-//! The next letter cannot be foreseen, so no branch depends on it: a table has the numbers by which a letter
-//! changes what stands before it, and the one test of each is whether a number is over the limit.
+//! A processor cannot predict the next letter, so no branch depends on it: a table has the numbers by which a letter
+//! changes the digits before it, and the one test for each letter is whether a number is over the limit.
 ghost use Rattle.std.specs.Prelude.{◌≡◌, ◌==◌, if◌then◌else◌, ◌+◌, ◌*◌, ◌^◌, ◌<◌, ◌≤◌, ◌∷◌, ℕ, List, length, take, max, None, Some, IfNone, IfSome, MatchOption};
 ghost use Rattle.proof_code.specs.Text.{letters_of, numbers_from, starts_with_mark};
 ghost use Rattle.proof_code.specs.Reading.{Goes, IsLetter, ended};
@@ -9,7 +9,7 @@ ghost use Rattle.proof_code.specs.Reading.{Goes, IsLetter, ended};
 /// The effect of a letter on the digits before it.
 #[derive(Clone, Copy)]
 struct Letter {
-    /// Their value with the letter; a mark gives 0, and after digits more than any limit.
+    /// The value of the digits with the letter; for a mark 0, or after digits more than any limit.
     value: usize,
     /// The digits before the next letter.
     digits: usize,
@@ -17,8 +17,8 @@ struct Letter {
     ends: usize,
 }
 
-/// Four numbers for each letter: by what the digits before it are multiplied (for a mark they are taken from 0), what is
-/// added, which bits of that are the digits before the next letter, and how many numbers the letter ends.
+/// Four numbers for each letter: the factor of the digits before it (for a mark -1, modulo 2^64), the number that is added,
+/// the mask of the bits of that value which are the digits before the next letter, and how many numbers the letter ends.
 const STEPS: [usize; 104] = [
     20, 1, 0, 1, 20, 2, 0, 1, 20, 3, 0, 1, 20, 4, 0, 1, 20, 5, 0, 1, 20, 6, 0, 1, 20, 7, 0, 1, 20,
     8, 0, 1, 20, 9, 0, 1, 20, 10, 0, 1, 20, 11, 0, 1, 20, 12, 0, 1, 20, 13, 0, 1, 20, 14, 0, 1, 20,
@@ -51,17 +51,17 @@ fn letter_behind(byte: u8, digits: usize) -> Letter
 /// The state between two bytes of the letters.
 #[derive(Clone, Copy)]
 struct Word {
-    /// The greatest number that is possible here.
+    /// The largest number that is valid here.
     limit: usize,
     /// The value of the letters U to Y of the word that is begun, each counting 1 to 5 in base 5.
     digits: usize,
 }
 
 impl Word {
-    /// Reads one byte, where digits over `most` come to more than the limit however the word ends; `None` if the
-    /// letters write nothing with it, whatever follows.
+    /// Reads one byte, and returns its letter, or `Some(None)` for a space, which is ignored. Returns `None` if the
+    /// letters write nothing with this byte, whatever follows.
     ///
-    /// A space is no letter and is passed over.
+    /// Digits over `most` come to more than the limit, however the word ends.
     #[inline(always)]
     fn read(&mut self, byte: u8, most: usize) -> Option<Option<Letter>>
         requires begun { self.old.digits ≤ most }
@@ -88,10 +88,10 @@ impl Word {
     }
 }
 
-/// Writes the numbers of the letters of a text, where `labels` labels are numbered, and returns how many there are;
-/// `None` if the letters write none. Spaces may cut the letters anywhere.
+/// Writes the numbers of the letters of a text over `labels` labels, and returns how many there are, or `None` if the
+/// letters write none. Spaces may cut the letters anywhere.
 ///
-/// The value of the word is written for each letter, and counts where the letter ends a number.
+/// The value of the word is written for each letter, and kept if the letter ends a number.
 #[inline(never)]
 pub(crate) fn write_numbers(text: &[u8], labels: usize, numbers: &mut [u32]) -> Option<usize>
     requires small { labels + length text.now < 2 ^ 32 }
@@ -116,7 +116,7 @@ pub(crate) fn write_numbers(text: &[u8], labels: usize, numbers: &mut [u32]) -> 
     if word.digits == 0 { Some(count) } else { None }
 }
 
-/// Reads the letters in the same way, without writing.
+/// Returns whether the letters write numbers, as `Some` or `None`, without writing them.
 pub(crate) fn pass_letters(text: &[u8], labels: usize) -> Option<()>
     requires { labels + length text.now < 3 * 2 ^ 62 }
     ensures { MatchOption result (numbers_from labels 0 (letters_of text.now) ≡ None)

@@ -1,12 +1,12 @@
 //! From the tokens of a Metamath proof to its items: citations, recalls and marks.
 //!
-//! The crate above uses `normal` and `packed`: an `Ok` holds the items that the tokens write, and if they write
-//! none the fault is `Unfinished` exactly if a token has the byte `?`, else `Malformed`. `Items` is seen as the
-//! list of items, and gives its labels once each and a number for each item. `Reader::read` does so of one compressed
-//! proof after another, for mandatory labels that the caller knows otherwise.
+//! The crates above use `normal` and `packed`: an `Ok` holds the items that the tokens write, and if they write
+//! none the fault is `Unfinished` exactly if a token has the byte `?`, else `Malformed`. Contracts see `Items` as the
+//! list of items; it has a table of labels and a number for each item. `Reader::read` reads one compressed proof after
+//! another into one buffer, without the mandatory labels, which the caller has.
 //!
-//! To read: `item`, `items`, `fault`, then `normal_proof`; `reader` with its parts `listing` (the labels counted) and
-//! `letter_numbers`; `compressed_proof` above it; and `laws`.
+//! Reading order: `item`, `items`, `fault`, then `normal_proof`; `reader` with its parts `listing` (the labels counted)
+//! and `letter_numbers`; `compressed_proof` above it; and `laws`.
 #![tactic(auto)]
 
 mod compressed_proof;

@@ -5,10 +5,10 @@ ghost use Rattle.proof_code.specs.Listing.{are_listed, class_of, counted};
 
 use std::simd::prelude::*;
 
-/// How many bytes are looked at together.
+/// How many bytes are compared at once.
 const LANES: usize = 16;
 
-/// Counts the labels of a text up to the word `)`, and returns the letters after it; `None` if this is missing or if
+/// Returns how many labels stand before the word `)`, and the letters after it; `None` if there is no `)` or if
 /// a word before it is no label.
 pub(crate) fn count_listed(text: &[u8]) -> Option<(usize, &[u8])>
     ensures counted { MatchOption result (counted true text.now ≡ None) (λ r. counted true text.now ≡ Some (r.0, r.1.now)) }
@@ -29,7 +29,7 @@ pub(crate) fn count_listed(text: &[u8]) -> Option<(usize, &[u8])>
     Some((count + more, letters))
 }
 
-/// Counts the labels byte by byte, where `last` is the byte before the text.
+/// Does the same as `count_listed`, byte by byte; `last` is the byte before the text.
 fn count_by_byte(text: &[u8], last: u8) -> Option<(usize, &[u8])>
     ensures counted { MatchOption result (counted (last == 32) text.now ≡ None) (λ r. counted (last == 32) text.now ≡ Some (r.0, r.1.now)) }
     ensures within { IfSome result (λ r. r.0 + length r.1.now ≤ length text.now) }
@@ -54,7 +54,7 @@ fn count_by_byte(text: &[u8], last: u8) -> Option<(usize, &[u8])>
     None
 }
 
-/// Returns how many spaces are among the first bytes, where all are bytes of labels or spaces.
+/// Returns how many of the first 16 bytes are spaces, or `None` unless all are bytes of labels or spaces.
 fn count_in_lanes(text: &[u8]) -> Option<usize>
     requires room { 16 ≤ length text.now }
     ensures listed { IfSome result (λ spaces. are_listed (take 16 text.now) ≡ true) }
@@ -78,7 +78,7 @@ fn count_in_lanes(text: &[u8]) -> Option<usize>
 /// The class of a byte that is neither a byte of a label nor a space.
 const OTHER: u8 = 2;
 
-/// Returns the class of a byte: 0 where a label may have it, 1 for a space, 2 for the others.
+/// Returns the class of a byte: 0 if a label may have it, 1 for a space, 2 for the others.
 fn class_of(byte: u8) -> u8
     ensures class { result ≡ class_of byte }
     ensures bound { result ≤ 2 }

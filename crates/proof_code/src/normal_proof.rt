@@ -13,7 +13,7 @@ use std::alloc::{AllocError, Global};
 /// Returns the items of a normal proof: a citation for each token.
 ///
 /// Errors: `Unfinished` if a token has the byte `?`, else `Malformed` if a token is no label, both even if
-/// every allocation fails. Cost: the size of the tokens. Source: Metamath, 4.3.
+/// every allocation fails; else `Memory`. Cost: the size of the tokens. Source: Metamath, 4.3.
 pub fn normal(alloc: Global, tokens: &Words) -> Result<Items, CodeFault>
     ensures items { IfOk result (λ items. WritesPlain tokens.now items) }
     ensures unfinished { (result ≡ Err CodeFault.Unfinished) ↔ IsTrue (is_unfinished tokens.now) }

@@ -1,4 +1,4 @@
-//! Compressed proofs read into a buffer that is kept.
+//! Reads compressed proofs into a buffer that is reused.
 ghost use Rattle.std.specs.Prelude.{◌≡◌, ℕ, ◌+◌, ◌*◌, ◌^◌, ◌<◌, ◌≤◌, [], ◌∷◌, List, length, take, IsTrue, IfOk, IfSome, MatchOption, OnOk, OnErr, Some, None};
 ghost use Rattle.mm_lex.specs.Alphabet.{Name};
 ghost use Rattle.proof_code.specs.declared.item.Item.{Item};
@@ -18,7 +18,7 @@ pub const MOST_LETTERS: usize = 1 << 30;
 /// Reads compressed proofs, one after another. Contracts see the numbers of the last one.
 #[derive(Drop)]
 pub struct Reader {
-    /// The numbers, followed by room that counts for nothing.
+    /// The numbers, followed by items without meaning.
     buffer: Vec<u32>,
     /// How many numbers there are.
     count: usize,
@@ -61,11 +61,11 @@ impl Reader {
         &self.buffer[..self.count]
     }
 
-    /// Reads a compressed proof of a statement with so many mandatory hypotheses: the labels that it lists and the
-    /// numbers of its items. `None` where it writes no items, whatever the mandatory labels are.
+    /// Reads a compressed proof of a statement with `mandatory` mandatory hypotheses. Returns the labels that it lists, and
+    /// keeps the numbers of its items; returns `None` if it writes no items, whatever the mandatory labels are.
     ///
-    /// It writes items where no listed label is a mandatory one, which is left to the caller.
-    /// Errors: an allocation fails; the numbers are those of before then.
+    /// The proof writes these items only if no listed label is a mandatory one, which the caller has to test.
+    /// Errors: an allocation fails, or there are more than `MOST_LETTERS` labels or letters; the numbers are then as before.
     /// Cost: the size of the tokens. Source: Metamath, appendix B.
     pub fn read<'a>(
         &mut self,
@@ -88,7 +88,7 @@ impl Reader {
         Ok(Some(heading))
     }
 
-    /// Reads in the same way, and returns whether the numbers were kept. `None` is returned however little memory there is.
+    /// Does the same as `read`, and returns whether the numbers were kept. Returns `None` even if every allocation fails.
     pub(crate) fn find<'a>(
         &mut self,
         tokens: &'a Words,
@@ -128,8 +128,9 @@ impl Reader {
     }
 }
 
-/// Makes room for a number for each of so many letters. Errors: an allocation fails, or there are too many of them or
-/// of the labels.
+/// Makes room for a number for each letter.
+///
+/// Errors: an allocation fails, or there are too many letters or labels.
 fn make_room(buffer: &mut Vec<u32>, labels: usize, letters: usize) -> Result<(), AllocError>
     ensures room { OnOk result (letters ≤ length buffer.new.items) }
     ensures few { OnOk result (labels + letters < 2 ^ 32) }

@@ -7,7 +7,7 @@ use Rattle.proof_pages.specs.declared.index.TheConstants.{INDEX_START}
 use Rattle.proof_pages.specs.Notations.{page_link}
 use Rattle.proof_pages.specs.StepLines.{texts_from}
 
--- whether it is an axiom or a theorem
+-- the kind: axiom or theorem
 abbrev pub kind_cell : List ℕ → List ℕ
 kind_cell kind = codes "<tr><td>" ++ kind ++ codes "<td>"
 

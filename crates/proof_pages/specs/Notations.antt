@@ -22,14 +22,14 @@ symbol_html names classes symbol = codes " " ++ coloured (get_or classes symbol 
 abbrev pub expr_html : List Name → List ℕ → List ℕ → List ℕ
 expr_html names classes expr = flat_map (symbol_html names classes) expr
 
--- a label as a link to the file of the assertion that has it, which stands at this position
+-- the start of a link to the file of the assertion that has this label and stands at this position
 unfoldable pub link_start : Name → ℕ → List ℕ
 link_start label position = codes "<a href=\"" ++ file_name label position ++ codes "\">"
 
 abbrev pub page_link : Name → ℕ → List ℕ
 page_link label position = link_start label position ++ html_text label ++ codes "</a>"
 
--- the label of the statement at a position; that of an assertion is a link, if labels are linked
+-- the label of the statement at a position; the label of an assertion is a link, if labels are linked
 abbrev pub label_html : Bool → ℕ → Stmt → List ℕ
 label_html linked position s =
     if linked && is_assertion s then page_link (label_or_none (Some s)) position else html_text (label_or_none (Some s))

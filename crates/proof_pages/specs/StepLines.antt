@@ -28,7 +28,7 @@ abbrev pub step_line : Database → List Name → ℕ → Row → List ℕ
 step_line S names place row =
     number_text place ++ codes " " ++ taken_text row.step.taken ++ codes " " ++ label_or_none (stmt_at S row.step.position) ++ expr_text names row.expr ++ codes "\n"
 
--- the texts of things one after another, the first of which stands at this place
+-- the texts of a list of things, one after another; the first thing stands at this place
 abbrev pub texts_from : {A : Type 0} → (ℕ → A → List ℕ) → ℕ → List A → List ℕ
 texts_from text place [] = []
 texts_from text place (thing ∷ things) = text place thing ++ texts_from text (suc place) things

@@ -6,11 +6,11 @@ use Rattle.proof_pages.specs.Words.{Name, Database, Row}
 use Rattle.proof_pages.specs.StepLines.{number_text}
 use Rattle.proof_pages.specs.Notations.{expr_html, cited_html}
 
--- a link to the row of a step, after a space; the names of the rows of one table begin with the same mark
+-- a link to the row of a step, after a space; the ids of the rows of one table begin with the same mark
 unfoldable pub link_html : List ℕ → ℕ → List ℕ
 link_html mark place = codes " <a href=\"#" ++ mark ++ number_text place ++ codes "\">" ++ number_text place ++ codes "</a>"
 
--- a row that is named by its place
+-- the start of a row, with its id
 abbrev pub row_start : List ℕ → ℕ → List ℕ
 row_start mark place = codes "<tr id=\"" ++ mark ++ number_text place ++ codes "\"><td>"
 

@@ -3,12 +3,14 @@ use frame::Frames;
 use mm_read::Stmt;
 use std::alloc::{AllocError, Global};
 
-/// The class of each symbol by number, 0 where it has none, and the typecode of each class from 1.
+/// The class of each symbol, by number, and the typecode of each class.
 #[derive(Drop)]
 pub struct Colours {
+    /// The class of each symbol by its number, 0 if it has none.
     pub classes: Vec<u32>,
+    /// The typecode of each class, in the order of the classes from 1.
     pub constants: Vec<u32>,
-    /// The class of the variables of each typecode by number, 0 where it has none yet.
+    /// The class of the variables of each typecode by its number, 0 if it has none yet.
     typecodes: Vec<u32>,
 }
 
@@ -24,7 +26,7 @@ impl Colours {
 
     /// Gives the variable of the statement at a position the class of its typecode, if that statement is a `$f`.
     ///
-    /// Errors: an allocation fails. Cost: constant, except for tables that grow with the greatest number of a symbol.
+    /// Errors: an allocation fails. Cost: constant, except that tables grow to the greatest number of a symbol.
     pub fn note(
         &mut self,
         statements: &[Stmt],
@@ -44,7 +46,7 @@ impl Colours {
         Ok(())
     }
 
-    /// Returns the class of the variables of a typecode, made if there is none yet.
+    /// Returns the class of the variables of a typecode, a new one if it has none yet.
     fn class_of(&mut self, constant: u32) -> Result<u32, AllocError> {
         match self.typecodes.get(constant as usize) {
             Some(class) if *class != 0 => return Ok(*class),

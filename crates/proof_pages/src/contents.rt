@@ -6,7 +6,7 @@ use steps::ProofTable;
 /// The contents of the page of an assertion.
 #[derive(Drop)]
 pub struct PageContents<'a> {
-    /// The statements that the frames are of.
+    /// The statements of the frames.
     pub statements: &'a [Stmt],
     pub frames: &'a Frames,
     /// The position of the assertion.
@@ -20,9 +20,9 @@ pub struct PageContents<'a> {
 /// The steps of a proof.
 #[derive(Drop)]
 pub struct ProofSteps<'a> {
-    /// All its steps.
+    /// All steps.
     pub steps: &'a ProofTable,
-    /// Its essential steps.
+    /// The essential steps.
     pub essential: &'a ProofTable,
 }
 

@@ -2,7 +2,7 @@
 use crate::contents::PageContents;
 use crate::notation::Notation;
 
-/// A page that is being written, and what its parts share.
+/// The values that the parts of a page share.
 #[derive(Drop)]
 pub struct Draft<'a> {
     pub contents: &'a PageContents<'a>,

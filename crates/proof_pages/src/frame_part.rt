@@ -10,7 +10,7 @@ use entries::Groups;
 use frame::FrameBuffers;
 use std::alloc::{AllocError, Global};
 
-/// Appends the mandatory hypotheses, the disjoint variables, and the colours of typecodes.
+/// Appends the mandatory hypotheses, the disjoint variables, and the colour of each typecode.
 pub fn push_frame(alloc: Global, page: &mut Vec<u8>, draft: &Draft<'_>) -> Result<(), AllocError>
     requires { (s : Statement) × HasAssertion draft.now.contents.now.frames.now.statements
         draft.now.contents.now.at s }
@@ -20,7 +20,7 @@ pub fn push_frame(alloc: Global, page: &mut Vec<u8>, draft: &Draft<'_>) -> Resul
     push_legend(page, &draft.notation)
 }
 
-/// Appends the `$e`, and folded the `$f`.
+/// Appends the `$e`, and the `$f` folded.
 fn push_hypotheses(alloc: Global, page: &mut Vec<u8>, draft: &Draft<'_>) -> Result<(), AllocError> {
     if draft.hypotheses.is_empty() {
         return Ok(());
@@ -70,7 +70,7 @@ fn push_hypothesis(
     push_row_rest(page, notation, position, expr_at(notation.frames, position))
 }
 
-/// Appends the groups of variables each two of which must be disjoint.
+/// Appends the groups of disjoint variables.
 fn push_disjoint(alloc: Global, page: &mut Vec<u8>, draft: &Draft<'_>) -> Result<(), AllocError>
     requires { (s : Statement) × HasAssertion draft.now.contents.now.frames.now.statements
         draft.now.contents.now.at s }
@@ -104,7 +104,7 @@ fn push_groups(
     page.extend_from_slice(b"</ul>\n")
 }
 
-/// Appends which typecodes the colours stand for.
+/// Appends each typecode in the colour of its variables.
 fn push_legend(page: &mut Vec<u8>, notation: &Notation<'_>) -> Result<(), AllocError> {
     let colours = notation.colours;
     if colours.constants.is_empty() {

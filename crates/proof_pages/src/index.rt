@@ -19,8 +19,8 @@ pub const INDEX_START: &[u8] =
 /// Writes the index of a site: a row for each assertion, in order, with its kind, its label as a link
 /// to its page, and its expression.
 ///
-/// Errors: `Memory`, `Output`; some of it may be written then. Cost: the size of the index; 64 KiB
-/// and one row are held back at most.
+/// Errors: `Memory`, `Output`; some of it may be written then. Cost: the size of the index; at most
+/// 64 KiB and one row are held back.
 pub fn write_index<W: Write>(
     alloc: Global,
     out: &mut W,
@@ -48,7 +48,7 @@ fn push_row_at(text: &mut Vec<u8>, statements: &[Stmt], place: usize) -> Result<
     push_row(text, &statements[place], place)
 }
 
-/// Appends the row of a statement at a place, if it is an assertion.
+/// Appends the row of a statement at a place, if the statement is an assertion.
 fn push_row(text: &mut Vec<u8>, statement: &Stmt, place: usize) -> Result<(), AllocError>
     ensures { OnOk result (text.new.items ≡ text.old.items ++ index_row place statement.now) }
 {

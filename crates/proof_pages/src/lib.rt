@@ -1,6 +1,6 @@
 //! A proof for people: its steps as lines, as a picture for Graphviz, and as a page, alone or among the pages of a site.
 //!
-//! Every byte of a database goes into a page by `push_html` of `markup`, and into a picture by `push_quoted` there; only the
+//! Every byte of a database goes into a page by `push_html` of `markup`, and into a picture by its `push_quoted`; only the
 //! name of a file, which `file_names` makes of a label, stands in a link as it is.
 //!
 //! Reading order: `step_lines`, `picture`, `writing`; `notation`, `rows`; `contents`, `colours`, `draft`,

@@ -11,14 +11,14 @@ use mm_read::Stmt;
 use numbers::push_number;
 use std::alloc::AllocError;
 
-/// How the symbols and the labels of a database stand on a page.
+/// The form in which the symbols and the labels of a database stand on a page.
 #[derive(Drop)]
 pub struct Notation<'a> {
-    /// The statements that positions count.
+    /// The statements of the database.
     pub statements: &'a [Stmt],
-    /// Their frames, which know the symbols.
+    /// Their frames, which have the symbols by number.
     pub frames: &'a Frames,
-    /// The colours of its variables.
+    /// The colours of the variables.
     pub colours: &'a Colours,
     /// Whether the label of an assertion is a link to its page.
     pub is_linked: bool,
@@ -74,7 +74,7 @@ fn push_html_symbol(
     push_coloured(page, class, notation.frames.symbol(symbol))
 }
 
-/// Appends the symbols of an expression.
+/// Appends the symbols of an expression, each after a space.
 pub fn push_html_expr(
     page: &mut Vec<u8>,
     notation: &Notation<'_>,
@@ -111,7 +111,7 @@ fn push_link_start(page: &mut Vec<u8>, label: &[u8], position: usize) -> Result<
     page.extend_from_slice(b"\">")
 }
 
-/// Appends a label as a link to the page of the assertion with it at this position.
+/// Appends a label as a link to the page of the assertion with this label at this position.
 pub fn push_page_link(page: &mut Vec<u8>, label: &[u8], position: usize) -> Result<(), AllocError>
     ensures { OnOk result (page.new.items ≡ page.old.items ++ page_link label.now position) }
 {
@@ -120,8 +120,8 @@ pub fn push_page_link(page: &mut Vec<u8>, label: &[u8], position: usize) -> Resu
     page.extend_from_slice(b"</a>")
 }
 
-/// Appends the label of the statement at a position; that of an assertion as a link, if labels are
-/// linked.
+/// Appends the label of the statement at a position; the label of an assertion as a link, if labels
+/// are linked.
 pub fn push_label(
     page: &mut Vec<u8>,
     is_linked: bool,
@@ -138,7 +138,10 @@ pub fn push_label(
     }
 }
 
-/// Appends the label of the statement at a position, if one stands there.
+/// Appends the label of the statement at a position, if one stands there; the label of an assertion as
+/// a link to its page, if labels are linked.
+///
+/// Errors: an allocation fails. Cost: the size of the label.
 pub fn push_cited(
     page: &mut Vec<u8>,
     notation: &Notation<'_>,

@@ -27,7 +27,7 @@ fn push_style(page: &mut Vec<u8>, is_linked: bool) -> Result<(), AllocError> {
     page.extend_from_slice(b"</style>\n")
 }
 
-/// Appends all before the hypotheses: the label, the description and the expression.
+/// Appends the part before the hypotheses: the label, the description and the expression.
 pub fn push_opening(page: &mut Vec<u8>, draft: &Draft<'_>) -> Result<(), AllocError> {
     let contents = draft.contents;
     push_head(page, label_at(draft), draft.notation.is_linked)?;
@@ -47,7 +47,7 @@ fn label_at<'a>(draft: &Draft<'a>) -> &'a [u8] {
     label_of(&contents.statements[contents.at - 1])
 }
 
-/// Appends on a page of a site the kind of the assertion, and the way to the index.
+/// Appends the kind of the assertion and a link to the index, if the page is one of a site.
 fn push_way(page: &mut Vec<u8>, draft: &Draft<'_>) -> Result<(), AllocError> {
     if !draft.notation.is_linked {
         return Ok(());

@@ -14,11 +14,12 @@ use frame::Frames;
 use std::alloc::{AllocError, Global};
 use std::io::Write;
 
-/// Writes a page that stands alone: the assertion with its hypotheses and its disjoint variables, its essential
-/// steps, all steps where they are wanted, the axioms that it rests on, and the theorems that cite it.
+/// Writes a page that stands alone: the assertion with its description, if `contents` has one, its hypotheses and its
+/// disjoint variables; its essential steps, all steps if `is_whole`, the axioms that it rests on, and the theorems
+/// that cite it.
 ///
-/// Errors: `Memory`, `Output`; some of the page may be written then. Cost: the size of the page; 64 KiB and one part
-/// of the page are held back at most.
+/// Errors: `Memory`, `Output`; some of the page may be written then. Cost: the size of the page, and the number of all
+/// steps; at most 64 KiB and one part of the page are held back.
 pub fn write_page<W: Write>(
     alloc: Global,
     out: &mut W,
@@ -30,9 +31,9 @@ pub fn write_page<W: Write>(
     write_contents(alloc, out, contents, false, is_whole)
 }
 
-/// Writes the page of an assertion among the pages of a site: that of `write_page` with its essential
-/// steps alone, its description, and links to the style sheet, to the index and to the pages of the
-/// assertions that it names.
+/// Writes the page of an assertion among the pages of a site: the page of `write_page` with the
+/// essential steps alone, its kind, and links to the style sheet, to the index and to the pages of
+/// the assertions that it names.
 ///
 /// Errors and cost: those of `write_page`.
 pub fn write_site_page<W: Write>(
@@ -94,7 +95,7 @@ fn hypotheses_of(alloc: Global, frames: &Frames, at: usize) -> Result<Vec<u32>, 
     Ok(hypotheses)
 }
 
-/// Returns the colours of the variables of its hypotheses and of its steps.
+/// Returns the colours of the variables of the `$f` among the hypotheses and among the statements that the steps cite.
 fn colours_of(
     alloc: Global,
     contents: &PageContents<'_>,

@@ -1,14 +1,14 @@
-//! Positions parted into those that are shown first and the others.
+//! Positions split into those that are shown first and the others.
 use frame::Frames;
 use mm_read::Stmt;
 use std::alloc::{AllocError, Global};
 
-/// Positions parted by a test, in their order.
+/// Positions split by a test, in their order.
 #[derive(Drop)]
 pub struct Parted {
-    /// Those that pass it.
+    /// The positions that pass the test.
     pub first: Vec<u32>,
-    /// Those that do not.
+    /// The positions that do not.
     pub others: Vec<u32>,
 }
 
@@ -30,7 +30,7 @@ impl Parted {
     }
 }
 
-/// Parts positions into those of `$e` and the others.
+/// Splits positions into those of `$e` and the others.
 pub fn part_essential(
     alloc: Global,
     statements: &[Stmt],
@@ -51,8 +51,8 @@ fn is_essential_at(statements: &[Stmt], position: usize) -> bool {
     matches!(&statements[position - 1], Stmt::Ess { .. })
 }
 
-/// Parts positions into those of statements whose typecode is that of the statement at another
-/// position, and the others.
+/// Splits positions into those of statements that have the typecode of the statement at `at`, and the
+/// others.
 pub fn part_by_typecode(
     alloc: Global,
     frames: &Frames,
@@ -76,7 +76,7 @@ fn typecode_at(frames: &Frames, position: usize) -> Option<u32> {
     }
 }
 
-/// Returns the expression of the statement at a position by numbers, empty if it has none.
+/// Returns the expression of the statement at a position, by numbers, or an empty one if it has none.
 pub fn expr_at(frames: &Frames, position: usize) -> &[u32] {
     if position == 0 || position > frames.len() {
         return &[];

@@ -87,6 +87,8 @@ fn push_node_line(
 }
 
 /// Appends the step at a place as a node, with an arrow from each step that it takes.
+///
+/// Errors: an allocation fails. Cost: the size of the lines.
 pub fn push_node(
     text: &mut Vec<u8>,
     frames: &Frames,

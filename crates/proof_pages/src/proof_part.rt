@@ -9,8 +9,7 @@ use std::alloc::{AllocError, Global};
 use std::io::Write;
 use steps::ProofTable;
 
-/// Writes the proof, if there is one, and the axioms that it rests on; the last of it may be held
-/// back.
+/// Writes the proof and the axioms that it rests on, if there is a proof; the end may be held back.
 pub fn write_proof<W: Write>(
     alloc: Global,
     out: &mut W,
@@ -27,7 +26,7 @@ pub fn write_proof<W: Write>(
     }
 }
 
-/// Writes the essential steps, and folded all steps where they are wanted.
+/// Writes the essential steps, and all steps folded if the page is to have them.
 fn write_tables<W: Write>(
     out: &mut W,
     page: &mut Vec<u8>,
@@ -44,7 +43,7 @@ fn write_tables<W: Write>(
     Ok(())
 }
 
-/// Writes the steps as a table; the last of them may be held back.
+/// Writes the steps as a table; the end may be held back.
 fn write_steps<W: Write>(
     out: &mut W,
     page: &mut Vec<u8>,
@@ -63,7 +62,7 @@ fn write_steps<W: Write>(
     Ok(())
 }
 
-/// Appends the axioms of the theorem's own typecode, and folded the others.
+/// Appends the axioms of the theorem's own typecode, and the others folded.
 fn push_axioms(alloc: Global, page: &mut Vec<u8>, draft: &Draft<'_>) -> Result<(), AllocError> {
     let contents = draft.contents;
     let axioms = part_by_typecode(

@@ -1,4 +1,4 @@
-//! Rows of tables, and lists of labels. End tags that HTML lets one omit are omitted.
+//! Rows of tables, and lists of labels. The end tags that HTML allows to omit are omitted.
 ghost use Rattle.std.specs.Prelude.{◌≡◌, ◌<◌, ◌++◌, length, get_or, flat_map, OnOk};
 ghost use Rattle.steps.specs.Rows.{no_row};
 ghost use Rattle.proof_pages.specs.TableRows.{link_html, row_start, taken_html, row_rest, step_html, item_html, list_html, labels_html};
@@ -28,7 +28,7 @@ fn push_links(page: &mut Vec<u8>, mark: &[u8], places: &[usize]) -> Result<(), A
     Ok(())
 }
 
-/// Appends the start of a row that has a name.
+/// Appends the start of a row, with its id.
 fn push_row_start(page: &mut Vec<u8>, mark: &[u8], place: usize) -> Result<(), AllocError>
     ensures { OnOk result (page.new.items ≡ page.old.items ++ row_start mark.now place) }
 {
@@ -71,7 +71,9 @@ pub fn push_row_rest(
 }
 
 /// Appends the step at a place as a row: its number, links to the rows of the steps that it takes, its label, its
-/// expression. The names of the rows of one table begin with the same mark.
+/// expression. The ids of the rows of one table begin with the same mark.
+///
+/// Errors: an allocation fails. Cost: the size of the row.
 pub fn push_html_step(
     page: &mut Vec<u8>,
     notation: &Notation<'_>,
@@ -113,7 +115,7 @@ fn push_items(
     Ok(())
 }
 
-/// Appends a list of the label of the statement at a position and of those at others.
+/// Appends a list of labels: of the statement at a position, and of those at others.
 fn push_list(
     page: &mut Vec<u8>,
     notation: &Notation<'_>,
@@ -130,6 +132,8 @@ fn push_list(
 }
 
 /// Appends the labels of the statements at these positions as a list, or that there are none.
+///
+/// Errors: an allocation fails. Cost: the size of the list.
 pub fn push_labels(
     page: &mut Vec<u8>,
     notation: &Notation<'_>,

@@ -23,7 +23,7 @@ pub fn label_at(frames: &Frames, position: usize) -> &[u8]
     }
 }
 
-/// Appends the number of the step at a place.
+/// Appends the number of the step at a place, which is one greater.
 pub fn push_place(text: &mut Vec<u8>, place: usize) -> Result<(), AllocError>
     ensures { OnOk result (text.new.items ≡ text.old.items ++ number_text place) }
 {
@@ -78,6 +78,8 @@ fn push_expr(text: &mut Vec<u8>, frames: &Frames, expr: &[u32]) -> Result<(), Al
 }
 
 /// Appends the step at a place as a line: its number, the numbers of the steps that it takes, its label, its expression.
+///
+/// Errors: an allocation fails. Cost: the size of the line.
 pub fn push_step(
     text: &mut Vec<u8>,
     frames: &Frames,

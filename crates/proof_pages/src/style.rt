@@ -1,4 +1,4 @@
-//! The style of pages: short, light and dark, for wide screens and narrow ones. Eight classes of variables have a colour.
+//! The style of pages: light and dark, for wide screens and narrow ones. The first eight classes of variables have a colour.
 
 /// Returns the style sheet that the pages of a site share.
 pub fn style_sheet() -> &'static [u8] {

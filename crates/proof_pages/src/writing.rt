@@ -1,4 +1,4 @@
-//! Writes a proof step by step, so that a long one needs no more memory than its table.
+//! Writes a proof step by step, so that a long one needs little more memory than its table.
 ghost use Rattle.std.specs.Prelude.{◌≡◌, [], codes, OnOk};
 ghost use Rattle.std.specs.Io.KnownBytes.{Appends};
 ghost use Rattle.proof_pages.specs.StepLines.{step_line, texts_from};
@@ -27,10 +27,10 @@ impl From<AllocError> for WriteFault {
     }
 }
 
-/// How many bytes are put together before they are written.
+/// The number of bytes that are held back before they are written.
 const PART: usize = 65_536;
 
-/// Writes the text that is held back, if it is long.
+/// Writes the text that is held back, if it has 64 KiB, and clears it.
 pub(crate) fn write_part<W: Write>(out: &mut W, text: &mut Vec<u8>) -> Result<(), WriteFault>
     ensures { OnOk result (Wrote (W.contents out.old) (W.contents out.new) text.new.items text.old.items) }
 {
@@ -54,8 +54,8 @@ pub(crate) fn write_rest<W: Write>(out: &mut W, text: &[u8]) -> Result<(), Write
 
 /// Writes the steps, a line a step: its number, the numbers of the steps that it takes, its label, its expression.
 ///
-/// Errors: `Memory`, `Output`; some lines may be written then. Cost: the size of the lines; 64 KiB and one line are
-/// held back at most.
+/// Errors: `Memory`, `Output`; some lines may be written then. Cost: the size of the lines; at most 64 KiB and one line are
+/// held back.
 pub fn write_plain<W: Write>(
     alloc: Global,
     out: &mut W,

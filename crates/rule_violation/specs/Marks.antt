@@ -12,7 +12,7 @@ marked test mark [] marks = marks
 marked test mark (x ∷ names) [] = []
 marked test mark (x ∷ names) (m ∷ marks) = cond (test x) mark m ∷ marked test mark names marks
 
--- whether this is wrong with a name that no statement has
+-- whether a name that stands in no statement has this fault
 abbrev pub is_wrong_unseen : Test → Bool
 is_wrong_unseen Unknown = true
 is_wrong_unseen Inactive = true

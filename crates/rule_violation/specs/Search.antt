@@ -1,6 +1,6 @@
--- Earlier statements that have to do with a name, and those of them that are active.
+-- Earlier statements that have a name in some part, and those of them that are active.
 -- Source: Metamath, 4.2.8.
--- The code goes back from the end and counts the blocks that are closed later; active is told as in the crate scope.
+-- The code goes back from the end and counts the blocks that are closed later; "active" is defined in the crate scope.
 use Rattle.std.specs.Prelude.{◌≡◌, ℕ, suc, ◌-◌, Bool, ◌||◌, ◌&&◌, not, List, [], ◌∷◌, drop, Some, slice_get, IsTrue}
 use Rattle.std.specs.List.{list_any}
 use Rattle.mm_lex.specs.Alphabet.{Name, has_name}
@@ -33,7 +33,7 @@ pub record IsActiveAt (S : Database) (i : ℕ) (test : Stmt → Bool) : Type 0 w
   pub at : IsAt S i test
   pub stays : IsTrue (stays_open 0 (drop i S))
 
--- how many `$}` close a block that was open before the statement and those after it, of which so many do
+-- how many blocks that were open before the statement are closed by it or later, if n of those open after it are
 abbrev pub closed_by : Stmt → ℕ → ℕ
 closed_by Open n = n - 1
 closed_by Close n = suc n
@@ -51,7 +51,7 @@ fails S Unknown x = not (is_constant S x || is_variable S x)
 fails S Inactive x = not (is_variable S x)
 fails S Untyped x = is_variable S x && not (has_float S x)
 
--- the one of these names at an index, from 0, passes the test
+-- the name at an index is this one, and passes the test
 pub record IsSymbolAt (names : List Name) (test : Name → Bool) (index : ℕ) (name : Name) : Type 0 where
   pub stands : slice_get names index ≡ Some name
   pub passes : IsTrue (test name)

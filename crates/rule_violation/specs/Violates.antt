@@ -15,7 +15,7 @@ use Rattle.rule_violation.specs.declared.violation.RuleViolation.{RuleViolation}
 use Rattle.rule_violation.specs.declared.violation.RuleViolation.TheVariants.{Statement, Symbol, Twice, Earlier, Label}
 use Rattle.rule_violation.specs.Search.{meets, IsAt, IsActiveAt}
 
--- the one of these symbols at an index, from 0, is so
+-- the symbol at an index has the property
 pub record Among (names : List Name) (index : ℕ) (P : Name → Type 0) : Type 0 where
   pub name : Name
   pub stands : slice_get names index ≡ Some name
@@ -31,7 +31,7 @@ abbrev pub IsLabelOf : Database → Name → RuleViolation → Type 0
 IsLabelOf S x (Label i) = IsAt S i (meets part.Named x)
 IsLabelOf S x w = ⊥
 
--- it stands at both places
+-- one symbol stands at both indexes
 abbrev pub IsTwice : List Name → ℕ → ℕ → Type 0
 IsTwice names first second = (first < second) × Among names second (λ x. slice_get names first ≡ Some x)
 
@@ -46,7 +46,7 @@ typed_expr (Axiom label expr) = expr
 typed_expr (Prove label expr proof) = expr
 typed_expr s = []
 
--- the variable that a `$f` types, after its constant
+-- the symbols of a `$f`
 abbrev pub float_expr : Stmt → Expr
 float_expr (Float label constant variable) = constant ∷ variable ∷ []
 float_expr s = []

@@ -16,9 +16,10 @@ use mm_read::Stmt;
 use scope::Rule;
 use std::alloc::{AllocError, Global};
 
-/// Returns what breaks the rule in a statement after the earlier ones, which does not keep it.
+/// Returns the violation of a rule that a statement breaks after the earlier ones.
 ///
-/// Cost: few passes over the earlier statements, with a look-up of each name that they have among those of the statement.
+/// Errors: an allocation fails. Cost: a few passes over the earlier statements, with a look-up of each of their names among
+/// those of the statement.
 pub fn violation_of(
     alloc: Global,
     earlier: &[Stmt],
@@ -95,7 +96,7 @@ fn of_label(earlier: &[Stmt], stmt: &Stmt) -> Option<RuleViolation>
     }
 }
 
-/// Returns the first statement that carries or declares the label.
+/// Returns the label with the first statement that carries or declares it.
 fn carried(earlier: &[Stmt], label: &Word) -> Option<RuleViolation>
     ensures { MatchOption result (list_any (meets part.Named label.now) earlier.now ≡ false) (IsLabelOf earlier.now label.now) }
 {
@@ -124,7 +125,7 @@ fn of_expression(
     }
 }
 
-/// Returns the first of the symbols with this fault.
+/// Returns the first of the symbols with this fault, by its index.
 fn symbol_of(
     alloc: Global,
     earlier: &[Stmt],
@@ -185,7 +186,9 @@ fn of_typed(
     }
 }
 
-/// Returns the last `${` that no statement closes, by its position from 1.
+/// Returns the position, from 1, of the last `${` that no statement closes, or `None` if there is none.
+///
+/// Cost: the number of statements after it.
 pub fn never_closed(statements: &[Stmt]) -> Option<usize>
     ensures { IfSome result (λ i. IsActiveAt statements.now i is_open) }
 {
@@ -200,7 +203,7 @@ pub fn never_closed(statements: &[Stmt]) -> Option<usize>
     None
 }
 
-/// Returns whether the statement is a `${` and active with so many blocks closed later.
+/// Returns whether the statement is a `${` and active. `closed` counts the blocks open after it that are closed later.
 fn is_active_open(closed: usize, stmt: &Stmt) -> bool
     ensures { result ≡ (closed == 0 && is_open stmt.now) }
 {

@@ -1,8 +1,7 @@
-//! Finds which part of a statement breaks a rule, and the earlier statement that it breaks it with.
+//! Finds which symbol of a statement breaks a rule, and which earlier statement conflicts with it.
 //!
-//! `violation_of` returns the violation of a broken rule: which symbol of the statement, and which earlier statement. `specs/Violates`
-//! gives violations their meaning. It runs over the statements themselves, after a refusal. Read `violation`, `search`, `marks`,
-//! `symbol_search`, `by_rule`.
+//! `violation_of` returns the violation of a broken rule, by the statements themselves, after a refusal. `specs/Violates` says
+//! what a violation means. Read `violation`, `search`, `marks`, `symbol_search`, `by_rule`.
 #![tactic(auto)]
 
 mod by_rule;

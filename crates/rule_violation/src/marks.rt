@@ -1,4 +1,4 @@
-//! Many names marked in one pass over the statements.
+//! Marks many names in one pass over the statements.
 ghost use Rattle.std.specs.Prelude.{◌≡◌, ℕ, ◌+◌, ◌==◌, ◌&&◌, Some, None, [], IfOk, MatchOption, length, map, false, true, Bool};
 ghost use Rattle.std.specs.List.{list_any};
 ghost use Rattle.mm_lex.specs.Alphabet.{Name, has_name, name_eq};
@@ -60,7 +60,8 @@ pub(crate) fn mark_active(
     }
 }
 
-/// Gives the mark to each name that one statement has in that part, if it is active with so many blocks closed later.
+/// Gives the mark to each name that the statement has in that part, if it is active. `closed` counts the blocks open after it
+/// that are closed later.
 fn mark_where_active(
     closed: usize,
     names: &NameTable,

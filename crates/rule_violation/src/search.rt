@@ -1,4 +1,4 @@
-//! Earlier statements that have to do with a name.
+//! Earlier statements that have a name in some part.
 ghost use Rattle.std.specs.Prelude.{◌≡◌, ◌+◌, ◌<◌, ◌^◌, ◌==◌, ◌&&◌, ◌||◌, false, MatchOption};
 ghost use Rattle.std.specs.List.{list_any};
 ghost use Rattle.mm_lex.specs.Alphabet.{has_name, name_eq};
@@ -8,22 +8,22 @@ ghost use Rattle.rule_violation.specs.Search.{meets, closed_by, IsAt, IsActiveAt
 use mm_lex::{Word, Words};
 use mm_read::Stmt;
 
-/// How a statement may have to do with a name.
+/// The part of a statement in which it may have a name.
 #[derive(Clone, Copy, Drop)]
 pub(crate) enum Part {
-    /// It carries or declares it.
+    /// Its label, or a symbol that it declares.
     Named,
-    /// It carries it, or declares it as a constant.
+    /// Its label, or a constant that it declares.
     Fixed,
-    /// It declares it as a constant.
+    /// A constant that it declares.
     Constant,
-    /// It declares it as a variable.
+    /// A variable that it declares.
     Variable,
-    /// It is its `$f`.
+    /// The variable of a `$f`.
     Float,
 }
 
-/// Returns the first statement that has to do with the name, by its position from 1.
+/// Returns the position, from 1, of the first statement that has the name in that part, or `None`.
 pub(crate) fn find(earlier: &[Stmt], part: Part, name: &[u8]) -> Option<usize>
     ensures { MatchOption result (list_any (meets part name.now) earlier.now ≡ false)
         (λ i. IsAt earlier.now i (meets part name.now)) }
@@ -37,7 +37,7 @@ pub(crate) fn find(earlier: &[Stmt], part: Part, name: &[u8]) -> Option<usize>
     None
 }
 
-/// Returns the last active statement that has to do with the name, by its position from 1.
+/// Returns the position, from 1, of the last active statement that has the name in that part, or `None`.
 pub(crate) fn find_active(earlier: &[Stmt], part: Part, name: &[u8]) -> Option<usize>
     ensures { MatchOption result (list_any (λ p. meets part name.now p.1) (active earlier.now) ≡ false)
         (λ i. IsActiveAt earlier.now i (meets part name.now)) }
@@ -53,7 +53,8 @@ pub(crate) fn find_active(earlier: &[Stmt], part: Part, name: &[u8]) -> Option<u
     None
 }
 
-/// Returns whether the statement has to do with the name and is active with so many blocks closed later.
+/// Returns whether the statement has the name in that part and is active. `closed` counts the blocks open after it that are
+/// closed later.
 fn is_active_match(closed: usize, stmt: &Stmt, part: Part, name: &[u8]) -> bool
     ensures { result ≡ (closed == 0 && meets part name.now stmt.now) }
 {
@@ -72,7 +73,7 @@ pub(crate) fn closed_by(stmt: &Stmt, closed: usize) -> usize
     }
 }
 
-/// Returns whether the statement has to do with the name.
+/// Returns whether the statement has the name in that part.
 fn meets(stmt: &Stmt, part: Part, name: &[u8]) -> bool
     ensures { result ≡ meets part name.now stmt.now }
 {

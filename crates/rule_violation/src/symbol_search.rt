@@ -22,7 +22,7 @@ use std::alloc::{AllocError, Global};
 pub(crate) enum Test {
     /// An earlier statement carries or declares it.
     Named,
-    /// It may not be declared as a variable.
+    /// It is an active variable, or an earlier statement carries it or declares it as a constant.
     Taken,
     /// It is neither a constant nor an active variable.
     Unknown,
@@ -32,7 +32,7 @@ pub(crate) enum Test {
     Untyped,
 }
 
-/// Returns the first of the words with this fault, and its index.
+/// Returns the index of the first of the words with this fault, and the word, or `None` if none has it.
 ///
 /// Cost: one or two passes over the statements, with a look-up of each name that they have.
 pub(crate) fn first<'a>(
@@ -50,7 +50,7 @@ pub(crate) fn first<'a>(
     Ok(first_marked(&names, &marks, words))
 }
 
-/// Returns whether a name that no statement has has this fault.
+/// Returns whether a name that stands in no statement has this fault.
 fn is_wrong_unseen(test: Test) -> bool
     ensures { result ≡ is_wrong_unseen test }
 {
@@ -80,7 +80,7 @@ fn mark_wrong(names: &NameTable, earlier: &[Stmt], test: Test, marks: &mut [bool
     }
 }
 
-/// Returns the first of the words that has a mark, and its index.
+/// Returns the index of the first of the words that has a mark, and the word, or `None` if none has one.
 fn first_marked<'a>(
     names: &NameTable,
     marks: &[bool],
@@ -122,7 +122,7 @@ fn is_variable(earlier: &[Stmt], name: &[u8]) -> bool
     find_active(earlier, Part::Variable, name).is_some()
 }
 
-/// Returns the first word that stands twice.
+/// Returns the first repetition of a word, by both indexes, or `None` if no word stands twice.
 pub(crate) fn twice(alloc: Global, words: &Words) -> Result<Option<RuleViolation>, AllocError>
     ensures { IfOk result (λ found. MatchOption found (all_different words.now ≡ true) (IsRepeated words.now)) }
 {

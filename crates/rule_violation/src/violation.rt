@@ -1,7 +1,7 @@
 //! The violation of a rule.
 
-/// The part of a statement that breaks a rule. Symbols are indexed from 0 among those of the statement, statements are positions
-/// from 1.
+/// The part of a statement that breaks a rule. Symbols are indexes among those of the statement, earlier statements are
+/// positions from 1.
 #[derive(Clone, Copy, Debug, Drop, PartialEq, Eq)]
 pub enum RuleViolation {
     /// The statement as it stands.

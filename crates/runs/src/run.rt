@@ -6,8 +6,8 @@ ghost use Rattle.mm_lex.specs.Comments.{runs_behind};
 
 use mm_lex::Span;
 
-/// Returns the first run of bytes that are not white that begins at or after `at`, or `None` if only
-/// white bytes are left.
+/// Returns the next run of bytes that are not white, from `at` on, or `None` if only white bytes are
+/// left.
 ///
 /// Does not allocate. Cost: the bytes up to the end of the run.
 pub fn next_run(text: &[u8], at: usize) -> Option<Span>

@@ -1,6 +1,6 @@
--- The view of a scope in contracts: the statements accepted, and those of them that stood there at the last mark, all without
+-- The view of a scope in contracts: the statements accepted, and those that were accepted at the last mark, all without
 -- their proofs.
--- Source: this project's profile; a library goes back to its mark where a text is refused.
+-- Source: this project's profile; a library goes back to its mark if a text is refused.
 -- The code stores no statement: it has numbers, kinds, stacks and the places where blocks start.
 use Rattle.mm_read.specs.Statements.{Database}
 

@@ -13,7 +13,7 @@ stmt_at S (suc n) = slice_get S n
 abbrev pub before : Database → ℕ → Database
 before S at = take (at - 1) S
 
--- no beginning of the statements has more `$}` than `${`, with `depth` more of the latter
+-- no beginning of the statements has more `$}` than `${`, if `depth` more `${` are open before them
 abbrev pub stays_open : ℕ → Database → Bool
 stays_open depth [] = true
 stays_open depth (Open ∷ S) = stays_open (suc depth) S
@@ -21,7 +21,7 @@ stays_open zero (Close ∷ S) = false
 stays_open (suc depth) (Close ∷ S) = stays_open depth S
 stays_open depth (s ∷ S) = stays_open depth S
 
--- the statements that are active after these, the first of them standing at `at`: each whose block none of the later ones closes
+-- the statements that are active after these, of which the first is at `at`: each whose block none of the later ones closes
 abbrev pub active_from : ℕ → Database → List (ℕ × Stmt)
 active_from at [] = []
 active_from at (s ∷ S) =
@@ -127,7 +127,7 @@ has_float S x = list_any (λ p. is_float_of x p.1) (active S)
 abbrev pub was_variable : Database → Name → Bool
 was_variable S x = list_any (λ s. has_name x (variables s)) S
 
--- the variable that a `$f` gives its type
+-- the variable whose typecode a `$f` gives
 abbrev pub typed_by : Stmt → List Name
 typed_by (Float label constant variable) = variable ∷ []
 typed_by s = []

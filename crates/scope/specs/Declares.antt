@@ -16,7 +16,7 @@ declared_with names (Axiom label expr) = with_kind names Label label
 declared_with names (Prove label expr proof) = with_kind names Label label
 declared_with names s = names
 
--- its symbols are no labels, and its label is new
+-- the statement's symbols are no labels, and its label is new
 abbrev pub MayDeclare : Declared → Stmt → Type 0
 MayDeclare names (Const xs) = (x : Name) → has_name x xs ≡ true → is_label_kind (kind_in names x) ≡ false
 MayDeclare names (Var xs) = (x : Name) → has_name x xs ≡ true → is_label_kind (kind_in names x) ≡ false

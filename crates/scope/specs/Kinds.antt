@@ -12,7 +12,7 @@ use Rattle.scope.specs.declared.numbering.NameKind.TheVariants.{Label, Constant,
 abbrev pub Declared : Type 0
 Declared = List (Name × NameKind)
 
--- each name with the kind that has its place
+-- each name with the kind at its index
 abbrev pub zip_kinds : List Name → List NameKind → Declared
 zip_kinds [] kinds = []
 zip_kinds (x ∷ names) [] = []
@@ -60,7 +60,7 @@ declared_symbols names = names_that is_symbol_kind names
 abbrev pub declared_labels : Declared → List Name
 declared_labels names = names_that is_labelling names
 
--- those among which a name of this kind has its number
+-- the names among which one of this kind has its number
 abbrev pub names_as : NameKind → Declared → List Name
 names_as Label names = declared_labels names
 names_as kind names = declared_symbols names
@@ -69,11 +69,11 @@ names_as kind names = declared_symbols names
 abbrev pub IsNumberOf : List Name → Name → ℕ → Type 0
 IsNumberOf names x n = (n < length names) × (name_at names n ≡ x)
 
--- how many symbols stand before a place
+-- how many symbols stand before an index
 abbrev pub symbols_before : Declared → ℕ → ℕ
 symbols_before names n = length (declared_symbols (take n names))
 
--- the kind tells what the statements say of the name
+-- the kind is that of the statements' declarations of the name
 pub record MatchesKind (S : Database) (x : Name) (kind : Option NameKind) : Type 0 where
   pub label : was_label S x ≡ is_label_kind kind
   pub constant : is_constant S x ≡ is_constant_kind kind

@@ -14,7 +14,7 @@ NeverCloses d S = (k : ℕ) → count is_close (take k S) ≤ count is_open (tak
 abbrev pub between : Database → ℕ → ℕ → Database
 between S i j = take (j - 1 - i) (drop i S)
 
--- i is active at j exactly where i stands before j and no beginning of what stands between has more `$}` than `${`
+-- i is active at j exactly if i is before j and no beginning of the statements between has more `$}` than `${`
 abbrev pub ActiveBySentence : Type 0
 ActiveBySentence = (S : Database) (i j : ℕ) → IsTrue (is_active S i j) ↔ ((1 ≤ i) × (i < j) × NeverCloses 0 (between S i j))
 
@@ -30,11 +30,11 @@ abbrev pub before_open : List (ℕ × Stmt) → List (ℕ × Stmt)
 before_open [] = []
 before_open (p ∷ es) = if has_open es then p ∷ before_open es else []
 
--- a `$}` ends what became active since the last open `${`, and that `${` itself
+-- after a `$}` the last open `${` and what became active since are no longer active
 abbrev pub ActiveClosed : Type 0
 ActiveClosed = (S : Database) → active (S ++ Close ∷ []) ≡ before_open (active S) ++ (1 + length S, Close) ∷ []
 
--- later statements that close none of the earlier blocks leave active what was
+-- what is active stays so after later statements that close none of the earlier blocks
 abbrev pub ActiveLater : Type 0
 ActiveLater = (S T : Database) → NeverCloses 0 T → active (S ++ T) ≡ active S ++ active_from (1 + length S) T
 

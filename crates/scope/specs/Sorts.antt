@@ -1,7 +1,7 @@
 -- The sort of a name after the statements: a constant, an active variable with or without an active `$f`, a label, or none of
 -- these.
 -- Source: Metamath, 4.2.
--- The code looks a name up once; each rule on expressions is said by what it is.
+-- The code looks a name up once; its sort decides each rule on expressions.
 use Rattle.std.specs.Prelude.{◌≡◌, Bool, true, false, not, ◌||◌, ◌&&◌, Option, Some, None, if◌then◌else◌}
 use Rattle.scope.specs.Words.{Name, Database}
 use Rattle.scope.specs.Active.{is_constant, is_variable, was_label, has_float}
@@ -27,7 +27,7 @@ abbrev pub is_label_sort : Sort → Bool
 is_label_sort Label = true
 is_label_sort sort = false
 
--- by whether it is an active variable, and has an active `$f`
+-- the sort of a variable, by whether it is active, and whether it has an active `$f`
 abbrev pub sort_by : Bool → Bool → Sort
 sort_by false typed = Inactive
 sort_by true true = Typed
@@ -42,7 +42,7 @@ pub record IsSort (S : Database) (x : Name) (sort : Sort) : Type 0 where
 abbrev pub is_symbol_sort : Sort → Bool
 is_symbol_sort sort = is_constant_sort sort || is_variable_sort sort
 
--- the least rule that a `$f` breaks whose symbols are these
+-- the least of the rules G5 to G7 that a `$f` breaks whose symbols have these sorts
 abbrev pub sorts_rule : Sort → Sort → Option Rule
 sorts_rule constant variable =
     if not (is_symbol_sort constant && is_symbol_sort variable) then Some G5

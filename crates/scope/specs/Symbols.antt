@@ -1,4 +1,4 @@
--- Symbols as numbers: each declared symbol has the place of its first declaration among all symbols, from 0.
+-- Symbols as numbers: each declared symbol has its index in the list of symbols by first declaration.
 -- Source: this project's form of keeping symbols; what declares a symbol is Metamath, 4.2.1.
 use Rattle.std.specs.Prelude.{◌≡◌, ℕ, List, [], ◌∷◌, Option, Some, None}
 use Rattle.scope.specs.Words.{Name, Stmt, Const, Var, Disj, Float, Ess, Axiom, Prove, Expr, Database, decode, with_names, AreCodes}
@@ -40,7 +40,7 @@ AreVariableNumbers symbols (Var xs) numbers = AreNumbers symbols xs numbers
 AreVariableNumbers symbols (Float label constant variable) numbers = AreNumbers symbols (constant ∷ variable ∷ []) numbers
 AreVariableNumbers symbols s numbers = Unit {0}
 
--- the symbols after one statement more
+-- the symbols after one more statement
 abbrev pub symbols_after : Database → Stmt → List Name
 symbols_after S s = with_names (symbols_of S) (symbols_by s)
 

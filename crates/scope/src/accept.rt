@@ -13,8 +13,10 @@ use mm_read::Stmt;
 use std::alloc::AllocError;
 
 impl Rules {
-    /// Accepts a legal statement, by the numbers of the variables that it declares, where it is a `$v`, or of its two
-    /// symbols, where it is a `$f`. Cost: the statement's own size.
+    /// Appends a legal statement. `numbers` are those of the variables that a `$v` declares, or of the two symbols of a `$f`;
+    /// for other statements they are ignored.
+    ///
+    /// Errors: an allocation fails; the statements are then as before. Cost: the statement's own size.
     pub fn accept(&mut self, stmt: &Stmt, numbers: &[u32]) -> Result<(), AllocError>
         requires legal { IsLegal self.old.statements stmt.now }
         requires room { length self.old.statements + 1 < 2 ^ 64 }
@@ -120,7 +122,7 @@ fn second(numbers: &[u32]) -> u32
     numbers[1]
 }
 
-/// Puts the numbers on the stack.
+/// Appends the numbers to the stack, or none of them if an allocation fails.
 fn push_all(stack: &mut Stack, numbers: &[u32]) -> Result<(), AllocError>
     requires { can_push stack.old numbers.now ≡ true }
     ensures ok { OnOk result (stack.new ≡ stack.old ++ numbers.now) }

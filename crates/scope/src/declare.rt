@@ -12,9 +12,10 @@ use mm_lex::{Word, Words};
 use mm_read::Stmt;
 use std::alloc::{AllocError, Global};
 
-/// Declares what a legal statement declares. The numbers of the symbols of a `$c` and a `$v` are recorded.
+/// Appends the symbols and the label that a legal statement declares. The numbers of the symbols of a `$c` or a `$v` are
+/// recorded.
 ///
-/// If an allocation fails, the earlier names stay the first ones.
+/// Errors: an allocation fails; the earlier names are then still the first ones.
 pub fn declare_names(
     names: &mut Numbering,
     alloc: Global,
@@ -45,7 +46,7 @@ pub fn declare_names(
     }
 }
 
-/// Declares a label that no name is yet.
+/// Declares a label that is no name yet.
 fn declare_label(names: &mut Numbering, alloc: Global, label: &Word) -> Result<(), AllocError>
     requires { kind_in names.old label.now ≡ None }
     ensures ok { OnOk result (names.new ≡ with_kind names.old shape_kind.Label label.now) }
@@ -55,7 +56,7 @@ fn declare_label(names: &mut Numbering, alloc: Global, label: &Word) -> Result<(
     Ok(())
 }
 
-/// Gives a kind to each of the symbols that has none, and records their numbers.
+/// Gives a kind to each of the symbols that has none, and records the numbers of all.
 fn declare_symbols(
     names: &mut Numbering,
     alloc: Global,

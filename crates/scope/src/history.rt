@@ -1,4 +1,4 @@
-//! The statements that were accepted, as contracts alone see them.
+//! The statements that were accepted, which only contracts see.
 ghost use Rattle.std.specs.Prelude.{◌≡◌, List, [], ◌∷◌, ◌++◌};
 ghost use Rattle.std.specs.Borrow.{ftrue};
 ghost use Rattle.mm_read.specs.declared.stmt.Stmt.{Stmt as Statement};

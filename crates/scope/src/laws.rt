@@ -1,7 +1,7 @@
 //! The laws of what is active and of the rules, each a call that does nothing.
 ghost use Rattle.scope.specs.Laws.{ActiveBySentence, ActiveMore, ActiveClosed, ActiveLater, RulesIgnoreProofs};
 
-/// A statement is active exactly where the sentence on brackets says so.
+/// States that a statement is active exactly if no beginning of the later ones before the position has more `$}` than `${`.
 pub fn active_by_sentence()
     ensures { ActiveBySentence }
 {}
@@ -21,7 +21,7 @@ pub fn active_later()
     ensures { ActiveLater }
 {}
 
-/// No rule looks at a proof.
+/// States that no rule looks at a proof.
 pub fn rules_ignore_proofs()
     ensures { RulesIgnoreProofs }
 {}

@@ -182,8 +182,8 @@ impl<'a> Judge<'a> {
         None
     }
 
-    /// Returns whether each symbol is a constant or an active variable, and then whether the first is a
-    /// constant, and each variable has an active `$f`.
+    /// Returns `None` unless each symbol is a constant or an active variable; else whether the first is a
+    /// constant, and whether each variable has an active `$f`.
     fn are_symbols(&self, expr: &Words, recorded: &mut SymbolNumbers) -> Option<(bool, bool)>
         requires { AreRecorded (symbols_of self.now.statements) [] recorded.old }
         ensures symbols { result ≡ (if list_all (λ x. is_constant self.now.statements x || is_variable self.now.statements x) expr.now then Some (starts_with_constant self.now.statements expr.now, are_typed self.now.statements expr.now) else None) }
@@ -234,7 +234,7 @@ impl<'a> Judge<'a> {
         true
     }
 
-    /// Returns whether no symbol stands twice in the list. A short list is judged by the recorded numbers.
+    /// Returns whether no symbol stands twice in the list. A short list is decided by the recorded numbers.
     fn are_distinct(&self, symbols: &Words, recorded: &SymbolNumbers) -> bool
         requires { AreRecorded (symbols_of self.now.statements) symbols.now recorded.now }
         ensures { result ≡ all_different symbols.now }
@@ -247,14 +247,14 @@ impl<'a> Judge<'a> {
         are_different(self.alloc, symbols)
     }
 
-    /// Returns what a name is.
+    /// Returns the sort of a name.
     pub(crate) fn sort(&self, name: &[u8]) -> Sort
         ensures { IsSort self.now.statements name.now result }
     {
         self.look_up(name).0
     }
 
-    /// Returns what a name is, and records the number of a symbol.
+    /// Returns the sort of a name, and records the number of a symbol.
     #[inline(always)]
     fn sort_and_record(&self, name: &[u8], recorded: &mut SymbolNumbers) -> Sort
         ensures sort { IsSort self.now.statements name.now result }
@@ -265,7 +265,7 @@ impl<'a> Judge<'a> {
         sort
     }
 
-    /// Returns what a name is, with its number among the symbols where it is one.
+    /// Returns the sort of a name, and its number if it is a symbol.
     #[inline(always)]
     fn look_up(&self, name: &[u8]) -> (Sort, u32)
         ensures sort { IsSort self.now.statements name.now result.0 }
@@ -294,7 +294,7 @@ impl<'a> Judge<'a> {
     }
 }
 
-/// Returns what the two symbols of a `$f` break, by what they are.
+/// Returns the least of the rules G5 to G7 that the two symbols of a `$f` break, by their sorts.
 fn broken_by_sorts(constant: Sort, variable: Sort) -> Option<Rule>
     ensures { result ≡ sorts_rule constant variable }
 {
@@ -327,7 +327,8 @@ fn numbers_differ(numbers: &[u32]) -> bool
     true
 }
 
-/// Returns whether no word stands twice in the list. Cost: if allocation succeeds, that of sorting the list.
+/// Returns whether no word stands twice in the list. Cost: that of sorting the list, or, if an allocation fails, the square of
+/// its length.
 fn are_different(alloc: Global, words: &Words) -> bool
     ensures { result ≡ all_different words.now }
 {
@@ -340,7 +341,7 @@ fn are_different(alloc: Global, words: &Words) -> bool
     }
 }
 
-/// Returns whether no word stands twice in the list, by the sorted words, where equal words are neighbours.
+/// Returns whether no word stands twice in the list, by sorting the words, so that equal words are neighbours.
 fn differ_by_order(alloc: Global, words: &Words) -> Result<bool, AllocError>
     ensures { IfOk result (λ differ. differ ≡ all_different words.now) }
 {
@@ -352,7 +353,7 @@ fn differ_by_order(alloc: Global, words: &Words) -> Result<bool, AllocError>
     Ok(differ_next(&ordered))
 }
 
-/// Returns whether no word is the one before it.
+/// Returns whether no word equals the one before it.
 fn differ_next(words: &[&[u8]]) -> bool
     ensures yes { result ≡ true → DifferNext words.now (length words.now) }
     ensures no { result ≡ false → IsTwice words.now }

@@ -1,10 +1,10 @@
 //! Decides whether a statement may come next, and what is active after it: the rules G1 to G10.
 //!
 //! The crates above use two contracts: `Scope::add` accepts exactly the legal next statement, and else returns the least rule
-//! that it breaks; `Rules` does the same with a numbering that is lent to it, so that one table of names serves rules and frames.
-//! Read `rule`, `standing` and `steps`, then `scope` and `reading` (what it tells) and `rules`; `legal` decides the rules,
-//! `accept` has what a statement changes in their state and `declare` what it declares in the numbering; `numbering`, `stack`,
-//! `stack_heights`, `history` and `symbol_numbers` are the parts, `laws` what is active.
+//! that it breaks; `Rules` does the same with a numbering that is lent to it, so that one table of names serves rules and
+//! frames. Read `rule`, `standing` and `steps`, then `scope`, `reading` (its queries) and `rules`; `legal` decides the rules,
+//! `accept` changes their state by a legal statement, and `declare` the numbering; `numbering`, `stack`, `stack_heights`,
+//! `history` and `symbol_numbers` are the parts, `laws` states what is active.
 #![tactic(auto)]
 
 mod accept;

@@ -8,7 +8,7 @@ use names::NameTable;
 use std::alloc::{AllocError, Global};
 use std::marker::Model;
 
-/// The kind of a name's declaration. A name is never declared as anything else.
+/// The kind of a name. A name that was declared as one kind is never declared as another.
 #[derive(Clone, Copy, Debug, Drop, PartialEq, Eq)]
 pub enum NameKind {
     Label,
@@ -23,18 +23,18 @@ pub struct CountedKind {
     pub before: u32,
 }
 
-/// The labels and the declared symbols, in the order of their first declaration. Contracts see the list of the names
-/// with what each was declared as.
+/// The labels and the declared symbols, in the order of their first declaration. Contracts see the list of the names,
+/// each with its kind.
 ///
-/// A symbol's number is its place among the symbols, a label's its place among the labels, from 0. Both stand in one
-/// table, so that a name is looked up once whatever it is.
+/// A symbol's number is its index among the symbols, a label's its index among the labels. Both stand in one
+/// table, so that a name is looked up once, whatever its kind.
 #[derive(Drop)]
 pub struct Numbering {
     names: NameTable,
     entries: Vec<CountedKind>,
-    /// The places of the symbols in the table, by number.
+    /// The index of each symbol in `names`, by the symbol's number.
     symbols: Vec<u32>,
-    /// The places of the labels in the table, by number.
+    /// The index of each label in `names`, by the label's number.
     labels: Vec<u32>,
 }
 
@@ -64,7 +64,9 @@ impl Numbering {
         }
     }
 
-    /// Copies the numbering.
+    /// Returns an equal numbering.
+    ///
+    /// Errors: an allocation fails. Cost: the size of all names.
     pub fn copy(&self, alloc: Global) -> Result<Numbering, AllocError>
         ensures { IfOk result (λ names. names ≡ self.now) }
     {
@@ -101,8 +103,9 @@ impl Numbering {
         self.labels.len()
     }
 
-    /// Returns what a name was declared as, with its number among the symbols or among the labels. Cost: that of
-    /// `NameTable::find`.
+    /// Returns the number of a name among the symbols or among the labels, and its kind, or `None` if it is not declared.
+    ///
+    /// Cost: that of `NameTable::find`.
     #[inline(always)]
     pub fn find(&self, name: &[u8]) -> Option<(u32, NameKind)>
         ensures kind { option_map (λ p. p.1) result ≡ kind_in self.now name.now }
@@ -134,6 +137,8 @@ impl Numbering {
     }
 
     /// Appends a name that is not yet declared, and returns its number.
+    ///
+    /// Errors: an allocation fails; the names are then as before. Cost: that of `NameTable::add`.
     pub fn declare(&mut self, alloc: Global, name: &[u8], kind: NameKind) -> Result<u32, AllocError>
         requires { kind_in self.old name.now ≡ None }
         ensures ok { OnOk result (self.new ≡ self.old ++ (name.now, kind) ∷ []) }
@@ -157,7 +162,7 @@ impl Numbering {
         Ok(number_at(entry, place as u32))
     }
 
-    /// Makes room for so many more labels, if allocation succeeds.
+    /// Makes room for `labels` more labels, if allocation succeeds.
     pub fn reserve(&mut self, alloc: Global, labels: usize)
         ensures { self.new ≡ self.old }
     {
@@ -180,7 +185,7 @@ impl Numbering {
         self.labels.truncate(len - before);
     }
 
-    /// Gives back the room of names that were removed, where it is more than that of those that are there.
+    /// Gives back unused room, as `entries::give_back` does.
     ///
     /// Cost: that of `NameTable::shrink`.
     pub fn shrink(&mut self, alloc: Global)
@@ -193,7 +198,7 @@ impl Numbering {
     }
 }
 
-/// Returns the number among the symbols or among the labels of the name at a place, by its entry.
+/// Returns the number, among the symbols or among the labels, of the name with this entry at an index of the table.
 #[inline(always)]
 fn number_at(entry: CountedKind, place: u32) -> u32
     requires { entry.before ≤ place }
@@ -214,7 +219,7 @@ fn entry_at(entries: &[CountedKind], index: usize) -> CountedKind
     entries[index]
 }
 
-/// Appends an entry, and its place among the names of its kind.
+/// Appends an entry, and its place to those of the symbols or of the labels.
 fn push_entry(
     entries: &mut Vec<CountedKind>,
     symbols: &mut Vec<u32>,

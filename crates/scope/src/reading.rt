@@ -1,4 +1,4 @@
-//! Reading calls of a scope, which tell the crates above what is active.
+//! The queries of a scope: how many statements it has, and what is active.
 ghost use Rattle.std.specs.Prelude.{◌≡◌, ◌==◌, length};
 ghost use Rattle.scope.specs.Active.{is_constant, is_variable};
 ghost use Rattle.scope.specs.Standing.{standing_of};
@@ -22,14 +22,14 @@ impl Scope {
         self.len() == 0
     }
 
-    /// Returns whether a `$c` has the symbol.
+    /// Returns whether a `$c` declares the symbol.
     pub fn is_constant(&self, name: &[u8]) -> bool
         ensures { result ≡ is_constant self.now.statements name.now }
     {
         matches!(self.judge().sort(name), Sort::Constant)
     }
 
-    /// Returns whether an active `$v` has the symbol.
+    /// Returns whether an active `$v` declares the symbol.
     pub fn is_variable(&self, name: &[u8]) -> bool
         ensures { result ≡ is_variable self.now.statements name.now }
     {

@@ -7,7 +7,8 @@ pub enum Rule {
     G1,
     /// Each symbol of `$c` was never declared as a symbol, is no earlier label, and stands once in the statement.
     G2,
-    /// Each symbol of `$v` is no active variable, was never declared as a constant, is no earlier label, and stands once in the statement.
+    /// Each symbol of `$v` is no active variable, was never declared as a constant, is no earlier label, and stands once in
+    /// the statement.
     G3,
     /// The label was never used as a label and never declared as a symbol.
     G4,

@@ -24,7 +24,7 @@ use std::alloc::{AllocError, Global};
 use std::marker::Model;
 
 /// The state of the rules for the statements accepted so far, and for those that are marked: their stacks, by the
-/// numbers of symbols. The numbering itself is lent to them, so that others use it too. Contracts see the statements.
+/// numbers of symbols. Callers lend the numbering itself, so that others use it too. Contracts see the statements.
 #[derive(Drop)]
 pub struct Rules {
     pub(crate) accepted: History,
@@ -48,7 +48,7 @@ impl Model for Rules {
 }
 
 impl Rules {
-    /// Returns rules without statements, marked there.
+    /// Returns rules without statements, of which none is marked.
     pub fn new(alloc: Global) -> Rules
         ensures statements { result.statements ≡ [] }
         ensures marked { result.marked ≡ [] }
@@ -68,7 +68,7 @@ impl Rules {
         }
     }
 
-    /// Marks the statements accepted so far. Does not allocate.
+    /// Marks the statements accepted so far, for `back`. Does not allocate.
     pub fn mark(&mut self)
         requires { IsTrue (is_closed self.old.statements) }
         ensures statements { self.new.statements ≡ self.old.statements }
@@ -78,11 +78,11 @@ impl Rules {
         self.marked = History::same(&self.accepted);
     }
 
-    /// Goes back to the marked statements. Does not allocate.
+    /// Truncates to the marked statements. Does not allocate.
     pub fn back(&mut self)
         ensures statements { self.new.statements ≡ self.old.marked }
         ensures marked { self.new.marked ≡ self.old.marked }
-        // The statements that stand at the mark are the first of those that stood.
+        // The `$f`, `$e` and `$d` that are active at the mark are the first of those that were active before the call.
         ensures standing { take (length (standing_of self.old.marked)) (standing_of self.old.statements) ≡ standing_of self.old.marked }
     {
         self.variables.truncate(self.mark.variables);
@@ -92,7 +92,7 @@ impl Rules {
         self.accepted = History::same(&self.marked);
     }
 
-    /// Gives back the room of stacks and blocks that were removed, where it is more than that of those that are there.
+    /// Gives back unused room, as `entries::give_back` does.
     pub fn shrink(&mut self)
         ensures { self.new ≡ self.old }
     {
@@ -101,7 +101,9 @@ impl Rules {
         give_back(&mut self.blocks);
     }
 
-    /// Returns the same statements, marked there.
+    /// Returns equal rules.
+    ///
+    /// Errors: an allocation fails. Cost: the size of the stacks.
     pub fn copy(&self, alloc: Global) -> Result<Rules, AllocError>
         ensures { IfOk result (λ rules. rules ≡ self.now) }
     {
@@ -124,7 +126,9 @@ impl Rules {
         self.blocks.is_empty()
     }
 
-    /// Returns what the end of the text breaks: G10 if a block is open. Does not allocate.
+    /// Returns `Ok` if the text may end here.
+    ///
+    /// Errors: G10 if a block is open. Does not allocate.
     pub fn close_at_end(&self) -> Result<(), Rule>
         ensures ok { OnOk result (IsTrue (is_closed self.now.statements)) }
         ensures open { IfSome (end_rule self.now.statements) (λ rule. result ≡ Err rule) }
@@ -140,9 +144,9 @@ impl Rules {
     /// Returns the least rule that a statement would break as the next one, by the numbering of the names so far.
     ///
     /// If it breaks none and recording has begun, the recorded numbers are those of its symbols, or are discarded if an
-    /// allocation fails; for `$c` and `$v` they are discarded. Memory is used for recording that has begun, and for the call
-    /// if a list of names is long; no answer depends on it. Cost: the statement's own size, and for a long list of
-    /// names that of sorting it, or without memory the square of their count.
+    /// allocation fails; for `$c` and `$v` they are discarded. Allocates for recording that has begun, and for the call
+    /// if a list of names is long; no answer depends on whether that succeeds. Cost: the statement's own size, and for a long
+    /// list of names that of sorting it, or, if that allocation fails, the square of their count.
     /// Source: Metamath, chapter 4; the rules are `specs/Legal.antt`.
     pub fn broken_rule<'a>(
         &'a self,
@@ -171,7 +175,7 @@ impl Rules {
         self.standing
     }
 
-    /// Returns what a variable is that was declared, by its number among the symbols.
+    /// Returns the sort of a symbol that was declared as a variable, by its number.
     #[inline(always)]
     pub(crate) fn sort_of_variable(&self, number: u32) -> Sort
         ensures { result ≡ sort_by (list_any (λ n. n == number) (numbers_in (symbols_of self.now.statements) (active_variables self.now.statements))) (list_any (λ n. n == number) (numbers_in (symbols_of self.now.statements) (typed_variables self.now.statements))) }
@@ -185,7 +189,7 @@ impl Rules {
         }
     }
 
-    /// Returns how high the stacks stand.
+    /// Returns the heights of the stacks.
     pub(crate) fn sizes(&self) -> StackHeights
         ensures { result ≡ sizes_of (active self.now.statements) }
     {

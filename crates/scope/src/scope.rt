@@ -47,7 +47,7 @@ impl Model for Scope {
 }
 
 impl Scope {
-    /// Returns a scope without statements, marked there.
+    /// Returns a scope without statements, of which none is marked.
     pub fn new(alloc: Global) -> Scope
         ensures statements { result.statements ≡ [] }
         ensures marked { result.marked ≡ [] }
@@ -66,8 +66,8 @@ impl Scope {
 
     /// Appends the next statement if it breaks none of the rules G1 to G10.
     ///
-    /// Errors: the least rule that it breaks, or `Memory` where it breaks none; the scope is then as
-    /// before. Cost: that of `Rules::broken_rule`; one step is counted, whatever the outcome.
+    /// Errors: the least rule that it breaks, or `Memory` if it breaks none and an allocation fails; the statements are then
+    /// as before. Cost: that of `Rules::broken_rule`; one step is counted, whatever the outcome.
     /// Source: Metamath, chapter 4; the rules are `specs/Legal.antt`.
     pub fn add(&mut self, stmt: &Stmt, steps: &mut Steps) -> Result<(), Rule>
         requires { IsShaped stmt.now }
@@ -136,7 +136,9 @@ impl Scope {
             .broken_rule(&self.names, self.alloc, stmt, &mut unrecorded)
     }
 
-    /// Returns what the end of the text breaks: G10 if a block is open. Does not allocate.
+    /// Returns `Ok` if the text may end here.
+    ///
+    /// Errors: G10 if a block is open. Does not allocate.
     pub fn close_at_end(&self) -> Result<(), Rule>
         ensures ok { OnOk result (IsTrue (is_closed self.now.statements)) }
         ensures open { IfSome (end_rule self.now.statements) (λ rule. result ≡ Err rule) }
@@ -145,7 +147,7 @@ impl Scope {
         self.rules.close_at_end()
     }
 
-    /// Makes room for so many more labels, if allocation succeeds: statements that carry them are then added
+    /// Makes room for `labels` more labels, if allocation succeeds: statements that carry them are then added
     /// faster.
     pub fn reserve(&mut self, labels: usize)
         ensures { self.new ≡ self.old }
@@ -153,7 +155,7 @@ impl Scope {
         self.names.reserve(self.alloc, labels);
     }
 
-    /// Marks the statements accepted so far. Does not allocate.
+    /// Marks the statements accepted so far, for `back`. Does not allocate.
     pub fn mark(&mut self)
         requires { IsTrue (is_closed self.old.statements) }
         ensures statements { self.new.statements ≡ self.old.statements }
@@ -164,7 +166,7 @@ impl Scope {
         self.marked_count = self.count;
     }
 
-    /// Goes back to the marked statements. Does not allocate.
+    /// Truncates to the marked statements. Does not allocate.
     pub fn back(&mut self)
         ensures statements { self.new.statements ≡ self.old.marked }
         ensures marked { self.new.marked ≡ self.old.marked }
@@ -175,7 +177,9 @@ impl Scope {
         self.count = self.marked_count;
     }
 
-    /// Returns the same scope.
+    /// Returns an equal scope.
+    ///
+    /// Errors: an allocation fails. Cost: the size of the scope.
     pub fn copy(&self) -> Result<Scope, AllocError>
         ensures { IfOk result (λ scope. scope ≡ self.now) }
     {
@@ -194,7 +198,7 @@ impl Scope {
 
 /// Accepts a legal statement, by the recorded numbers of its symbols.
 ///
-/// If an allocation fails, the rules are as before, and the names and what stood are the first ones.
+/// Errors: an allocation fails; the rules are then as before, and `names` and `standing` begin with what they had.
 fn take_in(
     alloc: Global,
     rules: &mut Rules,

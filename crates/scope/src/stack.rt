@@ -1,4 +1,4 @@
-//! A stack of numbers, none of them twice, that tells at once where one stands.
+//! A stack of distinct numbers that finds the index of a number at once.
 ghost use Rattle.std.specs.Prelude.{◌≡◌, ◌≢◌, ℕ, [], ◌∷◌, ◌++◌, ◌==◌, false, take, length, slice_get, is_some, Some, IfOk, IfSome, OnOk, OnErr};
 ghost use Rattle.std.specs.List.{list_any};
 
@@ -6,10 +6,10 @@ use entries::give_back;
 use std::alloc::{AllocError, Global};
 use std::marker::Model;
 
-/// Numbers in the order in which they came. Contracts see the list.
+/// A stack of distinct numbers. Contracts see the list.
 ///
-/// A place is kept for each number; it counts only while the number stands there, so taking
-/// numbers off the end costs nothing.
+/// `places` has an index for each number, which is valid only while the number stands there, so
+/// truncating the stack costs nothing.
 #[derive(Drop)]
 pub struct Stack {
     numbers: Vec<u32>,
@@ -37,7 +37,7 @@ impl Stack {
         }
     }
 
-    /// Copies the stack.
+    /// Returns an equal stack.
     pub(crate) fn copy(&self, alloc: Global) -> Result<Stack, AllocError>
         ensures { IfOk result (λ stack. stack ≡ self.now) }
     {
@@ -60,7 +60,7 @@ impl Stack {
         self.numbers.as_slice()
     }
 
-    /// Returns where a number stands.
+    /// Returns the index of a number, or `None` if it is not there. Cost: constant.
     pub fn place(&self, number: u32) -> Option<usize>
         ensures found { IfSome result (λ k. slice_get self.now k ≡ Some number) }
         ensures member { is_some result ≡ list_any (λ n. n == number) self.now }
@@ -76,7 +76,9 @@ impl Stack {
         if there == number { Some(place) } else { None }
     }
 
-    /// Appends a number.
+    /// Appends a number that is not there.
+    ///
+    /// Errors: an allocation fails; the stack is then as before. Cost: constant, but for growing tables.
     pub fn push(&mut self, number: u32) -> Result<(), AllocError>
         requires { list_any (λ n. n == number) self.old ≡ false }
         ensures ok { OnOk result (self.new ≡ self.old ++ number ∷ []) }
@@ -95,8 +97,7 @@ impl Stack {
         self.numbers.truncate(len);
     }
 
-    /// Gives back the room of numbers that were removed, where it is more than that of those that are there. The places
-    /// stay.
+    /// Gives back the unused room of `numbers`, as `give_back` does.
     pub fn shrink(&mut self)
         ensures { self.new ≡ self.old }
     {

@@ -1,6 +1,6 @@
-//! How high the stacks of the rules stand.
+//! The heights of the stacks of the rules.
 
-/// How many active variables there are, and how many of them have an active `$f`, and how many
+/// How many variables are active, how many of them have an active `$f`, and how many
 /// `$f`, `$e` and `$d` are active.
 #[derive(Clone, Copy, Debug, Drop, PartialEq, Eq)]
 pub struct StackHeights {

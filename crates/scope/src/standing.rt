@@ -13,7 +13,7 @@ pub struct Standing {
     pub stmt: Stmt,
 }
 
-/// Appends a copy of a `$f`, `$e` or `$d`; other statements are not listed.
+/// Appends a copy of a `$f`, `$e` or `$d`; ignores other statements.
 pub(crate) fn push_standing(
     standing: &mut Vec<Standing>,
     alloc: Global,
@@ -57,7 +57,7 @@ pub(crate) fn push_standing(
     Ok(())
 }
 
-/// Returns the same statements.
+/// Returns a copy of the list.
 pub(crate) fn copy_standing(
     alloc: Global,
     standing: &[Standing],

@@ -1,9 +1,10 @@
+//! A count of steps that only contracts see.
 ghost use Rattle.std.specs.Prelude.{◌≡◌, ℕ, ◌+◌};
 ghost use Rattle.std.specs.Borrow.{ftrue};
 
 use std::marker::{Model, PhantomData};
 
-/// How many steps were taken: a number that contracts alone see.
+/// How many steps were taken: a number that only contracts see.
 #[derive(Drop)]
 pub struct Steps {
     of: PhantomData<u8>,
@@ -18,12 +19,14 @@ impl Model for Steps {
 unsafe impl Send for Steps {}
 
 impl Steps {
+    /// Returns a count of 0.
     pub fn new() -> Steps
         ensures { result.count ≡ 0 }
     {
         Steps { of: PhantomData }
     }
 
+    /// Adds one to the count.
     pub fn tick(&mut self)
         ensures { self.new.count ≡ self.old.count + 1 }
     {}

@@ -23,7 +23,7 @@ impl Model for SymbolNumbers {
 }
 
 impl SymbolNumbers {
-    /// Returns an empty buffer; nothing is recorded until it begins.
+    /// Returns an empty buffer; nothing is recorded before `begin`.
     pub fn new(alloc: Global) -> SymbolNumbers
         ensures { result ≡ None }
     {
@@ -33,7 +33,7 @@ impl SymbolNumbers {
         }
     }
 
-    /// Begins with no numbers.
+    /// Begins to record, with no numbers yet.
     pub fn begin(&mut self)
         ensures { self.new ≡ Some [] }
     {
@@ -48,7 +48,7 @@ impl SymbolNumbers {
         self.whole = false;
     }
 
-    /// Records one more number. If an allocation fails, the recorded numbers are discarded.
+    /// Records one more number, if recording has begun. If an allocation fails, the recorded numbers are discarded.
     #[inline(always)]
     pub fn record_number(&mut self, number: u32)
         ensures { IsAppended number self.old self.new }

@@ -9,10 +9,11 @@ use Rattle.places.specs.declared.lines_and_columns.Position.{Position}
 use Rattle.statement_blocks.specs.Filled.{filled}
 use Rattle.statement_blocks.specs.Lines.{statement_line, frame_if}
 
--- LINE:COLUMN: and the number of the statement
+-- LINE:COLUMN
 abbrev pub place_text : Position → List ℕ
 place_text place = decimal place.line ++ codes ":" ++ decimal place.column
 
+-- .. and the number of the statement, as a line
 abbrev pub place_line : Position → ℕ → List ℕ
 place_line place at = place_text place ++ codes ": " ++ decimal at ++ codes "\n"
 

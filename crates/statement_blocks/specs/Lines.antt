@@ -15,7 +15,7 @@ use Rattle.frame.specs.FrameOf.{hypotheses, mandatory_groups}
 abbrev pub labelled : Name → List ℕ → List ℕ → List ℕ
 labelled label keyword symbols = label ++ keyword ++ symbols
 
--- how long a proof is, and the end of the line
+-- the count of a proof's tokens, and the end of the line
 abbrev pub proof_note : List Name → List ℕ
 proof_note proof = codes " (proof of " ++ decimal (length proof) ++ codes " tokens)\n"
 
@@ -39,7 +39,7 @@ line_at S position = line_if (stmt_at S position)
 abbrev pub after_space : Name → List ℕ
 after_space name = codes " " ++ name
 
--- variables each two of which are disjoint
+-- a list of disjoint variables, as a `$d`
 abbrev pub group_line : List Name → List ℕ
 group_line group = codes "$d" ++ flat_map after_space group ++ codes "\n"
 
@@ -48,13 +48,13 @@ abbrev pub frame_lines : Database → ℕ → Stmt → List ℕ
 frame_lines S at s =
     flat_map (line_at S) (hypotheses (before (bares S) at) s) ++ flat_map group_line (mandatory_groups (before (bares S) at) s)
 
--- a group by the numbers of its variables; for the private functions of `frame_lines`
+-- a variable of a group by its number, for the private functions of `frame_lines`
 abbrev pub number_text : List Name → ℕ → List ℕ
 number_text names n = codes " " ++ name_at names n
 
 abbrev pub numbers_line : List Name → List ℕ → List ℕ
 numbers_line names group = codes "$d" ++ flat_map (number_text names) group ++ codes "\n"
 
--- that frame, and no line before a statement that is no assertion
+-- the frame of an assertion; no line for another statement
 abbrev pub frame_if : Database → ℕ → Stmt → List ℕ
 frame_if S at s = if is_assertion s then frame_lines S at s else []

@@ -1,4 +1,4 @@
--- What is shown stands where it is said to stand.
+-- The statement that is shown stands at the position given with it.
 -- Source: this project's command `show`.
 -- The code is given the statement beside its position.
 use Rattle.std.specs.Prelude.{◌≡◌, Some}

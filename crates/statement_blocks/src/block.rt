@@ -16,8 +16,8 @@ use std::alloc::{AllocError, Global};
 /// Appends the block of a statement: its place and its number, its description, its mandatory
 /// hypotheses and disjoint variables if it is an assertion, and itself without its proof.
 ///
-/// Errors: an allocation fails. Cost: the size of the block, and of the active `$d` where these are
-/// many.
+/// Errors: an allocation fails. Cost: the size of the block and of the description, and of the active
+/// `$d` if they are many.
 pub fn push_block(alloc: Global, text: &mut Vec<u8>, shown: &Shown<'_>) -> Result<(), AllocError>
     requires { IsShown shown.now }
     ensures { OnOk result (text.new.items ≡ text.old.items ++ block_text shown.now.statements.now

@@ -14,7 +14,7 @@ use std::alloc::{AllocError, Global};
 
 /// Appends the mandatory hypotheses and the disjoint variables of an assertion.
 ///
-/// Cost: the size of its frame, and of the active `$d` where these are many.
+/// Cost: the size of its frame, and of the active `$d` if they are many.
 pub(crate) fn push_frame(
     alloc: Global,
     text: &mut Vec<u8>,

@@ -1,7 +1,7 @@
 //! A statement as a block of lines for people: its place, its description, its frame, and itself.
 //!
 //! Reading order: `shown`, `statement_line`, `frame_lines`, `filling` (a description in lines of at most
-//! 78 columns), `block`.
+//! 78 bytes), `block`.
 #![tactic(auto)]
 
 mod block;

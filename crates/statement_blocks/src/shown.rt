@@ -1,9 +1,9 @@
-//! The parts of a statement that are shown.
+//! A statement that is shown.
 use frame::Frames;
 use mm_read::Stmt;
 use places::Position;
 
-/// A statement that is shown.
+/// A statement that is shown, with all that its block is made of.
 #[derive(Drop)]
 pub struct Shown<'a> {
     /// All statements.
@@ -14,7 +14,7 @@ pub struct Shown<'a> {
     pub statement: &'a Stmt,
     /// Its position among all statements, from 1.
     pub at: usize,
-    /// Where it stands in the text.
+    /// Its line and column in the text.
     pub place: Position,
     /// Its description: the contents of a comment.
     pub description: Option<&'a [u8]>,

@@ -1,11 +1,11 @@
 -- Prefixes of a node's log, and how an event of the switch keeps them.
 -- Source: Lamport, Paxos Made Simple, section 3: all servers execute the same commands, each as far as it learned them.
--- The code tests it entry by entry where the entries are at hand.
+-- The code (of `cluster`) tests entry by entry whether entries are a prefix.
 use Rattle.std.specs.Prelude.{◌≢◌, ◌≡◌, ◌<◌, ℕ, List, Option, Result, OnErr, length}
 use Rattle.switch.specs.Words.{Event, Restart, StepFault, log_after, IsBeginningOf}
 use Rattle.switch.specs.Switch.{SwitchView, world_of}
 
--- node k is there, and these entries are a prefix of its log in the world after the history
+-- there is a node k, and these entries are a prefix of its log in the world after the history
 pub record BeginsLog {V : Type 0} (size : V → ℕ) (switch : SwitchView V) (k : ℕ) (entries : List (Option V)) : Type 0 where
   pub node : k < length switch.stores
   pub begins : IsBeginningOf entries (log_after (world_of size switch) k)
@@ -14,7 +14,7 @@ pub record BeginsLog {V : Type 0} (size : V → ℕ) (switch : SwitchView V) (k 
 abbrev pub StaysBelonging : {V : Type 0} → (V → ℕ) → SwitchView V → SwitchView V → Type 0
 StaysBelonging {V} size old new = (k : ℕ) (entries : List (Option V)) → BeginsLog size old k entries → BeginsLog size new k entries
 
--- a prefix of a node's log stays one, but at a restart of that node; an event that is refused leaves those of every node
+-- a prefix of a node's log stays one, except at a restart of that node; after a refused event that holds at every node
 pub record KeepsLogs {V : Type 0} (size : V → ℕ) (e : Event V) (old new : SwitchView V) (result : Result ℕ StepFault) : Type 0 where
   pub others : (k : ℕ) (entries : List (Option V)) → e ≢ Restart k → BeginsLog size old k entries → BeginsLog size new k entries
   pub refused : OnErr result (StaysBelonging size old new)

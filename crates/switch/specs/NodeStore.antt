@@ -6,7 +6,7 @@ use Rattle.switch.specs.Words.{Packet, Change, Kept, changed_by, Node, kept_of, 
 use Rattle.switch.specs.declared.node_store.Standing.{Standing as Stands}
 use Rattle.switch.specs.declared.node_store.Standing.TheVariants.{Up, Down}
 
--- up; or down, with what is owed, if anything
+-- up; or down, with the event that is owed, if there is one
 pub data Standing (A : Type 0) : Type 0 where
   up : Standing A
   down : Option A → Standing A
@@ -36,7 +36,7 @@ posts_owed (Some due) = posts_of due.work
 
 -- The record of the keep: that of the node, with or without the change that is owed.
 
--- old, or with the change
+-- the old record, or that with the change
 abbrev pub IsWithOrWithout : {V : Type 0} → Kept V → Option (Change V) → Kept V → Type 0
 IsWithOrWithout old change new = (new ≡ old) ⊎ (new ≡ changed_by old change)
 

@@ -1,13 +1,14 @@
 -- The switch that the nodes of a cluster share: its history, and for each node the record of its keep and whether it is up.
 -- Source: Lamport, Paxos Made Simple, section 3; that a node with a failed store is down is this project's profile.
--- The code has a net beside the keeps; the type keeps that its state is that of the world after the history.
+-- The code has a net beside the keeps; by the invariant of the type its state is that of the world after the history.
 use Rattle.std.specs.Prelude.{◌≡◌, ◌⊎◌, ◌+◌, ◌≤◌, ◌<◌, ℕ, Bool, true, false, List, [], ◌∷◌, ◌++◌, Option, Some, None, Result, Ok, Err, length, slice_get, slice_set}
 use Rattle.switch.specs.Words.{Change, Kept, changed_by, new_kept, Node, kept_of, MOST_EVENTS, Event, Offer, Begin, Deliver, Restart, StepFault, Memory, Device, Down, EventsSpent, World, happens, after, IsAfter, AreOfWorld, node_of, change_of, kept_part, StagedEvent, NetView, IsStaged, HasRoom, IsTaken, posts_of}
 use Rattle.switch.specs.NodeStore.{Standing, up, down, StoreState, IsRecordOf, IsWithOrWithout}
 
 -- The view that contracts have.
 
--- a node's store: the record that its keep would load, how often the keep failed, and whether the node is up; while it is down, the event whose store failed
+-- a node's store: the record that its keep would load, how often the keep failed, and whether the node is up; while it is
+-- down, the event whose store failed
 pub record StoreView (V : Type 0) : Type 0 where
   pub kept : Kept V
   pub failures : ℕ
@@ -33,7 +34,7 @@ abbrev pub views_of : {V : Type 0} → List (StoreState V) → List (StoreView V
 views_of [] = []
 views_of (store ∷ stores) = view_of store ∷ views_of stores
 
--- the stores of new nodes, as seen, with these keeps, whose calls failed so often
+-- the stores of new nodes as contracts see them, with these keeps; `failures` counts the failed calls of a keep
 abbrev pub new_views : {V K : Type 0} → (K → ℕ) → List K → List (StoreView V)
 new_views failures [] = []
 new_views failures (keep ∷ keeps) = record { kept = new_kept; failures = failures keep; standing = up } ∷ new_views failures keeps
@@ -45,7 +46,7 @@ new_stores kept failures (keep ∷ keeps) = record { kept = kept keep; failures 
 
 -- The invariant of the type.
 
--- the event that is owed is due at the node
+-- the event that is owed is staged at the node
 abbrev pub IsOwing : {V : Type 0} → (V → ℕ) → NetView V → ℕ → Standing (StagedEvent V) → Type 0
 IsOwing size net k up = Unit {0}
 IsOwing size net k (down None) = Unit {0}
@@ -62,7 +63,7 @@ pub record IsSwitch {V : Type 0} (size : V → ℕ) (net : NetView V) (stores : 
   pub count : length stores ≡ length net.cores
   pub each : (k : ℕ) (n : Node V) (store : StoreState V) → slice_get world.world.nodes k ≡ Some n → slice_get stores k ≡ Some store → IsStore size net k n store
 
--- The facts that the calls tell.
+-- The facts that the contracts of the calls state.
 
 -- the world after the history
 abbrev pub world_of : {V : Type 0} → (V → ℕ) → SwitchView V → Result (World V) StepFault
@@ -103,7 +104,7 @@ abbrev pub is_down_at : {V : Type 0} → List (StoreView V) → Option ℕ → B
 is_down_at views None = false
 is_down_at views (Some k) = is_down_view (slice_get views k)
 
--- the fault is answered, and all is as before
+-- the fault is returned, and all is as before
 abbrev pub Refuses : {V : Type 0} → SwitchView V → SwitchView V → Result ℕ StepFault → StepFault → Type 0
 Refuses old new result fault = (result ≡ Err fault) × (new ≡ old)
 
@@ -183,7 +184,7 @@ pub record Acts {V : Type 0} (size : V → ℕ) (w : World V) (old new : SwitchV
   pub is_down : is_down_at old.stores (node_of w e) ≡ true → ActsDown size w old new e result
   pub is_up : is_down_at old.stores (node_of w e) ≡ false → ActsUp size w old new e result
 
--- the history before the event is taken, each node of its world has its store, and there the event is answered so
+-- the history before the event is taken, each node of its world has its store, and the event has its effect there
 pub record Plays {V : Type 0} (size : V → ℕ) (old new : SwitchView V) (e : Event V) (result : Result ℕ StepFault) : Type 0 where
   pub world : World V
   pub is_after : world_of size old ≡ Ok world

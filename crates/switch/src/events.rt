@@ -10,14 +10,14 @@ use net::{Event, StepFault};
 use synod::{Keep, Value};
 
 impl<V: Value, K: Keep<V>> Switch<V, K> {
-    /// Plays an event: its node makes it ready, stores its change and takes it. A restart starts from the record that the keep
-    /// loads; at a node that is down it first stores and takes the event whose store failed. Returns the count of all packets
-    /// posted.
+    /// Plays an event: its node stages it, stores its change and commits it. A restart starts from the record that the keep
+    /// loads; at a node that is down it first stores and commits the event whose store failed. Returns the number of packets
+    /// posted so far.
     ///
-    /// Errors: `Down` where the node is down and the event is no restart; else the first fault that the event meets in the
-    /// order of `StepFault`; else `Memory`, with nothing changed, or `Device`, where the node's keep failed: the node is then
-    /// down. A restart of a node that is down meets only `EventsSpent`, where fewer than two events are left; after `Memory`
-    /// or `Device` it stays down.
+    /// Errors: `Down` if the node is down and the event is not a restart; else the first fault that the event meets, in the
+    /// order that `StepFault` gives; else `Memory`, with nothing changed, or `Device` if the node's keep failed: the node is
+    /// then down. A restart of a node that is down meets only `EventsSpent`, if fewer than two events are left; after
+    /// `Memory` or `Device` it stays down.
     ///
     /// Cost: the step of the node, one packet looked up and one change stored; at a restart the record, loaded once.
     pub fn play(&mut self, event: Event<V>) -> Result<u64, StepFault>
@@ -33,7 +33,7 @@ impl<V: Value, K: Keep<V>> Switch<V, K> {
         }
     }
 
-    /// Plays an event that is no restart at a node that is up, or where there is none.
+    /// Plays an event, other than a restart, whose node is up or does not exist.
     fn step(&mut self, event: Event<V>) -> Result<u64, StepFault>
         requires owed { due event ≡ Some event }
         requires up { ForOk (world_of V.bytes self.old) (λ world. is_down_at self.old.stores (node_of world event) ≡ false) }

@@ -34,7 +34,7 @@ impl<V: Value, K: Keep<V>> Model for NodeStore<V, K> {
 }
 
 impl<V: Value, K: Keep<V>> NodeStore<V, K> {
-    /// Makes the store of a node that is up.
+    /// Creates the store of a node that is up.
     pub fn new(keep: K) -> Self
         ensures { result ≡ record { kept = K.kept keep; failures = K.failures keep; standing = up } }
     {
@@ -44,7 +44,7 @@ impl<V: Value, K: Keep<V>> NodeStore<V, K> {
         }
     }
 
-    /// Tells whether the node is down.
+    /// Returns whether the node is down.
     pub fn is_down(&self) -> bool
         ensures { result ≡ is_down (standing_seen self.now.standing) }
     {
@@ -54,7 +54,7 @@ impl<V: Value, K: Keep<V>> NodeStore<V, K> {
         }
     }
 
-    /// Stores the change of an event that is due, and returns the event. Where that fails, the node is down and owes the event.
+    /// Stores the change of a staged event, and returns the event. If that fails, the node is down and owes the event.
     pub fn store(&mut self, due: StagedEvent<V>) -> Result<StagedEvent<V>, Failed>
         ensures stored { OnOk result (self.new ≡ record { kept = changed_by self.old.kept (change_in due.work); failures = self.old.failures; standing = self.old.standing }) }
         ensures due { IfOk result (λ same. same ≡ due) }
@@ -69,7 +69,7 @@ impl<V: Value, K: Keep<V>> NodeStore<V, K> {
         }
     }
 
-    /// Loads the record. Where that fails, the node is down and owes nothing.
+    /// Loads the record. If that fails, the node is down and owes nothing.
     pub fn load(&mut self) -> Result<Record<V>, Failed>
         ensures loaded { IfOk result (λ loaded. loaded.kept ≡ self.old.kept) }
         ensures same { OnOk result (self.new ≡ self.old) }
@@ -84,7 +84,7 @@ impl<V: Value, K: Keep<V>> NodeStore<V, K> {
         }
     }
 
-    /// Returns how many packets the event that is owed posts.
+    /// Returns the number of packets that the owed event posts.
     pub fn count_owed(&self) -> usize
         ensures { result ≡ length (posts_owed (owed_in self.now.standing)) }
     {
@@ -95,8 +95,8 @@ impl<V: Value, K: Keep<V>> NodeStore<V, K> {
         }
     }
 
-    /// Stores the change that is owed, if there is one, and loads the record: the node is up. Returns the event that it owed. Where a
-    /// call of the keep fails, the node stays down.
+    /// Stores the owed change, if there is one, loads the record, and marks the node as up. Returns the event that the node
+    /// owed, and the record. If a call of the keep fails, the node stays down.
     pub fn repair(&mut self) -> Result<(Option<StagedEvent<V>>, Record<V>), Failed>
         ensures owed { IfOk result (λ made. made.0 ≡ owed_in self.old.standing) }
         ensures loaded { IfOk result (λ made. made.1.kept ≡ changed_by self.old.kept (change_owed (owed_in self.old.standing))) }
@@ -108,7 +108,7 @@ impl<V: Value, K: Keep<V>> NodeStore<V, K> {
         Ok((self.take_owed(), record))
     }
 
-    /// Stores the change that is owed, if there is one.
+    /// Stores the owed change, if there is one.
     fn store_owed(&mut self) -> Result<(), Failed>
         ensures stored { OnOk result (self.new ≡ record { kept = changed_by self.old.kept (change_owed (owed_in self.old.standing)); failures = self.old.failures; standing = self.old.standing }) }
         ensures failed { OnErr result (Fails self.old (change_owed (owed_in self.old.standing)) self.old.standing self.new) }
@@ -120,7 +120,7 @@ impl<V: Value, K: Keep<V>> NodeStore<V, K> {
         }
     }
 
-    /// Makes the node up. Returns the event that it owed.
+    /// Marks the node as up, and returns the event that it owed.
     fn take_owed(&mut self) -> Option<StagedEvent<V>>
         ensures owed { result ≡ owed_in self.old.standing }
         ensures up { self.new ≡ record { kept = self.old.kept; failures = self.old.failures; standing = up } }
@@ -132,7 +132,7 @@ impl<V: Value, K: Keep<V>> NodeStore<V, K> {
     }
 }
 
-/// Stores the change of an event that is due, if it makes one.
+/// Stores the change of a staged event, if it makes one.
 fn store_change<V: Value, K: Keep<V>>(keep: &mut K, due: &StagedEvent<V>) -> Result<(), Failed>
     ensures stored { OnOk result (K.kept keep.new ≡ changed_by (K.kept keep.old) (change_in due.now.work)) }
     ensures failed { OnErr result (IsWithOrWithout (K.kept keep.old) (change_in due.now.work) (K.kept keep.new)) }

@@ -11,7 +11,7 @@ use net::{Event, MOST_EVENTS, Net, StagedEvent, StepFault};
 use synod::{Keep, Value};
 
 impl<V: Value, K: Keep<V>> Switch<V, K> {
-    /// Restarts a node that is up, or answers `NoNode` where there is none.
+    /// Restarts a node that is up, from the record that its keep loads, or returns `NoNode` if there is no such node.
     pub(crate) fn reload(&mut self, k: u8) -> Result<u64, StepFault>
         requires { is_down_at self.old.stores (Some k) ≡ false }
         ensures { ForOk (world_of V.bytes self.old) (λ world. ActsUp V.bytes world self.old self.new (Restart k) result) }
@@ -23,7 +23,7 @@ impl<V: Value, K: Keep<V>> Switch<V, K> {
         Ok(self.net.commit(due))
     }
 
-    /// Restarts a node that is down: stores what it failed to store, and takes that event before the restart.
+    /// Restarts a node that is down: stores the change that it owes, and commits that event before the restart.
     pub(crate) fn revive(&mut self, k: u8) -> Result<u64, StepFault>
         requires { is_down_at self.old.stores (Some k) ≡ true }
         ensures { ForOk (world_of V.bytes self.old) (λ world. (view : StoreView V) → slice_get self.old.stores k ≡ Some view → (e : Option (Event V)) → view.standing ≡ down e → Revives V.bytes world self.old self.new k view e result) }
@@ -45,7 +45,7 @@ impl<V: Value, K: Keep<V>> Switch<V, K> {
     }
 }
 
-/// Takes the event that was owed, if there is one. Does not allocate.
+/// Commits the event that was owed, if there is one. It does not allocate.
 fn take_owed<V: Value>(net: &mut Net<V>, owed: Option<StagedEvent<V>>)
     requires { CanTakeOwed V.bytes net.old owed }
     ensures { TakesOwed net.old net.new owed }

@@ -16,8 +16,8 @@ use std::alloc::{AllocError, Global};
 use std::marker::Model;
 use synod::{Keep, Packet, Value, Weights};
 
-/// The nodes of one agreement, their packets and their stores. Contracts see the history and, for each node, the record that its
-/// keep would load, how often the keep failed, and whether the node is up.
+/// The nodes of one agreement, their packets and their stores. Contracts see the history and, for each node, the record that
+/// its keep would load, the number of failed calls of the keep, and whether the node is up.
 #[derive(Drop)]
 pub struct Switch<V: Value, K: Keep<V>> {
     pub(crate) net: Net<V>,
@@ -35,7 +35,9 @@ impl<V: Value, K: Keep<V>> Model for Switch<V, K> {
 }
 
 impl<V: Value, K: Keep<V>> Switch<V, K> {
-    /// Makes new nodes with their keeps, one for each weight, before any event.
+    /// Creates new nodes with their keeps, one for each weight, before any event.
+    ///
+    /// Errors: `Memory`.
     pub fn new(alloc: Global, weights: Weights, keeps: Vec<K>) -> Result<Self, StepFault>
         requires count { length keeps.items ≡ length weights }
         requires new { AllByRecursion (λ keep. K.kept keep ≡ new_kept) keeps.items }
@@ -47,7 +49,7 @@ impl<V: Value, K: Keep<V>> Switch<V, K> {
         Ok(Switch { net, stores })
     }
 
-    /// Tells whether there is such a node and it is down.
+    /// Returns whether there is such a node and it is down.
     pub fn is_down(&self, node: Option<u8>) -> bool
         ensures { result ≡ is_down_at self.now.stores node }
     {
@@ -60,7 +62,7 @@ impl<V: Value, K: Keep<V>> Switch<V, K> {
         }
     }
 
-    /// Returns entry `slot` of the log of node `k`, or `NoNode`. Does not allocate.
+    /// Returns entry `slot` of the log of node `k`, or `NoNode`. It does not allocate.
     pub fn entry(&self, k: u8, slot: u32) -> Result<Option<&Option<V>>, StepFault>
         ensures entry { IfOk result (λ found. MatchOption found (slice_get (log_after (world_of V.bytes self.now) k) slot ≡ None) (λ entry. slice_get (log_after (world_of V.bytes self.now) k) slot ≡ Some entry.now)) }
         ensures below { IfOk result (λ found. IsSome found → slot < SLOTS) }
@@ -84,8 +86,7 @@ impl<V: Value, K: Keep<V>> Switch<V, K> {
         self.net.history()
     }
 
-    /// Returns the number of the node of an event: of a delivery that of the node that its packet is addressed to, or `None` where
-    /// there is no such packet.
+    /// Returns the node of an event: for a delivery the receiver of the packet, or `None` if there is no such packet.
     pub fn node_of(&self, event: &Event<V>) -> Option<u8>
         ensures node { ForOk (world_of V.bytes self.now) (λ world. result ≡ node_of world event.now) }
         ensures taken { IsOk (world_of V.bytes self.now) }
@@ -93,7 +94,7 @@ impl<V: Value, K: Keep<V>> Switch<V, K> {
         self.net.node_of(event)
     }
 
-    /// Returns the packet of that number, from 0 in the order of posting, or `NoPacket`. Does not allocate.
+    /// Returns the packet of a number, from 0 in the order of posting, or `NoPacket`. It does not allocate.
     pub fn packet(&self, number: u64) -> Result<&Packet<V>, StepFault>
         ensures taken { IsOk (world_of V.bytes self.now) }
         ensures found { ForOk (world_of V.bytes self.now) (λ world. MatchResult result (λ packet. slice_get world.packets number ≡ Some packet.now) (λ fault. (slice_get world.packets number ≡ None) × (fault ≡ NoPacket))) }
@@ -102,7 +103,7 @@ impl<V: Value, K: Keep<V>> Switch<V, K> {
     }
 }
 
-/// Makes the stores of nodes that are up, with their keeps.
+/// Creates the stores of nodes that are up, with their keeps.
 fn new_stores<V: Value, K: Keep<V>>(
     alloc: Global,
     keeps: Vec<K>,

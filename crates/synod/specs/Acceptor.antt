@@ -1,6 +1,6 @@
 -- The acceptor: its promises and its accepted entries.
 -- Source: Lamport, Paxos Made Simple, 2.2, phases 1(b) and 2(b); a refused proposer is told (2.5).
--- The code makes the pages of a promise straight from the slots. The model lists all reports and cuts them.
+-- The code makes the pages of a promise straight from the slots. The model cuts the list of all reports into pages.
 use Rattle.std.specs.Prelude.{ℕ, suc, nat_lt, List, [], ◌∷◌, Option, Some, None, length, if◌then◌else◌}
 use Rattle.synod.specs.Words.{put_at, Ballot, SlotReport, Packet, Promise, Accepted, Nack, Held, Entry}
 use Rattle.synod.specs.declared.change.Change.TheVariants.{Promise as PromiseChange}

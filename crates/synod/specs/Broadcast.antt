@@ -20,7 +20,7 @@ is_ask (ToAccept b s v) = false
 is_ask (ToAccepted b s v) = false
 is_ask (ToAsk s) = true
 
--- the packet to one node, where others are all but the sender
+-- the packet to one node; if the flag is true, none to the sender itself
 abbrev pub to_node : {V : Type 0} → Bool → ℕ → ℕ → Body V → List (Packet V)
 to_node false from to body = packet from to body ∷ []
 to_node true from to body = if to == from then [] else (packet from to body ∷ [])

@@ -1,6 +1,6 @@
 -- The highest report of each slot, in a table.
 -- Source: Lamport, Paxos Made Simple, 2.2: the value of the highest-numbered proposal among the responses.
--- The code has a table by slot, and goes through the pages once. The definition of what is proposed asks one list of all reports.
+-- The code has a table by slot, and goes through the pages once. The definition searches one list of all reports.
 use Rattle.std.specs.Prelude.{◌≡◌, ◌<◌, ◌≤◌, ◌+◌, ◌-◌, ℕ, List, [], ◌∷◌, ◌++◌, Option, Some, None, length, map, take, drop, slice_index_or}
 use Rattle.synod.specs.Words.{Bor, option_copied, SlotReport, SLOTS, Ballot, Packet}
 use Rattle.synod.specs.Packets.{accepts}

@@ -55,7 +55,7 @@ ask_below n s = asks_below n s (log_length n)
 abbrev pub chooses : {V : Type 0} → Node V → ℕ → Option V → Stepped V
 chooses n s v = answers (learns n s v) (ask_below (learns n s v) s)
 
--- once one more vote is counted
+-- the step once the vote is counted: the value is learned if a quorum voted
 abbrev pub counts : {V : Type 0} → Node V → Ballot → ℕ → Option V → Stepped V
 counts n b s v = if is_quorum n.weights (has_voter n.tallies s b) then chooses n s v else unchanged n
 
@@ -63,7 +63,7 @@ abbrev pub on_accepted_at : {V : Type 0} → Option (Option V) → Node V → �
 on_accepted_at (Some u) n p b s v = unchanged n
 on_accepted_at None n p b s v = counts (record n { tallies = counted n.tallies s b p }) b s v
 
--- Accepted(b, s, v) from p: at a slot not learned p is counted
+-- Accepted(b, s, v) from p: the vote of p is counted, unless the slot is learned
 abbrev pub on_accepted : {V : Type 0} → Node V → ℕ → Ballot → ℕ → Option V → Stepped V
 on_accepted n p b s v = on_accepted_at (entry_at n.learned s) n p b s v
 
@@ -71,11 +71,11 @@ abbrev pub on_ask_at : {V : Type 0} → Option (Option V) → Node V → ℕ →
 on_ask_at None n p s = unchanged n
 on_ask_at (Some v) n p s = answers n (packet n.me p (Told s v) ∷ [])
 
--- Ask(s) from p: what is learned is told
+-- Ask(s) from p: the value is told, if the slot is learned
 abbrev pub on_ask : {V : Type 0} → Node V → ℕ → ℕ → Stepped V
 on_ask n p s = on_ask_at (entry_at n.learned s) n p s
 
--- the next gap is asked for, while there is one
+-- the next gap is asked for, unless the log is full
 abbrev pub asks_for : {V : Type 0} → Node V → ℕ → ℕ → List (Packet V)
 asks_for n p gap = if nat_lt gap SLOTS then (packet n.me p (Ask gap) ∷ []) else []
 
@@ -89,6 +89,6 @@ abbrev pub on_told_at : {V : Type 0} → Option (Option V) → Node V → ℕ �
 on_told_at (Some u) n p s v = unchanged n
 on_told_at None n p s v = hears_told n p s v
 
--- Told(s, v) from p: what is not learned is learned
+-- Told(s, v) from p: the value is learned, unless the slot is
 abbrev pub on_told : {V : Type 0} → Node V → ℕ → ℕ → Option V → Stepped V
 on_told n p s v = on_told_at (entry_at n.learned s) n p s v

@@ -9,6 +9,6 @@ use Rattle.synod.specs.Node.{Node}
 abbrev pub log_of : {V : Type 0} → Node V → List (Option V)
 log_of n = entries_to_gap n.learned
 
--- m
+-- the length of the log: m
 abbrev pub log_length : {V : Type 0} → Node V → ℕ
 log_length n = front_of n.learned

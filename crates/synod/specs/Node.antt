@@ -51,7 +51,7 @@ pub record Stepped (V : Type 0) : Type 0 where
 abbrev pub unchanged : {V : Type 0} → Node V → Stepped V
 unchanged n = record { node = n; change = None; posts = [] }
 
--- nothing happens, and an answer is posted
+-- the step to the node n that leaves the kept part unchanged and has these posts
 abbrev pub answers : {V : Type 0} → Node V → List (Packet V) → Stepped V
 answers n posts = record { node = n; change = None; posts = posts }
 

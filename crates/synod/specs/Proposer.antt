@@ -1,6 +1,6 @@
 -- The proposer: its offers, ballots, promises and proposals.
 -- Source: Lamport, Paxos Made Simple, 2.2, phases 1(a) and 2(a), and section 3 for a leader of all instances.
--- The code looks the highest report up by slot. The model asks it of one list of all reports heard.
+-- The code looks the highest report up by slot. The model finds it in one list of all reports heard.
 use Rattle.std.specs.Prelude.{ℕ, zero, suc, ◌+◌, ◌-◌, ◌^◌, max, Bool, false, not, ◌==◌, ◌&&◌, nat_lt, List, [], ◌∷◌, ◌++◌, map, take, drop, length, Option, Some, None, Result, Ok, Err, if◌then◌else◌}
 use Rattle.synod.specs.Words.{SLOTS, MOST_BYTES, MOST_WAITING, Ballot, SlotReport, Prepare, Accept, Round, Heard, Role, Idle, Preparing, Leading, Refusal, Busy, LogFull, RoundsSpent, TooLong}
 use Rattle.synod.specs.Weights.{is_quorum}
@@ -12,7 +12,7 @@ use Rattle.synod.specs.Log.{log_length}
 
 -- A value is offered.
 
--- it waits, if there is room
+-- it joins the waiting values
 abbrev pub waits : {V : Type 0} → Node V → V → Stepped V
 waits n v = answers (record n { waiting = n.waiting ++ v ∷ [] }) []
 
@@ -82,7 +82,7 @@ abbrev pub reported_value : {V : Type 0} → Option (SlotReport V) → Option V
 reported_value None = None
 reported_value (Some r) = r.value
 
--- one above the greatest slot reported
+-- one above the greatest slot reported, or 0
 abbrev pub above_all : {V : Type 0} → List (SlotReport V) → ℕ
 above_all [] = 0
 above_all (r ∷ rs) = max (r.slot + 1) (above_all rs)
@@ -115,11 +115,11 @@ leads_with n b first pages heard = leads n b first (all_reports pages heard) (to
 
 -- A page of a promise comes.
 
--- the page is kept, and the promise has more
+-- the page is kept, and more pages of the promise are to come
 abbrev pub keeps_page : {V : Type 0} → Node V → List (List (Option (List (SlotReport V)))) → Stepped V
 keeps_page n pages = answers (record n { pages = pages }) []
 
--- the sender is heard, and no quorum yet
+-- the sender is heard, and those heard are no quorum yet
 abbrev pub keeps_promise : {V : Type 0} → Node V → List (List (Option (List (SlotReport V)))) → List Heard → Stepped V
 keeps_promise n pages heard = answers (record n { pages = pages; heard = heard }) []
 
@@ -130,7 +130,7 @@ hears n b first pages heard =
     then leads_with n b first pages heard
     else keeps_promise n pages heard
 
--- a page that was asked for, of a node not heard yet
+-- a page for the ballot in preparation, from a node that is not heard yet
 abbrev pub gathers : {V : Type 0} → Node V → ℕ → Ballot → ℕ → ℕ → List (List (Option (List (SlotReport V)))) → Stepped V
 gathers n p b first count pages =
     if all_had (pages_from pages p) count
@@ -159,6 +159,6 @@ is_at (Leading c next) b = is_same c b
 abbrev pub idles : {V : Type 0} → Node V → Stepped V
 idles n = answers (record n { role = Idle }) []
 
--- Nack(b, c): its ballot stands under a higher promise
+-- Nack(b, c): if the proposer is at ballot b and the promise c is higher, it gives b up
 abbrev pub on_nack : {V : Type 0} → Node V → Ballot → Ballot → Stepped V
 on_nack n b c = if is_at n.role b && is_under b c then idles n else unchanged n

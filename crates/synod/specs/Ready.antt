@@ -35,7 +35,7 @@ pub record CanCommit {V : Type 0} (c : Core V) (staged : StagedStep V) : Type 0 
   pub learner : CanUpdateLearner (learner_of c) staged.learner
   pub node : IsNode (staged_node c.node staged)
 
--- it is that step, staged by that node
+-- the staged step is this one, of this node
 abbrev pub IsReadyFor : {V : Type 0} → Core V → Stepped V → Made V → Type 0
 IsReadyFor core step made = (made.before ≡ core) × (made.step ≡ step)
 

@@ -12,11 +12,11 @@ pub record Kept (V : Type 0) : Type 0 where
   pub round : ℕ
   pub accepted : List (Option (Held V))
 
--- of a new node
+-- the kept part of a new node
 abbrev pub new_kept : {V : Type 0} → Kept V
 new_kept = record { promise = no_ballot; round = 0; accepted = [] }
 
--- an accepted entry has its ballot as promise
+-- the ballot of an accepted entry becomes the promise
 abbrev pub changed : {V : Type 0} → Kept V → Change V → Kept V
 changed kept (Round r) = record kept { round = r }
 changed kept (Promise b) = record kept { promise = b }

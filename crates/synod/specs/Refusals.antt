@@ -5,7 +5,7 @@ use Rattle.std.specs.Prelude.{◌≡◌, Result, Ok, Err, Vec}
 use Rattle.synod.specs.Words.{Global, Packet, Refusal, Memory}
 use Rattle.synod.specs.Node.{Node, Stepped}
 
--- the node took the step and returned its posts; or it returned the refusal, or Memory if there is none, and is unchanged
+-- the node takes the step and returns its posts; or it returns the refusal, or Memory if there is none, and is unchanged
 abbrev pub Makes : {V : Type 0} → Node V → Node V → Result (Stepped V) Refusal → Result (Vec (Packet V) Global) Refusal → Type 0
 Makes old new (Ok step) (Ok posts) = (new ≡ step.node) × (posts.items ≡ step.posts)
 Makes old new (Ok step) (Err refusal) = (refusal ≡ Memory) × (new ≡ old)

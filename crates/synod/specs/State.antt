@@ -1,4 +1,4 @@
--- What a node tells of itself.
+-- The state that a node reports.
 -- Source: Lamport, Paxos Made Simple, 2.2 and 2.4 (promises, and a distinguished proposer).
 -- The code stores the length of the log.
 use Rattle.std.specs.Prelude.{length}

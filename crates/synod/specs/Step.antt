@@ -24,7 +24,7 @@ on_body n p (Told s v) = on_told n p s v
 abbrev pub on_packet : {V : Type 0} → Node V → Packet V → Stepped V
 on_packet n p = on_body n p.from p.body
 
--- it starts again with a kept part, and asks for missed entries
+-- the node restarts with a kept part, and asks the others for missed entries
 abbrev pub reloaded : {V : Type 0} → Node V → Kept V → Stepped V
 reloaded n kept = record { node = rest_of n.me n.weights kept; change = None; posts = to_others n.me n.weights (Ask 0) }
 

@@ -1,4 +1,4 @@
--- The updates that a staged step makes of the proposer and of the learner.
+-- The updates that a staged step makes to the proposer and to the learner.
 -- Source: this project stages a step before it commits it.
 -- The code moves them into the node, and allocates nothing.
 use Rattle.std.specs.Prelude.{◌<◌, ◌≤◌, ◌++◌, ℕ, [], ◌∷◌, Option, Some, None, length, drop, slice_index_or}

@@ -8,7 +8,7 @@ use crate::record::Record;
 #[derive(Clone, Copy, PartialEq, Eq)]
 pub struct Failed;
 
-/// An acceptor's stable storage. A call whose allocation fails is a failed call.
+/// The stable storage of a node. A call whose allocation fails is a failed call.
 ///
 /// Source: Lamport, Paxos Made Simple, 2.5; it is written before an answer is sent.
 pub trait Keep<V: Drop>: Drop {

@@ -84,7 +84,7 @@ fn keep_page<'a, V>(
     }
 }
 
-/// Returns the report of the highest ballot at each slot from `first` to `top`, of all pages.
+/// Returns the report of the highest ballot in all pages for each slot from `first` to `top`.
 fn highest_reports<'a, V>(
     alloc: Global,
     first: u32,
@@ -160,7 +160,7 @@ fn add_pages<'a, V: Drop>(
     Ok(())
 }
 
-/// Returns the pages of all nodes heard, the first heard first.
+/// Returns the pages of all nodes heard, in the order in which they were heard.
 fn heard_pages<'a, V: Drop>(
     alloc: Global,
     pages: &'a PagesWith<'a, V>,
@@ -217,8 +217,8 @@ pub(crate) struct Lead<V> {
     pub taken: usize,
 }
 
-/// Returns the proposals of a new leader: reported values at the slots from `first` on, then waiting
-/// values while slots are left.
+/// Returns the proposals of a new leader: reported values at the slots from `first` on, with no-operations
+/// between them, then waiting values while slots are left.
 ///
 /// Cost: the reports, the slots from `first` to the greatest one reported, and the posts.
 pub(crate) fn lead_posts<V: Value>(

@@ -11,7 +11,7 @@ use slots::Slots;
 use std::alloc::{AllocError, Global};
 use std::marker::Model;
 
-/// The change that a step makes of a learner.
+/// The change that a step makes to the learner.
 #[derive(Drop)]
 pub enum LearnerUpdate<V> {
     /// A vote is counted.
@@ -20,14 +20,14 @@ pub enum LearnerUpdate<V> {
         ballot: Ballot,
         node: u8,
     },
-    /// A vote is counted that completes a quorum.
+    /// A vote that completes a quorum is counted.
     Choose {
         slot: u32,
         ballot: Ballot,
         node: u8,
         value: Option<V>,
     },
-    /// A chosen value is told.
+    /// A chosen value came in a Told.
     Learn {
         slot: u32,
         value: Option<V>,
@@ -63,7 +63,7 @@ impl<V: Drop> Learner<V> {
     ghost use Rattle.synod.specs.Learner.{has_voter, counted};
     ghost use Rattle.synod.specs.Updates.{learner_after, CanCount, CanUpdateLearner};
 
-    /// Creates a learner without votes and values. It does not allocate.
+    /// Creates a learner without votes or values. It does not allocate.
     pub(crate) fn new(alloc: Global) -> Self
         ensures tallies { result.state.tallies ≡ [] }
         ensures learned { result.state.learned ≡ [] }

@@ -25,7 +25,7 @@ use std::marker::Model;
 
 /// One node of the agreement, generic over the values.
 ///
-/// Source: Lamport, Paxos Made Simple, 2 and 3; each call's step is in `specs/Step.antt`.
+/// Source: Lamport, Paxos Made Simple, 2 and 3; the steps are in `specs/Step.antt` and `specs/Proposer.antt`.
 #[derive(Drop)]
 pub struct NodeCore<V> {
     alloc: Global,
@@ -85,6 +85,8 @@ impl<V: Value> NodeCore<V> {
     }
 
     /// Stages `begin`, or returns its refusal. The node is unchanged.
+    ///
+    /// Errors and cost: those of `begin`.
     pub fn ready_begin(&mut self) -> Result<Ready<V>, Refusal>
         ensures ready { Readies self.new (begun self.old.node) result }
         ensures node { self.new.node ≡ self.old.node }
@@ -103,6 +105,8 @@ impl<V: Value> NodeCore<V> {
     }
 
     /// Stages `offer`, or returns its refusal. The node is unchanged.
+    ///
+    /// Errors and cost: those of `offer`.
     pub fn ready_offer(&mut self, value: V) -> Result<Ready<V>, Refusal>
         ensures ready { Readies self.new (offered V.bytes self.old.node value) result }
         ensures node { self.new.node ≡ self.old.node }
@@ -141,6 +145,8 @@ impl<V: Value> NodeCore<V> {
     }
 
     /// Stages `on_packet`, or returns `Memory`. The node is unchanged.
+    ///
+    /// Cost: that of `on_packet`.
     pub fn ready_packet(&mut self, packet: &Packet<V>) -> Result<Ready<V>, Refusal>
         requires { IsPacket (length self.old.node.weights) packet.now }
         ensures ready { Readies self.new (Ok (on_packet self.old.node packet.now)) result }
@@ -201,6 +207,8 @@ impl<V: Value> NodeCore<V> {
     }
 
     /// Begins a ballot, and returns the posts. After an error the node is unchanged.
+    ///
+    /// Errors, the first that applies: `RoundsSpent`, `Memory`. Cost: the posts.
     pub fn begin(&mut self) -> Result<Vec<Packet<V>>, Refusal>
         ensures makes { Makes self.old.node self.new.node (begun self.old.node) result }
         ensures posts { IfOk result (λ posts. AllByRecursion (IsPost (length self.old.node.weights)) posts.items) }
@@ -233,7 +241,8 @@ impl<V: Value> NodeCore<V> {
 
     /// Offers a value, and returns the posts. After an error the node is unchanged.
     ///
-    /// Errors, the first that applies: `TooLong`, `LogFull`, `Busy`, `Memory`.
+    /// Errors, the first that applies: `TooLong`, `LogFull`, `Busy`, `Memory`. Cost: the posts, each with a copy of the
+    /// value.
     pub fn offer(&mut self, value: V) -> Result<Vec<Packet<V>>, Refusal>
         ensures makes { Makes self.old.node self.new.node (offered V.bytes self.old.node value) result }
         ensures posts { IfOk result (λ posts. AllByRecursion (IsPost (length self.old.node.weights)) posts.items) }
@@ -258,7 +267,7 @@ impl<V: Value> NodeCore<V> {
         }
     }
 
-    /// Returns entry `slot` of the log: the value learned there, if no gap is below.
+    /// Returns entry `slot` of the log: the value learned there, if there is no gap below it.
     pub fn entry(&self, slot: u32) -> Option<&Option<V>>
         ensures entry { MatchOption result (slice_get (log_of self.now.node) slot ≡ None) (λ entry. slice_get (log_of self.now.node) slot ≡ Some entry.now) }
         ensures below { IsSome result → slot < SLOTS }
@@ -272,7 +281,7 @@ impl<V: Value> NodeCore<V> {
 
     /// Returns the log: the learned entries of the slots from 0 to the first gap.
     ///
-    /// Cost: the log; each value is copied once.
+    /// Errors: an allocation fails. Cost: the log; each value is copied once.
     pub fn log(&self) -> Result<Vec<Option<V>>, AllocError>
         ensures { IfOk result (λ log. log.items ≡ log_of self.now.node) }
     {
@@ -287,7 +296,7 @@ impl<V: Value> NodeCore<V> {
         Ok(log)
     }
 
-    /// Stages a restart, or returns `Memory`: the posts ask the others for missed entries.
+    /// Returns the posts of a restart, which ask the others for missed entries, or `Memory`.
     pub fn ready_restart(&self) -> Result<Vec<Packet<V>>, Refusal>
         ensures asks { IfOk result (λ posts. posts.items ≡ to_others self.now.node.me self.now.node.weights (Ask 0)) }
         ensures posts { IfOk result (λ posts. AllByRecursion (IsPost (length self.now.node.weights)) posts.items) }
@@ -316,7 +325,8 @@ impl<V: Value> NodeCore<V> {
         self.commit_restart();
     }
 
-    /// Restarts: the kept part stays, the rest is that of a new node. The posts ask the others for missed entries.
+    /// Restarts: the kept part stays, the rest is that of a new node. Returns posts that ask the others for missed
+    /// entries. After `Memory` the node is unchanged.
     pub fn restart(&mut self) -> Result<Vec<Packet<V>>, Refusal>
         ensures makes { Makes self.old.node self.new.node (Ok (restarted self.old.node)) result }
         ensures posts { IfOk result (λ posts. AllByRecursion (IsPost (length self.old.node.weights)) posts.items) }
@@ -326,7 +336,7 @@ impl<V: Value> NodeCore<V> {
         Ok(posts)
     }
 
-    /// Restarts with a loaded record as the kept part.
+    /// Restarts as `restart` does, with a loaded record as the kept part. After `Memory` the node is unchanged.
     pub fn reload(&mut self, stored: Record<V>) -> Result<Vec<Packet<V>>, Refusal>
         ensures makes { Makes self.old.node self.new.node (Ok (reloaded self.old.node stored.kept)) result }
         ensures posts { IfOk result (λ posts. AllByRecursion (IsPost (length self.old.node.weights)) posts.items) }

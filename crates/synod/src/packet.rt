@@ -52,7 +52,7 @@ impl<V> Reports<V> {
         self.all
     }
 
-    /// Returns the reports, in order of slots.
+    /// Returns the reports.
     pub fn as_slice(&self) -> &[SlotReport<V>]
         ensures { result.now ≡ self.now }
     {
@@ -60,7 +60,9 @@ impl<V> Reports<V> {
     }
 }
 
-/// Returns a copy of the reports; each value is copied once.
+/// Returns a copy of the reports.
+///
+/// Cost: each value is copied once.
 pub(crate) fn copy_reports<V: Value>(
     alloc: Global,
     reports: &Reports<V>,
@@ -118,7 +120,7 @@ pub enum Body<V> {
     Ask {
         slot: u32,
     },
-    /// The value chosen at the slot.
+    /// The value chosen at a slot.
     Told {
         slot: u32,
         value: Option<V>,

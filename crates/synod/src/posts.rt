@@ -32,7 +32,7 @@ pub enum Broadcast<'a, V> {
 }
 
 impl<V> Broadcast<'_, V> {
-    /// Returns whether it is an Ask, which the sender does not get.
+    /// Returns whether the message is an Ask, which the sender does not get.
     fn is_ask(&self) -> bool
         ensures { result ≡ is_ask self.now }
     {

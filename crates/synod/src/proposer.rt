@@ -27,7 +27,7 @@ pub enum Role {
 impl Role {
     ghost use Rattle.synod.specs.Proposer.{is_at};
 
-    /// Returns whether it prepares or leads at `ballot`.
+    /// Returns whether the proposer prepares or leads at `ballot`.
     pub fn is_at(self, ballot: Ballot) -> bool
         ensures { result ≡ is_at self ballot }
     {
@@ -47,7 +47,7 @@ pub struct Heard {
     pub count: u32,
 }
 
-/// The change that a step makes of a proposer.
+/// The change that a step makes to the proposer.
 #[derive(Drop)]
 pub enum ProposerUpdate<V> {
     /// A value joins the waiting ones.
@@ -69,7 +69,7 @@ pub enum ProposerUpdate<V> {
         page: u32,
         reports: Reports<V>,
     },
-    /// A promise is complete, whose pages it had.
+    /// A promise is complete; its pages were all received before.
     Hear(Heard),
     /// The page that completes a promise came.
     CompletePromise {
@@ -150,7 +150,7 @@ impl<V: Drop> Proposer<V> {
         self.waiting.as_slice()
     }
 
-    /// Returns the nodes whose promises are complete, in the order in which they were.
+    /// Returns the nodes whose promises are complete, in the order of completion.
     pub(crate) fn heard(&self) -> &[Heard]
         ensures { result.now ≡ self.now.state.heard }
     {

@@ -9,7 +9,7 @@ use crate::packet::Packet;
 use crate::proposer::ProposerUpdate;
 use std::marker::{Model, PhantomData};
 
-/// The changes that a step makes of the three parts of a node.
+/// The changes that a step makes to the three parts of a node.
 #[derive(Drop)]
 pub struct StagedStep<V> {
     pub change: Option<Change<V>>,
@@ -42,7 +42,7 @@ impl<T> Past<T> {
     }
 }
 
-/// A step of a node, ready to be committed. Contracts see the step, and the node that staged it as it was then.
+/// A step of a node, ready to be committed. Contracts see the step, and the node as it was when it staged the step.
 #[derive(Drop)]
 pub struct Ready<V> {
     before: Past<NodeCore<V>>,
@@ -102,7 +102,7 @@ impl<V: Drop> Ready<V> {
         self.posts.as_slice()
     }
 
-    /// Returns the packets. It does not allocate.
+    /// Returns the packets that the step posts, in order. It does not allocate.
     pub fn into_posts(self) -> Vec<Packet<V>>
         ensures { result.items ≡ self.step.posts }
     {

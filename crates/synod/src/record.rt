@@ -9,7 +9,7 @@ use slots::Slots;
 use std::alloc::{AllocError, Global};
 use std::marker::Model;
 
-/// The promise, the round and the accepted entries.
+/// The kept part of a node: the promise, the round and the accepted entries.
 ///
 /// Source: Lamport, Paxos Made Simple, 2.5, on stable storage.
 #[derive(Drop)]
@@ -62,7 +62,7 @@ impl<V: Drop> Record<V> {
         self.round
     }
 
-    /// Returns the entry accepted at a slot.
+    /// Returns the entry accepted at a slot, if there is one.
     pub fn get(&self, slot: u32) -> Option<&Held<V>>
         ensures { MatchOption result (entry_at self.now.kept.accepted slot ≡ None) (λ held. entry_at self.now.kept.accepted slot ≡ Some held.now) }
     {
@@ -78,6 +78,8 @@ impl<V: Drop> Record<V> {
     }
 
     /// Reserves room for an entry at a slot. The kept part is unchanged.
+    ///
+    /// Errors: an allocation fails.
     pub fn room(&mut self, slot: u32) -> Result<(), AllocError>
         requires { slot < SLOTS }
         ensures ok { OnOk result (slot < self.new.room) }

@@ -14,6 +14,8 @@ pub trait Value: Sized + Drop {
     ghost bytes: { Self → ℕ };
 
     /// Returns a copy of the value.
+    ///
+    /// Errors: an allocation fails.
     fn copy(&self) -> Result<Self, AllocError>
         ensures { IfOk result (λ copy. copy ≡ self.now) };
 
@@ -23,6 +25,8 @@ pub trait Value: Sized + Drop {
 }
 
 /// Returns a copy of an entry; `None` is the no-operation.
+///
+/// Errors and cost: those of copying the value.
 pub fn copy_value<V: Value>(value: &Option<V>) -> Result<Option<V>, AllocError>
     ensures { IfOk result (λ copy. copy ≡ value.now) }
 {

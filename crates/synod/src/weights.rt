@@ -4,7 +4,7 @@ ghost use Rattle.synod.specs.Weights.{IsWeights, is_quorum};
 
 use std::marker::Model;
 
-/// The most nodes of a world.
+/// The greatest number of nodes.
 pub const MOST_NODES: usize = 9;
 
 /// The greatest weight of a node.
@@ -90,7 +90,7 @@ impl Weights {
         &self.places[..self.count]
     }
 
-    /// Returns whether the marked nodes are a quorum.
+    /// Returns whether the marked nodes are a quorum: whether they weigh more than half of all.
     pub fn is_quorum(&self, marks: &[bool]) -> bool
         requires { length self.now ≤ length marks.now }
         ensures { result ≡ is_quorum self.now (λ k. slice_index_or marks.now k false) }
@@ -106,7 +106,7 @@ impl Weights {
     }
 }
 
-/// Returns the weight of a marked node, or 0.
+/// Returns the weight if the node is marked, else 0.
 fn weight_of(weight: u8, mark: bool) -> u32
     ensures { result ≡ (if mark then weight else 0) }
 {

@@ -24,7 +24,7 @@ fn push_pair(
     push_at(text, second, y)
 }
 
-/// Appends the line of a node, down to the lower edge, and its name above.
+/// Appends the line of a node, down to `bottom`, and the name of the node above it.
 pub(crate) fn push_node(text: &mut Vec<u8>, node: u8, bottom: u64) -> Result<(), AllocError> {
     let x = column(node);
     push_pair(text, b"<path class=\"l\" d=\"M", x, b" ", EDGE)?;
@@ -88,7 +88,7 @@ pub(crate) fn push_stump_number(
     text.extend_from_slice(b"</text>\n")
 }
 
-/// Appends the break of a node's line.
+/// Appends a break of a node's line.
 pub(crate) fn push_break(text: &mut Vec<u8>, at: Place) -> Result<(), AllocError> {
     let (x, y) = (at.x(), at.y());
     push_pair(text, b"<path class=\"g\" d=\"M", x, b" ", y - 8)?;
@@ -103,7 +103,7 @@ pub(crate) fn push_break(text: &mut Vec<u8>, at: Place) -> Result<(), AllocError
     text.extend_from_slice(b"h14\"/>\n")
 }
 
-/// Appends a point of a class.
+/// Appends a point; `class` is an attribute of the element, or empty.
 pub(crate) fn push_dot(text: &mut Vec<u8>, at: Place, class: &[u8]) -> Result<(), AllocError> {
     text.extend_from_slice(b"<circle")?;
     text.extend_from_slice(class)?;
@@ -120,7 +120,7 @@ pub(crate) fn push_row(text: &mut Vec<u8>, at: Place, number: u64) -> Result<(),
     text.extend_from_slice(b"\">")
 }
 
-/// Appends text of a class to the text of a row.
+/// Appends words of a class to the text of a row.
 pub(crate) fn push_span(text: &mut Vec<u8>, class: &[u8], words: &[u8]) -> Result<(), AllocError> {
     text.extend_from_slice(b" <tspan class=\"")?;
     text.extend_from_slice(class)?;

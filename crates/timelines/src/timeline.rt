@@ -18,7 +18,11 @@ pub enum Sign {
     Bad,
 }
 
-/// A picture that is drawn row by row. Each label is text of XML, its markup escaped.
+/// A picture that is drawn row by row. Labels, notes and titles are text of XML, their markup escaped
+/// by the caller.
+///
+/// Errors of every call: an allocation fails; the picture is then not specified. Cost: the size of
+/// the label.
 #[derive(Drop)]
 pub struct Timeline {
     nodes: u8,
@@ -28,13 +32,13 @@ pub struct Timeline {
     lines: Vec<u8>,
     points: Vec<u8>,
     texts: Vec<u8>,
-    /// How many bytes the text of the row has, and the longest text.
+    /// How many characters the text of the last row shows, and the longest text before it.
     length: u32,
     longest: u32,
 }
 
 impl Timeline {
-    /// Returns a picture of so many nodes without a row. Does not allocate.
+    /// Returns a picture of `nodes` nodes without a row. Does not allocate.
     pub fn new(alloc: Global, nodes: u8) -> Timeline {
         Timeline {
             nodes,
@@ -47,9 +51,7 @@ impl Timeline {
         }
     }
 
-    /// Begins the next row: a point at a node, the number of the row, and a label.
-    ///
-    /// Errors: an allocation fails.
+    /// Begins the next row: a point at a node, a number at the left, and a label.
     pub fn push_row(
         &mut self,
         node: u8,
@@ -70,12 +72,12 @@ impl Timeline {
         Ok(())
     }
 
-    /// Breaks the line of a node.
+    /// Breaks the line of a node at a place.
     pub fn push_break(&mut self, at: Place) -> Result<(), AllocError> {
         push_break(&mut self.lines, at)
     }
 
-    /// Draws an arrow that ends in the row that was begun last, and appends its label to that row.
+    /// Draws an arrow, and appends its label to the row that was begun last.
     pub fn push_arrow(&mut self, from: Place, to: Place, label: &[u8]) -> Result<(), AllocError> {
         push_arrow(&mut self.lines, from, to)?;
         self.push_words(b"p", label)
@@ -98,7 +100,7 @@ impl Timeline {
         self.push_words(b"k", note)
     }
 
-    /// Appends words of a class to the label of the row.
+    /// Appends words of a class to the text of the last row.
     fn push_words(&mut self, class: &[u8], words: &[u8]) -> Result<(), AllocError> {
         push_span(&mut self.texts, class, words)?;
         self.length = self.length.saturating_add(1).saturating_add(count(words));
@@ -114,9 +116,7 @@ impl Timeline {
         Ok(())
     }
 
-    /// Returns the picture.
-    ///
-    /// Errors: an allocation fails. Cost: the size of the picture.
+    /// Returns the picture as SVG. Cost: its size.
     pub fn into_svg(mut self, alloc: Global) -> Result<Vec<u8>, AllocError> {
         self.end_row()?;
         let bottom = below(self.rows);
@@ -135,7 +135,7 @@ impl Timeline {
     }
 }
 
-/// Returns the attribute that gives a point its look.
+/// Returns the attribute for the look of a point.
 fn class_of(sign: Sign) -> &'static [u8] {
     match sign {
         Sign::Plain => b"",
@@ -144,7 +144,7 @@ fn class_of(sign: Sign) -> &'static [u8] {
     }
 }
 
-/// Returns how many characters a label shows; a reference is one.
+/// Returns how many characters a label shows; a character reference is one.
 fn count(label: &[u8]) -> u32 {
     let mut shown = 0u32;
     let mut is_reference = false;

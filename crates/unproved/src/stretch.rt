@@ -30,13 +30,13 @@ impl<'a> Work for Stretch<'a> {
     ghost use Rattle.std.specs.Prelude.{◌-◌};
     ghost use Rattle.scope.specs.Active.{bares};
     ghost use Rattle.unproved.specs.Stretches.{IsRightIn};
-    ghost use Rattle.verify.specs.KeptLists.{AreKeptLists};
+    ghost use Rattle.verify.specs.KeptLists.{AreKeptFor};
 
     ghost count = { λ stretch. stretch.end - stretch.front };
 
     ghost right = { IsRightIn };
 
-    ghost fits = { λ stretch. AreKeptLists (bares stretch.statements) stretch.names };
+    ghost fits = { λ stretch. AreKeptFor (bares stretch.statements) stretch.names };
 
     fn count(&self) -> usize {
         self.end - self.front

@@ -1,5 +1,5 @@
 -- The lists that a proof keeps say what the assertions' own do.
-use Rattle.verify.proofs.Words.{◌≡◌, ℕ, zero, suc, ◌+◌, ◌<◌, ◌≤◌, Bool, true, false, ◌&&◌, ◌||◌, ◌==◌, List, [], ◌∷◌, ◌++◌, length, length-append, map, take, take_all, take_more, map-append, Hypothesis, get_or, slice_get, Some, refl, sym, ap, subst, ◌∙◌, arith, and_from, list_all, list_any, same_Some, get_or_from_slice_get, slice_get_within, inl, inr, Name, Stmt, Database, stmt_at, before, expr_of, name_at, decode, name_eq, name_same, mandatory_groups, Images, image, AllBelow, AreBelow, IsViewOf, are_disjoint, is_group_disjoint, are_groups_disjoint, list_all-append, list_all-map, list_all_more, list_any_at, and_parts, eqb-true, or_cases, slice_range, cut-more, cut-push, extends-refl, range-behind, spans-push, told, AreSpansIn, cut, BufferPart, AssertionView, has_both, is_paired, are_covered, SaySame, IsCitedBy, Lists, AreMadeOf, AreListsOf, AreKeptLists, IsAt}
+use Rattle.verify.proofs.Words.{◌≡◌, ℕ, zero, suc, ◌+◌, ◌<◌, ◌≤◌, Bool, true, false, ◌&&◌, ◌||◌, ◌==◌, List, [], ◌∷◌, ◌++◌, length, length-append, map, take, take_all, take_more, map-append, Hypothesis, get_or, slice_get, Some, refl, sym, ap, subst, ◌∙◌, arith, and_from, list_all, list_any, same_Some, get_or_from_slice_get, slice_get_within, inl, inr, Name, Stmt, Database, stmt_at, before, expr_of, name_at, decode, name_eq, name_same, mandatory_groups, Images, image, AllBelow, AreBelow, IsViewOf, are_disjoint, is_group_disjoint, are_groups_disjoint, list_all-append, list_all-map, list_all_more, list_any_at, and_parts, eqb-true, or_cases, slice_range, cut-more, cut-push, extends-refl, range-behind, spans-push, told, AreSpansIn, cut, BufferPart, AssertionView, has_both, is_paired, are_covered, SaySame, IsCitedBy, Lists, AreMadeOf, AreListsOf, AreKeptLists, AreKeptFor, Kept, AreFacts, IsAt}
 
 -- ---- the pairs of lists
 
@@ -135,12 +135,22 @@ both-at gs i x y g here a b =
 
 -- ---- what is kept
 
-pub kept_none : (S : Database) (names : List Name) (ls : List Lists) → ls ≡ [] → AreKeptLists S names ls
-kept_none S names ls none = subst (AreKeptLists S names) (sym none) tt
+pub kept_none : (S : Database) (names : List Name) (kept : Kept) → kept.lists ≡ [] → kept.facts ≡ [] → AreKeptFor S names kept
+kept_none S names kept no_lists no_facts = record {
+  are_lists = subst (AreKeptLists S names) (sym no_lists) tt;
+  are_facts = subst (AreFacts (record { statements = S; names = names })) (sym no_facts) tt;
+}
 
 pub kept-push : (S : Database) (names : List Name) (ls : List Lists) (l : Lists) → AreKeptLists S names ls → ((s : Stmt) → stmt_at S l.position ≡ Some s → AreListsOf S names l s) → AreKeptLists S names (ls ++ l ∷ [])
 kept-push S names [] l h k = (k, tt)
 kept-push S names (m ∷ ls) l h k = (h.0, kept-push S names ls l h.1 k)
+
+-- the lists of one more assertion
+pub kept-more : (S : Database) (names : List Name) (old new : Kept) (l : Lists) → AreKeptFor S names old → ((s : Stmt) → stmt_at S l.position ≡ Some s → AreListsOf S names l s) → new.lists ≡ old.lists ++ l ∷ [] → new.facts ≡ old.facts → AreKeptFor S names new
+kept-more S names old new l h k lists facts = record {
+  are_lists = subst (AreKeptLists S names) (sym lists) (kept-push S names old.lists l h.are_lists k);
+  are_facts = subst (AreFacts (record { statements = S; names = names })) (sym facts) h.are_facts;
+}
 
 pub kept-at : (S : Database) (names : List Name) (ls : List Lists) (i : ℕ) (l : Lists) → AreKeptLists S names ls → slice_get ls i ≡ Some l → (s : Stmt) → stmt_at S l.position ≡ Some s → AreListsOf S names l s
 kept-at S names [] i l h e = absurd (cc)
@@ -161,10 +171,10 @@ at-end ls l position same = record {
     last [] = refl
     last (k ∷ ks) = last ks
 
-pub made-of : (S : Database) (names : List Name) (a : ℕ) (s : Stmt) (c : AssertionView) (l : Lists) → IsViewOf S names a s c → AreMadeOf a c l → AreListsOf S names l s
+pub made-of : (S : Database) (names : List Name) (a : ℕ) (s : Stmt) (c : AssertionView) (l : Lists) → IsCitedBy S names a s c → AreMadeOf a c l → AreListsOf S names l s
 made-of S names a s c l is made = record {
   asked_of = rw (made.at, made.heads_same, made.asked_same) is.required;
-  disjoint = λ D σ. made.same names D σ ∙ (ap (are_groups_disjoint D σ) is.groups ∙ ap (λ (b : ℕ). are_groups_disjoint D σ (mandatory_groups (before S b) s)) (sym made.at));
+  disjoint = λ D σ. made.same names D σ ∙ (is.groups D σ ∙ ap (λ (b : ℕ). are_groups_disjoint D σ (mandatory_groups (before S b) s)) (sym made.at));
   below_names = made.below (length names) is.groups_below;
 }
 

@@ -8,6 +8,7 @@ pub mod RequiredHypotheses
 pub mod ImageLemmas
 pub mod CitingLemmas
 pub mod KeptListsLemmas
+pub mod CitedPairLemmas
 pub mod CitationLemmas
 pub mod ReadImageLemmas
 pub mod Named

@@ -1,14 +1,10 @@
--- The lists by which an assertion is cited again and again.
+-- The lists by which an assertion is cited again and again, and what else a checker keeps from proof to proof.
 -- Metamath, 4.2.6: the images of each two variables that are mandatory disjoint have to be disjoint.
 -- The code keeps fewer lists of disjoint variables than the frame has; they have the same pairs.
-use Rattle.std.specs.Prelude.{◌≡◌, ℕ, ◌<◌, ◌==◌, Bool, ◌&&◌, ◌||◌, List, [], ◌∷◌, length, map, slice_get, Some}
-use Rattle.verify.specs.Words.{list_all, list_any, AssertionView, AllBelow, AreBelow, AreRequired, are_groups_disjoint, mandatory_groups, decode, Name, Stmt, Database, Images, before, expr_of, hypotheses, stmt_at, Hypothesis}
+use Rattle.std.specs.Prelude.{◌≡◌, ℕ, ◌<◌, ◌==◌, Bool, ◌||◌, List, [], ◌∷◌, length, map, slice_get, Some}
+use Rattle.verify.specs.Words.{list_all, list_any, has_both, AssertionView, AllBelow, AreBelow, AreRequired, AreFacts, PairFact, are_groups_disjoint, mandatory_groups, decode, Name, Stmt, Database, Images, before, expr_of, hypotheses, stmt_at, Hypothesis}
 
 -- ---- the pairs of lists
-
--- both numbers stand in the list
-abbrev pub has_both : ℕ → ℕ → List ℕ → Bool
-has_both x y g = list_any (λ c. c == x) g && list_any (λ c. c == y) g
 
 -- the two are one, or stand together in one of the lists
 abbrev pub is_paired : List (List ℕ) → ℕ → ℕ → Bool
@@ -63,3 +59,13 @@ AreKeptLists S names (l ∷ ls) = ((s : Stmt) → stmt_at S l.position ≡ Some 
 pub record IsAt (ls : List Lists) (i position : ℕ) : Type 0 where
   pub within : i < length ls
   pub there : (l : Lists) → slice_get ls i ≡ Some l → l.position ≡ position
+
+-- what a checker keeps from proof to proof: lists of assertions, and which pairs of variables were found to be disjoint or not
+pub record Kept : Type 0 where
+  pub lists : List Lists
+  pub facts : List PairFact
+
+-- all of it is so under the frames of these statements
+pub record AreKeptFor (S : Database) (names : List Name) (kept : Kept) : Type 0 where
+  pub are_lists : AreKeptLists S names kept.lists
+  pub are_facts : AreFacts (record { statements = S; names = names }) kept.facts

@@ -2,14 +2,16 @@
 pub use Rattle.entries.specs.declared.assertion_view.AssertionView.{AssertionView}
 pub use Rattle.entries.specs.declared.assertion_view.Hypothesis.{Hypothesis}
 pub use Rattle.entries.specs.declared.assertion_view.Hypothesis.TheVariants.{Essential, Float}
-pub use Rattle.frame.specs.AssertionView.{AreRequired, typecode_of}
+pub use Rattle.frame.specs.AssertionView.{AreRequired, has_both, typecode_of}
 pub use Rattle.frame.specs.AtPosition.{AreLegal, IsSingle}
 pub use Rattle.frame.specs.Below.{AllBelow, AreBelow}
 pub use Rattle.frame.specs.Citations.{Carries, IsHypothesis, IsInstance, expr_at, premises}
 pub use Rattle.frame.specs.Disjoint.{are_groups_disjoint}
 pub use Rattle.frame.specs.FrameOf.{HasAssertion, hypotheses, mandatory_groups}
+pub use Rattle.frame.specs.PairFacts.{AreFacts}
 pub use Rattle.frame.specs.Parts.{Numbered}
 pub use Rattle.frame.specs.Substitution.{CodeImages, Images, apply as applied, code_image}
+pub use Rattle.frame.specs.declared.pair_facts.PairFact.{PairFact}
 pub use Rattle.mm_lex.specs.Alphabet.{Name}
 pub use Rattle.mm_read.specs.Statements.{Database, Expr}
 pub use Rattle.mm_read.specs.declared.stmt.Stmt.{Stmt}

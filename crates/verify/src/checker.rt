@@ -7,7 +7,7 @@ ghost use Rattle.mm_read.specs.declared.stmt.Stmt.{Stmt as Statement};
 ghost use Rattle.proof_code.specs.ItemNumbers.{items_of};
 ghost use Rattle.proof_code.specs.Writes.{is_compressed};
 ghost use Rattle.scope.specs.Active.{before};
-ghost use Rattle.verify.specs.KeptLists.{AreKeptLists};
+ghost use Rattle.verify.specs.KeptLists.{AreKeptFor};
 ghost use Rattle.verify.specs.LabelTable.{AreEntries, viewed};
 ghost use Rattle.verify.specs.Proves.{Proves};
 ghost use Rattle.verify.specs.Right.{IsProvable, IsRight, Says};
@@ -28,7 +28,8 @@ use subst::Remaining;
 /// A checker keeps the memory that proofs up to this size needed: 1 MB for as many symbols.
 const KEPT_SIZE: usize = 262_144;
 
-/// A verifier that keeps its buffers from proof to proof. Contracts see the lists of assertions that it keeps.
+/// A verifier that keeps its buffers from proof to proof. Contracts see the lists of assertions that it keeps, and which pairs
+/// of variables it found to be disjoint or not.
 #[derive(Drop)]
 pub struct Checker {
     alloc: Global,
@@ -42,18 +43,18 @@ pub struct Checker {
 }
 
 impl Model for Checker {
-    ghost use Rattle.std.specs.Prelude.{List};
-    ghost use Rattle.verify.specs.KeptLists.{Lists};
+    ghost use Rattle.verify.specs.KeptLists.{Kept};
 
-    ghost Value = { List Lists };
+    ghost Value = { Kept };
 
-    ghost view = { λ a. a.buffers.kept.lists.items };
+    ghost view = { λ a. a.buffers.kept };
 }
 
 impl Checker {
     /// Returns a verifier with empty buffers. Does not allocate.
     pub fn new(alloc: Global) -> Checker
-        ensures { result ≡ [] }
+        ensures lists { result.lists ≡ [] }
+        ensures facts { result.facts ≡ [] }
     {
         Checker {
             alloc,
@@ -70,12 +71,13 @@ impl Checker {
         }
     }
 
-    /// Removes the lists that are kept, which are those of assertions under the frames of earlier proofs. So proofs under
-    /// any frames may follow.
+    /// Removes the lists that are kept, which are those of assertions under the frames of earlier proofs, and the facts on
+    /// pairs of variables. So proofs under any frames may follow.
     ///
-    /// Does not allocate. Cost: the lists.
+    /// Does not allocate. Cost: the lists and facts.
     pub fn begin(&mut self)
-        ensures { self.new ≡ [] }
+        ensures lists { self.new.lists ≡ [] }
+        ensures facts { self.new.facts ≡ [] }
     {
         self.buffers.kept.begin();
     }
@@ -114,11 +116,11 @@ impl Checker {
     /// Errors: an allocation fails, or the results would pass the limit of `limit`.
     /// Cost: each label is looked up once; a recall and a mark are one step, a citation costs the lengths of the result
     /// that it leaves and of those that it compares with a `$e`, that of the disjoint variable condition, and if its
-    /// lists are long that of `Frames::fill_buffers`. Source: Metamath, 4.2.6 and appendix B.
+    /// lists are long that of `Frames::fill_lists`. Source: Metamath, 4.2.6 and appendix B.
     pub fn check(&mut self, frames: &Frames, at: usize, items: &Items) -> Result<Answer, AllocError>
         requires provable { (s : Statement) × IsProvable frames.now.statements at s }
-        requires kept { AreKeptLists frames.now.statements frames.now.names self.old }
-        ensures kept { AreKeptLists frames.now.statements frames.now.names self.new }
+        requires kept { AreKeptFor frames.now.statements frames.now.names self.old }
+        ensures kept { AreKeptFor frames.now.statements frames.now.names self.new }
         ensures answer { IfOk result (λ answer. Says answer (IsRight frames.now.statements at items.now)) }
     {
         let parts = items.parts();
@@ -139,8 +141,8 @@ impl Checker {
         tokens: &Words,
     ) -> Result<Answer, AllocError>
         requires provable { (s : Statement) × IsProvable frames.now.statements at s }
-        requires kept { AreKeptLists frames.now.statements frames.now.names self.old }
-        ensures kept { AreKeptLists frames.now.statements frames.now.names self.new }
+        requires kept { AreKeptFor frames.now.statements frames.now.names self.old }
+        ensures kept { AreKeptFor frames.now.statements frames.now.names self.new }
         ensures answer { IfOk result (λ answer. Says answer (Proves frames.now.statements at tokens.now)) }
     {
         self.record_size(tokens.as_text().len());
@@ -179,8 +181,8 @@ impl Checker {
     ) -> Result<Answer, AllocError>
         requires provable { (s : Statement) × IsProvable frames.now.statements at s }
         requires normal { is_compressed tokens.now ≡ false }
-        requires kept { AreKeptLists frames.now.statements frames.now.names self.old }
-        ensures kept { AreKeptLists frames.now.statements frames.now.names self.new }
+        requires kept { AreKeptFor frames.now.statements frames.now.names self.old }
+        ensures kept { AreKeptFor frames.now.statements frames.now.names self.new }
         ensures answer { IfOk result (λ answer. Says answer (Proves frames.now.statements at tokens.now)) }
     {
         match normal(self.alloc, tokens) {
@@ -206,8 +208,8 @@ impl Checker {
         requires provable { (s : Statement) × IsProvable frames.now.statements at s }
         requires compressed { IsTrue (is_compressed tokens.now) }
         requires view { (s : Statement) → IsProvable frames.now.statements at s → view.now ≡ hypotheses (before frames.now.statements at) s }
-        requires kept { AreKeptLists frames.now.statements frames.now.names self.old }
-        ensures kept { AreKeptLists frames.now.statements frames.now.names self.new }
+        requires kept { AreKeptFor frames.now.statements frames.now.names self.old }
+        ensures kept { AreKeptFor frames.now.statements frames.now.names self.new }
         ensures answer { IfOk result (λ answer. Says answer (Proves frames.now.statements at tokens.now)) }
     {
         let Some(heading) = self.reader.read(tokens, view.len())? else {
@@ -255,8 +257,8 @@ fn run_listed(
 ) -> Result<Answer, AllocError>
     requires provable { (s : Statement) × IsProvable frames.now.statements at s }
     requires entries { (labels : List Name) × AreEntries frames.now.statements at labels table.now }
-    requires kept { AreKeptLists frames.now.statements frames.now.names buffers.old.kept.lists.items }
-    ensures kept { AreKeptLists frames.now.statements frames.now.names buffers.new.kept.lists.items }
+    requires kept { AreKeptFor frames.now.statements frames.now.names buffers.old.kept }
+    ensures kept { AreKeptFor frames.now.statements frames.now.names buffers.new.kept }
     ensures answer { (labels : List Name) → AreEntries frames.now.statements at labels table.now
         → IfOk result (λ answer. Says answer (IsRight frames.now.statements at (items_of labels numbers.now))) }
 {
@@ -278,8 +280,8 @@ fn run(
 ) -> Result<Answer, AllocError>
     requires provable { (s : Statement) × IsProvable frames.now.statements at s }
     requires entries { (labels : List Name) × AreEntries frames.now.statements at labels (viewed (option_map (λ v. v.now) view) ++ table.now) }
-    requires kept { AreKeptLists frames.now.statements frames.now.names buffers.old.kept.lists.items }
-    ensures kept { AreKeptLists frames.now.statements frames.now.names buffers.new.kept.lists.items }
+    requires kept { AreKeptFor frames.now.statements frames.now.names buffers.old.kept }
+    ensures kept { AreKeptFor frames.now.statements frames.now.names buffers.new.kept }
     ensures answer { (labels : List Name) → AreEntries frames.now.statements at labels (viewed (option_map (λ v. v.now) view.entry) ++ table.now)
         → IfOk result (λ answer. Says answer (IsRight frames.now.statements at (items_of labels numbers.now))) }
 {

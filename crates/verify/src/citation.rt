@@ -1,13 +1,14 @@
 //! One item of a proof.
 
 ghost use Rattle.std.specs.Prelude.{◌≡◌, ◌++◌, List, Some, IfOk, map, option_map};
+ghost use Rattle.frame.specs.AtPosition.{AreLegal};
 ghost use Rattle.frame.specs.FrameOf.{HasAssertion};
 ghost use Rattle.mm_lex.specs.Alphabet.{Name};
 ghost use Rattle.mm_read.specs.declared.stmt.Stmt.{Stmt as Statement};
 ghost use Rattle.proof_code.specs.ItemNumbers.{item_of};
 ghost use Rattle.scope.specs.Active.{stmt_at};
 ghost use Rattle.verify.specs.StepsByNumber.{AreKnown, AreNamed, StepsWithTable, HasCited, IsReady, MayCite};
-ghost use Rattle.verify.specs.KeptLists.{AreKeptLists, IsAt, IsCitedBy};
+ghost use Rattle.verify.specs.KeptLists.{AreKeptFor, IsAt, IsCitedBy};
 ghost use Rattle.verify.specs.LabelTable.{AreEntries, IsEntry, viewed};
 ghost use Rattle.verify.specs.ResultPlaces.{Stays};
 ghost use Rattle.verify.specs.declared.label_table.LabelEntry.TheVariants.{Hypothesis};
@@ -28,8 +29,8 @@ pub struct Claim<'a> {
     pub pairs: Pairs<'a>,
 }
 
-/// The buffers of a run over the items of a proof, one for the long lists of an assertion that is cited, and such lists that
-/// are kept.
+/// The buffers of a run over the items of a proof, one for the long lists of an assertion that is cited, and what is kept of
+/// such lists.
 #[derive(Drop)]
 pub struct Buffers {
     pub frame_buffers: FrameBuffers,
@@ -73,19 +74,21 @@ fn cite_parts(
 }
 
 /// Cites an assertion whose lists are long, and are written out for this citation.
+///
+/// Errors: an allocation fails. Cost: that of the citation and of `Frames::fill_lists`.
 #[cold]
 #[inline(never)]
 fn cite_anew(claim: &Claim<'_>, position: usize, buffers: &mut Buffers) -> Result<bool, AllocError>
-    requires { MayCite claim.now position buffers.old.results.about buffers.old.results.results }
+    requires may { MayCite claim.now position buffers.old.results.about buffers.old.results.results }
+    requires kept { AreKeptFor claim.now.frames.now.statements claim.now.frames.now.names buffers.old.kept }
     ensures goes { IfOk result (HasCited claim.now.frames.now.statements claim.now.at claim.now.frames.now.names (LabelEntry.Assertion position) buffers.old.results.results buffers.new.results.results) }
     ensures stays { IfOk result (λ ok. Stays ok buffers.old.results.results buffers.new.results.results) }
     ensures about { buffers.new.results.about ≡ claim.now.pairs }
-    ensures kept { buffers.new.kept ≡ buffers.old.kept }
+    ensures kept { AreKeptFor claim.now.frames.now.statements claim.now.frames.now.names buffers.new.kept }
 {
-    claim
-        .frames
-        .fill_buffers(position, &mut buffers.frame_buffers)?;
-    let cited = claim.frames.cited_from(position, &buffers.frame_buffers);
+    let frame_buffers = &mut buffers.frame_buffers;
+    buffers.kept.fill(claim.frames, position, frame_buffers)?;
+    let cited = claim.frames.cited_by(position, &buffers.frame_buffers);
     let remaining = &mut buffers.remaining;
     let results = &mut buffers.results;
     cite_parts(claim, position, &cited, remaining, results)
@@ -93,17 +96,17 @@ fn cite_anew(claim: &Claim<'_>, position: usize, buffers: &mut Buffers) -> Resul
 
 /// Cites an assertion whose lists are long and are to be kept.
 ///
-/// Errors: an allocation fails. Cost: that of the citation; if the lists are not kept yet, also that of `Frames::fill_buffers`
+/// Errors: an allocation fails. Cost: that of the citation; if the lists are not kept yet, also that of `Frames::fill_lists`
 /// and `KeptLists::keep`.
 #[cold]
 #[inline(never)]
 fn cite_kept(claim: &Claim<'_>, position: usize, buffers: &mut Buffers) -> Result<bool, AllocError>
     requires may { MayCite claim.now position buffers.old.results.about buffers.old.results.results }
-    requires kept { AreKeptLists claim.now.frames.now.statements claim.now.frames.now.names buffers.old.kept.lists.items }
+    requires kept { AreKeptFor claim.now.frames.now.statements claim.now.frames.now.names buffers.old.kept }
     ensures goes { IfOk result (HasCited claim.now.frames.now.statements claim.now.at claim.now.frames.now.names (LabelEntry.Assertion position) buffers.old.results.results buffers.new.results.results) }
     ensures stays { IfOk result (λ ok. Stays ok buffers.old.results.results buffers.new.results.results) }
     ensures about { buffers.new.results.about ≡ claim.now.pairs }
-    ensures kept { AreKeptLists claim.now.frames.now.statements claim.now.frames.now.names buffers.new.kept.lists.items }
+    ensures kept { AreKeptFor claim.now.frames.now.statements claim.now.frames.now.names buffers.new.kept }
 {
     let index = kept_index(
         claim,
@@ -120,7 +123,7 @@ fn cite_kept(claim: &Claim<'_>, position: usize, buffers: &mut Buffers) -> Resul
 
 /// Returns the index of the lists of an assertion, which are kept from its first citation here on.
 ///
-/// Errors: an allocation fails. Cost: that of `KeptLists::find`; if the lists are not kept yet, of `Frames::fill_buffers` and
+/// Errors: an allocation fails. Cost: that of `KeptLists::find`; if the lists are not kept yet, of `Frames::fill_lists` and
 /// `KeptLists::keep`.
 fn kept_index(
     claim: &Claim<'_>,
@@ -129,15 +132,16 @@ fn kept_index(
     kept: &mut KeptLists,
 ) -> Result<usize, AllocError>
     requires assertion { (s : Statement) × HasAssertion claim.now.frames.now.statements position s }
-    requires kept { AreKeptLists claim.now.frames.now.statements claim.now.frames.now.names kept.old.lists.items }
-    ensures kept { AreKeptLists claim.now.frames.now.statements claim.now.frames.now.names kept.new.lists.items }
-    ensures index { IfOk result (λ i. IsAt kept.new.lists.items i position) }
+    requires legal { AreLegal claim.now.frames.now.statements claim.now.frames.now.names }
+    requires kept { AreKeptFor claim.now.frames.now.statements claim.now.frames.now.names kept.old }
+    ensures kept { AreKeptFor claim.now.frames.now.statements claim.now.frames.now.names kept.new }
+    ensures index { IfOk result (λ i. IsAt kept.new.lists i position) }
 {
     if let Some(index) = kept.find(position) {
         return Ok(index);
     }
-    claim.frames.fill_buffers(position, frame_buffers)?;
-    let cited = claim.frames.cited_from(position, frame_buffers);
+    kept.fill(claim.frames, position, frame_buffers)?;
+    let cited = claim.frames.cited_by(position, frame_buffers);
     kept.keep(position, &cited)
 }
 
@@ -148,11 +152,11 @@ fn kept_index(
 #[inline(never)]
 fn cite_long(claim: &Claim<'_>, position: usize, buffers: &mut Buffers) -> Result<bool, AllocError>
     requires may { MayCite claim.now position buffers.old.results.about buffers.old.results.results }
-    requires kept { AreKeptLists claim.now.frames.now.statements claim.now.frames.now.names buffers.old.kept.lists.items }
+    requires kept { AreKeptFor claim.now.frames.now.statements claim.now.frames.now.names buffers.old.kept }
     ensures goes { IfOk result (HasCited claim.now.frames.now.statements claim.now.at claim.now.frames.now.names (LabelEntry.Assertion position) buffers.old.results.results buffers.new.results.results) }
     ensures stays { IfOk result (λ ok. Stays ok buffers.old.results.results buffers.new.results.results) }
     ensures about { buffers.new.results.about ≡ claim.now.pairs }
-    ensures kept { AreKeptLists claim.now.frames.now.statements claim.now.frames.now.names buffers.new.kept.lists.items }
+    ensures kept { AreKeptFor claim.now.frames.now.statements claim.now.frames.now.names buffers.new.kept }
 {
     if buffers.kept.is_due(position) {
         cite_kept(claim, position, buffers)
@@ -165,11 +169,11 @@ fn cite_long(claim: &Claim<'_>, position: usize, buffers: &mut Buffers) -> Resul
 #[inline(never)]
 fn cite(claim: &Claim<'_>, position: usize, buffers: &mut Buffers) -> Result<bool, AllocError>
     requires may { MayCite claim.now position buffers.old.results.about buffers.old.results.results }
-    requires kept { AreKeptLists claim.now.frames.now.statements claim.now.frames.now.names buffers.old.kept.lists.items }
+    requires kept { AreKeptFor claim.now.frames.now.statements claim.now.frames.now.names buffers.old.kept }
     ensures goes { IfOk result (HasCited claim.now.frames.now.statements claim.now.at claim.now.frames.now.names (LabelEntry.Assertion position) buffers.old.results.results buffers.new.results.results) }
     ensures stays { IfOk result (λ ok. Stays ok buffers.old.results.results buffers.new.results.results) }
     ensures about { buffers.new.results.about ≡ claim.now.pairs }
-    ensures kept { AreKeptLists claim.now.frames.now.statements claim.now.frames.now.names buffers.new.kept.lists.items }
+    ensures kept { AreKeptFor claim.now.frames.now.statements claim.now.frames.now.names buffers.new.kept }
 {
     let Some(cited) = claim.frames.cited(position) else {
         return cite_long(claim, position, buffers);
@@ -189,11 +193,11 @@ fn cite_entry(
     requires ready { IsReady claim.now buffers.old.results.about }
     requires named { AreNamed claim.now.frames.now.names buffers.old.results.results }
     requires entry { (label : Name) × IsEntry claim.now.frames.now.statements claim.now.at label entry }
-    requires kept { AreKeptLists claim.now.frames.now.statements claim.now.frames.now.names buffers.old.kept.lists.items }
+    requires kept { AreKeptFor claim.now.frames.now.statements claim.now.frames.now.names buffers.old.kept }
     ensures about { buffers.new.results.about ≡ claim.now.pairs }
     ensures goes { IfOk result (HasCited claim.now.frames.now.statements claim.now.at claim.now.frames.now.names entry buffers.old.results.results buffers.new.results.results) }
     ensures stays { IfOk result (λ ok. Stays ok buffers.old.results.results buffers.new.results.results) }
-    ensures kept { AreKeptLists claim.now.frames.now.statements claim.now.frames.now.names buffers.new.kept.lists.items }
+    ensures kept { AreKeptFor claim.now.frames.now.statements claim.now.frames.now.names buffers.new.kept }
 {
     match entry {
         LabelEntry::Hypothesis(i) => buffers.results.add(&claim.pairs, claim.frames.expr(i)),
@@ -215,12 +219,12 @@ pub fn step(
     requires ready { IsReady claim.now buffers.old.results.about }
     requires known { AreKnown claim.now.frames.now.statements claim.now.at claim.now.frames.now.names table.now buffers.old.results.results }
     requires entries { (labels : List Name) × AreEntries claim.now.frames.now.statements claim.now.at labels table.now }
-    requires kept { AreKeptLists claim.now.frames.now.statements claim.now.frames.now.names buffers.old.kept.lists.items }
+    requires kept { AreKeptFor claim.now.frames.now.statements claim.now.frames.now.names buffers.old.kept }
     ensures about { buffers.new.results.about ≡ claim.now.pairs }
     ensures goes { (labels : List Name) → AreEntries claim.now.frames.now.statements claim.now.at labels table.now
         → IfOk result (λ ok. StepsWithTable ok claim.now.frames.now.statements claim.now.at claim.now.frames.now.names table.now (item_of labels number) buffers.old.results.results buffers.new.results.results) }
     ensures stays { IfOk result (λ ok. Stays ok buffers.old.results.results buffers.new.results.results) }
-    ensures kept { AreKeptLists claim.now.frames.now.statements claim.now.frames.now.names buffers.new.kept.lists.items }
+    ensures kept { AreKeptFor claim.now.frames.now.statements claim.now.frames.now.names buffers.new.kept }
 {
     if number == 0 {
         return buffers.results.mark();
@@ -251,12 +255,12 @@ pub fn step_at(
     requires ready { IsReady claim.now buffers.old.results.about }
     requires known { AreKnown claim.now.frames.now.statements claim.now.at claim.now.frames.now.names table.now buffers.old.results.results }
     requires entries { (labels : List Name) × AreEntries claim.now.frames.now.statements claim.now.at labels (viewed (option_map (λ v. v.now) view) ++ table.now) }
-    requires kept { AreKeptLists claim.now.frames.now.statements claim.now.frames.now.names buffers.old.kept.lists.items }
+    requires kept { AreKeptFor claim.now.frames.now.statements claim.now.frames.now.names buffers.old.kept }
     ensures about { buffers.new.results.about ≡ claim.now.pairs }
     ensures goes { (labels : List Name) → AreEntries claim.now.frames.now.statements claim.now.at labels (viewed (option_map (λ v. v.now) view.entry) ++ table.now)
         → IfOk result (λ ok. StepsWithTable ok claim.now.frames.now.statements claim.now.at claim.now.frames.now.names table.now (item_of labels number) buffers.old.results.results buffers.new.results.results) }
     ensures stays { IfOk result (λ ok. Stays ok buffers.old.results.results buffers.new.results.results) }
-    ensures kept { AreKeptLists claim.now.frames.now.statements claim.now.frames.now.names buffers.new.kept.lists.items }
+    ensures kept { AreKeptFor claim.now.frames.now.statements claim.now.frames.now.names buffers.new.kept }
 {
     match view {
         Some(view) => step_many(claim, view, table, number, buffers),
@@ -279,12 +283,12 @@ fn step_many(
     requires ready { IsReady claim.now buffers.old.results.about }
     requires known { AreKnown claim.now.frames.now.statements claim.now.at claim.now.frames.now.names table.now buffers.old.results.results }
     requires entries { (labels : List Name) × AreEntries claim.now.frames.now.statements claim.now.at labels (map Hypothesis view.now ++ table.now) }
-    requires kept { AreKeptLists claim.now.frames.now.statements claim.now.frames.now.names buffers.old.kept.lists.items }
+    requires kept { AreKeptFor claim.now.frames.now.statements claim.now.frames.now.names buffers.old.kept }
     ensures about { buffers.new.results.about ≡ claim.now.pairs }
     ensures goes { (labels : List Name) → AreEntries claim.now.frames.now.statements claim.now.at labels (map Hypothesis view.now ++ table.now)
         → IfOk result (λ ok. StepsWithTable ok claim.now.frames.now.statements claim.now.at claim.now.frames.now.names table.now (item_of labels number) buffers.old.results.results buffers.new.results.results) }
     ensures stays { IfOk result (λ ok. Stays ok buffers.old.results.results buffers.new.results.results) }
-    ensures kept { AreKeptLists claim.now.frames.now.statements claim.now.frames.now.names buffers.new.kept.lists.items }
+    ensures kept { AreKeptFor claim.now.frames.now.statements claim.now.frames.now.names buffers.new.kept }
 {
     let many = view.len();
     let number = number as usize;

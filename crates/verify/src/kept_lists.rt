@@ -1,19 +1,23 @@
-//! The lists of assertions that the proofs of a text cite again and again, if these are long.
+//! The lists of assertions that the proofs of a text cite again and again, if these are long; and what was found of pairs of
+//! variables when such lists were made.
 
 ghost use Rattle.std.specs.Prelude.{◌≡◌, ◌<◌, ◌==◌, ◌++◌, ◌∷◌, [], ℕ, List, length, map, true, get_or, slice_get, Some, IfOk, IfSome, OnOk};
 ghost use Rattle.std.specs.List.{list_all, list_any};
 ghost use Rattle.entries.specs.Hypotheses.{told};
 ghost use Rattle.entries.specs.Stored.Spans.{AreSpansIn, cut};
+ghost use Rattle.frame.specs.AssertionView.{AreCitingLists, has_both};
 ghost use Rattle.frame.specs.Below.{AllBelow};
+ghost use Rattle.frame.specs.FrameOf.{HasAssertion};
 ghost use Rattle.mm_lex.specs.Alphabet.{Name};
 ghost use Rattle.mm_read.specs.Statements.{Database};
 ghost use Rattle.mm_read.specs.declared.stmt.Stmt.{Stmt as Statement};
 ghost use Rattle.scope.specs.Active.{stmt_at};
-ghost use Rattle.verify.specs.KeptLists.{AreKeptLists, AreListsOf, AreMadeOf, IsAt, Lists, SaySame, are_covered, has_both, is_paired};
+ghost use Rattle.verify.specs.KeptLists.{AreKeptFor, AreListsOf, AreMadeOf, IsAt, Lists, SaySame, are_covered, is_paired};
 
 use crate::pair_places::{PairPlace, PairPlaces};
 use entries::buffer_part::between;
 use entries::{AssertionView, BufferPart, Groups, Hypotheses, number_of};
+use frame::{FrameBuffers, Frames, PairFacts};
 use std::alloc::{AllocError, Global};
 use std::collections::BTreeMap;
 use std::marker::Model;
@@ -212,7 +216,8 @@ fn stands_at(group: &[u32], index: u32, x: u32) -> bool
     }
 }
 
-/// The lists that are kept while proofs under the same frames are judged.
+/// What is kept while proofs under the same frames are judged: lists of assertions, and which pairs of variables were found to
+/// be disjoint or not when lists were made. Contracts see both.
 #[derive(Drop)]
 pub struct KeptLists {
     alloc: Global,
@@ -223,13 +228,23 @@ pub struct KeptLists {
     /// The index of the lists of the assertion at a position. An index only says where to look.
     indexes: BTreeMap<usize, usize>,
     pairs: PairPlaces,
-    pub lists: Vec<AssertionLists>,
+    lists: Vec<AssertionLists>,
+    facts: PairFacts,
+}
+
+impl Model for KeptLists {
+    ghost use Rattle.verify.specs.KeptLists.{Kept};
+
+    ghost Value = { Kept };
+
+    ghost view = { λ a. record { lists = a.lists.items; facts = a.facts } };
 }
 
 impl KeptLists {
-    /// Returns a table with no lists. Does not allocate.
+    /// Returns a table with no lists and no facts. Does not allocate.
     pub fn new(alloc: Global) -> KeptLists
-        ensures { result.lists.items ≡ [] }
+        ensures lists { result.lists ≡ [] }
+        ensures facts { result.facts ≡ [] }
     {
         KeptLists {
             alloc,
@@ -238,19 +253,22 @@ impl KeptLists {
             indexes: BTreeMap::new(alloc),
             pairs: PairPlaces::new(alloc),
             lists: Vec::new(alloc),
+            facts: PairFacts::new(alloc),
         }
     }
 
-    /// Removes all lists, and counts citations anew.
+    /// Removes all lists and facts, and counts citations anew.
     ///
-    /// Cost: the lists that were kept, and the assertions whose citations were counted.
+    /// Cost: the lists and facts that were kept, and the assertions whose citations were counted.
     pub fn begin(&mut self)
-        ensures { self.new.lists.items ≡ [] }
+        ensures lists { self.new.lists ≡ [] }
+        ensures facts { self.new.facts ≡ [] }
     {
         self.size = 0;
         self.counts.clear();
         self.indexes.clear();
         self.lists.clear();
+        self.facts.clear();
     }
 
     /// Returns how often the assertion at a position was cited before its lists are kept.
@@ -265,7 +283,7 @@ impl KeptLists {
     ///
     /// Cost: log n for n assertions whose citations are counted.
     pub fn is_due(&mut self, position: usize) -> bool
-        ensures { (S : Database) (names : List Name) → AreKeptLists S names self.old.lists.items → AreKeptLists S names self.new.lists.items }
+        ensures { (S : Database) (names : List Name) → AreKeptFor S names self.old → AreKeptFor S names self.new }
     {
         let count = self.count(position);
         if count >= FEW {
@@ -281,7 +299,7 @@ impl KeptLists {
     ///
     /// Cost: log n for n lists.
     pub fn find(&self, position: usize) -> Option<usize>
-        ensures { IfSome result (λ i. IsAt self.now.lists.items i position) }
+        ensures { IfSome result (λ i. IsAt self.now.lists i position) }
     {
         let index = *self.indexes.get(&position)?;
         if index < self.lists.len() && self.lists[index].position == position {
@@ -293,19 +311,36 @@ impl KeptLists {
 
     /// Returns the lists at an index.
     pub fn at(&self, index: usize) -> &AssertionLists
-        requires { index < length self.now.lists.items }
-        ensures { slice_get self.now.lists.items index ≡ Some result.now }
+        requires { index < length self.now.lists }
+        ensures { slice_get self.now.lists index ≡ Some result.now }
     {
         &self.lists[index]
+    }
+
+    /// Makes the lists of the assertion at a position, for a citation by `Frames::cited_by`.
+    ///
+    /// Errors: an allocation fails. Cost: that of `Frames::fill_lists`.
+    pub fn fill(
+        &mut self,
+        frames: &Frames,
+        position: usize,
+        frame_buffers: &mut FrameBuffers,
+    ) -> Result<(), AllocError>
+        requires assertion { (s : Statement) × HasAssertion frames.now.statements position s }
+        requires kept { AreKeptFor frames.now.statements frames.now.names self.old }
+        ensures kept { AreKeptFor frames.now.statements frames.now.names self.new }
+        ensures lists { OnOk result (AreCitingLists frames.now.statements frames.now.names position frame_buffers.new) }
+    {
+        frames.fill_lists(position, &mut self.facts, frame_buffers)
     }
 
     /// Makes and keeps the lists of an assertion, and returns their index. If many numbers are kept, it begins anew.
     ///
     /// Errors: an allocation fails. Cost: that of `AssertionLists::of`.
     pub fn keep(&mut self, position: usize, cited: &AssertionView<'_>) -> Result<usize, AllocError>
-        ensures kept { (S : Database) (names : List Name) → AreKeptLists S names self.old.lists.items
-            → ((lists : Lists) → AreMadeOf position cited.now lists → (s : Statement) → stmt_at S position ≡ Some s → AreListsOf S names lists s) → AreKeptLists S names self.new.lists.items }
-        ensures index { IfOk result (λ i. IsAt self.new.lists.items i position) }
+        ensures kept { (S : Database) (names : List Name) → AreKeptFor S names self.old
+            → ((lists : Lists) → AreMadeOf position cited.now lists → (s : Statement) → stmt_at S position ≡ Some s → AreListsOf S names lists s) → AreKeptFor S names self.new }
+        ensures index { IfOk result (λ i. IsAt self.new.lists i position) }
     {
         let lists = AssertionLists::of(self.alloc, position, cited, &mut self.pairs)?;
         self.make_room(lists.size());
@@ -317,7 +352,7 @@ impl KeptLists {
 
     /// Counts so many more numbers, before which all lists are removed if there would be too many.
     fn make_room(&mut self, size: usize)
-        ensures { (S : Database) (names : List Name) → AreKeptLists S names self.old.lists.items → AreKeptLists S names self.new.lists.items }
+        ensures { (S : Database) (names : List Name) → AreKeptFor S names self.old → AreKeptFor S names self.new }
     {
         if self.size.saturating_add(size) > MOST_NUMBERS {
             self.begin();

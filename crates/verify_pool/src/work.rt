@@ -1,7 +1,7 @@
 //! Jobs that workers share.
 
-ghost use Rattle.std.specs.Prelude.{◌≡◌, ◌<◌, ◌^◌, ℕ, List, IfOk};
-ghost use Rattle.verify.specs.KeptLists.{Lists};
+ghost use Rattle.std.specs.Prelude.{◌≡◌, ◌<◌, ◌^◌, ℕ, IfOk};
+ghost use Rattle.verify.specs.KeptLists.{Kept};
 ghost use Rattle.verify.specs.Right.{Says};
 
 use std::alloc::AllocError;
@@ -15,8 +15,8 @@ pub trait Work {
     /// The job of this index is right.
     ghost right: { Self → ℕ → Type 0 };
 
-    /// The lists that a checker keeps are right for these jobs.
-    ghost fits: { Self → List Lists → Type 0 };
+    /// What a checker keeps is right for these jobs.
+    ghost fits: { Self → Kept → Type 0 };
 
     /// Returns the number of jobs.
     fn count(&self) -> usize

@@ -1,4 +1,4 @@
--- The symbols of an expression with their indexes, each two as one number. The code's own form: no public clause cites it.
+-- The symbols of an expression with their indexes, each pair as one number. The code's own form: no public clause cites it.
 -- In ascending order, the keys of one symbol are next to each other, and their indexes are in order too.
 use Rattle.std.specs.Prelude.{◌≡◌, ◌≢◌, ℕ, ◌+◌, ◌*◌, ◌/◌, ◌%◌, ◌<◌, ◌≤◌, List, [], ◌∷◌, length, slice_get, slice_index, Some}
 use Rattle.std.specs.List.{Contains}
@@ -21,7 +21,7 @@ pub record AreKeys (expr keys : List ℕ) : Type 0 where
   pub count : length keys ≡ length expr
   pub each : (j : ℕ) → j < length expr → slice_index keys j ≡ key_of (slice_index expr j) j
 
--- the same in ascending order
+-- these keys in ascending order
 pub record AreKeysOf (expr keys : List ℕ) : Type 0 where
   pub few : length expr < INDEXES
   pub rises : IsStrictlyIncreasing keys

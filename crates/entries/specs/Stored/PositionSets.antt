@@ -21,7 +21,7 @@ sets_from sets (n ∷ ns) = sets_from (sets ++ set_of sets n ∷ []) ns
 abbrev pub sets_of : List Node → List (List ℕ)
 sets_of ns = sets_from ([] ∷ []) ns
 
--- a node's parts are earlier sets, one below its position and one above, and it tells how many positions there are
+-- a node's parts are earlier sets, one below its position and one above, and it has the count of all positions
 pub record IsNode (sets : List (List ℕ)) (n : Node) : Type 0 where
   pub left : n.left < length sets
   pub right : n.right < length sets

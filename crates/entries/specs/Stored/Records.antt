@@ -1,4 +1,4 @@
--- Statements in shared buffers: each has what stands from where it begins up to where the next one begins.
+-- Statements in shared buffers: each has the items from where it begins up to where the next one begins.
 -- The code's own form: no public clause cites it.
 -- So more after the buffers changes no statement, and the buffers can be cut where a statement begins.
 use Rattle.std.specs.Prelude.{◌≡◌, ℕ, ◌+◌, ◌-◌, ◌<◌, ◌≤◌, ◌^◌, Bool, true, false, List, [], ◌∷◌, ◌++◌, length, map, slice_get, slice_range, get_or, nat_lt, Option, Some, None}
@@ -16,7 +16,7 @@ use Rattle.entries.specs.Stored.Spans.{cut, AreSpansIn}
 
 -- ---- the numbers of one statement
 
--- the parts of so many hypotheses, symbols, groups and variables of groups, one after the other
+-- the parts of h hypotheses, s symbols, g groups and p variables of groups, one after the other
 abbrev pub laid : ℕ → ℕ → ℕ → ℕ → ℕ → Layout
 laid from h s g p = record {
   typecodes = from;
@@ -28,7 +28,7 @@ laid from h s g p = record {
   groups = g;
 }
 
--- the first numbers of an assertion with its parts tell their counts; else there are symbols alone
+-- the first numbers of an assertion with its parts are their counts; else there are symbols alone
 abbrev pub layout_in : Bool → List ℕ → Layout
 layout_in true run = laid COUNTS (get_or run 0 0) (get_or run 1 0) (get_or run 2 0) (get_or run 3 0)
 layout_in false run = laid 0 0 (length run) 0 0
@@ -36,7 +36,7 @@ layout_in false run = laid 0 0 (length run) 0 0
 abbrev pub counts_of : AssertionParts → List ℕ
 counts_of p = length p.hypotheses.now ∷ length p.symbols.now ∷ length p.groups.now ∷ length p.places.now ∷ []
 
--- a statement that has neither hypotheses nor groups is kept without parts
+-- a statement that has neither hypotheses nor groups is stored without parts
 abbrev pub has_parts : AssertionParts → Bool
 has_parts p = nat_lt 0 (length p.hypotheses.now + length p.groups.now)
 
@@ -48,7 +48,7 @@ run_of false p = p.symbols.now
 abbrev pub record_by : Kind → Bool → Bool → ℕ → ℕ → StatementRecord
 record_by kind has_parts whole from groups = record { from = from; groups = groups; kind = kind; has_parts = has_parts; whole = whole }
 
--- a statement without what was there before it
+-- a statement without the state before it
 pub record Body : Type 0 where
   pub kind : Kind
   pub symbols : List ℕ
@@ -94,7 +94,7 @@ abbrev pub bodies_of : List ℕ → List BufferPart → List StatementRecord →
 bodies_of numbers groups [] = []
 bodies_of numbers groups (r ∷ rs) = body_of r (run_by numbers r (slice_get rs 0)) (spans_by groups r (slice_get rs 0)) ∷ bodies_of numbers groups rs
 
--- the statements, each with what was there before it
+-- the statements, each with the state before it
 abbrev pub with_states_before : List Body → List StateBefore → List Entry
 with_states_before [] ks = []
 with_states_before (b ∷ bs) [] = []
@@ -106,7 +106,7 @@ pub record IsPlaced (numbers : List ℕ) (r : StatementRecord) (next : Option St
   pub end : end_by numbers next ≤ length numbers
   pub whole : (layout_in r.has_parts (run_by numbers r next)).end ≡ length (run_by numbers r next)
 
--- and its groups are as many as that, and parts of its places
+-- its groups are as many as it says, and parts of its places
 pub record IsGrouped (groups : List BufferPart) (r : StatementRecord) (next : Option StatementRecord) (at : Layout) : Type 0 where
   pub count : r.groups + at.groups ≡ groups_by groups next
   pub end : groups_by groups next ≤ length groups
@@ -134,7 +134,7 @@ pub record IsOrdered (at : Layout) : Type 0 where
   pub hypotheses : at.hypotheses ≤ at.places
   pub places : at.places ≤ at.end
 
--- the record that was read tells the entry that was found
+-- the stored form that was read is that of the entry found
 pub record IsStored (found : Option Entry) (s : Stored) : Type 0 where
   pub ordered : IsOrdered s.at
   pub whole : s.at.end ≡ length s.numbers.now

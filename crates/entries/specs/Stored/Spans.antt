@@ -7,7 +7,7 @@ use Rattle.entries.specs.declared.buffer_part.BufferPart.{BufferPart}
 abbrev pub cut : {A : Type 0} → List A → List BufferPart → List (List A)
 cut xs spans = map (λ s. slice_range xs s.from s.to) spans
 
--- each within so many items
+-- each within the first n items
 abbrev pub AreSpansIn : ℕ → List BufferPart → Type 0
 AreSpansIn n [] = Unit {0}
 AreSpansIn n (s ∷ spans) = ((s.from ≤ s.to) × (s.to ≤ n)) × AreSpansIn n spans

@@ -1,5 +1,5 @@
 -- Versions of a stack as they are kept, and the log of those of all numbers. The code's own form: no public clause cites it.
--- A version tells where the version below its top stands, among the earlier ones: so a stack is found in one pass over them.
+-- A version has the index of the version below its top, an earlier one: so a stack is found in one pass over them.
 use Rattle.std.specs.Prelude.{◌≡◌, ℕ, zero, suc, ◌<◌, ◌==◌, List, [], ◌∷◌, ◌++◌, length, map, filter, get_or, Option, Some, None}
 use Rattle.std.specs.List.Sorted.{IsNonDecreasingBy}
 use Rattle.entries.specs.declared.history.Version.{Version}
@@ -29,7 +29,7 @@ versions_behind done (v ∷ vs) = version_of done v ∷ versions_behind (done ++
 abbrev pub versions_of : List Version → List StackVersion
 versions_of vs = versions_behind [] vs
 
--- each tells how high its stack is, and they stand in the order of their positions
+-- each has the height of its stack, and they stand in the order in which they were made
 pub record AreVersions (vs : List Version) : Type 0 where
   pub heights : map (λ v. v.height) vs ≡ map (λ v. length v.stack) (versions_of vs)
   pub ordered : IsNonDecreasingBy (λ v. v.since) vs
@@ -39,7 +39,7 @@ pub record IsReadable (before : List Version) (v : Version) : Type 0 where
   pub versions : AreVersions before
   pub height : v.height ≡ length (stack_of (versions_of before) v)
 
--- the version at the index found is the last one that is so since before `at`
+-- the version at the index found is the last one that was made before `at`
 abbrev pub IsFound : List Version → ℕ → Option ℕ → Type 0
 IsFound vs at (Some i) = (i < length vs) × (stack_at (versions_of vs) at ≡ (get_or (versions_of vs) i no_version).stack)
 IsFound vs at None = stack_at (versions_of vs) at ≡ []
@@ -54,7 +54,7 @@ pub record Change : Type 0 where
 abbrev pub sinces_of : ℕ → List Change → List ℕ
 sinces_of c changes = map (λ x. x.since) (filter (λ x. x.number == c) changes)
 
--- the log has the number of each version, in the order of their positions
+-- the log has the number of each version, in the order in which they were made
 pub record AreLogged (log : List ℕ) (hs : List (List StackVersion)) : Type 0 where
   pub changes : List Change
   pub listed : log ≡ map (λ x. x.number) changes

@@ -1,6 +1,6 @@
 -- Pairs of variables of an assertion whose images were found disjoint.
 -- Source: Metamath, 4.2.6: the condition speaks of two variables, whatever their order.
--- The code asks for a pair once, however many lists have it.
+-- The code tests a recorded pair once, however many groups have it.
 use Rattle.std.specs.Prelude.{◌≡◌, ℕ, ◌⊎◌, List, [], ◌∷◌, Some, slice_get, true}
 use Rattle.explain.specs.Words.{Name, Database, name_at, Images, image, are_disjoint}
 use Rattle.explain.specs.declared.disjoint_pairs.VariablePair.{VariablePair}

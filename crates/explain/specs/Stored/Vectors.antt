@@ -25,6 +25,6 @@ code_images images = map (λ i. (i.variable, i.symbols.now)) images
 abbrev pub AreImages : ℕ → List Image → Type 0
 AreImages n images = AllBelow n (map (λ i. i.symbols.now) images)
 
--- the assertion at a has so many mandatory hypotheses
+-- the assertion at a has `count` mandatory hypotheses
 abbrev pub CountIs : Database → ℕ → ℕ → Type 0
 CountIs S a count = (s : Stmt) → stmt_at S a ≡ Some s → count ≡ length (hypotheses (before S a) s)

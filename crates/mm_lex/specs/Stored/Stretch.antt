@@ -1,14 +1,14 @@
 -- How far a text goes on as symbols with one space between two.
 -- Source: this project's choice; such symbols are copied in one piece.
--- The code looks at many bytes at a time; here at one byte and the next.
+-- The code looks at many bytes at a time; the model at one byte and the next.
 use Rattle.std.specs.Prelude.{ℕ, zero, suc, Bool, true, ◌||◌, ◌&&◌, ◌==◌, if◌then◌else◌, List, [], ◌∷◌, nat_lt, nat_le}
 use Rattle.std.specs.Simd.Lanes.{zip2}
 
--- at a byte below the space, at a `$`, or at a space after which a byte up to `$` stands
+-- symbols end at a byte below the space, at a `$`, or at a space that is followed by a byte up to `$`
 abbrev pub ends_between : ℕ → ℕ → Bool
 ends_between b next = nat_lt b 32 || (b == 36) || (nat_le b 32 && nat_le next 36)
 
--- the symbols end here; after a text stands a space
+-- the symbols end at the first byte; the last byte counts as followed by a space
 abbrev pub ends_here : List ℕ → Bool
 ends_here [] = true
 ends_here (b ∷ []) = ends_between b 32

@@ -1,4 +1,4 @@
--- How the bytes of one word are kept: in the value itself, or behind a pointer.
+-- How the bytes of one word are stored: in the value itself, or behind a pointer.
 use Rattle.std.specs.Prelude.{ℕ, ◌≤◌, ⊤, List, take}
 use Rattle.mm_lex.specs.declared.word.WordBytes.{WordBytes}
 use Rattle.mm_lex.specs.declared.word.WordBytes.TheVariants.{Inline, Heap}
@@ -8,7 +8,7 @@ abbrev pub bytes_of : WordBytes → List ℕ
 bytes_of (Inline len bytes) = take len bytes
 bytes_of (Heap bytes) = bytes.value.items
 
--- the value itself has as many as are counted
+-- the value itself has at least as many bytes as the length says
 abbrev pub AreCounted : WordBytes → Type 0
 AreCounted (Inline len bytes) = len ≤ 22
 AreCounted (Heap bytes) = ⊤

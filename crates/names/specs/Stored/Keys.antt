@@ -1,5 +1,5 @@
 -- Names as numbers of 64 bits, which distinguish names of at most seven bytes.
--- The code's own form: no clause of a scope cites it.
+-- The code's own form: no public clause cites it.
 use Rattle.std.specs.Prelude.{ℕ, zero, suc, ◌+◌, ◌-◌, ◌*◌, ◌/◌, ◌%◌, ◌^◌, ◌<◌, List, [], ◌∷◌, length, get_or, nat_lt, if◌then◌else◌}
 use Rattle.std.specs.Int.{w64, swap_bytes}
 use Rattle.mm_lex.specs.Alphabet.{Name}
@@ -13,11 +13,11 @@ abbrev pub digits : List ℕ → ℕ
 digits [] = 0
 digits (byte ∷ bytes) = byte + 256 * digits bytes
 
--- bytes that tell a name of at most three bytes from the others of its length
+-- bytes that distinguish a name of at most three bytes from the others of its length
 abbrev pub ends : Name → List ℕ
 ends x = get_or x 0 0 ∷ get_or x (length x / 2) 0 ∷ get_or x (length x - 1) 0 ∷ []
 
--- the key of four to seven bytes
+-- the bytes of a name of four to seven bytes, some of them twice
 abbrev pub front_and_back : Name → List ℕ
 front_and_back x =
     get_or x 0 0 ∷ get_or x 1 0 ∷ get_or x 2 0 ∷ get_or x 3 0
@@ -26,25 +26,25 @@ front_and_back x =
 abbrev pub picked : Name → List ℕ
 picked x = if nat_lt (length x) 4 then ends x else front_and_back x
 
--- eight bytes from a place on
+-- eight bytes from an index on
 abbrev pub eight : Name → ℕ → List ℕ
 eight x at =
     get_or x at 0 ∷ get_or x (at + 1) 0 ∷ get_or x (at + 2) 0 ∷ get_or x (at + 3) 0
     ∷ get_or x (at + 4) 0 ∷ get_or x (at + 5) 0 ∷ get_or x (at + 6) 0 ∷ get_or x (at + 7) 0 ∷ []
 
--- a number whose lowest bytes all bits of this one reach
+-- a number whose lowest bytes depend on all bits of this one
 abbrev pub spread_of : ℕ → ℕ
 spread_of n = swap_bytes w64 (n * FACTOR % 2 ^ 64)
 
 abbrev pub mixed : ℕ → ℕ → ℕ
 mixed hint bytes = spread_of ((hint + bytes) % 2 ^ 64)
 
--- the length of a name with so many of its blocks of eight bytes
+-- the length of a name, mixed with its first n blocks of eight bytes
 abbrev pub mixed_front : Name → ℕ → ℕ
 mixed_front x zero = length x
 mixed_front x (suc n) = mixed (mixed_front x n) (digits (eight x (8 * n)))
 
--- .. and with its last eight bytes
+-- the length of a name, mixed with all its blocks but the last, and with its last eight bytes
 unfoldable pub hint_of : Name → ℕ
 hint_of x = mixed (mixed_front x ((length x - 1) / 8)) (digits (eight x (length x - 8))) % HINTS + HINTS
 

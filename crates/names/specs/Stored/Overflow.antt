@@ -1,6 +1,6 @@
 -- The numbers of the names in the overflow, short ones in the order of their keys and others in the order of their bytes.
 -- Source: this project's form of keeping names.
--- The code's own form: no clause of a scope cites it.
+-- The code's own form: no public clause cites it.
 use Rattle.std.specs.Prelude.{ℕ, Option, length, nat_lt, if◌then◌else◌}
 use Rattle.std.specs.BTreeMap.{get_by}
 use Rattle.std.specs.Cmp.Lexicographic.{slice_cmp}

@@ -1,5 +1,5 @@
 -- Names by number, and the table in which their numbers are found.
--- The code's own form: no clause of a scope cites it.
+-- The code's own form: no public clause cites it.
 use Rattle.std.specs.Prelude.{◌≡◌, ◌≢◌, ◌⊎◌, ℕ, ◌+◌, ◌-◌, ◌*◌, ◌/◌, ◌%◌, ◌^◌, ◌<◌, List, length, Some, get_or, slice_get, bit_and}
 use Rattle.mm_lex.specs.Alphabet.{Name}
 use Rattle.names.specs.Codes.{name_at}
@@ -19,7 +19,7 @@ half_of key = key % HALVES
 abbrev pub slot_of : ℕ → ℕ → Slot
 slot_of key number = record { half = half_of key; number = number }
 
--- where the table is looked at in a step, by the key and the table's length
+-- the index of the slot that a step looks at, by the key and the table's length
 abbrev pub place_of : ℕ → ℕ → ℕ → ℕ
 place_of key step len = bit_and ((spread_of key + step * (step + 1) / 2) % 2 ^ 64) (len - 1)
 
@@ -30,7 +30,7 @@ slot_at slots key step s = slice_get slots (place_of key step (length slots)) �
 abbrev pub IsTaken : List Slot → ℕ → ℕ → Type 0
 IsTaken slots key step = (s : Slot) → slot_at slots key step s → s.number ≢ NO_NAME
 
--- a number is found by its key before a slot without number is met
+-- a number is found by its key before a free slot is met
 pub record IsHeld (slots : List Slot) (key number : ℕ) : Type 0 where
   pub step : ℕ
   pub within : step < length slots
@@ -55,7 +55,7 @@ AreKept a names = (k : ℕ) → k < length names → IsKept a (name_at names k) 
 abbrev pub AreFewer : Kept → Kept → Type 0
 AreFewer a b = (k : ℕ) → get_or b.keys.items k 0 ≢ APART → get_or a.keys.items k 0 ≢ APART
 
--- those of the first names that are not in the overflow are in the table
+-- each of the first n names that is not in the overflow is in the table
 abbrev pub AreHeld : ℕ → List Slot → Kept → List Name → Type 0
 AreHeld n slots a names = (k : ℕ) → k < n → get_or a.keys.items k 0 ≢ APART → IsHeld slots (key_of (name_at names k)) k
 
@@ -68,7 +68,7 @@ pub record IsTable (slots : List Slot) (a : Kept) (names : List Name) : Type 0 w
   pub kept : AreKept a names
   pub held : AreHeld (length names) slots a names
 
--- the first slot without number that is met by a key
+-- the first free slot that the steps of a key meet
 pub record IsFree (slots : List Slot) (key at : ℕ) : Type 0 where
   pub step : ℕ
   pub within : step < length slots

@@ -1,10 +1,10 @@
 -- Texts in one buffer, each from the end of the one before it up to its own.
 -- Source: this project's form of keeping names.
--- The code's own form: no clause of a scope cites it.
+-- The code's own form: no public clause cites it.
 use Rattle.std.specs.Prelude.{◌≡◌, ℕ, zero, suc, ◌≤◌, List, [], ◌∷◌, slice_range}
 use Rattle.mm_lex.specs.Alphabet.{Name}
 
--- the parts of a buffer from a place on, one after the other, each up to its end
+-- the parts of a buffer from an index on, one after the other, each up to its end
 abbrev pub cut : List ℕ → ℕ → List ℕ → List Name
 cut xs from [] = []
 cut xs from (to ∷ ends) = slice_range xs from to ∷ cut xs to ends
@@ -15,7 +15,7 @@ start_of from [] n = from
 start_of from (to ∷ ends) zero = from
 start_of from (to ∷ ends) (suc n) = start_of to ends n
 
--- the ends rise from a place on, and the last one is so many bytes after the front
+-- the ends ascend from an index on, and the last one is n
 abbrev pub AreLaid : ℕ → ℕ → List ℕ → Type 0
 AreLaid n from [] = n ≡ from
 AreLaid n from (to ∷ ends) = (from ≤ to) × AreLaid n to ends

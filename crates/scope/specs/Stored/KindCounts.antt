@@ -1,5 +1,5 @@
 -- Kinds with the count of the symbols before each, and the places of the names of some kinds.
--- The code's own form: no clause of a scope cites it.
+-- The code's own form: no public clause cites it.
 use Rattle.std.specs.Prelude.{◌≡◌, ℕ, ◌+◌, Bool, List, [], ◌∷◌, map, length, if◌then◌else◌}
 use Rattle.mm_lex.specs.Alphabet.{Name}
 use Rattle.scope.specs.Kinds.{is_symbol_kind, is_labelling}
@@ -13,12 +13,12 @@ kinds_of entries = map (λ e. e.kind) entries
 abbrev pub behind : CountedKind → ℕ
 behind e = if is_symbol_kind e.kind then e.before + 1 else e.before
 
--- each has the count of the symbols before it, of which there are n before the first
+-- each has the count of the symbols before it; there are n before the first
 abbrev pub AreCounted : ℕ → List CountedKind → Type 0
 AreCounted n [] = Unit {0}
 AreCounted n (e ∷ entries) = (e.before ≡ n) × AreCounted (behind e) entries
 
--- the places of the entries of some kinds, of which the first has the place n
+-- the places of the entries of some kinds, if the first entry has the place n
 abbrev pub places_that : (NameKind → Bool) → ℕ → List CountedKind → List ℕ
 places_that own n [] = []
 places_that own n (e ∷ entries) =

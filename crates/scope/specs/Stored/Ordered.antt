@@ -1,12 +1,12 @@
--- Words in order: one that stands twice is next to itself. The code's own form: no public clause cites it.
+-- Sorted words: equal ones are neighbours. The code's own form: no public clause cites it.
 use Rattle.std.specs.Prelude.{◌≡◌, ℕ, ◌+◌, ◌<◌, true, false, List, length, get_or}
 use Rattle.scope.specs.Words.{Bor, Name, name_eq}
 
--- none of the first n words is the one before it
+-- none of the first n words equals the one before it
 abbrev pub DifferNext : List (Bor Name) → ℕ → Type 0
 DifferNext words n = (k : ℕ) (d : Bor Name) → k + 1 < n → name_eq (get_or words k d).now (get_or words (k + 1) d).now ≡ false
 
--- a word is the one before it
+-- a word equals the one before it
 pub record IsTwice (words : List (Bor Name)) : Type 0 where
   pub place : ℕ
   pub other : Bor Name

@@ -1,6 +1,6 @@
--- How the rules are kept: as stacks of numbers with the places where the open blocks start, and where the mark stands.
+-- How the rules are stored: stacks of numbers, with their heights at the start of each open block and at the mark.
 -- Source: this project's form.
--- The model has positions and bracket counts; here each field of the code is said as a function of the statements.
+-- The model has positions and bracket counts; here each field of the code is defined as a function of the statements.
 use Rattle.std.specs.Prelude.{◌≡◌, ℕ, ◌≤◌, Bool, true, false, not, ◌&&◌, ◌==◌, List, [], ◌∷◌, ◌++◌, length, take, if◌then◌else◌}
 use Rattle.scope.specs.Words.{flat_map, list_any, Stmt, Database, numbers_in, AreNamed}
 use Rattle.scope.specs.Active.{active, stays_open, is_open, is_close, is_closed, variables, typed_by, active_variables, typed_variables}
@@ -10,11 +10,11 @@ use Rattle.scope.specs.Symbols.{symbols_of}
 use Rattle.scope.specs.declared.stack_heights.StackHeights.{StackHeights}
 use Rattle.scope.specs.declared.standing.Standing.{Standing}
 
--- how high the stacks stand after these active statements
+-- the heights of the stacks after these active statements
 abbrev pub sizes_of : List (ℕ × Stmt) → StackHeights
 sizes_of es = record { variables = length (flat_map (λ p. variables p.1) es); typed = length (flat_map (λ p. typed_by p.1) es); standing = length (flat_map (λ p. stands_at p.0 p.1) es) }
 
--- how high they stood before each of the open blocks
+-- their heights before each of the open blocks
 abbrev pub blocks_from : List (ℕ × Stmt) → List (ℕ × Stmt) → List StackHeights
 blocks_from before [] = []
 blocks_from before (p ∷ es) =
@@ -23,12 +23,12 @@ blocks_from before (p ∷ es) =
 abbrev pub blocks_of : Database → List StackHeights
 blocks_of S = blocks_from [] (active S)
 
--- whether none of the numbers comes twice, on the stack or among those to be put there
+-- whether the numbers may be pushed: none of them is on the stack, and none comes twice
 abbrev pub can_push : List ℕ → List ℕ → Bool
 can_push stack [] = true
 can_push stack (n ∷ ns) = not (list_any (λ m. m == n) stack) && can_push (stack ++ n ∷ []) ns
 
--- a statement that opens and closes no block, and neither declares nor types a variable; n more stand after it
+-- a statement that opens and closes no block, and neither declares nor types a variable; n is 1 for a `$e` or `$d`, else 0
 pub record IsPlain (s : Stmt) (n : ℕ) : Type 0 where
   pub no_open : is_open s ≡ false
   pub no_close : is_close s ≡ false
@@ -36,7 +36,7 @@ pub record IsPlain (s : Stmt) (n : ℕ) : Type 0 where
   pub untyped : typed_by s ≡ []
   pub stand : (at : ℕ) → length (stands_at at s) ≡ n
 
--- the marked statements are the first ones, and what follows them closes none of their blocks, of which none is open
+-- the marked statements are a prefix without an open block, and the later ones close none of its blocks
 pub record IsMarked (S M : Database) (mark : StackHeights) : Type 0 where
   pub later : (T : Database) × (S ≡ M ++ T) × (stays_open 0 T ≡ true)
   pub closed : is_closed M ≡ true
@@ -52,7 +52,7 @@ pub record IsKept (S M : Database) (variable_stack typed_stack : List ℕ) (stan
   pub never_below : stays_open 0 S ≡ true
   pub marked : IsMarked S M mark
 
--- the other parts of a scope: the numbering, those marked of it, the standing statements, and the counts of the statements
+-- the other parts of a scope: the numbering and its marked part, the active `$f`, `$e` and `$d`, and the counts of statements
 pub record IsScope (S M : Database) (names : Declared) (marked_names : ℕ) (standing : List Standing) (count marked_count : ℕ) : Type 0 where
   pub numbering : IsNumberingOf S names
   pub marked_numbering : IsNumberingOf M (take marked_names names)

@@ -1,4 +1,4 @@
--- The numbers of a statement's symbols, where they were recorded while it was judged.
+-- The numbers of a statement's symbols, if they were recorded while it was judged.
 -- Source: this project's form.
 -- The code keeps them in one buffer; here they are an option.
 use Rattle.std.specs.Prelude.{◌≡◌, ℕ, ◌==◌, Bool, true, not, ◌&&◌, List, [], ◌∷◌, ◌++◌, Option, Some, option_map, IfSome}
@@ -9,7 +9,7 @@ use Rattle.scope.specs.Symbols.{AreNumbers}
 abbrev pub AreRecorded : List Name → Expr → Option (List ℕ) → Type 0
 AreRecorded symbols xs recorded = IfSome recorded (λ numbers. AreNumbers symbols xs numbers)
 
--- they are those before and one more, where numbers are still recorded
+-- the new numbers, if there are any, are the old ones and one more
 abbrev pub IsAppended : ℕ → Option (List ℕ) → Option (List ℕ) → Type 0
 IsAppended n old new = IfSome new (λ numbers. Some numbers ≡ option_map (λ ns. ns ++ n ∷ []) old)
 

@@ -18,7 +18,7 @@ impl<V: Value> NodeCore<V> {
     ghost use Rattle.synod.specs.Rooms.{HasAtLeast};
     ghost use Rattle.synod.specs.Ready.{IsReadyFor};
 
-    /// Tells a proposer of the promise that refuses its ballot.
+    /// Stages a Nack to a proposer, with the promise that refuses its ballot.
     fn ready_refusal(&self, from: u8, ballot: Ballot) -> Result<Ready<V>, AllocError>
         ensures { IfOk result (IsReadyFor self.now (refuses self.now.node from ballot)) }
     {

@@ -22,7 +22,7 @@ impl<V: Value> NodeCore<V> {
     ghost use Rattle.synod.specs.Rooms.{HasAtLeast};
     ghost use Rattle.synod.specs.Ready.{IsReadyFor};
 
-    /// Keeps a page, unless it was received before.
+    /// Stages keeping a page, unless it was received before.
     fn ready_to_keep(
         &mut self,
         node: u8,
@@ -49,7 +49,7 @@ impl<V: Value> NodeCore<V> {
         Ok(self.ready_proposer(update, Vec::new(self.alloc)))
     }
 
-    /// Keeps the page that completes a promise, without a quorum.
+    /// Stages keeping a page that completes a promise, but no quorum.
     fn ready_to_hear(
         &mut self,
         heard: Heard,
@@ -87,7 +87,7 @@ impl<V: Value> NodeCore<V> {
         self.weights.is_quorum(&marks)
     }
 
-    /// Stages the step of a page at the ballot in preparation, of a node that is not heard yet.
+    /// Stages the step of a page for the ballot in preparation, from a node that is not heard yet.
     fn ready_page(
         &mut self,
         ballot: Ballot,
@@ -126,7 +126,7 @@ impl<V: Value> NodeCore<V> {
         Ok(nodes)
     }
 
-    /// Leads, since a quorum is heard.
+    /// Stages leading, since a quorum is heard.
     fn ready_to_lead(
         &self,
         ballot: Ballot,

@@ -110,7 +110,7 @@ impl<V: Value> NodeCore<V> {
         self.weights.is_quorum(&voters)
     }
 
-    /// Returns the Asks for the first gap, if it is below a slot.
+    /// Returns the Asks for the first gap, if it is below the slot.
     fn ask_below(&self, slot: u32, gap: u32) -> Result<Vec<Packet<V>>, AllocError>
         ensures { IfOk result (λ posts. posts.items ≡ asks_below self.now.node slot gap) }
     {
@@ -136,7 +136,7 @@ impl<V: Value> NodeCore<V> {
         Ready::new(self, staged, posts)
     }
 
-    /// Returns the Ask for the next gap, if there is one.
+    /// Returns the Ask for the next gap, unless the log is full.
     fn ask_next(&self, from: u8, gap: u32) -> Result<Vec<Packet<V>>, AllocError>
         ensures { IfOk result (λ posts. posts.items ≡ asks_for self.now.node from gap) }
     {

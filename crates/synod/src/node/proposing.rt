@@ -75,7 +75,7 @@ impl<V: Value> NodeCore<V> {
         Ok(self.ready_proposer(ProposerUpdate::Propose { ballot, next }, posts))
     }
 
-    /// Stages the begin of a ballot.
+    /// Stages the start of a ballot.
     pub(crate) fn ready_ballot(&mut self, ballot: Ballot) -> Result<Ready<V>, AllocError>
         requires keeps { Keeps (length self.old.node.weights) (begins self.old.node) }
         requires ballot { ballot ≡ next_ballot self.old.node }

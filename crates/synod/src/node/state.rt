@@ -13,16 +13,16 @@ pub struct NodeState {
     pub role: Role,
     /// The ballot that it promised.
     pub promise: Ballot,
-    /// How many entries its log has.
+    /// The number of entries of its log.
     pub learned: u32,
-    /// How many values wait at it.
+    /// The number of values that wait at it.
     pub waiting: usize,
 }
 
 impl<V: Value> NodeCore<V> {
     ghost use Rattle.synod.specs.State.{state_of};
 
-    /// Returns what the node tells of itself. Does not allocate.
+    /// Returns the state of the node. It does not allocate.
     pub fn state(&self) -> NodeState
         ensures { result ≡ state_of self.now.node }
     {

@@ -1,0 +1,23 @@
+use Rattle.frame.proofs.Words.{◌∙◌, sym, subst, arith}
+use Rattle.frame.proofs.PairFactLemmas.{row-answer, sought-row}
+use Rattle.frame.specs.PairFacts.{AreFacts}
+use Rattle.frame.specs.Stored.EntryMeanings.{numbered}
+use Rattle.frame.proofs.pair_facts.search_row.Goals as goal
+
+pub walk-walked-requires-clause-sought : goal.walk-walked-requires-clause-sought
+walk-walked-requires-clause-sought c = sought-row c.args.storage.now c.args.at c.args.x c.args.y c.stack.result c.requires.sought c.stack.ensures
+
+pub record_passed-requires-clause-sought : goal.record_passed-requires-clause-sought
+record_passed-requires-clause-sought c = sought-row c.args.storage.now c.args.at c.args.x c.args.y c.stack-row.result c.requires.sought c.stack-row.ensures
+
+pub returns-then-walked-gt-SHORT-clause-found : goal.returns-then-walked-gt-SHORT-clause-found
+returns-then-walked-gt-SHORT-clause-found c = sym (c.walk-walked.ensures 0 (omega arith)) ∙ row-answer c.args.storage.now c.args.at c.args.x c.args.y c.stack.result c.requires.sought c.stack.ensures
+
+pub returns-else-walked-gt-SHORT-clause-found : goal.returns-else-walked-gt-SHORT-clause-found
+returns-else-walked-gt-SHORT-clause-found c = sym (c.walk-walked.ensures 0 (omega arith)) ∙ row-answer c.args.storage.now c.args.at c.args.x c.args.y c.stack.result c.requires.sought c.stack.ensures
+
+pub record_passed-requires-clause-facts : goal.record_passed-requires-clause-facts
+record_passed-requires-clause-facts c = subst (AreFacts (numbered c.args.storage.now)) (sym c.spend.ensures) c.requires.facts
+
+pub returns-else-walked-gt-SHORT-clause-facts : goal.returns-else-walked-gt-SHORT-clause-facts
+returns-else-walked-gt-SHORT-clause-facts c = subst (AreFacts (numbered c.args.storage.now)) (sym c.spend.ensures) c.requires.facts

@@ -1,0 +1,23 @@
+use Rattle.frame.proofs.Words.{◌∙◌, sym, arith, refl}
+use Rattle.frame.specs.Stored.EntryMeanings.{numbered}
+use Rattle.frame.proofs.PairFactLemmas.{top-kind, walk-known, walk-next, walk-some}
+use Rattle.frame.proofs.pair_facts.walk.Goals as goal
+
+pub unreachable-requires : goal.unreachable-requires
+unreachable-requires c =
+    walk-some c.args.storage.now c.args.x c.args.y c.args.row c.loop-steps.row c.loop-steps.steps c.loop-steps.invariant.at c.in_default.ensures.none.0 (omega (arith, c.loop-steps-test.true, c.len-height.ensures))
+
+pub has_symbol-requires-clause-disjoint : goal.has_symbol-requires-clause-disjoint
+has_symbol-requires-clause-disjoint c =
+    top-kind c.args.storage.now c.args.x c.args.y c.args.row c.loop-steps.row c.loop-steps.steps c.in-Some.position c.pop.new.self c.in-Some.ensures.some c.loop-steps.invariant.at.sought
+
+pub returns-in-Some-known : goal.returns-in-Some-known
+returns-in-Some-known c =
+    let k = c.args.storage.now in
+    let f = c.in-Some-known.fact in
+    walk-known k c.args.x c.args.y c.args.row c.loop-steps.row c.loop-steps.steps c.in-Some.position c.pop.new.self c.in-Some.ensures.some (record { steps = c.loop-steps.steps; found = f.found }) f c.loop-steps.invariant
+    (c.in-Some-known.ensures.fact (numbered k) c.requires.facts) c.in-Some-known.ensures.asked refl refl
+
+pub loop-steps-preserved : goal.loop-steps-preserved
+loop-steps-preserved c =
+    walk-next c.args.storage.now c.args.x c.args.y c.args.row c.loop-steps.row c.loop-steps.steps c.in-Some.position c.pop.new.self c.in-Some.ensures.some c.loop-steps.invariant (sym c.has_symbol.ensures ∙ c.if-has_symbol.false)

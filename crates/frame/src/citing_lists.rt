@@ -1,0 +1,265 @@
+//! The lists by which an assertion is cited, where the active `$d` are many.
+ghost use Rattle.std.specs.Prelude.{◌≡◌, ◌==◌, ◌≤◌, ◌<◌, ◌||◌, ◌∷◌, ℕ, [], length, map, OnOk, IfOk};
+ghost use Rattle.std.specs.List.{list_any};
+ghost use Rattle.frame.specs.Below.{AreBelow};
+ghost use Rattle.frame.specs.PairFacts.{AreFacts};
+ghost use Rattle.frame.specs.Stored.AssertionParts.{is_typed, is_typed_by, required_at};
+ghost use Rattle.frame.specs.Stored.EntryMeanings.{names_in, numbered, statements_of};
+ghost use Rattle.frame.specs.Stored.Hypotheses.{AreHypotheses};
+ghost use Rattle.frame.specs.Stored.PairLists.{HasPairs, IsFilledByPairs, IsFilledForCitation, IsPlace, are_among, is_beside};
+ghost use Rattle.frame.specs.Stored.Whole.{AreStored};
+
+use crate::at_position::last_active_at;
+use crate::frame_buffers::FrameBuffers;
+use crate::make::{describe, fill_from_hypotheses, hypothesis};
+use crate::pair_facts::{PairFacts, search_by_facts};
+use crate::storage::Storage;
+use entries::Hypothesis;
+use std::alloc::{AllocError, Global};
+
+/// The symbols of `$d` that are gone through in about the time in which a pair is asked for, of which facts are known.
+const PAIR_COST: usize = 256;
+
+/// The most tries to ask for all pairs, each four times as long as the one before it.
+const MOST_TRIES: usize = 16;
+
+/// Appends the hypotheses of an assertion at `at`, each as one number, and groups that have its pairs of disjoint variables:
+/// one for each two of these where that costs less, else one for each `$d`.
+///
+/// Errors: an allocation fails.
+pub fn fill_for_citation(
+    alloc: Global,
+    storage: &Storage,
+    at: usize,
+    facts: &mut PairFacts,
+    buffers: &mut FrameBuffers,
+) -> Result<(), AllocError>
+    requires place { IsPlace storage.now at }
+    requires facts { AreFacts (numbered storage.now) facts.old }
+    requires hypotheses { AreHypotheses storage.now.entries buffers.old.hypotheses }
+    requires undescribed { (buffers.old.required ≡ []) × (buffers.old.typecodes ≡ []) × (buffers.old.groups ≡ []) }
+    ensures facts { AreFacts (numbered storage.now) facts.new }
+    ensures filled { OnOk result (IsFilledForCitation storage.now at buffers.old.hypotheses buffers.new) }
+{
+    let variables = variables(alloc, storage, &buffers.hypotheses)?;
+    if learn_pairs(storage, at, facts, &variables) {
+        fill_by_pairs(storage, at, facts, buffers, &variables)
+    } else {
+        fill_from_hypotheses(storage, at, buffers)
+    }
+}
+
+/// Returns the variables of the `$f` at these positions.
+///
+/// Errors: an allocation fails.
+fn variables(alloc: Global, storage: &Storage, hypotheses: &[u32]) -> Result<Vec<u32>, AllocError>
+    requires stored { AreStored storage.now }
+    requires hypotheses { AreHypotheses storage.now.entries hypotheses.now }
+    ensures { IfOk result (λ list. (c : ℕ) → list_any (λ n. n == c) list.items ≡ is_typed (map (required_at storage.now.entries) hypotheses.now) c) }
+{
+    let mut list = Vec::new(alloc);
+    for position in hypotheses {
+        let entry = storage.entries.entry(*position as usize - 1);
+        add_variable(hypothesis(entry, *position), &mut list)?;
+    }
+    Ok(list)
+}
+
+/// Appends the variable of a `$f`.
+fn add_variable(hypothesis: Hypothesis, list: &mut Vec<u32>) -> Result<(), AllocError>
+    ensures { OnOk result ((c : ℕ) → list_any (λ n. n == c) list.new.items ≡ (list_any (λ n. n == c) list.old.items || is_typed_by c hypothesis)) }
+{
+    if let Hypothesis::Float(variable) = hypothesis {
+        list.push(variable)?;
+    }
+    Ok(())
+}
+
+/// Asks for each two of the variables, and returns whether that took no longer than going through the active `$d`.
+///
+/// Cost: at most a constant times that of either.
+fn learn_pairs(storage: &Storage, at: usize, facts: &mut PairFacts, variables: &[u32]) -> bool
+    requires place { IsPlace storage.now at }
+    requires facts { AreFacts (numbered storage.now) facts.old }
+    requires below { AreBelow (length (names_in storage.now)) variables.now }
+    ensures { AreFacts (numbered storage.now) facts.new }
+{
+    facts.make_room();
+    let squared = variables.len().saturating_mul(variables.len());
+    let mut most = squared.saturating_mul(PAIR_COST);
+    for _ in 0..MOST_TRIES {
+        if !has_more_symbols(storage, at, most) {
+            return false;
+        }
+        if ask_pairs(storage, at, facts, variables, most) {
+            return true;
+        }
+        most = most.saturating_mul(4);
+    }
+    false
+}
+
+/// Returns whether the `$d` that are active at a position have more symbols than `most`.
+///
+/// Cost: `most`.
+fn has_more_symbols(storage: &Storage, at: usize, most: usize) -> bool
+    requires stored { AreStored storage.now }
+    requires place { (1 ≤ at) × (at ≤ length (statements_of storage.now)) }
+{
+    let mut disjoint = last_active_at(storage, at).disjoint as usize;
+    let mut symbols = 0usize;
+    for _ in 0..most.saturating_add(1) {
+        if disjoint == 0 || disjoint > storage.entries.len() || symbols > most {
+            break;
+        }
+        let entry = storage.entries.entry(disjoint - 1);
+        symbols = symbols.saturating_add(entry.symbols.len());
+        disjoint = entry.before.last_active.disjoint as usize;
+    }
+    symbols > most
+}
+
+/// Asks for each two of the variables, until the searches passed `most` `$d`. Returns whether all were asked for.
+fn ask_pairs(
+    storage: &Storage,
+    at: usize,
+    facts: &mut PairFacts,
+    variables: &[u32],
+    most: usize,
+) -> bool
+    requires place { IsPlace storage.now at }
+    requires facts { AreFacts (numbered storage.now) facts.old }
+    requires below { AreBelow (length (names_in storage.now)) variables.now }
+    ensures { AreFacts (numbered storage.now) facts.new }
+{
+    facts.allow(most);
+    for i in 0..variables.len() {
+        if !ask_pairs_of(storage, at, facts, variables[i], &variables[..i]) {
+            return false;
+        }
+    }
+    true
+}
+
+/// Asks for a variable and each of some others, until the searches passed as many `$d` as they may. Returns whether all were
+/// asked for.
+fn ask_pairs_of(storage: &Storage, at: usize, facts: &mut PairFacts, x: u32, others: &[u32]) -> bool
+    requires place { IsPlace storage.now at }
+    requires facts { AreFacts (numbered storage.now) facts.old }
+    requires below { (x < length (names_in storage.now)) × AreBelow (length (names_in storage.now)) others.now }
+    ensures { AreFacts (numbered storage.now) facts.new }
+{
+    for y in others {
+        if facts.is_spent() {
+            return false;
+        }
+        ask_pair(storage, at, facts, x, *y);
+    }
+    true
+}
+
+/// Asks for two variables.
+fn ask_pair(storage: &Storage, at: usize, facts: &mut PairFacts, x: u32, y: u32)
+    requires place { IsPlace storage.now at }
+    requires facts { AreFacts (numbered storage.now) facts.old }
+    requires below { (x < length (names_in storage.now)) × (y < length (names_in storage.now)) }
+    ensures { AreFacts (numbered storage.now) facts.new }
+{
+    if x != y {
+        let _found = search_by_facts(storage, at, facts, x, y);
+    }
+}
+
+/// Appends the hypotheses of an assertion at `at`, each as one number, and a group for each two of their variables that are
+/// disjoint there.
+///
+/// Cost: the size of the hypotheses, and for each two variables that of `search_by_facts`.
+fn fill_by_pairs(
+    storage: &Storage,
+    at: usize,
+    facts: &mut PairFacts,
+    buffers: &mut FrameBuffers,
+    variables: &[u32],
+) -> Result<(), AllocError>
+    requires place { IsPlace storage.now at }
+    requires facts { AreFacts (numbered storage.now) facts.old }
+    requires hypotheses { AreHypotheses storage.now.entries buffers.old.hypotheses }
+    requires undescribed { (buffers.old.required ≡ []) × (buffers.old.typecodes ≡ []) × (buffers.old.groups ≡ []) }
+    requires variables { (c : ℕ) → list_any (λ n. n == c) variables.now ≡ is_typed (map (required_at storage.now.entries) buffers.old.hypotheses) c }
+    ensures facts { AreFacts (numbered storage.now) facts.new }
+    ensures filled { OnOk result (IsFilledByPairs storage.now at buffers.old.hypotheses buffers.new) }
+{
+    describe(
+        storage,
+        &buffers.hypotheses,
+        &mut buffers.required,
+        &mut buffers.typecodes,
+    )?;
+    add_pairs(storage, at, facts, buffers, variables)
+}
+
+/// Appends a group for each two of the variables that are disjoint.
+fn add_pairs(
+    storage: &Storage,
+    at: usize,
+    facts: &mut PairFacts,
+    buffers: &mut FrameBuffers,
+    variables: &[u32],
+) -> Result<(), AllocError>
+    requires place { IsPlace storage.now at }
+    requires facts { AreFacts (numbered storage.now) facts.old }
+    requires below { AreBelow (length (names_in storage.now)) variables.now }
+    ensures facts { AreFacts (numbered storage.now) facts.new }
+    ensures pairs { OnOk result (HasPairs storage.now at (are_among variables.now) buffers.old buffers.new) }
+{
+    for i in 0..variables.len() {
+        add_pairs_of(storage, at, facts, buffers, variables[i], &variables[..i])?;
+    }
+    Ok(())
+}
+
+/// Appends a group of a variable and each of some others from which it is disjoint.
+fn add_pairs_of(
+    storage: &Storage,
+    at: usize,
+    facts: &mut PairFacts,
+    buffers: &mut FrameBuffers,
+    x: u32,
+    others: &[u32],
+) -> Result<(), AllocError>
+    requires place { IsPlace storage.now at }
+    requires facts { AreFacts (numbered storage.now) facts.old }
+    requires below { (x < length (names_in storage.now)) × AreBelow (length (names_in storage.now)) others.now }
+    ensures facts { AreFacts (numbered storage.now) facts.new }
+    ensures pairs { OnOk result (HasPairs storage.now at (is_beside x others.now) buffers.old buffers.new) }
+{
+    for y in others {
+        add_if_pair(storage, at, facts, buffers, x, *y)?;
+    }
+    Ok(())
+}
+
+/// Appends a group of two variables, if they are disjoint.
+fn add_if_pair(
+    storage: &Storage,
+    at: usize,
+    facts: &mut PairFacts,
+    buffers: &mut FrameBuffers,
+    x: u32,
+    y: u32,
+) -> Result<(), AllocError>
+    requires place { IsPlace storage.now at }
+    requires facts { AreFacts (numbered storage.now) facts.old }
+    requires below { (x < length (names_in storage.now)) × (y < length (names_in storage.now)) }
+    ensures facts { AreFacts (numbered storage.now) facts.new }
+    ensures pairs { OnOk result (HasPairs storage.now at (is_beside x (y ∷ [])) buffers.old buffers.new) }
+{
+    if x == y {
+        return Ok(());
+    }
+    if search_by_facts(storage, at, facts, x, y) {
+        buffers.add_pair(x, y)
+    } else {
+        Ok(())
+    }
+}

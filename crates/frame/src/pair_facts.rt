@@ -1,0 +1,265 @@
+//! The answers of long searches for pairs of disjoint variables.
+ghost use Rattle.std.specs.Prelude.{◌≡◌, [], IfSome};
+ghost use Rattle.frame.specs.PairFacts.{AreFacts, IsFact};
+ghost use Rattle.frame.specs.Parts.{Numbered};
+ghost use Rattle.frame.specs.Stored.EntryMeanings.{numbered};
+ghost use Rattle.frame.specs.Stored.PairLists.{AreAnswered, IsSoughtIn};
+ghost use Rattle.frame.specs.Stored.PairSearch.{AreSought, are_pair};
+
+use crate::pairs::has_symbol;
+use crate::storage::Storage;
+use entries::PositionStack;
+use std::alloc::Global;
+use std::collections::BTreeMap;
+use std::marker::Model;
+
+/// The most facts in a table.
+const MOST_FACTS: usize = 262_144;
+
+/// A search that passes at most so many `$d` records nothing.
+const SHORT: usize = 16;
+
+/// A search asks for a fact at its first `$d`, and at those with a multiple of so many `$d` from them down.
+const STRIDE: usize = 64;
+
+/// Whether two variables stand together in a `$d` that is active right after the `$d` at a position.
+#[derive(Clone, Copy, Drop)]
+pub struct PairFact {
+    /// The position of a `$d`.
+    pub position: u32,
+    /// The number of one variable.
+    pub x: u32,
+    /// The number of the other variable.
+    pub y: u32,
+    /// Whether they stand together.
+    pub found: bool,
+}
+
+/// The answers of long searches, as facts.
+///
+/// Contracts see the list of the facts. A fact holds for one database and those that begin with its statements.
+#[derive(Drop)]
+pub struct PairFacts {
+    facts: Vec<PairFact>,
+    /// The index of the fact of a position and two variables.
+    indexes: BTreeMap<(u64, u64), usize>,
+    /// How many `$d` searches may still pass before they are given up.
+    left: usize,
+}
+
+impl Model for PairFacts {
+    ghost use Rattle.std.specs.Prelude.{List};
+    ghost use Rattle.frame.specs.declared.pair_facts.PairFact.{PairFact};
+
+    ghost Value = { List PairFact };
+
+    ghost view = { λ a. a.facts.items };
+}
+
+impl PairFacts {
+    /// Returns an empty table. Does not allocate.
+    pub fn new(alloc: Global) -> PairFacts
+        ensures { result ≡ [] }
+    {
+        PairFacts {
+            facts: Vec::new(alloc),
+            indexes: BTreeMap::new(alloc),
+            left: 0,
+        }
+    }
+
+    /// Forgets all facts.
+    pub fn clear(&mut self)
+        ensures { self.new ≡ [] }
+    {
+        self.facts.clear();
+        self.indexes.clear();
+    }
+
+    /// Returns the answer that is recorded for a position and two variables, if any is.
+    ///
+    /// Cost: log n for n facts.
+    fn known(&self, position: u32, x: u32, y: u32) -> Option<PairFact>
+        ensures fact { (v : Numbered) → AreFacts v self.now → IfSome result (IsFact v) }
+        ensures asked { IfSome result (λ f. (f.position ≡ position) × (f.x ≡ x) × (f.y ≡ y)) }
+    {
+        let index = self.indexes.get(&key(position, x, y))?;
+        let fact = *self.facts.get(*index)?;
+        if fact.position == position && fact.x == x && fact.y == y {
+            Some(fact)
+        } else {
+            None
+        }
+    }
+
+    /// Records a fact, unless the table is full or an allocation fails.
+    fn record(&mut self, fact: PairFact)
+        ensures { (v : Numbered) → AreFacts v self.old → IsFact v fact → AreFacts v self.new }
+    {
+        if self.facts.len() < MOST_FACTS {
+            self.add(fact);
+        }
+    }
+
+    /// Appends a fact, unless an allocation fails.
+    fn add(&mut self, fact: PairFact)
+        ensures { (v : Numbered) → AreFacts v self.old → IsFact v fact → AreFacts v self.new }
+    {
+        let index = self.facts.len();
+        if self.facts.push(fact).is_ok() {
+            let key = key(fact.position, fact.x, fact.y);
+            let _recorded = self.indexes.insert(key, index);
+        }
+    }
+
+    /// Forgets all facts where more than half of the table is filled.
+    pub(crate) fn make_room(&mut self)
+        ensures { (v : Numbered) → AreFacts v self.old → AreFacts v self.new }
+    {
+        if self.facts.len() > MOST_FACTS / 2 {
+            self.clear();
+        }
+    }
+
+    /// Lets the searches that follow pass so many `$d`.
+    pub(crate) fn allow(&mut self, count: usize)
+        ensures { self.new ≡ self.old }
+    {
+        self.left = count;
+    }
+
+    /// Counts the `$d` that a search passed.
+    fn spend(&mut self, count: usize)
+        ensures { self.new ≡ self.old }
+    {
+        self.left = self.left.saturating_sub(count);
+    }
+
+    /// Returns whether searches passed as many `$d` as they may.
+    pub(crate) fn is_spent(&self) -> bool {
+        self.left == 0
+    }
+}
+
+/// Returns one key for a position and two variables.
+fn key(position: u32, x: u32, y: u32) -> (u64, u64) {
+    (position as u64, (x as u64) << 32 | y as u64)
+}
+
+/// Returns whether two variables are disjoint at a position, with what earlier searches found.
+///
+/// Cost: the smaller count of active `$d` that have x or that have y, times a binary search; where an earlier search for the
+/// two began at or below the same `$d`, those above it and at most 64 more, and log n for n facts.
+pub fn search_by_facts(storage: &Storage, at: usize, facts: &mut PairFacts, x: u32, y: u32) -> bool
+    requires sought { AreSought storage.now at x y }
+    requires facts { AreFacts (numbered storage.now) facts.old }
+    ensures found { result ≡ are_pair storage.now at x y }
+    ensures facts { AreFacts (numbered storage.now) facts.new }
+{
+    let with_x = storage.disjoints.stack(x, at).len();
+    let with_y = storage.disjoints.stack(y, at).len();
+    if with_x <= with_y {
+        search_row(storage, at, facts, x, y)
+    } else {
+        search_row(storage, at, facts, y, x)
+    }
+}
+
+/// Returns whether two variables are disjoint at a position, by the `$d` that have the first.
+fn search_row(storage: &Storage, at: usize, facts: &mut PairFacts, x: u32, y: u32) -> bool
+    requires sought { AreSought storage.now at x y }
+    requires facts { AreFacts (numbered storage.now) facts.old }
+    ensures found { result ≡ are_pair storage.now at x y }
+    ensures facts { AreFacts (numbered storage.now) facts.new }
+{
+    let walked = walk(storage, facts, storage.disjoints.stack(x, at), x, y);
+    facts.spend(walked.steps);
+    if walked.steps > SHORT {
+        let row = storage.disjoints.stack(x, at);
+        record_passed(storage, facts, row, x, y, walked);
+    }
+    walked.found
+}
+
+/// How a search ended.
+#[derive(Clone, Copy, Drop)]
+pub struct Walked {
+    /// How many `$d` it passed that do not have the other variable.
+    pub steps: usize,
+    /// Its answer.
+    pub found: bool,
+}
+
+/// Goes through the `$d` that have x until one has y too, or a fact tells whether one of those that are left has.
+fn walk(storage: &Storage, facts: &PairFacts, mut row: PositionStack<'_>, x: u32, y: u32) -> Walked
+    requires sought { IsSoughtIn storage.now x y row }
+    requires facts { AreFacts (numbered storage.now) facts.now }
+    ensures { AreAnswered storage.now y row.entry result }
+{
+    let height = row.len();
+    for steps in 0..height {
+        let Some(position) = row.pop() else {
+            unreachable!();
+        };
+        if has_symbol(storage, position, y) {
+            return Walked { steps, found: true };
+        }
+        if is_asked(steps, row.len()) {
+            if let Some(fact) = facts.known(position, x, y) {
+                return Walked {
+                    steps,
+                    found: fact.found,
+                };
+            }
+        }
+    }
+    Walked {
+        steps: height,
+        found: false,
+    }
+}
+
+/// Records the answer of a long search at the `$d` that it passed.
+fn record_passed(
+    storage: &Storage,
+    facts: &mut PairFacts,
+    mut row: PositionStack<'_>,
+    x: u32,
+    y: u32,
+    walked: Walked,
+)
+    requires sought { IsSoughtIn storage.now x y row }
+    requires answered { AreAnswered storage.now y row walked }
+    requires facts { AreFacts (numbered storage.now) facts.old }
+    ensures { AreFacts (numbered storage.now) facts.new }
+{
+    let found = walked.found;
+    let top = row.len();
+    for passed in 0..walked.steps {
+        let height = row.len();
+        let Some(position) = row.pop() else {
+            return;
+        };
+        if is_recorded(top, height) {
+            facts.record(PairFact {
+                position,
+                x,
+                y,
+                found,
+            });
+        }
+    }
+}
+
+/// Returns whether a search asks for a fact at a `$d` before which it passed so many, with so many below.
+fn is_asked(passed: usize, below: usize) -> bool {
+    passed == 0 || below % STRIDE == STRIDE - 1
+}
+
+/// Returns whether a long search records its answer at a `$d` with so many from it down: the one that it began with, and the
+/// uppermost one with a multiple of 64, of 128, of 256 and so on. So it records few, and a later search that begins a little
+/// lower mostly meets one of these soon.
+fn is_recorded(top: usize, height: usize) -> bool {
+    let multiple = height & !height.saturating_sub(1);
+    height == top || (height % STRIDE == 0 && top.saturating_sub(height) < multiple)
+}
