@@ -1,5 +1,5 @@
 //! The statements of a database as numbers, by position.
-ghost use Rattle.std.specs.Prelude.{◌≡◌, ◌≤◌, ◌<◌, ◌+◌, ◌^◌, ◌++◌, ◌∷◌, [], length, take, slice_get, Some, OnOk, OnErr, IfOk, IfSome, true};
+ghost use Rattle.std.specs.Prelude.{◌≡◌, ◌≤◌, ◌<◌, ◌+◌, ◌^◌, ◌++◌, ◌∷◌, [], length, take, slice_get, Some, OnOk, OnErr, IfOk, IfSome, IfNone, true, false};
 ghost use Rattle.{entries.specs.Entries.Entry, entries.specs.Entries.IsEntry, entries.specs.Entries.AreWhole, entries.specs.Entries.AreShapedParts, entries.specs.Entries.assertion_of, entries.specs.Entries.made, entries.specs.Stored.Records.IsPlaced, entries.specs.Stored.Records.IsStored, entries.specs.Stored.Records.has_parts, entries.specs.Stored.Records.layout_in, entries.specs.Stored.Records.record_by, entries.specs.Stored.Records.run_by, entries.specs.Stored.Records.run_of, entries.specs.Stored.Spans.Extends};
 
 use crate::assertion_view::{AssertionView, Hypotheses};
@@ -110,7 +110,8 @@ impl Entries {
     /// Returns the parts of the assertion at an index, if they are whole.
     pub fn cited(&self, index: usize) -> Option<AssertionView<'_>>
         requires { index < length self.now }
-        ensures { (e : Entry) → slice_get self.now index ≡ Some e → IfSome result (AreWhole e) }
+        ensures parts { (e : Entry) → slice_get self.now index ≡ Some e → IfSome result (AreWhole e) }
+        ensures none { (e : Entry) → slice_get self.now index ≡ Some e → IfNone result (e.assertion.whole ≡ false) }
     {
         let Stored {
             kept,

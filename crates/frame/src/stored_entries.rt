@@ -1,5 +1,5 @@
 //! The statements as numbers, with the places of the symbols of long expressions.
-ghost use Rattle.std.specs.Prelude.{◌≡◌, ◌≤◌, ◌<◌, ◌+◌, ◌^◌, ◌++◌, ◌∷◌, [], length, take, slice_get, Some, OnOk, OnErr, IfSome};
+ghost use Rattle.std.specs.Prelude.{◌≡◌, ◌≤◌, ◌<◌, ◌+◌, ◌^◌, ◌++◌, ◌∷◌, [], length, take, slice_get, Some, OnOk, OnErr, IfNone, IfSome, false};
 ghost use Rattle.entries.specs.Entries.{AreShapedParts, AreWhole, Entry, IsEntry, assertion_of, made};
 ghost use Rattle.entries.specs.SymbolPlaces.{ArePlacesOf};
 
@@ -91,7 +91,8 @@ impl StoredEntries {
     #[inline(always)]
     pub fn cited(&self, index: usize) -> Option<AssertionView<'_>>
         requires { index < length self.now }
-        ensures { (e : Entry) → slice_get self.now index ≡ Some e → IfSome result (AreWhole e) }
+        ensures parts { (e : Entry) → slice_get self.now index ≡ Some e → IfSome result (AreWhole e) }
+        ensures none { (e : Entry) → slice_get self.now index ≡ Some e → IfNone result (e.assertion.whole ≡ false) }
     {
         self.list.cited(index)
     }
