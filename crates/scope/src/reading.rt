@@ -1,6 +1,6 @@
 //! The queries of a scope: how many statements it has, and what is active.
-ghost use Rattle.std.specs.Prelude.{◌≡◌, ◌==◌, length};
-ghost use Rattle.scope.specs.Active.{is_constant, is_variable};
+ghost use Rattle.std.specs.Prelude.{◌≡◌, length};
+ghost use Rattle.scope.specs.Active.{is_variable};
 ghost use Rattle.scope.specs.Standing.{standing_of};
 
 use crate::legal::Sort;
@@ -13,20 +13,6 @@ impl Scope {
         ensures { result ≡ length self.now.statements }
     {
         self.count
-    }
-
-    /// Returns whether no statement was accepted.
-    pub fn is_empty(&self) -> bool
-        ensures { result ≡ (length self.now.statements == 0) }
-    {
-        self.len() == 0
-    }
-
-    /// Returns whether a `$c` declares the symbol.
-    pub fn is_constant(&self, name: &[u8]) -> bool
-        ensures { result ≡ is_constant self.now.statements name.now }
-    {
-        matches!(self.judge().sort(name), Sort::Constant)
     }
 
     /// Returns whether an active `$v` declares the symbol.

@@ -147,14 +147,6 @@ impl Scope {
         self.rules.close_at_end()
     }
 
-    /// Makes room for `labels` more labels, if allocation succeeds: statements that carry them are then added
-    /// faster.
-    pub fn reserve(&mut self, labels: usize)
-        ensures { self.new ≡ self.old }
-    {
-        self.names.reserve(self.alloc, labels);
-    }
-
     /// Marks the statements accepted so far, for `back`. Does not allocate.
     pub fn mark(&mut self)
         requires { IsTrue (is_closed self.old.statements) }
