@@ -14,6 +14,8 @@ mod first_example;
 #[cfg(test)]
 mod library_workers;
 #[cfg(test)]
+mod meeting;
+#[cfg(test)]
 mod pool_workers;
 #[cfg(test)]
 mod proof_tokens;

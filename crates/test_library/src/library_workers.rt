@@ -1,15 +1,15 @@
 //! The same verdict by any number of workers, and two workers in parallel.
 ghost use Rattle.std.specs.Prelude.{◌≤◌};
 
+use crate::meeting::Meeting;
 use crate::text_entries::{entry, of_new};
 use bytes::Bytes;
 use library::{Cause, Entry, Library, Verdict};
 use numbers::push_number;
 use std::alloc::{AllocError, Global};
-use std::sync::atomic::{AtomicBool, Ordering};
 use std::test::Fail;
 use std::thread::Threads;
-use verify_pool::{Gate, OpenGate, Place, Workers};
+use verify_pool::{Gate, OpenGate, Workers};
 
 /// Texts whose proofs several workers share, and the verdict on each.
 const ROWS: [(&[u8], Verdict); 6] = [
@@ -151,47 +151,8 @@ fn push_proof(text: &mut Vec<u8>, number: u64, is_right: bool) -> Result<(), All
 /// Each of the first two proofs waits at the gate for the other, so two workers run in parallel.
 #[test]
 fn gate_two_proofs(rt: HostRuntime) {
-    let meeting = Meeting {
-        first_came: AtomicBool::new(false),
-        second_came: AtomicBool::new(false),
-        missed: AtomicBool::new(false),
-    };
+    let meeting = Meeting::new();
     let verdict = by_workers(&rt, rt.alloc(), 2, TWO, &meeting);
     assert!(rt; verdict == Some(Verdict::Added));
-    assert!(rt; !meeting.missed.load(Ordering::SeqCst));
-}
-
-/// How often a thread looks whether the other has come.
-const TURNS: u64 = 1_000_000_000;
-
-/// A gate at which the first two proofs meet.
-#[derive(Drop)]
-struct Meeting {
-    first_came: AtomicBool,
-    second_came: AtomicBool,
-    /// Whether one of them waited in vain.
-    missed: AtomicBool,
-}
-
-impl Meeting {
-    /// Records that a proof has come, and waits for the other.
-    fn meet(&self, comes: &AtomicBool, other: &AtomicBool) {
-        comes.store(true, Ordering::SeqCst);
-        for _turn in 0..TURNS {
-            if other.load(Ordering::SeqCst) {
-                return;
-            }
-        }
-        self.missed.store(true, Ordering::SeqCst);
-    }
-}
-
-impl Gate for Meeting {
-    fn pass(&self, place: Place) {
-        match place {
-            Place::Job(0) => self.meet(&self.first_came, &self.second_came),
-            Place::Job(1) => self.meet(&self.second_came, &self.first_came),
-            _ => {}
-        }
-    }
+    assert!(rt; meeting.was_kept());
 }

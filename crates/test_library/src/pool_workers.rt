@@ -5,15 +5,15 @@ ghost use Rattle.scope.specs.Active.{bare};
 ghost use Rattle.verify_pool.specs.Jobs.{AreJobs};
 
 use crate::first_example::push;
+use crate::meeting::Meeting;
 use frame::Frames;
 use mm_lex::Words;
 use mm_read::{Stmt, read};
 use proof_code::{CodeFault, Items, normal};
 use scope::Scope;
 use std::alloc::Global;
-use std::sync::atomic::{AtomicBool, Ordering};
 use std::thread::Threads;
-use verify_pool::{Gate, Job, OpenGate, Place, Workers, check_all};
+use verify_pool::{Gate, Job, OpenGate, Workers, check_all};
 
 /// Two right proofs.
 const TWO: &[u8] = b"$c |- o $. a $a |- o $. p $p |- o $= a $. q $p |- o $= p $.";
@@ -31,49 +31,10 @@ fn answered_after_a_failed_allocation(rt: HostRuntime) {
 /// Each of the first two jobs waits at the gate for the other, so two workers run in parallel.
 #[test]
 fn gate_two_jobs(rt: HostRuntime) {
-    let meeting = Meeting {
-        first_came: AtomicBool::new(false),
-        second_came: AtomicBool::new(false),
-        missed: AtomicBool::new(false),
-    };
+    let meeting = Meeting::new();
     let answer = answer_of(&rt, rt.alloc(), TWO, 2, &meeting);
     assert_eq!(rt; answer, Some(None));
-    assert!(rt; !meeting.missed.load(Ordering::SeqCst));
-}
-
-/// How often a thread looks whether the other has come.
-const TURNS: u64 = 1_000_000_000;
-
-/// A gate at which the first two jobs meet.
-#[derive(Drop)]
-struct Meeting {
-    first_came: AtomicBool,
-    second_came: AtomicBool,
-    /// Whether one of them waited in vain.
-    missed: AtomicBool,
-}
-
-impl Meeting {
-    /// Records that a job has come, and waits for the other.
-    fn meet(&self, comes: &AtomicBool, other: &AtomicBool) {
-        comes.store(true, Ordering::SeqCst);
-        for _turn in 0..TURNS {
-            if other.load(Ordering::SeqCst) {
-                return;
-            }
-        }
-        self.missed.store(true, Ordering::SeqCst);
-    }
-}
-
-impl Gate for Meeting {
-    fn pass(&self, place: Place) {
-        match place {
-            Place::Job(0) => self.meet(&self.first_came, &self.second_came),
-            Place::Job(1) => self.meet(&self.second_came, &self.first_came),
-            _ => {}
-        }
-    }
+    assert!(rt; meeting.was_kept());
 }
 
 /// Returns the answer for the proofs of a text; nothing if the text is no legal database or memory runs out.
