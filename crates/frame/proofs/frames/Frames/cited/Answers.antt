@@ -11,4 +11,4 @@ returns c = λ s h.
     let back : c.args.a - 1 ≡ t.0 = omega (arith, t.2.place) in
     rw (← c.self.view_is)
     (some-map c.cited.result (AreWhole t.1) (IsViewOf (statements_of k) (names_in k) c.args.a s) (λ x p. there-cited k c.args.a t.0 s t.1 x c.self.invariant.stored asserts t.2 p)
-    (c.cited.ensures t.1 (ap (slice_get k.entries) back ∙ t.2.here)))
+    (c.cited.ensures.parts t.1 (ap (slice_get k.entries) back ∙ t.2.here)))
