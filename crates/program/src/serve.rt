@@ -6,7 +6,7 @@ ghost use Rattle.nodes.specs.Adding.{IsOutcome};
 ghost use Rattle.nodes.specs.Desk.{IsListed, IsStatus};
 ghost use Rattle.printed.specs.Printed.{list_text};
 
-use crate::desk_answers::Asked;
+use crate::desk_answers::AnsweringDesk;
 use crate::fault::Fault;
 use crate::scripts::{Answers, Source, answer_lines};
 use crate::served_nodes::{Nodes, NodesDesk, start_nodes, stop_nodes};
@@ -75,15 +75,20 @@ fn answer_at_desk<R: AllocGlobal + Wait, S: Source<ServedLine>, O: Write>(
     output: &mut O,
 ) -> Result<u8, Fault> {
     let desk = nodes.desk()?;
-    let mut asked = Asked {
+    let mut answering = AnsweringDesk {
         rt,
         alloc: rt.alloc(),
         desk: &desk,
     };
-    answer_lines::<ServedLine, Asked<'_, R>, S, O>(rt.alloc(), &mut asked, lines, output)
+    answer_lines::<ServedLine, AnsweringDesk<'_, R>, S, O>(
+        rt.alloc(),
+        &mut answering,
+        lines,
+        output,
+    )
 }
 
-impl<R: Wait> Answers<ServedLine> for Asked<'_, R> {
+impl<R: Wait> Answers<ServedLine> for AnsweringDesk<'_, R> {
     fn answer(&mut self, line: ServedLine, text: &mut Vec<u8>) -> Result<(), Fault> {
         match line? {
             SessionLine::Serve(line) => answer_serve_line(self, line, text),
@@ -101,17 +106,17 @@ fn push_help(alloc: Global, text: &mut Vec<u8>) -> Result<(), Fault> {
 
 /// Carries out a line of a script, and appends its answer.
 fn answer_serve_line<R: Wait>(
-    asked: &Asked<'_, R>,
+    answering: &AnsweringDesk<'_, R>,
     line: ServeLine,
     text: &mut Vec<u8>,
 ) -> Result<(), Fault> {
     match line {
-        ServeLine::Node(line) => answer_node_line(asked, line, text),
+        ServeLine::Node(line) => answer_node_line(answering, line, text),
         ServeLine::Settle(at) => {
-            Ok(push_decided(text, settled(asked.rt, asked.desk, at)?, b"unknown")?)
+            Ok(push_decided(text, settled(answering.rt, answering.desk, at)?, b"unknown")?)
         }
         ServeLine::Add(offered) => {
-            let outcome = added(asked.rt, asked.desk, &offered)?;
+            let outcome = added(answering.rt, answering.desk, &offered)?;
             Ok(push_decided(text, outcome, b"unknown")?)
         }
     }
@@ -128,11 +133,11 @@ fn added<R: Wait>(rt: &R, desk: &NodesDesk, offered: &Offered) -> Result<Option<
 
 /// Carries out a line that `play` has too, and appends its answer.
 fn answer_node_line<R: Wait>(
-    asked: &Asked<'_, R>,
+    answering: &AnsweringDesk<'_, R>,
     line: NodeLine,
     text: &mut Vec<u8>,
 ) -> Result<(), Fault> {
-    let Asked { rt, desk, .. } = *asked;
+    let AnsweringDesk { rt, desk, .. } = *answering;
     match line {
         NodeLine::Offer(offered) => desk.submit(rt, offered.node, offered.entry)?,
         NodeLine::Begin { node } => desk.begin(rt, node)?,
@@ -141,13 +146,13 @@ fn answer_node_line<R: Wait>(
         NodeLine::Status(at) => {
             return Ok(push_decided(text, status(rt, desk, at)?, b"unknown")?);
         }
-        NodeLine::Export { node } => return asked.push_export(node, text),
-        NodeLine::Log { node } => return asked.push_log(node, text),
-        NodeLine::Why(at) => return asked.push_why(at, text),
-        NodeLine::State { node } => return asked.push_state(node, text),
-        NodeLine::Ask(question) => return asked.push_label_answer(&question, text),
-        NodeLine::Compare(pair) => return asked.push_compared(pair, text),
-        NodeLine::Events => return asked.push_events(text),
+        NodeLine::Export { node } => return answering.push_export(node, text),
+        NodeLine::Log { node } => return answering.push_log(node, text),
+        NodeLine::Why(at) => return answering.push_why(at, text),
+        NodeLine::State { node } => return answering.push_state(node, text),
+        NodeLine::Ask(question) => return answering.push_label_answer(&question, text),
+        NodeLine::Compare(pair) => return answering.push_compared(pair, text),
+        NodeLine::Events => return answering.push_events(text),
     }
     Ok(text.extend_from_slice(b"ok\n")?)
 }
