@@ -59,8 +59,18 @@ fn serve_lines<
         serving.workers,
         serving.weather,
     )?;
-    let answered = answer_at_desk(rt, &nodes, lines, output);
-    let stopped = stop_nodes(rt, &mut nodes);
+    answer_and_stop(rt, &mut nodes, lines, output)
+}
+
+/// Prints the answers to the lines, and stops the nodes; returns the exit status.
+fn answer_and_stop<R: AllocGlobal + Threads + Wait, S: Source<ServedLine>, O: Write>(
+    rt: &R,
+    nodes: &mut Nodes,
+    lines: &mut S,
+    output: &mut O,
+) -> Result<u8, Fault> {
+    let answered = answer_at_desk(rt, nodes, lines, output);
+    let stopped = stop_nodes(rt, nodes);
     let status = answered?;
     stopped?;
     print(output, b"stopped\n")?;
