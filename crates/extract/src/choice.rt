@@ -36,7 +36,7 @@ struct SymbolRecord {
 struct Choice<'a> {
     alloc: Global,
     library: &'a Library,
-    marks: &'a mut [bool],
+    marks: Vec<bool>,
     /// The symbols that were declared.
     symbols: NameTable,
     /// The record of each symbol.
@@ -65,13 +65,12 @@ pub(crate) fn choose(
     library: &Library,
     labels: &[&str],
 ) -> Result<Vec<bool>, AllocError> {
-    let mut marks = named(alloc, library, labels)?;
-    walk(alloc, library, &mut marks)?;
-    Ok(marks)
+    let marks = named(alloc, library, labels)?;
+    walk(alloc, library, marks)
 }
 
-/// Takes all that the assertions which are taken need.
-fn walk(alloc: Global, library: &Library, marks: &mut [bool]) -> Result<(), AllocError> {
+/// Marks all that the assertions which are marked need.
+fn walk(alloc: Global, library: &Library, marks: Vec<bool>) -> Result<Vec<bool>, AllocError> {
     let mut choice = Choice {
         alloc,
         library,
@@ -85,7 +84,10 @@ fn walk(alloc: Global, library: &Library, marks: &mut [bool]) -> Result<(), Allo
         due: Vec::new(alloc),
         blocks: Vec::new(alloc),
     };
-    choice.visit_all(library.statements())
+    match choice.visit_all(library.statements()) {
+        Ok(()) => Ok(choice.marks),
+        Err(fault) => Err(fault),
+    }
 }
 
 impl<'a> Choice<'a> {
@@ -151,8 +153,8 @@ impl<'a> Choice<'a> {
     /// Takes a block that ends at a position, if it is used.
     fn take_block(&mut self, block: Block, end: usize) {
         if block.used {
-            mark(self.marks, Some(block.open));
-            mark(self.marks, Some(end));
+            mark(&mut self.marks, Some(block.open));
+            mark(&mut self.marks, Some(end));
             self.use_block();
         }
     }
@@ -275,7 +277,7 @@ impl<'a> Choice<'a> {
         expr: &Words,
         proof: Option<&Words>,
     ) -> Result<(), AllocError> {
-        if is_marked(self.marks, at) {
+        if is_marked(&self.marks, at) {
             self.needs(at, expr, proof)
         } else {
             Ok(())
@@ -291,7 +293,7 @@ impl<'a> Choice<'a> {
             self.hypotheses_of_proof(at, proof)?;
         }
         self.disjoint
-            .find(at, &self.own, self.marks, &mut self.due)?;
+            .find(at, &self.own, &self.marks, &mut self.due)?;
         self.take_due();
         self.passed = self.active.len();
         self.use_block();
@@ -340,7 +342,7 @@ impl<'a> Choice<'a> {
 
     /// Takes the `$e` at a position, and records its variables.
     fn give_all(&mut self, position: usize, expr: &Words) -> Result<(), AllocError> {
-        mark(self.marks, Some(position));
+        mark(&mut self.marks, Some(position));
         for name in expr.iter() {
             self.declaration(name);
             self.give(position, name)?;
@@ -376,7 +378,7 @@ impl<'a> Choice<'a> {
             },
         ) = statement_at(self.library.statements(), position)
         {
-            mark(self.marks, Some(position));
+            mark(&mut self.marks, Some(position));
             self.declaration(constant.as_bytes());
             self.declaration(variable.as_bytes());
         }
@@ -412,7 +414,7 @@ impl<'a> Choice<'a> {
 
     /// Takes the statement at a position, and the declarations of its symbols.
     fn take(&mut self, position: usize, symbols: &Words) {
-        mark(self.marks, Some(position));
+        mark(&mut self.marks, Some(position));
         for name in symbols.iter() {
             self.declaration(name);
         }
@@ -444,7 +446,7 @@ impl<'a> Choice<'a> {
 
     /// Takes the `$d` at a position, if it is not taken yet.
     fn take_disjoint(&mut self, position: usize) {
-        if is_marked(self.marks, position) {
+        if is_marked(&self.marks, position) {
             return;
         }
         if let Some(Stmt::Disj(names)) = statement_at(self.library.statements(), position) {
@@ -456,7 +458,7 @@ impl<'a> Choice<'a> {
     fn declaration(&mut self, name: &[u8]) {
         if let Some(record) = self.record(name) {
             let declared = record.declared;
-            mark(self.marks, Some(declared));
+            mark(&mut self.marks, Some(declared));
         }
     }
 }
