@@ -4,10 +4,7 @@ use clap::{Arg, ArgAction, ArgMatches, Command, Error};
 use std::alloc::{AllocError, Global};
 
 /// The version that `--version` prints.
-const VERSION: &str = "1.0.0";
-
-/// The line that `--version` prints.
-pub const VERSION_LINE: &str = "mmlib 1.0.0\n";
+pub const VERSION: &str = "1.0.0";
 
 /// The form of an argument.
 enum Form {

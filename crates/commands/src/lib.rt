@@ -34,7 +34,7 @@ mod text_form;
 mod weights;
 
 pub use command_line::parse_words;
-pub use grammar::VERSION_LINE;
+pub use grammar::VERSION;
 pub use line_words::{EntryAt, NodePair};
 pub use lines::Lines;
 pub use node_line::NodeLine;

@@ -2,7 +2,7 @@
 use crate::line_words::SPACE;
 use crate::pieces::cut;
 
-/// The lines of `play` that its help lists; it has others too (`NodeLine`).
+/// The lines of `play`: each after two spaces, and then its meaning, after two spaces or more.
 pub(crate) const PLAY_LINES: &str = "\
 Lines, K a node from 0:
   offer K AUTHOR SERIAL TEXT         offer a text at node K
@@ -13,8 +13,20 @@ Lines, K a node from 0:
   deliver N                          deliver packet N, from 0
   restart K                          restart node K
   apply K                            apply the next entry of its log
-  show N, log K, list K, export K    print a packet, a log, a library
-  status K AUTHOR SERIAL             print what its library decided";
+  show N                             print packet N
+  status K AUTHOR SERIAL             print what its library decided
+  why K AUTHOR SERIAL                print why the entry was refused
+  list K                             print the assertions of its library
+  export K                           print the statements of its library
+  log K                              print the entries that it learned
+  state K                            print its role, promise and counts
+  trace K LABEL                      print the axioms of a proof
+  tree K LABEL                       print a derivation
+  usage K LABEL                      print who cites a statement
+  proof K LABEL                      print the steps of a proof
+  show K LABEL                       print a statement
+  compare J K                        print which library has more statements
+  events                             print the history, as lines of play";
 
 /// The lines of `serve`: each after two spaces, and then its meaning, after two spaces or more. A
 /// session has `help` too.

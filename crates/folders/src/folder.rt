@@ -46,17 +46,3 @@ pub trait Folder {
     fn write(&mut self, name: &str, bytes: &[u8]) -> Result<(), FolderFault>
         ensures { OnOk result (gains self.old name.now bytes.now self.new) };
 }
-
-/// No folder: each path is refused.
-#[derive(Clone, Copy)]
-pub struct NoFolder;
-
-impl Folder for NoFolder {
-    fn open(&mut self, _path: &str) -> Result<(), FolderFault> {
-        Err(FolderFault::Refused)
-    }
-
-    fn write(&mut self, _name: &str, _bytes: &[u8]) -> Result<(), FolderFault> {
-        Err(FolderFault::Refused)
-    }
-}

@@ -7,6 +7,6 @@ mod folder;
 mod memory_folder;
 mod system_folder;
 
-pub use folder::{Folder, FolderFault, NoFolder};
+pub use folder::{Folder, FolderFault};
 pub use memory_folder::{MemoryFolder, WrittenFile};
 pub use system_folder::SystemFolder;

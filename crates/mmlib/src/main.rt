@@ -3,7 +3,7 @@
 #![tactic(auto)]
 
 use folders::SystemFolder;
-use program::{Fault, print, run_with};
+use program::{Fault, print, run};
 use std::alloc::{AllocError, Global};
 use std::process::ExitCode;
 use std::{env, io};
@@ -13,7 +13,7 @@ fn main(rt: HostRuntime) -> ExitCode {
     let mut faults = rt.stderr();
     let status = match arguments(&rt) {
         Ok(arguments) => match as_words(rt.alloc(), arguments.as_slice()) {
-            Ok(words) => run_with(
+            Ok(words) => run(
                 &rt,
                 words.as_slice(),
                 &mut rt.stdin(),

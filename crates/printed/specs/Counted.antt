@@ -1,16 +1,23 @@
 -- Answers of several lines, which begin with the count of their lines.
 -- Source: this project's own form.
 -- The code appends each part to the answer.
-use Rattle.std.specs.Prelude.{ℕ, ◌==◌, List, ◌++◌, codes, count_by, decimal, Option}
+use Rattle.std.specs.Prelude.{ℕ, ◌==◌, List, ◌++◌, codes, count_by, decimal, flat_map, Option}
 use Rattle.world.specs.declared.carried.Carried.{Carried}
 use Rattle.world.specs.Carried.{entry_of}
-use Rattle.printed.specs.declared.counted.TheConstants.{LINE_FEED}
 use Rattle.printed.specs.Printed.{entry_text}
+
+-- how many bytes are line feeds
+abbrev pub line_feeds_of : List ℕ → ℕ
+line_feeds_of text = count_by (λ b. b == 10) text
 
 -- a word, the count of the lines, and the lines
 abbrev pub counted_text : List ℕ → List ℕ → List ℕ
-counted_text word lines = word ++ codes " " ++ decimal (count_by (λ b. b == LINE_FEED) lines) ++ codes "\n" ++ lines
+counted_text word lines = word ++ codes " " ++ decimal (line_feeds_of lines) ++ codes "\n" ++ lines
 
 -- an entry of a log, after a space
 abbrev pub carried_text : Option Carried → List ℕ
 carried_text v = codes " " ++ entry_text (entry_of v)
+
+-- the entries that a node learned, on one line
+abbrev pub learned_text : List (Option Carried) → List ℕ
+learned_text entries = codes "log" ++ flat_map carried_text entries ++ codes "\n"

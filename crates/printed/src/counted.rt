@@ -1,14 +1,11 @@
 //! Answers of several lines, which begin with the count of their lines, and the entries of a node.
-ghost use Rattle.std.specs.Prelude.{◌≡◌, ◌++◌, ◌==◌, codes, count_by, flat_map, OnOk};
-ghost use Rattle.printed.specs.Counted.{carried_text, counted_text};
+ghost use Rattle.std.specs.Prelude.{◌≡◌, ◌++◌, OnOk};
+ghost use Rattle.printed.specs.Counted.{counted_text, learned_text, line_feeds_of};
 
 use crate::packets::push_value;
 use numbers::push_number;
 use std::alloc::AllocError;
 use world::Carried;
-
-/// The byte that ends a line.
-const LINE_FEED: u8 = b'\n';
 
 /// Appends a word, the count of the lines, and the lines, each with its line feed.
 pub fn push_counted(text: &mut Vec<u8>, word: &[u8], lines: &[u8]) -> Result<(), AllocError>
@@ -23,15 +20,15 @@ pub fn push_counted(text: &mut Vec<u8>, word: &[u8], lines: &[u8]) -> Result<(),
 
 /// Counts the line feeds of a text.
 fn line_feeds(text: &[u8]) -> usize
-    ensures { result ≡ count_by (λ b. b == LINE_FEED) text.now }
+    ensures { result ≡ line_feeds_of text.now }
 {
-    text.iter().filter(|byte| **byte == LINE_FEED).count()
+    text.iter().filter(|byte| **byte == b'\n').count()
 }
 
-/// Appends the entries that a node learned, on one line: each entry, or `idle` for a no-operation.
+/// Appends the entries that a node learned, on one line, as `push_log` does: each entry, or `idle`
+/// for a no-operation.
 pub fn push_learned(text: &mut Vec<u8>, entries: &[Option<Carried>]) -> Result<(), AllocError>
-    ensures { OnOk result (text.new.items
-        ≡ text.old.items ++ (codes "log" ++ flat_map carried_text entries.now ++ codes "\n")) }
+    ensures { OnOk result (text.new.items ≡ text.old.items ++ learned_text entries.now) }
 {
     text.extend_from_slice(b"log")?;
     for entry in entries {

@@ -6,23 +6,12 @@ use crate::pictured::print_picture;
 use crate::play::play;
 use crate::serve::serve;
 use crate::streams::print;
-use commands::{Request, VERSION_LINE, WordsFault, parse_words};
-use folders::{Folder, NoFolder};
+use commands::{Request, VERSION, WordsFault, parse_words};
+use folders::Folder;
 use std::alloc::AllocError;
 use std::io::{Read, Write};
 use std::sync::Wait;
 use std::thread::Threads;
-
-/// Runs the command of these words as `run_with` does, without a folder: `pages` is refused, like
-/// an output that cannot be written.
-pub fn run<
-    R: AllocGlobal + Threads + Wait + Copy + Send + Sync + Drop + 'static,
-    I: Read,
-    O: Write,
-    F: Write,
->(rt: &R, words: &[&str], input: &mut I, output: &mut O, faults: &mut F) -> u8 {
-    run_with(rt, words, input, output, faults, &mut NoFolder)
-}
 
 /// Runs the command of these words, without the program's own name, and returns the exit status. The
 /// files that `pages` writes go into a folder that `folder` opens.
@@ -31,7 +20,7 @@ pub fn run<
 /// of memory) or a failed write, 2 for a bad command line, help, bad weights or a bad script. Answers,
 /// refusals and the bad lines of scripts go to `output`; all else that is printed (help, the text of
 /// a bad command line, explanations, notes, the progress of `pages`) goes to `faults`.
-pub fn run_with<
+pub fn run<
     R: AllocGlobal + Threads + Wait + Copy + Send + Sync + Drop + 'static,
     I: Read,
     O: Write,
@@ -65,7 +54,7 @@ fn answer<
     folder: &mut S,
 ) -> Result<u8, Fault> {
     match request {
-        Request::Version => print(output, VERSION_LINE.as_bytes()).map(|()| 0),
+        Request::Version => print_version(output),
         Request::Outline { name } => print_outline(rt.alloc(), name, input, output, faults),
         Request::Ask(asked) => ask(rt, &asked, input, output, faults),
         Request::Pages(asked) => print_pages(rt, asked, input, output, faults, folder),
@@ -75,4 +64,11 @@ fn answer<
         }
         Request::Serve(serving) => serve(rt, serving, input, output),
     }
+}
+
+/// Prints the name and the version of the program, and returns the exit status.
+fn print_version<O: Write>(output: &mut O) -> Result<u8, Fault> {
+    writeln!(output, "mmlib {VERSION}")?;
+    print(output, b"")?;
+    Ok(0)
 }

@@ -1,11 +1,11 @@
 //! Answers about a node, asked at a desk of the nodes that `serve` starts.
-ghost use Rattle.std.specs.Prelude.{◌≡◌, ◌++◌, ◌≤◌, ℕ, List, Err, IfOk, OnOk, codes, flat_map};
+ghost use Rattle.std.specs.Prelude.{◌≡◌, ◌++◌, ◌≤◌, ℕ, List, Err, IfOk, OnOk};
 ghost use Rattle.cluster.specs.Cell.{Cell};
 ghost use Rattle.net.specs.declared.event.Event.{Event as TakenEvent};
 ghost use Rattle.world.specs.declared.carried.Carried.{Carried as TakenEntry};
 ghost use Rattle.nodes.specs.Questions.{IsCellAt, IsHistory, IsStanding};
 ghost use Rattle.nodes.specs.declared.questions.NodeStanding.{NodeStanding};
-ghost use Rattle.printed.specs.Counted.{carried_text};
+ghost use Rattle.printed.specs.Counted.{learned_text};
 ghost use Rattle.printed.specs.Printed.{export_text};
 ghost use Rattle.printed.specs.States.{state_text};
 ghost use Rattle.event_lines.specs.EventLines.{history_text};
@@ -23,15 +23,15 @@ use std::alloc::{AllocError, Global};
 use std::sync::Wait;
 use world::Carried;
 
-/// A desk, and the allocator of its answers.
+/// A desk at which lines are answered, and the allocator of the answers.
 #[derive(Drop)]
-pub struct Asked<'a, R: Wait> {
+pub struct AnsweringDesk<'a, R: Wait> {
     pub rt: &'a R,
     pub alloc: Global,
     pub desk: &'a NodesDesk,
 }
 
-impl<R: Wait> Asked<'_, R> {
+impl<R: Wait> AnsweringDesk<'_, R> {
     /// Appends the statements of a node's library.
     pub fn push_export(&self, node: u8, text: &mut Vec<u8>) -> Result<(), Fault>
         ensures { OnOk result ((cell : Cell) × IsCellAt node cell
@@ -46,8 +46,8 @@ impl<R: Wait> Asked<'_, R> {
 
     /// Appends the entries that a node took over from its log.
     pub fn push_log(&self, node: u8, text: &mut Vec<u8>) -> Result<(), Fault>
-        ensures { OnOk result ((cell : Cell) × IsCellAt node cell × (text.new.items
-            ≡ text.old.items ++ (codes "log" ++ flat_map carried_text cell.entries ++ codes "\n"))) }
+        ensures { OnOk result ((cell : Cell) × IsCellAt node cell
+            × (text.new.items ≡ text.old.items ++ learned_text cell.entries)) }
     {
         let alloc = self.alloc;
         let made = self.desk.ask(self.rt, node, |cell| log_of(alloc, cell))??;
@@ -125,8 +125,7 @@ fn export_of(alloc: Global, cell: &NodeCell) -> Result<Vec<u8>, AllocError>
 
 /// Returns the entries of a cell, on one line.
 fn log_of(alloc: Global, cell: &NodeCell) -> Result<Vec<u8>, AllocError>
-    ensures { IfOk result (λ text. text.items
-        ≡ codes "log" ++ flat_map carried_text cell.now.entries ++ codes "\n") }
+    ensures { IfOk result (λ text. text.items ≡ learned_text cell.now.entries) }
 {
     let mut text = Vec::new(alloc);
     push_learned(&mut text, cell.entries())?;

@@ -20,18 +20,18 @@ pub enum Fault {
     /// A read of the input failed.
     #[error("refused Input")]
     Input,
-    /// An allocation failed.
+    /// An allocation failed; no other variant says so.
     #[error("refused Memory")]
     Memory(#[from(alloc)] AllocError),
     /// A question on a label has no answer.
     #[error("refused {0:?}")]
-    Ask(#[from] AskFault),
+    Ask(AskFault),
     /// Assertions cannot be extracted.
     #[error("refused {0:?}")]
-    Extract(#[from] ExtractFault),
+    Extract(ExtractFault),
     /// A node refuses what a line asks for.
     #[error("refused {0:?}")]
-    Step(#[from] StepFault),
+    Step(StepFault),
     /// A picture has no room for the steps of a run.
     #[error("refused TooLarge")]
     LongRun,
@@ -104,6 +104,33 @@ impl Fault {
 impl From<io::Error> for Fault {
     fn from(_error: io::Error) -> Fault {
         Fault::Output
+    }
+}
+
+impl From<AskFault> for Fault {
+    fn from(fault: AskFault) -> Fault {
+        match fault {
+            AskFault::Memory => Fault::Memory(AllocError),
+            other => Fault::Ask(other),
+        }
+    }
+}
+
+impl From<ExtractFault> for Fault {
+    fn from(fault: ExtractFault) -> Fault {
+        match fault {
+            ExtractFault::Memory => Fault::Memory(AllocError),
+            other => Fault::Extract(other),
+        }
+    }
+}
+
+impl From<StepFault> for Fault {
+    fn from(fault: StepFault) -> Fault {
+        match fault {
+            StepFault::Memory => Fault::Memory(AllocError),
+            other => Fault::Step(other),
+        }
     }
 }
 

@@ -37,6 +37,6 @@ mod shown;
 mod streams;
 mod why;
 
-pub use command_line::{run, run_with};
+pub use command_line::run;
 pub use fault::Fault;
 pub use streams::print;

@@ -6,7 +6,7 @@ ghost use Rattle.nodes.specs.Adding.{IsOutcome};
 ghost use Rattle.nodes.specs.Desk.{IsListed, IsStatus};
 ghost use Rattle.printed.specs.Printed.{list_text};
 
-use crate::desk_answers::Asked;
+use crate::desk_answers::AnsweringDesk;
 use crate::fault::Fault;
 use crate::scripts::{Answers, Source, answer_lines};
 use crate::served_nodes::{Nodes, NodesDesk, start_nodes, stop_nodes};
@@ -59,8 +59,18 @@ fn serve_lines<
         serving.workers,
         serving.weather,
     )?;
-    let answered = answer_at_desk(rt, &nodes, lines, output);
-    let stopped = stop_nodes(rt, &mut nodes);
+    answer_and_stop(rt, &mut nodes, lines, output)
+}
+
+/// Prints the answers to the lines, and stops the nodes; returns the exit status.
+fn answer_and_stop<R: AllocGlobal + Threads + Wait, S: Source<ServedLine>, O: Write>(
+    rt: &R,
+    nodes: &mut Nodes,
+    lines: &mut S,
+    output: &mut O,
+) -> Result<u8, Fault> {
+    let answered = answer_at_desk(rt, nodes, lines, output);
+    let stopped = stop_nodes(rt, nodes);
     let status = answered?;
     stopped?;
     print(output, b"stopped\n")?;
@@ -75,15 +85,20 @@ fn answer_at_desk<R: AllocGlobal + Wait, S: Source<ServedLine>, O: Write>(
     output: &mut O,
 ) -> Result<u8, Fault> {
     let desk = nodes.desk()?;
-    let mut asked = Asked {
+    let mut answering = AnsweringDesk {
         rt,
         alloc: rt.alloc(),
         desk: &desk,
     };
-    answer_lines::<ServedLine, Asked<'_, R>, S, O>(rt.alloc(), &mut asked, lines, output)
+    answer_lines::<ServedLine, AnsweringDesk<'_, R>, S, O>(
+        rt.alloc(),
+        &mut answering,
+        lines,
+        output,
+    )
 }
 
-impl<R: Wait> Answers<ServedLine> for Asked<'_, R> {
+impl<R: Wait> Answers<ServedLine> for AnsweringDesk<'_, R> {
     fn answer(&mut self, line: ServedLine, text: &mut Vec<u8>) -> Result<(), Fault> {
         match line? {
             SessionLine::Serve(line) => answer_serve_line(self, line, text),
@@ -101,18 +116,15 @@ fn push_help(alloc: Global, text: &mut Vec<u8>) -> Result<(), Fault> {
 
 /// Carries out a line of a script, and appends its answer.
 fn answer_serve_line<R: Wait>(
-    asked: &Asked<'_, R>,
+    answering: &AnsweringDesk<'_, R>,
     line: ServeLine,
     text: &mut Vec<u8>,
 ) -> Result<(), Fault> {
     match line {
-        ServeLine::Node(line) => answer_node_line(asked, line, text),
-        ServeLine::Settle(at) => {
-            Ok(push_decided(text, settled(asked.rt, asked.desk, at)?, b"unknown")?)
-        }
+        ServeLine::Node(line) => answer_node_line(answering, line, text),
+        ServeLine::Settle(at) => push_verdict(settled(answering.rt, answering.desk, at), text),
         ServeLine::Add(offered) => {
-            let outcome = added(asked.rt, asked.desk, &offered)?;
-            Ok(push_decided(text, outcome, b"unknown")?)
+            push_verdict(added(answering.rt, answering.desk, &offered), text)
         }
     }
 }
@@ -128,28 +140,39 @@ fn added<R: Wait>(rt: &R, desk: &NodesDesk, offered: &Offered) -> Result<Option<
 
 /// Carries out a line that `play` has too, and appends its answer.
 fn answer_node_line<R: Wait>(
-    asked: &Asked<'_, R>,
+    answering: &AnsweringDesk<'_, R>,
     line: NodeLine,
     text: &mut Vec<u8>,
 ) -> Result<(), Fault> {
-    let Asked { rt, desk, .. } = *asked;
+    let AnsweringDesk { rt, desk, .. } = *answering;
     match line {
-        NodeLine::Offer(offered) => desk.submit(rt, offered.node, offered.entry)?,
-        NodeLine::Begin { node } => desk.begin(rt, node)?,
-        NodeLine::Restart { node } => desk.restart(rt, node)?,
-        NodeLine::List { node } => return Ok(push_node_list(rt, desk, node, text)?),
-        NodeLine::Status(at) => {
-            return Ok(push_decided(text, status(rt, desk, at)?, b"unknown")?);
-        }
-        NodeLine::Export { node } => return asked.push_export(node, text),
-        NodeLine::Log { node } => return asked.push_log(node, text),
-        NodeLine::Why(at) => return asked.push_why(at, text),
-        NodeLine::State { node } => return asked.push_state(node, text),
-        NodeLine::Ask(question) => return asked.push_label_answer(&question, text),
-        NodeLine::Compare(pair) => return asked.push_compared(pair, text),
-        NodeLine::Events => return asked.push_events(text),
+        NodeLine::Offer(offered) => push_done(desk.submit(rt, offered.node, offered.entry), text),
+        NodeLine::Begin { node } => push_done(desk.begin(rt, node), text),
+        NodeLine::Restart { node } => push_done(desk.restart(rt, node), text),
+        NodeLine::List { node } => Ok(push_node_list(rt, desk, node, text)?),
+        NodeLine::Status(at) => push_verdict(status(rt, desk, at), text),
+        NodeLine::Export { node } => answering.push_export(node, text),
+        NodeLine::Log { node } => answering.push_log(node, text),
+        NodeLine::Why(at) => answering.push_why(at, text),
+        NodeLine::State { node } => answering.push_state(node, text),
+        NodeLine::Ask(question) => answering.push_label_answer(&question, text),
+        NodeLine::Compare(pair) => answering.push_compared(pair, text),
+        NodeLine::Events => answering.push_events(text),
     }
+}
+
+/// Appends `ok`, if an event was taken.
+fn push_done(done: Result<(), StepFault>, text: &mut Vec<u8>) -> Result<(), Fault> {
+    done?;
     Ok(text.extend_from_slice(b"ok\n")?)
+}
+
+/// Appends a verdict, or `unknown` if there is none yet.
+fn push_verdict(
+    verdict: Result<Option<Verdict>, StepFault>,
+    text: &mut Vec<u8>,
+) -> Result<(), Fault> {
+    Ok(push_decided(text, verdict?, b"unknown")?)
 }
 
 /// Appends the assertions of the node's library.

@@ -4,7 +4,7 @@ use crate::limited_folder::LimitedFolder;
 use crate::row::{Choice, Cut, Faults, Row, Way};
 use crate::wanted_output::{Printed, Wanted, difference, status_of};
 use folders::MemoryFolder;
-use program::run_with;
+use program::run;
 use std::alloc::{AllocError, Global};
 use std::fmt::Display;
 use std::io::Read;
@@ -112,7 +112,7 @@ impl<'a, 'w, R: AllocGlobal + Threads + Wait + Copy + Send + Sync + Drop + 'stat
         let mut output = Vec::new(self.rt.alloc());
         let mut faults = Vec::new(self.rt.alloc());
         let mut folder = LimitedFolder::new(self.rt.alloc(), self.row.files);
-        let status = run_with(
+        let status = run(
             self.rt,
             self.words,
             input,
@@ -215,7 +215,7 @@ impl<'a, 'w, R: AllocGlobal + Threads + Wait + Copy + Send + Sync + Drop + 'stat
         let mut writer = FailingWriter::new(alloc, calls);
         let mut faults = Vec::new(alloc);
         let mut folder = MemoryFolder::new(alloc);
-        let status = run_with(
+        let status = run(
             self.rt,
             self.words,
             &mut input,

@@ -102,7 +102,7 @@ fn draw_mark(
         Mark::Break { at } => timeline.push_break(place(at)),
         Mark::Learned { first, end, .. } => draw_learned(alloc, timeline, first, end),
         Mark::Arrow { packet, from, to } => draw_arrow(alloc, timeline, scene, packet, from, to),
-        Mark::Stump { packet, from, to } => draw_stump(alloc, timeline, scene, packet, from, to),
+        Mark::Stump { packet, to, .. } => draw_stump(alloc, timeline, scene, packet, to),
     }
 }
 
@@ -148,20 +148,19 @@ fn draw_arrow(
     timeline.push_arrow(origin(from), place(to), label.as_slice())
 }
 
-/// Draws the stump of a packet.
+/// Draws the stump of a packet of the step that was drawn last.
 fn draw_stump(
     alloc: Global,
     timeline: &mut Timeline,
     scene: Scene<'_>,
     number: u64,
-    from: Spot,
     to: u8,
 ) -> Result<(), AllocError> {
     let Ok(packet) = scene.world.packet(number) else {
         return Ok(());
     };
     let title = packet_title(alloc, packet)?;
-    timeline.push_stump(place(from), to, number, title.as_slice())
+    timeline.push_stump(to, number, title.as_slice())
 }
 
 /// Returns where a spot is drawn.

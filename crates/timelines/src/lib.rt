@@ -1,8 +1,8 @@
 //! A picture, as SVG, of a run of some nodes: a line for each node from top to bottom, and a row for
 //! each thing that happens.
 //!
-//! A row has one line of text, and the numbers of stumps stand between its row and the next. The numbers
-//! of several stumps of one row at one line stand on one spot.
+//! A row has one line of text, and the numbers of stumps stand between it and the next row. Several
+//! stumps of one row to one node are drawn as one, with their numbers joined.
 //!
 //! Reading order: `grid` (coordinates), `style`, `parts` (lines and texts), `timeline`.
 #![tactic(auto)]

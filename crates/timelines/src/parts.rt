@@ -6,6 +6,9 @@ use std::alloc::AllocError;
 /// How far an arrow from a node to itself goes to the left.
 const BULGE: u64 = 30;
 
+/// How many characters have room below a stump, next to those of another one.
+const MOST_CHARACTERS: usize = 8;
+
 /// Appends some text and a number.
 pub(crate) fn push_at(text: &mut Vec<u8>, before: &[u8], number: u64) -> Result<(), AllocError> {
     text.extend_from_slice(before)?;
@@ -69,12 +72,13 @@ pub(crate) fn push_stump(
     text.extend_from_slice(b"</title></path>\n")
 }
 
-/// Appends the number of a stump, below its end.
-pub(crate) fn push_stump_number(
+/// Appends the numbers of a stump, which are joined by commas, below its end. If they have no room,
+/// the first ones stand there, and `..` for the others.
+pub(crate) fn push_stump_numbers(
     text: &mut Vec<u8>,
     from: Place,
     to: u8,
-    number: u64,
+    numbers: &[u8],
 ) -> Result<(), AllocError> {
     let end = stump_end(from.node, to);
     push_pair(
@@ -84,8 +88,26 @@ pub(crate) fn push_stump_number(
         b"\" y=\"",
         from.y() + STUMP_DEPTH + 9,
     )?;
-    push_at(text, b"\">", number)?;
+    text.extend_from_slice(b"\">")?;
+    if numbers.len() <= MOST_CHARACTERS {
+        text.extend_from_slice(numbers)?;
+    } else {
+        text.extend_from_slice(first_numbers(numbers))?;
+        text.extend_from_slice(b"..")?;
+    }
     text.extend_from_slice(b"</text>\n")
+}
+
+/// Returns the first of some numbers that are joined by commas, as many as have room before `..`, but
+/// at least one.
+fn first_numbers(numbers: &[u8]) -> &[u8] {
+    let mut len = 0usize;
+    for (end, byte) in numbers.iter().enumerate() {
+        if *byte == b',' && (len == 0 || end + b"..".len() <= MOST_CHARACTERS) {
+            len = end;
+        }
+    }
+    numbers.get(..len).unwrap_or(numbers)
 }
 
 /// Appends a break of a node's line.

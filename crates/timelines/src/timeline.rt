@@ -2,9 +2,10 @@
 use crate::grid::{Place, below, width};
 use crate::parts::{
     push_arrow, push_at, push_break, push_dot, push_node, push_row, push_span, push_stump,
-    push_stump_number,
+    push_stump_numbers,
 };
 use crate::style::{END, HEAD, STYLE};
+use numbers::push_number;
 use std::alloc::{AllocError, Global};
 
 /// How a point looks.
@@ -28,6 +29,10 @@ pub struct Timeline {
     nodes: u8,
     /// How many rows there are.
     rows: u32,
+    /// The point of the last row.
+    last: Place,
+    /// The stumps of the last row, one for each node that they go to.
+    stumps: Vec<Stump>,
     /// Arrows and stumps, which stand below points and texts.
     lines: Vec<u8>,
     points: Vec<u8>,
@@ -37,12 +42,24 @@ pub struct Timeline {
     longest: u32,
 }
 
+/// The stumps of a row that go to one node, which are drawn as one.
+#[derive(Drop)]
+struct Stump {
+    to: u8,
+    /// Their numbers, joined by commas.
+    numbers: Vec<u8>,
+    /// Their titles, joined by line feeds.
+    titles: Vec<u8>,
+}
+
 impl Timeline {
     /// Returns a picture of `nodes` nodes without a row. Does not allocate.
     pub fn new(alloc: Global, nodes: u8) -> Timeline {
         Timeline {
             nodes,
             rows: 0,
+            last: Place { node: 0, row: None },
+            stumps: Vec::new(alloc),
             lines: Vec::new(alloc),
             points: Vec::new(alloc),
             texts: Vec::new(alloc),
@@ -67,6 +84,7 @@ impl Timeline {
         push_dot(&mut self.points, at, class_of(sign))?;
         push_row(&mut self.texts, at, number)?;
         self.texts.extend_from_slice(label)?;
+        self.last = at;
         self.length = count(label);
         self.rows = self.rows.saturating_add(1);
         Ok(())
@@ -83,16 +101,29 @@ impl Timeline {
         self.push_words(b"p", label)
     }
 
-    /// Draws a stump towards a node, with its number and a title.
-    pub fn push_stump(
-        &mut self,
-        from: Place,
-        to: u8,
-        number: u64,
-        title: &[u8],
-    ) -> Result<(), AllocError> {
-        push_stump(&mut self.lines, from, to, title)?;
-        push_stump_number(&mut self.points, from, to, number)
+    /// Draws a stump from the point of the row that was begun last towards a node, with its number and
+    /// a title. Several to one node are drawn as one, with all their numbers and titles.
+    pub fn push_stump(&mut self, to: u8, number: u64, title: &[u8]) -> Result<(), AllocError> {
+        for stump in self.stumps.iter_mut() {
+            if stump.to == to {
+                return stump.join(number, title);
+            }
+        }
+        self.begin_stump(to, number, title)
+    }
+
+    /// Begins the stump of the last row towards a node.
+    fn begin_stump(&mut self, to: u8, number: u64, title: &[u8]) -> Result<(), AllocError> {
+        let alloc = *self.lines.allocator();
+        let mut numbers = Vec::new(alloc);
+        push_number(&mut numbers, number)?;
+        let titles = Vec::from_slice(alloc, title)?;
+        self.stumps.push(Stump {
+            to,
+            numbers,
+            titles,
+        })?;
+        Ok(())
     }
 
     /// Appends a note to the label of the row that was begun last.
@@ -107,8 +138,29 @@ impl Timeline {
         Ok(())
     }
 
-    /// Ends the text of the row that was begun last, if there is one.
+    /// Draws the stumps of the last row.
+    fn draw_stumps(&mut self) -> Result<(), AllocError> {
+        for stump in self.stumps.as_slice() {
+            push_stump(
+                &mut self.lines,
+                self.last,
+                stump.to,
+                stump.titles.as_slice(),
+            )?;
+            push_stump_numbers(
+                &mut self.points,
+                self.last,
+                stump.to,
+                stump.numbers.as_slice(),
+            )?;
+        }
+        self.stumps.clear();
+        Ok(())
+    }
+
+    /// Draws the stumps and ends the text of the row that was begun last, if there is one.
     fn end_row(&mut self) -> Result<(), AllocError> {
+        self.draw_stumps()?;
         if self.rows > 0 {
             self.texts.extend_from_slice(b"</text>\n")?;
         }
@@ -132,6 +184,15 @@ impl Timeline {
         svg.extend_from_slice(self.texts.as_slice())?;
         svg.extend_from_slice(END)?;
         Ok(svg)
+    }
+}
+
+impl Stump {
+    /// Adds a number and a title.
+    fn join(&mut self, number: u64, title: &[u8]) -> Result<(), AllocError> {
+        push_at(&mut self.numbers, b",", number)?;
+        self.titles.extend_from_slice(b"\n")?;
+        self.titles.extend_from_slice(title)
     }
 }
 
