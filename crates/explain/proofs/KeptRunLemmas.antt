@@ -1,5 +1,5 @@
 -- What a citation gives, and what wrong results are.
-use Rattle.explain.proofs.Words.{◌≡◌, ℕ, zero, suc, ◌+◌, ◌-◌, ◌<◌, ◌≤◌, Bool, true, List, [], ◌∷◌, ◌++◌, length, take, drop, arith, refl, sym, ◌∙◌, ap, subst, Some, None, Option, slice_get, IfOk, MatchOption, Result, Ok, Err, length-take, length-drop, take_all, ◌&&◌, AllocError, IsTrue, Vec, list_all, length-map, same_Some, Name, Stmt, Database, Expr, stmt_at, before, expr_of, is_variable, is_assertion, name_at, decode, hypotheses, HasAssertion, IsHypothesis, Fault, Unknown, Inactive, Later, Few, Constant, Expression, Together, Heavy, Unmarked, named, image_at, images_read, AreTaken, images_of, IsWrong, Gives, of_assertion, State, FailsAt, SYMBOLS_LIMIT}
+use Rattle.explain.proofs.Words.{◌≡◌, ℕ, zero, suc, ◌+◌, ◌-◌, ◌<◌, Bool, true, List, [], ◌∷◌, ◌++◌, length, refl, sym, ◌∙◌, ap, subst, Some, None, Option, slice_get, ◌&&◌, IsTrue, list_all, same_Some, Name, Stmt, Database, Expr, stmt_at, before, expr_of, is_variable, is_assertion, decode, hypotheses, HasAssertion, IsHypothesis, Fault, Unknown, Inactive, Later, Few, Constant, Expression, Together, Heavy, Unmarked, image_at, images_read, AreTaken, images_of, IsWrong, Gives, of_assertion, State, FailsAt}
 use Rattle.mm_read.specs.declared.stmt.Stmt.TheVariants as stmt
 use Rattle.frame.specs.Substitution.{apply as applied}
 
@@ -39,25 +39,17 @@ gives_is S at a s rs stack below e earlier stands variable taken whole is =
     (whole ∙ ap (λ r. below ++ r) (sym taken.fit)) is
 
 -- wrong results are a fault
-pub wrong_fails : (S : Database) (names : List Name) (at a : ℕ) (s : Stmt) (h : State) (below rs : List Expr) (fault : Fault) → h.weight ≤ SYMBOLS_LIMIT → h.stack ≡ below ++ rs
-    → length rs ≡ length (hypotheses (before S a) s) → a < at → HasAssertion S a s
-    → ((k p : ℕ) (l c x : Name) → slice_get (hypotheses (before S a) s) k ≡ Some p → stmt_at S p ≡ Some (stmt.Float l c x) → is_variable (before S a) x ≡ true)
-    → IsWrong S names at a s rs (SYMBOLS_LIMIT - h.weight) fault → FailsAt S names at h a s fault
-wrong_fails S names at a s h below rs Unknown light whole count earlier stands variable wrong = absurd wrong
-wrong_fails S names at a s h below rs (Inactive i) light whole count earlier stands variable wrong = absurd wrong
-wrong_fails S names at a s h below rs (Later i) light whole count earlier stands variable wrong = absurd wrong
-wrong_fails S names at a s h below rs (Few b t n) light whole count earlier stands variable wrong = absurd wrong
-wrong_fails S names at a s h below rs (Constant b p r) light whole count earlier stands variable wrong = record { earlier = earlier; assertion = stands.1; below = below; results = rs; whole = whole; count = count; wrong = wrong }
-wrong_fails S names at a s h below rs (Expression b p q r) light whole count earlier stands variable wrong = record { earlier = earlier; assertion = stands.1; below = below; results = rs; whole = whole; count = count; wrong = wrong }
-wrong_fails S names at a s h below rs (Together b x y u v) light whole count earlier stands variable wrong = record { earlier = earlier; assertion = stands.1; below = below; results = rs; whole = whole; count = count; wrong = wrong }
-wrong_fails S names at a s h below rs Heavy light whole count earlier stands variable wrong =
-    record {
-      below = below;
-      result = applied (images_of S a s rs) (expr_of s);
-      gives = gives_is S at a s rs h.stack below (applied (images_of S a s rs) (expr_of s)) earlier stands variable wrong.0 whole refl;
-      heavy = let over = wrong.1 in omega (arith, light, over);
-    }
-wrong_fails S names at a s h below rs Unmarked light whole count earlier stands variable wrong = absurd wrong
+pub wrong_fails : (S : Database) (names : List Name) (at a : ℕ) (s : Stmt) (h : State) (below rs : List Expr) (fault : Fault) → h.stack ≡ below ++ rs
+    → length rs ≡ length (hypotheses (before S a) s) → a < at → HasAssertion S a s → IsWrong S names at a s rs fault → FailsAt S names at h a s fault
+wrong_fails S names at a s h below rs Unknown whole count earlier stands wrong = absurd wrong
+wrong_fails S names at a s h below rs (Inactive i) whole count earlier stands wrong = absurd wrong
+wrong_fails S names at a s h below rs (Later i) whole count earlier stands wrong = absurd wrong
+wrong_fails S names at a s h below rs (Few b t n) whole count earlier stands wrong = absurd wrong
+wrong_fails S names at a s h below rs (Constant b p r) whole count earlier stands wrong = record { earlier = earlier; assertion = stands.1; below = below; results = rs; whole = whole; count = count; wrong = wrong }
+wrong_fails S names at a s h below rs (Expression b p q r) whole count earlier stands wrong = record { earlier = earlier; assertion = stands.1; below = below; results = rs; whole = whole; count = count; wrong = wrong }
+wrong_fails S names at a s h below rs (Together b x y u v) whole count earlier stands wrong = record { earlier = earlier; assertion = stands.1; below = below; results = rs; whole = whole; count = count; wrong = wrong }
+wrong_fails S names at a s h below rs Heavy whole count earlier stands wrong = absurd wrong
+wrong_fails S names at a s h below rs Unmarked whole count earlier stands wrong = absurd wrong
 
 -- a statement that stands where an assertion stands is an assertion
 pub assertion_is : (S : Database) (a : ℕ) (r s : Stmt) → HasAssertion S a r → stmt_at S a ≡ Some s → HasAssertion S a s

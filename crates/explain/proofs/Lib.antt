@@ -12,7 +12,7 @@ pub mod CitationFaultLemmas
 pub mod ViolationLemmas
 pub mod VariableLemmas
 pub mod DisjointPairLemmas
-pub mod ConcludedLemmas
+pub mod WrongResultsLemmas
 pub mod KeptRunLemmas
 pub mod RunItemLemmas
 pub mod StoppedLemmas

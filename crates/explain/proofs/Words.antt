@@ -3,7 +3,6 @@ pub use Rattle.entries.specs.declared.assertion_view.Hypothesis.{Hypothesis}
 pub use Rattle.entries.specs.declared.assertion_view.Hypothesis.TheVariants.{Essential, Float}
 pub use Rattle.explain.specs.Breaks.{AreBroken, BeginsWith, Breaks, IsAllowed, IsEnd, IsFirst, IsLetterBreak, IsListing, IsNotLabel, IsOver, fails, joined, marks_in, place_in}
 pub use Rattle.explain.specs.CitationFaults.{AllFit, BeginsOther, IsFloat, IsMismatch, IsOther, IsOtherConstant, IsSaid, StartsOther, asks}
-pub use Rattle.explain.specs.Concluded.{AreTaken, IsWrong, images_of}
 pub use Rattle.explain.specs.DisjointViolations.{AreShared, IsViolation, IsViolationIn, IsViolationWith, is_kept, is_other_disjoint}
 pub use Rattle.explain.specs.Explained.{Gives, named_behind, of_assertion, of_hypothesis}
 pub use Rattle.explain.specs.FirstFault.{Fails, FailsAt, FailsCited, IsFirstFault, RunsWell}
@@ -13,6 +12,7 @@ pub use Rattle.explain.specs.ReadImages.{AreVariables, code_at, codes_read, imag
 pub use Rattle.explain.specs.Stored.DisjointPairs.{AreDisjointPairs, IsDisjointPair, IsPairAt, IsPairOf}
 pub use Rattle.explain.specs.Stored.Vectors.{AreImages, AreSymbols, code_images, codes, named}
 pub use Rattle.explain.specs.VariableLists.{AreListsOf, AreSeen, AreVariablesOf}
+pub use Rattle.explain.specs.WrongResults.{AreTaken, IsWrong, images_of}
 pub use Rattle.explain.specs.declared.disjoint_pairs.VariablePair.{VariablePair}
 pub use Rattle.explain.specs.declared.named_images.Image.{Image}
 pub use Rattle.explain.specs.declared.reason.Fault.{Fault}

@@ -1,13 +1,11 @@
--- The outcome of a citation of an assertion over results, one for each of its mandatory hypotheses.
+-- The results that a citation of an assertion takes, one for each of its mandatory hypotheses: taken, or wrong.
 -- Source: Metamath, 4.2.6.
--- The code reads the images off the results, tests them, and substitutes them in the assertion's expression.
-use Rattle.std.specs.Prelude.{◌≡◌, ℕ, ◌<◌, ◌≤◌, IsTrue, List, length}
-use Rattle.explain.specs.Words.{Name, Stmt, Expr, Database, before, expr_of, decode, AreBelow, hypotheses, mandatory_groups, are_groups_disjoint}
-use Rattle.frame.specs.Substitution.{Images, apply as applied}
+-- The code reads the images off the results and tests them; it does not write the conclusion.
+use Rattle.std.specs.Prelude.{◌≡◌, ℕ, IsTrue, List}
+use Rattle.explain.specs.Words.{Name, Stmt, Expr, Database, before, hypotheses, mandatory_groups, are_groups_disjoint}
+use Rattle.frame.specs.Substitution.{Images}
 use Rattle.explain.specs.declared.reason.Fault.{Fault}
-use Rattle.explain.specs.declared.reason.Fault.TheVariants.{Together, Heavy, Constant, Expression}
-use Rattle.explain.specs.declared.named_citation.Concluded.{Concluded}
-use Rattle.explain.specs.declared.named_citation.Concluded.TheVariants.{Wrong, Right}
+use Rattle.explain.specs.declared.reason.Fault.TheVariants.{Together, Constant, Expression}
 use Rattle.explain.specs.ReadImages.{images_read}
 use Rattle.explain.specs.DisjointViolations.{IsViolation}
 use Rattle.explain.specs.CitationFaults.{AllFit, IsMismatch}
@@ -25,21 +23,11 @@ pub record AreTaken (S : Database) (at a : ℕ) (s : Stmt) (rs : List Expr) : Ty
   pub fit : DoFit S a s rs
   pub disjoint : IsTrue (are_groups_disjoint (before S at) (images_of S a s rs) (mandatory_groups (before S a) s))
 
--- the fault of the results: the first mismatch; else two variables that are not disjoint; else too long a result
-abbrev pub IsWrong : Database → List Name → ℕ → ℕ → Stmt → List Expr → ℕ → Fault → Type 0
-IsWrong S names at a s rs room (Constant b p there) = IsMismatch S names a s rs (Constant b p there)
-IsWrong S names at a s rs room (Expression b p required there) = IsMismatch S names a s rs (Expression b p required there)
-IsWrong S names at a s rs room (Together b x y u v) =
+-- the fault of the results: the first mismatch, or two variables that are not disjoint
+abbrev pub IsWrong : Database → List Name → ℕ → ℕ → Stmt → List Expr → Fault → Type 0
+IsWrong S names at a s rs (Constant b p there) = IsMismatch S names a s rs (Constant b p there)
+IsWrong S names at a s rs (Expression b p required there) = IsMismatch S names a s rs (Expression b p required there)
+IsWrong S names at a s rs (Together b x y u v) =
     (b ≡ a) × DoFit S a s rs
     × IsViolation (before S at) names (images_of S a s rs) (mandatory_groups (before S a) s) (record { first = x; second = y; one = u; other = v })
-IsWrong S names at a s rs room Heavy = AreTaken S at a s rs × (room < length (applied (images_of S a s rs) (expr_of s)))
-IsWrong S names at a s rs room fault = ⊥
-
--- the outcome of these results
-abbrev pub IsConcluded : Database → List Name → ℕ → ℕ → Stmt → List Expr → ℕ → Concluded → Type 0
-IsConcluded S names at a s rs room (Wrong fault) = IsWrong S names at a s rs room fault
-IsConcluded S names at a s rs room (Right e) = AreTaken S at a s rs × (decode names e.items ≡ applied (images_of S a s rs) (expr_of s)) × (length e.items ≤ room)
-
-abbrev pub IsBelow : ℕ → Concluded → Type 0
-IsBelow n (Wrong fault) = Unit {0}
-IsBelow n (Right e) = AreBelow n e.items
+IsWrong S names at a s rs fault = ⊥

@@ -1,8 +1,8 @@
 -- The results that explain an item, and that the item cannot be done within the limit.
 -- Source: Metamath, 4.2.6; the limit is this project's.
 -- The code has the verifier's results, by numbers; here are expressions.
-use Rattle.std.specs.Prelude.{◌≡◌, ℕ, ◌+◌, ◌<◌, ◌≤◌, List, ◌++◌, length, map, Some}
-use Rattle.explain.specs.Words.{Stmt, Expr, Database, expr_of, stmt_at, decode, AllBelow, Numbered, IsHypothesis, IsInstance, premises, behind, named, State, HeldResults, SYMBOLS_LIMIT}
+use Rattle.std.specs.Prelude.{◌≡◌, ℕ, ◌+◌, ◌<◌, List, ◌++◌, length, map, Some}
+use Rattle.explain.specs.Words.{Stmt, Expr, Database, expr_of, stmt_at, decode, Numbered, IsHypothesis, IsInstance, premises, behind, named, State, HeldResults, SYMBOLS_LIMIT}
 use Rattle.frame.specs.Substitution.{Images, apply as applied}
 
 -- a citation of the statement s at i replaces the results above `below` by e
@@ -13,11 +13,6 @@ pub data Gives (S : Database) (at i : ℕ) (s : Stmt) (stack below : List Expr) 
 -- the results, by name, after those that are kept for labels
 abbrev pub named_behind : Numbered → ℕ → HeldResults → State
 named_behind f labels results = named f.names (behind labels results.results)
-
--- each number has a name, and the results are within the limit
-pub record MayExplain (f : Numbered) (results : HeldResults) : Type 0 where
-  pub below : AllBelow (length f.names) results.results.stack
-  pub light : results.results.weight ≤ SYMBOLS_LIMIT
 
 -- every result that a citation of the statement at i gives makes the proof too heavy
 abbrev pub CannotCite : Numbered → ℕ → ℕ → HeldResults → Type 0

@@ -1,14 +1,14 @@
 -- The first fault of the run over the items of a proof: at an item, or at the end, after all earlier items succeed.
 -- Source: Metamath, 4.2.6 and appendix B; the limit is this project's.
 -- The code stops at this fault.
-use Rattle.std.specs.Prelude.{◌≡◌, ◌≢◌, ℕ, ◌+◌, ◌-◌, ◌<◌, ◌≤◌, true, IsTrue, List, [], ◌∷◌, ◌++◌, length, take, Some, slice_get}
-use Rattle.explain.specs.Words.{Vec, Name, Stmt, Expr, Database, before, expr_of, is_assertion, decode, hypotheses, Carries, IsHypothesis, Item, Cite, Recall, Mark, SYMBOLS_LIMIT, State, start, IsSaved, Runs}
+use Rattle.std.specs.Prelude.{◌≡◌, ◌≢◌, ℕ, ◌+◌, ◌<◌, ◌≤◌, true, IsTrue, List, [], ◌∷◌, ◌++◌, length, take, Some, slice_get}
+use Rattle.explain.specs.Words.{Name, Stmt, Expr, Database, before, expr_of, is_assertion, decode, hypotheses, Carries, IsHypothesis, Item, Cite, Recall, Mark, SYMBOLS_LIMIT, State, start, IsSaved, Runs}
 use Rattle.explain.specs.declared.reason.Fault.{Fault}
 use Rattle.explain.specs.declared.reason.Fault.TheVariants.{Unknown, Inactive, Later, Few, Constant, Expression, Together, Heavy, Unmarked}
 use Rattle.explain.specs.declared.reason.Reason.{Reason}
 use Rattle.explain.specs.declared.reason.Reason.TheVariants as reason
-use Rattle.explain.specs.Concluded.{IsWrong}
 use Rattle.explain.specs.Explained.{Gives}
+use Rattle.explain.specs.WrongResults.{IsWrong}
 
 -- the last results on the stack, one for each mandatory hypothesis of the earlier assertion s at a, are wrong
 pub record AreWrong (S : Database) (names : List Name) (at : ℕ) (h : State) (a : ℕ) (s : Stmt) (fault : Fault) : Type 0 where
@@ -18,7 +18,7 @@ pub record AreWrong (S : Database) (names : List Name) (at : ℕ) (h : State) (a
   pub results : List Expr
   pub whole : h.stack ≡ below ++ results
   pub count : length results ≡ length (hypotheses (before S a) s)
-  pub wrong : IsWrong S names at a s results (SYMBOLS_LIMIT - h.weight) fault
+  pub wrong : IsWrong S names at a s results fault
 
 -- a citation of the statement s at i gives a result that makes the proof too heavy
 pub record IsHeavy (S : Database) (at : ℕ) (h : State) (i : ℕ) (s : Stmt) : Type 0 where

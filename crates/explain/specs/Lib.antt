@@ -7,7 +7,7 @@ pub mod ImagePlaces
 pub mod VariableLists
 pub mod DisjointViolations
 pub mod CitationFaults
-pub mod Concluded
+pub mod WrongResults
 pub mod Explained
 pub mod FirstFault
 pub mod Stored

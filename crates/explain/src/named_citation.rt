@@ -1,16 +1,16 @@
 //! One citation.
 ghost use Rattle.std.specs.Prelude.{◌≡◌, ℕ, ◌<◌, ◌≤◌, drop, length, IfOk, MatchOption, Some};
 ghost use Rattle.mm_read.specs.declared.stmt.Stmt.{Stmt as Statement};
-ghost use Rattle.frame.specs.Below.{AreBelow};
+ghost use Rattle.frame.specs.Below.{AllBelow};
 ghost use Rattle.frame.specs.FrameOf.{HasAssertion, hypotheses};
 ghost use Rattle.frame.specs.AssertionView.{IsViewOf};
 ghost use Rattle.frame.specs.AtPosition.{AreLegal};
 ghost use Rattle.explain.specs.Stored.Vectors.{AreSymbols, AreImages, CountIs, codes, named};
 ghost use Rattle.explain.specs.CitationFaults.{IsSaid, IsMismatch, FitsAll, AreReadOff};
 ghost use Rattle.scope.specs.Active.{before, stmt_at};
-ghost use Rattle.explain.specs.Explained.{MayExplain, CannotCite, named_behind};
+ghost use Rattle.explain.specs.Explained.{CannotCite, named_behind};
 ghost use Rattle.explain.specs.FirstFault.{FailsAt};
-ghost use Rattle.explain.specs.Concluded.{IsBelow, IsConcluded};
+ghost use Rattle.explain.specs.WrongResults.{AreTaken, IsWrong};
 ghost use Rattle.subst.specs.declared.buffer.TheConstants.{SYMBOLS_LIMIT};
 
 use crate::named_images::{Images, agrees, apply, read_images};
@@ -33,7 +33,7 @@ pub fn cite(
     results: &Results,
 ) -> Result<Fault, AllocError>
     requires place { (1 ≤ at) × (at ≤ length frames.now.statements) }
-    requires results { MayExplain frames.now results.now }
+    requires results { AllBelow (length frames.now.names) results.now.results.stack }
     requires stuck { CannotCite frames.now at statement results.now }
     ensures { (labels : ℕ) (s : Statement) → stmt_at frames.now.statements statement ≡ Some s
         → IfOk result (FailsAt frames.now.statements frames.now.names at (named_behind frames.now labels results.now) statement s) }
@@ -59,7 +59,7 @@ fn cite_assertion(
     requires place { (1 ≤ at) × (at ≤ length frames.now.statements) }
     requires earlier { a < at }
     requires assertion { (s : Statement) × HasAssertion frames.now.statements a s }
-    requires results { MayExplain frames.now results.now }
+    requires results { AllBelow (length frames.now.names) results.now.results.stack }
     requires stuck { CannotCite frames.now at a results.now }
     ensures { (labels : ℕ) (s : Statement) → stmt_at frames.now.statements a ≡ Some s
         → IfOk result (FailsAt frames.now.statements frames.now.names at (named_behind frames.now labels results.now) a s) }
@@ -88,7 +88,7 @@ fn cite_parts(
     requires assertion { (s : Statement) × HasAssertion frames.now.statements a s }
     requires mandatory { (s : Statement) → stmt_at frames.now.statements a ≡ Some s → mandatory.now ≡ hypotheses (before frames.now.statements a) s }
     requires cited { (s : Statement) → stmt_at frames.now.statements a ≡ Some s → IsViewOf frames.now.statements frames.now.names a s cited.now }
-    requires results { MayExplain frames.now results.now }
+    requires results { AllBelow (length frames.now.names) results.now.results.stack }
     requires stuck { CannotCite frames.now at a results.now }
     ensures { (labels : ℕ) (s : Statement) → stmt_at frames.now.statements a ≡ Some s
         → IfOk result (FailsAt frames.now.statements frames.now.names at (named_behind frames.now labels results.now) a s) }
@@ -103,19 +103,9 @@ fn cite_parts(
         });
     }
     let taken = last_results(alloc, results, there - takes)?;
-    let room = SYMBOLS_LIMIT - results.weight();
-    match conclude(
-        alloc,
-        frames,
-        at,
-        a,
-        mandatory,
-        cited,
-        taken.as_slice(),
-        room,
-    )? {
-        Concluded::Wrong(fault) => Ok(fault),
-        Concluded::Right(_) => unreachable!(),
+    match find_wrong(alloc, frames, at, a, mandatory, cited, taken.as_slice())? {
+        Some(fault) => Ok(fault),
+        None => Ok(Fault::Heavy),
     }
 }
 
@@ -137,17 +127,9 @@ fn last_results<'a>(
     Ok(taken)
 }
 
-/// The outcome of a citation.
-#[derive(Drop)]
-pub(crate) enum Concluded {
-    /// The fault.
-    Wrong(Fault),
-    /// The result.
-    Right(Vec<u32>),
-}
-
-/// Returns the result of an assertion for these results, one for each of its hypotheses, or the fault of the citation.
-fn conclude(
+/// Returns the fault of these results, one for each hypothesis of an assertion, or `None` if its hypotheses require them and
+/// its pairs are disjoint. Does not write the conclusion.
+fn find_wrong(
     alloc: Global,
     frames: &Frames,
     at: usize,
@@ -155,8 +137,7 @@ fn conclude(
     mandatory: &[u32],
     cited: &AssertionView<'_>,
     results: &[&[u32]],
-    room: usize,
-) -> Result<Concluded, AllocError>
+) -> Result<Option<Fault>, AllocError>
     requires legal { AreLegal frames.now.statements frames.now.names }
     requires place { (1 ≤ at) × (at ≤ length frames.now.statements) }
     requires earlier { a < at }
@@ -165,18 +146,18 @@ fn conclude(
     requires cited { (s : Statement) → stmt_at frames.now.statements a ≡ Some s → IsViewOf frames.now.statements frames.now.names a s cited.now }
     requires symbols { AreSymbols (length frames.now.names) results.now }
     requires count { CountIs frames.now.statements a (length results.now) }
-    ensures below { IfOk result (IsBelow (length frames.now.names)) }
-    ensures told { (s : Statement) → stmt_at frames.now.statements a ≡ Some s
-        → IfOk result (IsConcluded frames.now.statements frames.now.names at a s (named frames.now.names results.now) room) }
+    ensures { (s : Statement) → stmt_at frames.now.statements a ≡ Some s
+        → IfOk result (λ r. MatchOption r (AreTaken frames.now.statements at a s (named frames.now.names results.now))
+        (IsWrong frames.now.statements frames.now.names at a s (named frames.now.names results.now))) }
 {
     let images = read_images(alloc, &cited.hypotheses, results)?;
     if let Some(fault) = find_other(alloc, frames, a, mandatory, cited, results, &images)? {
-        return Ok(Concluded::Wrong(fault));
+        return Ok(Some(fault));
     }
     let pairs = frames.active_pairs(at);
     let violation = find_violation(alloc, &pairs, &images, &cited.groups)?;
     if let Some(violation) = violation {
-        return Ok(Concluded::Wrong(Fault::Together {
+        return Ok(Some(Fault::Together {
             assertion: a,
             first: violation.first,
             second: violation.second,
@@ -184,10 +165,7 @@ fn conclude(
             other: violation.other,
         }));
     }
-    match apply(alloc, &images, cited.conclusion, room)? {
-        Some(result) => Ok(Concluded::Right(result)),
-        None => Ok(Concluded::Wrong(Fault::Heavy)),
-    }
+    Ok(None)
 }
 
 /// Returns the fault of the first hypothesis that requires another result than the one that stands there.

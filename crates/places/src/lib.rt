@@ -14,4 +14,4 @@ mod place;
 pub use comments::{CommentFault, comment_fault};
 pub use description::descriptions;
 pub use lines_and_columns::{Position, line_and_column};
-pub use place::{first_token, place_of, place_within, statement_at};
+pub use place::{place_of, place_within, statement_at};

@@ -49,7 +49,7 @@ pub fn place_within(text: &[u8], spans: &[Span], statement: usize, token: usize)
 /// statements.
 ///
 /// Cost: the number of tokens before it.
-pub fn first_token(text: &[u8], spans: &[Span], statement: usize) -> usize
+pub(crate) fn first_token(text: &[u8], spans: &[Span], statement: usize) -> usize
     requires words { All (IsWordAt text.now) spans.now }
     requires some { 1 ≤ statement }
     ensures first { result ≡ behind_ends (statement - 1) (words text.now spans.now) }

@@ -10,5 +10,4 @@ mod page;
 mod pages;
 mod slots;
 
-pub use page::PAGE_SLOTS;
 pub use slots::{SLOTS, Slots};

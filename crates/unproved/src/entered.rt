@@ -1,5 +1,5 @@
 //! The statements of a text, with their rules and frames.
-ghost use Rattle.std.specs.Prelude.{◌≡◌, ◌≤◌, ℕ, [], length, Ok, Some, None, IfOk, IfSome};
+ghost use Rattle.std.specs.Prelude.{◌≡◌, ◌≤◌, [], true, false, length, Ok, None, IfOk, IfSome};
 ghost use Rattle.std.specs.List.{All};
 ghost use Rattle.mm_read.specs.Statements.{AreShaped};
 ghost use Rattle.scope.specs.Active.{bares};
@@ -54,7 +54,7 @@ impl Entered {
     {
         let mut rules = Rules::new(alloc);
         let mut frames = Frames::new(alloc);
-        if let Some(_broken) = enter(&mut rules, &mut frames, statements.as_slice())? {
+        if !enter(&mut rules, &mut frames, statements.as_slice())? {
             return Ok(None);
         }
         Ok(Some(Entered {
@@ -202,32 +202,33 @@ fn assume(statement: &mut Stmt)
 }
 
 /// Adds the statements to rules and frames that have none, up to the first that is not legal.
-/// Returns its number from 1, for an open block one more than that of the last; or `None` if all are
-/// legal.
+/// Returns whether all are legal and no block is open at the end.
+///
+/// Errors: an allocation fails. Cost: the size of the statements.
 fn enter(
     rules: &mut Rules,
     frames: &mut Frames,
     statements: &[Stmt],
-) -> Result<Option<usize>, AllocError>
+) -> Result<bool, AllocError>
     requires shaped { AreShaped statements.now }
     requires no_rules { rules.old.statements ≡ [] }
     requires no_frames { frames.old.statements ≡ [] }
-    ensures entered { result ≡ Ok None
+    ensures entered { result ≡ Ok true
         → IsEntered rules.new.statements frames.new.statements statements.now }
-    ensures broken { (at : ℕ) → result ≡ Ok (Some at) → ¬ AllLegal statements.now }
+    ensures broken { result ≡ Ok false → ¬ AllLegal statements.now }
 {
     frames.reserve(statements.len() / 2);
     let mut steps = Steps::new();
-    for (index, statement) in statements.iter().enumerate() {
+    for statement in statements {
         if let Err(rule) = frames.add(rules, statement, &mut steps) {
             if rule == Rule::Memory {
                 return Err(AllocError);
             }
-            return Ok(Some(index + 1));
+            return Ok(false);
         }
     }
     match rules.close_at_end() {
-        Ok(()) => Ok(None),
-        Err(_open) => Ok(Some(statements.len() + 1)),
+        Ok(()) => Ok(true),
+        Err(_open) => Ok(false),
     }
 }

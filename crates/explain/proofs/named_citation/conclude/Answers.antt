@@ -1,9 +1,8 @@
-use Rattle.explain.proofs.Words.{◌<◌, ◌∙◌, ap, sym, subst, length, refl, map, before, expr_of, AreDistinct, decode, AreBelow, AllBelow, hypotheses, AreImages, codes, code_images, named, named_images, images_read, AreVariables}
+use Rattle.explain.proofs.Words.{◌∙◌, ap, sym, subst, length, refl, map, before, AreDistinct, decode, AllBelow, hypotheses, AreImages, codes, code_images, named, named_images, images_read, AreVariables}
 use Rattle.explain.proofs.VectorLemmas.{required-kinds}
-use Rattle.explain.proofs.ImagesLemmas.{apply-below}
 use Rattle.explain.proofs.NamedLemmas.{images_are, named-codes}
-use Rattle.explain.proofs.ConcludedLemmas.{wrong_is, violation_moved, disjoint_moved, conclusion_is, conclusion_length}
-use Rattle.explain.proofs.named_citation.conclude.Goals as goal
+use Rattle.explain.proofs.WrongResultsLemmas.{wrong_is, violation_moved, disjoint_moved}
+use Rattle.explain.proofs.named_citation.find_wrong.Goals as goal
 
 pub read_images-requires : goal.read_images-requires
 read_images-requires c =
@@ -26,14 +25,6 @@ find_violation-requires-clause-images c =
     let n = length c.args.frames.now.names in
     subst (λ ns. AreImages (length ns) c.in_ok-images.images) (sym c.active_pairs-pairs.ensures.names) (c.in_ok-images.ensures.below n c.requires.symbols)
 
-pub returns-in-Some-2-clause-below : goal.returns-in-Some-2-clause-below
-returns-in-Some-2-clause-below c =
-    let s = c.requires.assertion.0 in let e = c.requires.assertion.1.0 in
-    let n = length c.args.frames.now.names in
-    let images = c.in_ok-images.ensures.below n c.requires.symbols in
-    let told = rw c.in-Some-2.is at c.in_ok-result.ensures in
-    subst (λ l. AreBelow n l) (sym told.0) (apply-below n c.in_ok-images.images c.args.cited.now.conclusion.now images (c.requires.cited s e).conclusion_below)
-
 pub find_other-requires-clause-read : goal.find_other-requires-clause-read
 find_other-requires-clause-read c s e =
     let S = c.args.frames.now.statements in let names = c.args.frames.now.names in let cited = c.requires.cited s e in
@@ -55,13 +46,13 @@ find_violation-requires-clause-variables c =
 pub find_violation-requires-clause-distinct : goal.find_violation-requires-clause-distinct
 find_violation-requires-clause-distinct c = subst (λ ns. AreDistinct ns) (sym c.active_pairs-pairs.ensures.names) c.requires.legal.distinct
 
-pub returns-in-Some-clause-told : goal.returns-in-Some-clause-told
-returns-in-Some-clause-told c s e =
+pub returns-in-Some : goal.returns-in-Some
+returns-in-Some c s e =
     let S = c.args.frames.now.statements in let names = c.args.frames.now.names in
-    wrong_is S names c.args.at c.args.a s (named names c.args.results.now) c.args.room c.in-Some.fault (rw c.in-Some.is at (c.in_ok-fault.ensures s e))
+    wrong_is S names c.args.at c.args.a s (named names c.args.results.now) c.in-Some.fault (rw c.in-Some.is at (c.in_ok-fault.ensures s e))
 
-pub returns-in-Some-violation-clause-told : goal.returns-in-Some-violation-clause-told
-returns-in-Some-violation-clause-told c s e =
+pub returns-in-Some-violation : goal.returns-in-Some-violation
+returns-in-Some-violation c s e =
     let S = c.args.frames.now.statements in let names = c.args.frames.now.names in let cited = c.requires.cited s e in
     let rs = named names c.args.results.now in
     let ps = hypotheses (before S c.args.a) s in
@@ -72,45 +63,17 @@ returns-in-Some-violation-clause-told c s e =
     let groups = ap (λ ns. map (decode ns) c.args.cited.now.groups) pn ∙ cited.groups in
     (refl, rw c.in_default.is at (c.in_ok-fault.ensures s e), violation_moved c.active_pairs-pairs.ensures.statements pn images groups c.in-Some-violation.violation (rw c.in-Some-violation.is at c.in_ok-violation.ensures))
 
-pub returns-in-Some-2-clause-told : goal.returns-in-Some-2-clause-told
-returns-in-Some-2-clause-told c s e =
+pub returns : goal.returns
+returns c s e =
     let S = c.args.frames.now.statements in let names = c.args.frames.now.names in let cited = c.requires.cited s e in
     let ps = hypotheses (before S c.args.a) s in
     let is = c.in_ok-images.ensures.read in
-    let is-2 = c.in_ok-images.ensures.read in
     let are = images_are S names ps c.args.cited.now.typecodes.now c.args.cited.now.hypotheses (codes c.args.results.now) cited.required in
     let pn = c.active_pairs-pairs.ensures.names in
     let read = are.0 ∙ ap (images_read S ps) (named-codes names c.args.results.now) in
     let images = ap (λ ns. named_images ns (code_images c.in_ok-images.images)) pn ∙ (ap (named_images names) is ∙ read) in
     let groups = ap (λ ns. map (decode ns) c.args.cited.now.groups) pn ∙ cited.groups in
-    let told = rw c.in-Some-2.is at c.in_ok-result.ensures in
-    let variables = subst (λ σ. AreVariables (length names) σ) (sym is-2) are.1 in (
-      record {
-        fit = rw c.in_default.is at (c.in_ok-fault.ensures s e);
-        disjoint = disjoint_moved c.active_pairs-pairs.ensures.statements pn images groups (rw c.in_default-violation.is at c.in_ok-violation.ensures);
-      },
-      ap (decode names) told.0 ∙ conclusion_is names c.requires.legal.distinct (code_images c.in_ok-images.images) variables (images_read S ps (named names c.args.results.now)) (ap (named_images names) is-2 ∙ read)
-          c.args.cited.now.conclusion.now cited.conclusion_below (expr_of s) cited.conclusion,
-      told.1,
-    )
-
-pub returns-clause-told : goal.returns-clause-told
-returns-clause-told c s e =
-    let S = c.args.frames.now.statements in let names = c.args.frames.now.names in let cited = c.requires.cited s e in
-    let ps = hypotheses (before S c.args.a) s in
-    let is = c.in_ok-images.ensures.read in
-    let is-2 = c.in_ok-images.ensures.read in
-    let are = images_are S names ps c.args.cited.now.typecodes.now c.args.cited.now.hypotheses (codes c.args.results.now) cited.required in
-    let pn = c.active_pairs-pairs.ensures.names in
-    let read = are.0 ∙ ap (images_read S ps) (named-codes names c.args.results.now) in
-    let images = ap (λ ns. named_images ns (code_images c.in_ok-images.images)) pn ∙ (ap (named_images names) is ∙ read) in
-    let groups = ap (λ ns. map (decode ns) c.args.cited.now.groups) pn ∙ cited.groups in
-    let told = rw c.in-None.is at c.in_ok-result.ensures in
-    let variables = subst (λ σ. AreVariables (length names) σ) (sym is-2) are.1 in (
-      record {
-        fit = rw c.in_default.is at (c.in_ok-fault.ensures s e);
-        disjoint = disjoint_moved c.active_pairs-pairs.ensures.statements pn images groups (rw c.in_default-violation.is at c.in_ok-violation.ensures);
-      },
-      subst (λ n. c.args.room < n) (conclusion_length names c.requires.legal.distinct (code_images c.in_ok-images.images) variables (images_read S ps (named names c.args.results.now)) (ap (named_images names) is-2 ∙ read)
-          c.args.cited.now.conclusion.now cited.conclusion_below (expr_of s) cited.conclusion) told,
-    )
+    record {
+      fit = rw c.in_default.is at (c.in_ok-fault.ensures s e);
+      disjoint = disjoint_moved c.active_pairs-pairs.ensures.statements pn images groups (rw c.in_default-violation.is at c.in_ok-violation.ensures);
+    }
