@@ -1,5 +1,5 @@
 -- An Accepted at a slot that is not learned: the sender is counted, and a quorum learns.
-use Rattle.synod.proofs.Words.{◌≡◌, ◌∙◌, ℕ, Bool, true, false, List, [], Option, Some, None, MatchOption, is_some, ap, sym, if◌then◌else◌, entry_at, put_at, front_of, Ballot, Packet, Count, Choose, is_quorum, Node, unchanged, answers, kept_of, has_voter, counted, chooses, on_accepted_at, on_accepted, asks_below, LearnerState, assembled, proposer_state, learner_state, with_learner_update}
+use Rattle.synod.proofs.Words.{◌≡◌, ◌∙◌, ℕ, Bool, true, false, List, [], Option, Some, None, MatchOption, is_some, ap, sym, subst, if◌then◌else◌, entry_at, put_at, front_of, Ballot, Packet, Count, Choose, Learn, Result, IfOk, is_quorum, Node, Stepped, Core, Made, IsReadyFor, unchanged, answers, kept_of, has_voter, counted, chooses, on_accepted_at, on_accepted, on_told_at, on_told, asks_below, asks_for, LearnerState, assembled, proposer_state, learner_state, with_learner_update}
 
 module _ {V : Type 0} (n : Node V) (p : ℕ) (b : Ballot) (s : ℕ) (v : Option V) (none : entry_at n.learned s ≡ None) where
   abbrev counting : Node V
@@ -50,3 +50,18 @@ module _ {V : Type 0} (m n : Node V) (same : m ≡ n) (l : LearnerState V) (room
       ∙ is_chosen m p b s v none (ap (λ (x : LearnerState V). is_quorum m.weights (has_voter (counted x.tallies s b p) s b)) (sym room) ∙ quorum) gap
       (ap (λ (x : LearnerState V). front_of (put_at x.learned s v)) (sym room) ∙ front v)
       ∙ (λ i. answers (with_learner_update (with_learner_state m (sym room i)) (Choose s b p (sym copied i))) (sym asked i))
+
+-- A Told at a slot that is not learned: its value is learned, and the sender is asked for the next gap.
+
+module _ {V : Type 0} (m n : Node V) (same : m ≡ n) (l : LearnerState V) (room : l ≡ learner_state m) (p : ℕ) (s : ℕ) (v : Option V) (none : entry_at m.learned s ≡ None) where
+  pub told_step : (copy : Option V) → copy ≡ v → (gap : ℕ) → ((w : Option V) → front_of (put_at l.learned s w) ≡ gap)
+      → on_told n p s v ≡ answers (with_learner_update (with_learner_state m l) (Learn s copy)) (asks_for m p gap)
+  told_step copy copied gap front =
+      ap (λ (x : Node V). on_told x p s v) (sym same)
+      ∙ ap (λ (o : Option (Option V)). on_told_at o m p s v) none
+      ∙ ap (λ (g : ℕ). answers (with_learner_update m (Learn s v)) (asks_for m p g)) (ap (λ (x : LearnerState V). front_of (put_at x.learned s v)) (sym room) ∙ front v)
+      ∙ (λ i. answers (with_learner_update (with_learner_state m (sym room i)) (Learn s (sym copied i))) (asks_for m p gap))
+
+-- what is ready for a step is ready for the same step
+pub ready_for : {V E : Type 0} (core : Core V) (step other : Stepped V) (r : Result (Made V) E) → step ≡ other → IfOk r (IsReadyFor core other) → IfOk r (IsReadyFor core step)
+ready_for {V} core step other r is ready = subst (λ (s : Stepped V). IfOk r (IsReadyFor core s)) (sym is) ready

@@ -11,7 +11,7 @@ mod state;
 use crate::ballot::Ballot;
 use crate::learner::Learner;
 use crate::packet::{Body, Packet};
-use crate::posts::{Broadcast, post_broadcast};
+use crate::posts::{Broadcast, broadcast_posts};
 use crate::proposer::{MOST_WAITING, Proposer, Role};
 use crate::ready::{Ready, StagedStep};
 use crate::record::Record;
@@ -200,10 +200,18 @@ impl<V: Value> NodeCore<V> {
         ensures posts { result.items ≡ ready.step.posts }
     {
         let (staged, posts) = ready.into_staged();
+        self.apply(staged);
+        posts
+    }
+
+    /// Applies the changes of a staged step. It does not allocate.
+    fn apply(&mut self, staged: StagedStep<V>)
+        requires { CanCommit self.old staged }
+        ensures { self.new.node ≡ staged_node self.old.node staged }
+    {
         self.kept_part.change_by(staged.change);
         self.proposer.propose(staged.proposer);
         self.learner.learn(staged.learner);
-        posts
     }
 
     /// Begins a ballot, and returns the posts. After an error the node is unchanged.
@@ -351,14 +359,8 @@ impl<V: Value> NodeCore<V> {
         ensures asks { IfOk result (λ posts. posts.items ≡ to_others self.now.node.me self.now.node.weights (Ask 0)) }
         ensures posts { IfOk result (λ posts. AllByRecursion (IsPost (length self.now.node.weights)) posts.items) }
     {
-        let mut posts = Vec::new(self.alloc);
-        post_broadcast(
-            &mut posts,
-            self.me,
-            &self.weights,
-            &Broadcast::Ask { slot: 0 },
-        )?;
-        Ok(posts)
+        let message = Broadcast::Ask { slot: 0 };
+        broadcast_posts(self.alloc, self.me, &self.weights, &message)
     }
 }
 

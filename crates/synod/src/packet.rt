@@ -45,13 +45,6 @@ impl<V> Reports<V> {
         Reports { all }
     }
 
-    /// Returns the list. It does not allocate.
-    pub fn into_vec(self) -> Vec<SlotReport<V>>
-        ensures { result.items ≡ self }
-    {
-        self.all
-    }
-
     /// Returns the reports.
     pub fn as_slice(&self) -> &[SlotReport<V>]
         ensures { result.now ≡ self.now }

@@ -7,7 +7,7 @@ use crate::ballot::Ballot;
 use crate::packet::{Body, Packet};
 use crate::value::{Value, copy_value};
 use crate::weights::Weights;
-use std::alloc::AllocError;
+use std::alloc::{AllocError, Global};
 
 /// A message to all nodes, the sender among them, or an Ask to all others. Each packet has its own copy of the value.
 #[derive(Drop)]
@@ -125,4 +125,20 @@ pub(crate) fn post_broadcast<V: Value>(
         to += 1;
     }
     Ok(())
+}
+
+/// Returns the packets of a message, one for each node that it is for.
+///
+/// Errors: an allocation fails. Cost: the packets.
+pub(crate) fn broadcast_posts<V: Value>(
+    alloc: Global,
+    me: u8,
+    weights: &Weights,
+    message: &Broadcast<V>,
+) -> Result<Vec<Packet<V>>, AllocError>
+    ensures { IfOk result (λ posts. posts.items ≡ broadcast_posts me weights.now message.now) }
+{
+    let mut posts = Vec::new(alloc);
+    post_broadcast(&mut posts, me, weights, message)?;
+    Ok(posts)
 }

@@ -6,14 +6,14 @@ use crate::ballot::Ballot;
 use crate::change::{Change, Held};
 use crate::node::NodeCore;
 use crate::packet::{Body, Packet};
-use crate::posts::{Broadcast, post_broadcast};
+use crate::posts::{Broadcast, broadcast_posts};
 use crate::promise::promise_posts;
 use crate::ready::{Ready, StagedStep};
 use crate::value::{Value, copy_value};
 use std::alloc::AllocError;
 
 impl<V: Value> NodeCore<V> {
-    ghost use Rattle.synod.specs.Acceptor.{refuses, on_prepare, on_accept};
+    ghost use Rattle.synod.specs.Acceptor.{refuses, on_prepare, on_accept, takes_value};
     ghost use Rattle.synod.specs.Step.{Keeps};
     ghost use Rattle.synod.specs.Rooms.{HasAtLeast};
     ghost use Rattle.synod.specs.Ready.{IsReadyFor};
@@ -76,17 +76,22 @@ impl<V: Value> NodeCore<V> {
             return self.ready_refusal(from, ballot);
         }
         self.kept_part.room(slot)?;
-        let mut posts = Vec::new(self.alloc);
+        let value = copy_value(value)?;
+        self.ready_entry(slot, Held { ballot, value })
+    }
+
+    /// Stages an accepted entry, which is told to all.
+    fn ready_entry(&self, slot: u32, held: Held<V>) -> Result<Ready<V>, AllocError>
+        requires room { slot < self.now.accepted_room }
+        requires keeps { Keeps (length self.now.node.weights) (takes_value self.now.node held.ballot slot held.value) }
+        ensures { IfOk result (IsReadyFor self.now (takes_value self.now.node held.ballot slot held.value)) }
+    {
         let message = Broadcast::Accepted {
-            ballot,
+            ballot: held.ballot,
             slot,
-            value,
+            value: &held.value,
         };
-        post_broadcast(&mut posts, self.me, &self.weights, &message)?;
-        let held = Held {
-            ballot,
-            value: copy_value(value)?,
-        };
+        let posts = broadcast_posts(self.alloc, self.me, &self.weights, &message)?;
         let staged = StagedStep {
             change: Some(Change::Entry { slot, held }),
             proposer: None,

@@ -6,7 +6,7 @@ use crate::ballot::Ballot;
 use crate::learner::LearnerUpdate;
 use crate::node::NodeCore;
 use crate::packet::{Body, Packet};
-use crate::posts::{Broadcast, post_broadcast};
+use crate::posts::{Broadcast, broadcast_posts};
 use crate::ready::{Ready, StagedStep};
 use crate::value::{Value, copy_value};
 use slots::SLOTS;
@@ -58,9 +58,9 @@ impl<V: Value> NodeCore<V> {
             return Ok(self.ready_nothing());
         }
         self.learner.room(slot)?;
-        let posts = self.ask_next(from, self.learner.front_with(slot))?;
+        let gap = self.learner.front_with(slot);
         let value = copy_value(value)?;
-        Ok(self.ready_learner(LearnerUpdate::Learn { slot, value }, posts))
+        self.ready_told_next(LearnerUpdate::Learn { slot, value }, from, gap)
     }
 
     /// Stages the step of an Accepted.
@@ -83,14 +83,14 @@ impl<V: Value> NodeCore<V> {
         }
         self.learner.room(slot)?;
         if self.is_chosen(slot, ballot, from) {
-            let posts = self.ask_below(slot, self.learner.front_with(slot))?;
+            let gap = self.learner.front_with(slot);
             let update = LearnerUpdate::Choose {
                 slot,
                 ballot,
                 node: from,
                 value: copy_value(value)?,
             };
-            Ok(self.ready_learner(update, posts))
+            self.ready_chosen(update, slot, gap)
         } else {
             let update = LearnerUpdate::Count {
                 slot,
@@ -114,12 +114,41 @@ impl<V: Value> NodeCore<V> {
     fn ask_below(&self, slot: u32, gap: u32) -> Result<Vec<Packet<V>>, AllocError>
         ensures { IfOk result (λ posts. posts.items ≡ asks_below self.now.node slot gap) }
     {
-        let mut posts = Vec::new(self.alloc);
-        if gap < slot {
-            let message = Broadcast::Ask { slot: gap };
-            post_broadcast(&mut posts, self.me, &self.weights, &message)?;
+        if gap >= slot {
+            return Ok(Vec::new(self.alloc));
         }
-        Ok(posts)
+        let message = Broadcast::Ask { slot: gap };
+        broadcast_posts(self.alloc, self.me, &self.weights, &message)
+    }
+
+    /// Stages an update that learns a chosen value, and asks for the first gap if it is below the slot.
+    fn ready_chosen(
+        &self,
+        update: LearnerUpdate<V>,
+        slot: u32,
+        gap: u32,
+    ) -> Result<Ready<V>, AllocError>
+        requires room { CanUpdateLearner (learner_of self.now) (Some update) }
+        requires node { IsNode (with_learner_update self.now.node update) }
+        ensures { IfOk result (IsReadyFor self.now (answers (with_learner_update self.now.node update) (asks_below self.now.node slot gap))) }
+    {
+        let posts = self.ask_below(slot, gap)?;
+        Ok(self.ready_learner(update, posts))
+    }
+
+    /// Stages an update that learns a value told by `from`, and asks it for the next gap.
+    fn ready_told_next(
+        &self,
+        update: LearnerUpdate<V>,
+        from: u8,
+        gap: u32,
+    ) -> Result<Ready<V>, AllocError>
+        requires room { CanUpdateLearner (learner_of self.now) (Some update) }
+        requires node { IsNode (with_learner_update self.now.node update) }
+        ensures { IfOk result (IsReadyFor self.now (answers (with_learner_update self.now.node update) (asks_for self.now.node from gap))) }
+    {
+        let posts = self.ask_next(from, gap)?;
+        Ok(self.ready_learner(update, posts))
     }
 
     /// Stages a step that changes only the learner.

@@ -6,7 +6,7 @@ use crate::ballot::Ballot;
 use crate::change::Change;
 use crate::node::NodeCore;
 use crate::packet::Packet;
-use crate::posts::{Broadcast, post_broadcast};
+use crate::posts::{Broadcast, broadcast_posts};
 use crate::promise_pages::PagesHad;
 use crate::proposer::ProposerUpdate;
 use crate::ready::{Ready, StagedStep};
@@ -64,13 +64,12 @@ impl<V: Value> NodeCore<V> {
         ensures room { HasAtLeast self.old self.new }
     {
         let value = Some(value);
-        let mut posts = Vec::new(self.alloc);
         let message = Broadcast::Accept {
             ballot,
             slot,
             value: &value,
         };
-        post_broadcast(&mut posts, self.me, &self.weights, &message)?;
+        let posts = broadcast_posts(self.alloc, self.me, &self.weights, &message)?;
         let next = slot + 1;
         Ok(self.ready_proposer(ProposerUpdate::Propose { ballot, next }, posts))
     }
@@ -85,9 +84,8 @@ impl<V: Value> NodeCore<V> {
     {
         let first = self.learner.front();
         let pages = PagesHad::of_nodes(self.alloc, &self.weights)?;
-        let mut posts = Vec::new(self.alloc);
         let message = Broadcast::Prepare { ballot, first };
-        post_broadcast(&mut posts, self.me, &self.weights, &message)?;
+        let posts = broadcast_posts(self.alloc, self.me, &self.weights, &message)?;
         let staged = StagedStep {
             change: Some(Change::Round(ballot.round)),
             proposer: Some(ProposerUpdate::Begin {
