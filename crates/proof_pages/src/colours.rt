@@ -5,7 +5,7 @@ use std::alloc::{AllocError, Global};
 
 /// The class of each symbol, by number, and the typecode of each class.
 #[derive(Drop)]
-pub struct Colours {
+pub(crate) struct Colours {
     /// The class of each symbol by its number, 0 if it has none.
     pub classes: Vec<u32>,
     /// The typecode of each class, in the order of the classes from 1.

@@ -23,13 +23,8 @@ mod step_lines;
 mod style;
 mod writing;
 
-pub use colours::Colours;
 pub use contents::{Neighbours, PageContents, ProofSteps};
 pub use index::write_index;
-pub use notation::{Notation, push_cited};
 pub use page::{write_page, write_site_page};
-pub use picture::push_node;
-pub use rows::{push_html_step, push_labels};
-pub use step_lines::push_step;
 pub use style::style_sheet;
 pub use writing::{WriteFault, write_dot, write_plain};

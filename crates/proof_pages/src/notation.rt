@@ -13,7 +13,7 @@ use std::alloc::AllocError;
 
 /// The form in which the symbols and the labels of a database stand on a page.
 #[derive(Drop)]
-pub struct Notation<'a> {
+pub(crate) struct Notation<'a> {
     /// The statements of the database.
     pub statements: &'a [Stmt],
     /// Their frames, which have the symbols by number.
@@ -142,7 +142,7 @@ pub fn push_label(
 /// a link to its page, if labels are linked.
 ///
 /// Errors: an allocation fails. Cost: the size of the label.
-pub fn push_cited(
+pub(crate) fn push_cited(
     page: &mut Vec<u8>,
     notation: &Notation<'_>,
     position: usize,

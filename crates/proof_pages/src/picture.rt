@@ -89,7 +89,7 @@ fn push_node_line(
 /// Appends the step at a place as a node, with an arrow from each step that it takes.
 ///
 /// Errors: an allocation fails. Cost: the size of the lines.
-pub fn push_node(
+pub(crate) fn push_node(
     text: &mut Vec<u8>,
     frames: &Frames,
     table: &ProofTable,

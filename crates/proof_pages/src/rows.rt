@@ -74,7 +74,7 @@ pub fn push_row_rest(
 /// expression. The ids of the rows of one table begin with the same mark.
 ///
 /// Errors: an allocation fails. Cost: the size of the row.
-pub fn push_html_step(
+pub(crate) fn push_html_step(
     page: &mut Vec<u8>,
     notation: &Notation<'_>,
     mark: &[u8],
@@ -134,7 +134,7 @@ fn push_list(
 /// Appends the labels of the statements at these positions as a list, or that there are none.
 ///
 /// Errors: an allocation fails. Cost: the size of the list.
-pub fn push_labels(
+pub(crate) fn push_labels(
     page: &mut Vec<u8>,
     notation: &Notation<'_>,
     positions: &[u32],

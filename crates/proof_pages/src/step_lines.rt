@@ -80,7 +80,7 @@ fn push_expr(text: &mut Vec<u8>, frames: &Frames, expr: &[u32]) -> Result<(), Al
 /// Appends the step at a place as a line: its number, the numbers of the steps that it takes, its label, its expression.
 ///
 /// Errors: an allocation fails. Cost: the size of the line.
-pub fn push_step(
+pub(crate) fn push_step(
     text: &mut Vec<u8>,
     frames: &Frames,
     table: &ProofTable,
