@@ -205,11 +205,7 @@ fn assume(statement: &mut Stmt)
 /// Returns whether all are legal and no block is open at the end.
 ///
 /// Errors: an allocation fails. Cost: the size of the statements.
-fn enter(
-    rules: &mut Rules,
-    frames: &mut Frames,
-    statements: &[Stmt],
-) -> Result<bool, AllocError>
+fn enter(rules: &mut Rules, frames: &mut Frames, statements: &[Stmt]) -> Result<bool, AllocError>
     requires shaped { AreShaped statements.now }
     requires no_rules { rules.old.statements ≡ [] }
     requires no_frames { frames.old.statements ≡ [] }

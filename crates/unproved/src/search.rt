@@ -88,73 +88,38 @@ fn add_found<R: Threads + Sync>(
     ensures { OnOk result (AreUnproved search.now.statements.now 0 end list.new.items) }
 {
     let mut front = front;
-    let mut found = first_in(search, checkers, front, end)?;
+    let mut found = first_in(search, checkers, front, end, search.workers)?;
     while let Some(index) = found {
         front = front + index + 1;
         list.push(front)?;
-        found = first_here(search, checkers, front, end)?;
+        found = first_in(search, checkers, front, end, Workers::of(1))?;
     }
     Ok(())
 }
 
 /// Returns how many statements, after the first `front`, stand before the first `$p` up to `end`
-/// that is not proved; `None` if each is proved.
+/// that is not proved; `None` if each is proved. One worker, or few statements, need no thread.
 fn first_in<R: Threads + Sync>(
     search: &Search<'_, R>,
     checkers: &mut Checkers,
     front: usize,
     end: usize,
+    workers: Workers,
 ) -> Result<Option<usize>, AllocError>
     requires same { search.now.frames.now.statements ≡ bares search.now.statements.now }
     requires order { front ≤ end }
     requires within { end ≤ length search.now.statements.now }
     ensures { IfOk result (IsLeastIn search.now.statements.now front end) }
 {
+    let stretch = Stretch {
+        frames: search.frames,
+        statements: search.statements,
+        front,
+        end,
+    };
     if end - front < FEW {
-        first_here(search, checkers, front, end)
+        judge_here(checkers, &stretch)
     } else {
-        first_by_workers(search, checkers, front, end)
+        judge_all(search.rt, checkers, &stretch, workers, &OpenGate)
     }
-}
-
-/// Returns the same as `first_in`, judged by the workers.
-fn first_by_workers<R: Threads + Sync>(
-    search: &Search<'_, R>,
-    checkers: &mut Checkers,
-    front: usize,
-    end: usize,
-) -> Result<Option<usize>, AllocError>
-    requires same { search.now.frames.now.statements ≡ bares search.now.statements.now }
-    requires order { front ≤ end }
-    requires within { end ≤ length search.now.statements.now }
-    ensures { IfOk result (IsLeastIn search.now.statements.now front end) }
-{
-    let stretch = Stretch {
-        frames: search.frames,
-        statements: search.statements,
-        front,
-        end,
-    };
-    judge_all(search.rt, checkers, &stretch, search.workers, &OpenGate)
-}
-
-/// Returns the same as `first_in`, judged on the calling thread, which ends at that `$p`.
-fn first_here<R: Threads + Sync>(
-    search: &Search<'_, R>,
-    checkers: &mut Checkers,
-    front: usize,
-    end: usize,
-) -> Result<Option<usize>, AllocError>
-    requires same { search.now.frames.now.statements ≡ bares search.now.statements.now }
-    requires order { front ≤ end }
-    requires within { end ≤ length search.now.statements.now }
-    ensures { IfOk result (IsLeastIn search.now.statements.now front end) }
-{
-    let stretch = Stretch {
-        frames: search.frames,
-        statements: search.statements,
-        front,
-        end,
-    };
-    judge_here(checkers, &stretch)
 }
