@@ -1,8 +1,8 @@
 //! Statements that break a rule.
 use crate::statement_symbols::{label_of, symbol_at, symbols_before};
+use crate::text_tokens::TextTokens;
 use crate::written_lines::Page;
 use mm_read::{ReadFault, Stmt, read};
-use places::place_of;
 use rule_violation::{RuleViolation, never_closed, violation_of};
 use scope::Rule;
 use std::alloc::Global;
@@ -10,7 +10,7 @@ use std::alloc::Global;
 /// A rule that a statement of a text breaks.
 #[derive(Clone, Copy)]
 struct Broken<'a> {
-    text: &'a [u8],
+    tokens: &'a TextTokens<'a>,
     statements: &'a [Stmt],
     /// The statement, from 1.
     statement: usize,
@@ -27,62 +27,58 @@ pub(crate) fn explain_rule(
     rule: Rule,
 ) {
     match read(alloc, text) {
-        Ok(statements) => explain_broken(
-            alloc,
-            page,
-            &Broken {
-                text,
-                statements: statements.as_slice(),
-                statement,
-                rule,
-            },
-        ),
+        Ok(statements) => explain_read(alloc, page, text, statements.as_slice(), statement, rule),
         Err(ReadFault::Memory) => page.refuse(),
         Err(_) => {}
     }
 }
 
-fn explain_broken(alloc: Global, page: &mut Page<'_>, broken: &Broken<'_>) {
-    if broken.statement > broken.statements.len() {
-        return explain_open(alloc, page, broken);
-    }
-    explain_statement(alloc, page, broken);
-}
-
-/// Writes that a block is never closed.
-fn explain_open(alloc: Global, page: &mut Page<'_>, broken: &Broken<'_>) {
-    let Some(open) = never_closed(broken.statements) else {
-        return;
-    };
-    push_start(alloc, page, broken.text, open, 1);
-    page.push(b"this block is never closed\n");
-}
-
-/// Writes `LINE:COLUMN: ` for a token of a statement.
-pub(crate) fn push_start(
+/// Writes the same, given the statements of the text.
+fn explain_read(
     alloc: Global,
     page: &mut Page<'_>,
     text: &[u8],
+    statements: &[Stmt],
     statement: usize,
-    token: usize,
+    rule: Rule,
 ) {
-    push_token_place(alloc, page, text, statement, token);
+    if let Some(tokens) = page.value_of(TextTokens::new(alloc, text)) {
+        let broken = Broken {
+            tokens: &tokens,
+            statements,
+            statement,
+            rule,
+        };
+        explain_broken(alloc, page, &broken);
+    }
+}
+
+fn explain_broken(alloc: Global, page: &mut Page<'_>, broken: &Broken<'_>) {
+    if broken.statement > broken.statements.len() {
+        explain_open(page, broken);
+    } else {
+        explain_statement(alloc, page, broken);
+    }
+}
+
+/// Writes that a block is never closed.
+fn explain_open(page: &mut Page<'_>, broken: &Broken<'_>) {
+    if let Some(open) = never_closed(broken.statements) {
+        push_start(page, broken, open, 1);
+        page.push(b"this block is never closed\n");
+    }
+}
+
+/// Writes `LINE:COLUMN: ` for a token of a statement.
+fn push_start(page: &mut Page<'_>, broken: &Broken<'_>, statement: usize, token: usize) {
+    push_token_place(page, broken, statement, token);
     page.push(b": ");
 }
 
 /// Writes `LINE:COLUMN` for a token of a statement.
-pub(crate) fn push_token_place(
-    alloc: Global,
-    page: &mut Page<'_>,
-    text: &[u8],
-    statement: usize,
-    token: usize,
-) {
-    match place_of(alloc, text, statement, token) {
-        Ok(Some(span)) => page.push_place(text, span.start),
-        Ok(None) => {}
-        Err(_) => page.refuse(),
-    }
+fn push_token_place(page: &mut Page<'_>, broken: &Broken<'_>, statement: usize, token: usize) {
+    let tokens = broken.tokens;
+    page.push_place(tokens.text(), tokens.start_of(statement, token));
 }
 
 fn explain_statement(alloc: Global, page: &mut Page<'_>, broken: &Broken<'_>) {
@@ -94,28 +90,32 @@ fn explain_statement(alloc: Global, page: &mut Page<'_>, broken: &Broken<'_>) {
     }
     let (earlier, rest) = broken.statements.split_at(index);
     let stmt = &rest[0];
-    match violation_of(alloc, earlier, stmt, broken.rule) {
-        Ok(Some(RuleViolation::Statement)) => explain_alone(alloc, page, broken),
-        Ok(Some(RuleViolation::Symbol { symbol })) => explain_symbol(
-            alloc, page, broken, stmt, symbol,
-        ),
-        Ok(Some(RuleViolation::Twice { first, second })) => {
-            explain_twice(alloc, page, broken, stmt, first, second);
+    let violation = violation_of(alloc, earlier, stmt, broken.rule);
+    if let Some(Some(violation)) = page.value_of(violation) {
+        explain_violation(page, broken, stmt, violation);
+    }
+}
+
+fn explain_violation(
+    page: &mut Page<'_>,
+    broken: &Broken<'_>,
+    stmt: &Stmt,
+    violation: RuleViolation,
+) {
+    match violation {
+        RuleViolation::Statement => explain_alone(page, broken),
+        RuleViolation::Symbol { symbol } => explain_symbol(page, broken, stmt, symbol),
+        RuleViolation::Twice { first, second } => explain_twice(page, broken, stmt, first, second),
+        RuleViolation::Earlier { symbol, statement } => {
+            explain_earlier(page, broken, stmt, symbol, statement);
         }
-        Ok(Some(RuleViolation::Earlier { symbol, statement })) => {
-            explain_earlier(alloc, page, broken, stmt, symbol, statement);
-        }
-        Ok(Some(RuleViolation::Label { statement })) => explain_label(
-            alloc, page, broken, stmt, statement,
-        ),
-        Ok(None) => {}
-        Err(_) => page.refuse(),
+        RuleViolation::Label { statement } => explain_label(page, broken, stmt, statement),
     }
 }
 
 /// Writes that a `$c` stands in a block, or that a `$}` closes none.
-fn explain_alone(alloc: Global, page: &mut Page<'_>, broken: &Broken<'_>) {
-    push_start(alloc, page, broken.text, broken.statement, 1);
+fn explain_alone(page: &mut Page<'_>, broken: &Broken<'_>) {
+    push_start(page, broken, broken.statement, 1);
     if broken.rule == Rule::G1 {
         return page.push(
             b"this $c stands inside a block; constants are declared outside all blocks\n",
@@ -125,26 +125,14 @@ fn explain_alone(alloc: Global, page: &mut Page<'_>, broken: &Broken<'_>) {
 }
 
 /// Writes the place of a symbol of the statement, and the symbol.
-fn push_symbol(
-    alloc: Global,
-    page: &mut Page<'_>,
-    broken: &Broken<'_>,
-    stmt: &Stmt,
-    symbol: usize,
-) {
+fn push_symbol(page: &mut Page<'_>, broken: &Broken<'_>, stmt: &Stmt, symbol: usize) {
     let token = symbols_before(stmt).saturating_add(symbol);
-    push_start(alloc, page, broken.text, broken.statement, token);
+    push_start(page, broken, broken.statement, token);
     page.push(symbol_at(stmt, symbol));
 }
 
-fn explain_symbol(
-    alloc: Global,
-    page: &mut Page<'_>,
-    broken: &Broken<'_>,
-    stmt: &Stmt,
-    symbol: usize,
-) {
-    push_symbol(alloc, page, broken, stmt, symbol);
+fn explain_symbol(page: &mut Page<'_>, broken: &Broken<'_>, stmt: &Stmt, symbol: usize) {
+    push_symbol(page, broken, stmt, symbol);
     match broken.rule {
         Rule::G5 => page.push(b" is neither a constant nor an active variable\n"),
         Rule::G6 => page.push(b" is no constant, and an expression begins with a constant\n"),
@@ -154,46 +142,38 @@ fn explain_symbol(
 }
 
 fn explain_twice(
-    alloc: Global,
     page: &mut Page<'_>,
     broken: &Broken<'_>,
     stmt: &Stmt,
     first: usize,
     second: usize,
 ) {
-    push_symbol(alloc, page, broken, stmt, second);
+    push_symbol(page, broken, stmt, second);
     page.push(b" stands twice in this statement\n  first at ");
     let token = symbols_before(stmt).saturating_add(first);
-    push_token_place(alloc, page, broken.text, broken.statement, token);
+    push_token_place(page, broken, broken.statement, token);
     page.push(b"\n");
 }
 
 fn explain_earlier(
-    alloc: Global,
     page: &mut Page<'_>,
     broken: &Broken<'_>,
     stmt: &Stmt,
     symbol: usize,
     other: usize,
 ) {
-    push_symbol(alloc, page, broken, stmt, symbol);
-    push_other(alloc, page, broken, symbol_at(stmt, symbol), other);
+    push_symbol(page, broken, stmt, symbol);
+    push_other(page, broken, symbol_at(stmt, symbol), other);
 }
 
-fn explain_label(
-    alloc: Global,
-    page: &mut Page<'_>,
-    broken: &Broken<'_>,
-    stmt: &Stmt,
-    other: usize,
-) {
-    push_start(alloc, page, broken.text, broken.statement, 1);
+fn explain_label(page: &mut Page<'_>, broken: &Broken<'_>, stmt: &Stmt, other: usize) {
+    push_start(page, broken, broken.statement, 1);
     page.push(label_of(stmt));
-    push_other(alloc, page, broken, label_of(stmt), other);
+    push_other(page, broken, label_of(stmt), other);
 }
 
 /// Writes the use that the other statement makes of the name, and the place of it.
-fn push_other(alloc: Global, page: &mut Page<'_>, broken: &Broken<'_>, name: &[u8], other: usize) {
+fn push_other(page: &mut Page<'_>, broken: &Broken<'_>, name: &[u8], other: usize) {
     let Some(stmt) = broken.statements.get(other.saturating_sub(1)) else {
         page.push(b"\n");
         return;
@@ -201,7 +181,7 @@ fn push_other(alloc: Global, page: &mut Page<'_>, broken: &Broken<'_>, name: &[u
     let (words, token) = told(stmt, name);
     page.push(words);
     page.push(b"\n  at ");
-    push_token_place(alloc, page, broken.text, other, token);
+    push_token_place(page, broken, other, token);
     page.push(b"\n");
 }
 

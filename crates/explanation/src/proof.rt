@@ -36,10 +36,8 @@ fn explain_wrong(
 )
     requires { AreShaped statements.items }
 {
-    match Entered::new(alloc, statements) {
-        Ok(Some(entered)) => explain_in(alloc, page, text, &entered, statement),
-        Ok(None) => {}
-        Err(_) => page.refuse(),
+    if let Some(Some(entered)) = page.value_of(Entered::new(alloc, statements)) {
+        explain_in(alloc, page, text, &entered, statement);
     }
 }
 
@@ -50,9 +48,8 @@ fn explain_in(
     entered: &Entered,
     statement: usize,
 ) {
-    match TextTokens::new(alloc, text) {
-        Ok(tokens) => explain_entered(alloc, page, &tokens, entered, statement),
-        Err(_) => page.refuse(),
+    if let Some(tokens) = page.value_of(TextTokens::new(alloc, text)) {
+        explain_entered(alloc, page, &tokens, entered, statement);
     }
 }
 
@@ -72,10 +69,9 @@ pub(crate) fn explain_entered(
 fn explain_theorem(alloc: Global, page: &mut Page<'_>, frames: &Frames, theorem: &Theorem<'_>)
     requires { (s : Statement) × IsProvable frames.now.statements theorem.now.at s }
 {
-    match explain(alloc, frames, theorem.at, theorem.proof) {
-        Ok(Some(why)) => explain_why(page, frames, theorem, &why),
-        Ok(None) => {}
-        Err(_) => page.refuse(),
+    let why = explain(alloc, frames, theorem.at, theorem.proof);
+    if let Some(Some(why)) = page.value_of(why) {
+        explain_why(page, frames, theorem, &why);
     }
 }
 

@@ -60,6 +60,17 @@ impl<'a> Page<'a> {
         self.is_refused = true;
     }
 
+    /// Returns the value of an answer, or `None` for an error, which it records as a failed allocation.
+    pub(crate) fn value_of<T, E: Drop>(&mut self, answer: Result<T, E>) -> Option<T> {
+        match answer {
+            Ok(value) => Some(value),
+            Err(_) => {
+                self.refuse();
+                None
+            }
+        }
+    }
+
     /// Appends bytes, as many as fit; the rest is dropped.
     pub(crate) fn push(&mut self, words: &[u8]) {
         let room = (MOST_BYTES + 1).saturating_sub(self.lines.len());
