@@ -11,6 +11,7 @@ use Rattle.file_names.specs.FileNames.{file_name}
 abbrev pub is_name_byte : ℕ → Bool
 is_name_byte b = is_ascii_lowercase b || (is_ascii_digit b || has_byte b (codes ".-_+"))
 
+-- the empty name counts as one
 abbrev pub begins_with_dot : List ℕ → Bool
 begins_with_dot [] = true
 begins_with_dot (b ∷ bytes) = b == 46

@@ -14,7 +14,7 @@ pub const INDEX: &str = "index.html";
 /// The name of the style sheet.
 pub const STYLE: &str = "style.css";
 
-/// The largest length in bytes of a label that a name spells.
+/// The largest length in bytes of a label that stands in a name; a longer one is named by its position.
 const LONGEST: usize = 100;
 
 /// The labels that would name a device of Windows or the index.

@@ -1,9 +1,9 @@
-//! Why a text has no tokens.
+//! Why a text cannot be split into tokens.
 ghost use Rattle.std.specs.Prelude.{◌≡◌};
 
 use std::alloc::AllocError;
 
-/// Why a text has no tokens. Offsets count bytes from 0.
+/// Why a text cannot be split into tokens. Offsets count bytes from 0.
 #[derive(Clone, Copy, Debug, Drop, PartialEq, Eq)]
 pub enum LexFault {
     /// The first byte that no text may have.

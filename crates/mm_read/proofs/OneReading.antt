@@ -1,5 +1,5 @@
 -- Reading returns the one true answer: a text has tokens or one fault of the tokens, and its tokens write one list of
--- statements or have one token that fits nowhere.
+-- statements or have one misplaced token.
 use Rattle.mm_read.proofs.Words.{◌≡◌, ℕ, ◌⊎◌, List, Result, Ok, Err, MatchResult, IfOk, IfErr, IsErrAnd, sym, ◌∙◌, ap, refl, subst, inl, inr, Name, IsClean, words, IsFirstBadByte, IsCommentFault, AreBehind, IsClean-no_fault, AreTokens-unique, AreTokens-no_comment_fault, IsCommentFault-unique, ReadFault, Text, Shape, Memory, Database, spelled, HasTokens, Reads, IsShapeFault, HasShapeFault, IsReadFault, IsFaultOf}
 use Rattle.mm_lex.specs.declared.fault.LexFault.TheVariants as lex
 use Rattle.mm_read.proofs.OneSpelling.{one_spelling}
@@ -52,7 +52,7 @@ module _ (text : List ℕ) (clean : IsClean text) where
     the_comment_fault (Err (Shape t)) found fault offset is = absurd (no_comment_fault fault.0 offset (all_tokens fault.0 fault.1) is)
     the_comment_fault (Err Memory) found fault offset is = absurd (no_comment_fault fault.0 offset (all_tokens fault.0 fault.1) is)
 
-    -- the token that fits nowhere is the one that the text has
+    -- the misplaced token is the one that the text has
     pub the_shape_fault : (r : Result V ReadFault) → IfOk r (λ v. Reads text (items v)) → IfErr r (IsFaultOf text)
         → (token : ℕ) → HasShapeFault text token → IsErrAnd r (λ fault. (fault ≡ Shape token) ⊎ (fault ≡ Memory))
     the_shape_fault (Ok v) found fault token has = absurd (has.2.none (items v) found.shaped (same_tokens text (spelled (items v)) has.0 found.tokens has.1))
@@ -88,6 +88,6 @@ module _ (text : List ℕ) (T : Database) (reads : Reads text T) where
   pub read_no_comment_fault : {P : Type 0} (offset : ℕ) → IsCommentFault text offset → P
   read_no_comment_fault offset is = absurd (no_comment_fault text reads.tokens.1.0 (spelled T) offset reads.tokens is)
 
-  -- no token fits nowhere
+  -- no token is misplaced
   pub read_no_shape_fault : {P : Type 0} (token : ℕ) → HasShapeFault text token → P
   read_no_shape_fault token has = absurd (has.2.none T reads.shaped (same_tokens text (spelled T) has.0 reads.tokens has.1))

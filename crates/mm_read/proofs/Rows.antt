@@ -59,7 +59,7 @@ label_needs_label_bytes = refl
 unfinished : IsShapeFault (codes "$c" ∷ codes "a" ∷ []) 3
 unfinished = ends_inside (codes "$c" ∷ codes "a" ∷ []) (listing 0) refl (λ bad. cc)
 
--- `$[` fits nowhere
+-- `$[` is misplaced
 file_inclusion : IsShapeFault (codes "$[" ∷ codes "x" ∷ codes "$]" ∷ []) 1
 file_inclusion = stops_at [] (codes "x" ∷ codes "$]" ∷ []) (codes "$[") between refl refl
 

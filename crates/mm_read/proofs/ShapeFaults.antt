@@ -1,4 +1,4 @@
--- Each list of tokens is statements, or has one token that fits nowhere: it is the one at which the machine of `Places` stops.
+-- Each list of tokens is statements, or has one misplaced token: it is the one at which the machine of `Places` stops.
 use Rattle.mm_read.proofs.Words.{◌≡◌, ℕ, ◌+◌, ◌-◌, ◌<◌, ◌≤◌, zero, suc, Bool, true, false, ◌⊎◌, List, [], ◌∷◌, ◌++◌, length, take, Option, Some, None, list_all, option_and_then, sym, ◌∙◌, ap, arith, refl, subst, inl, inr, append_assoc, ltb-true, ltb-false, nat_lt, append-nil, take_all, take-append_seam, take-append-add, same_Some, Name, Database, AreShaped, is_shaped, spelled, CanGoOn, IsShapeFault}
 use Rattle.mm_read.specs.Laws as laws
 use Rattle.mm_read.proofs.Places.{Place, between, labelled, listing, floating, proving, step, go, go-append, go_back, can_go_on}

@@ -11,12 +11,12 @@ use Rattle.mm_read.specs.Export.{export_of}
 abbrev pub OneSpelling : Type 0
 OneSpelling = (S T : Database) → AreShaped S → AreShaped T → spelled S ≡ spelled T → S ≡ T
 
--- each list of tokens is spelled by some list of statements, or has a token that fits nowhere
+-- each list of tokens is spelled by some list of statements, or has a misplaced token
 abbrev pub SpelledOrFaulty : Type 0
 SpelledOrFaulty =
     (tokens : List Name) → ((S : Database) × AreShaped S × (spelled S ≡ tokens)) ⊎ ((token : ℕ) × IsShapeFault tokens token)
 
--- at most one token is the one that fits nowhere
+-- at most one token is misplaced
 abbrev pub OneShapeFault : Type 0
 OneShapeFault = (tokens : List Name) (t u : ℕ) → IsShapeFault tokens t → IsShapeFault tokens u → t ≡ u
 

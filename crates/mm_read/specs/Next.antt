@@ -42,7 +42,7 @@ pub record AreBefore (text : List ℕ) (at : ℕ) (S : Database) : Type 0 where
   pub shaped : AreShaped S
   pub between : HasBetween text 0 at (spelled S)
 
--- why a text without a bad byte is refused: comments at fault, else a token that fits nowhere or out of memory
+-- why a text without a bad byte is refused: comments at fault, else a misplaced token or out of memory
 abbrev pub IsFaultOf : List ℕ → ReadFault → Type 0
 IsFaultOf text (Text fault) = StopsBehind text 0 fault
 IsFaultOf text (Shape token) = (tokens : List Name) × AreBehind text 0 tokens × IsShapeFault tokens token

@@ -38,7 +38,7 @@ pub record IsShapeFault (tokens : List Name) (token : ℕ) : Type 0 where
   pub before : CanGoOn (take (token - 1) tokens)
   pub here : (CanGoOn (take token tokens) → ⊥) ⊎ (token ≡ length tokens + 1)
 
--- the text has tokens, and this is the first that fits nowhere
+-- the text has tokens, and this is the first misplaced one
 abbrev pub HasShapeFault : List ℕ → ℕ → Type 0
 HasShapeFault text token = (tokens : List Name) × HasTokens text tokens × IsShapeFault tokens token
 

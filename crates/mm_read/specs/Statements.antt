@@ -7,7 +7,7 @@ use Rattle.mm_lex.specs.Alphabet.{Name, is_empty, is_symbol, is_label}
 use Rattle.mm_read.specs.declared.stmt.Stmt.{Stmt}
 use Rattle.mm_read.specs.declared.stmt.Stmt.TheVariants.{Open, Close, Const, Var, Disj, Float, Ess, Axiom, Prove}
 
--- an expression: its symbols, the leading constant first
+-- a list of symbols, such as an expression or what a `$v` declares
 abbrev pub Expr : Type 0
 Expr = List Name
 

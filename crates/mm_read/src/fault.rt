@@ -4,13 +4,13 @@ ghost use Rattle.std.specs.Prelude.{◌≡◌};
 use mm_lex::LexFault;
 use std::alloc::{AllocError, AllocFailed};
 
-/// Why a text writes no statements.
+/// Why a text does not read as statements.
 #[derive(Clone, Copy, Debug, Drop, PartialEq, Eq)]
 pub enum ReadFault {
-    /// The text has no tokens; this holds its `Text` or `Comment`.
+    /// The text cannot be split into tokens; this holds its `Text` or `Comment`.
     Text(LexFault),
-    /// The first token, counted from 1 without comments, after which no list of statements can go on; or the count of
-    /// tokens plus 1, if the last statement is not finished.
+    /// The first misplaced token, counted from 1 without comments: no list of statements goes on with it. If the text ends
+    /// within a statement, the count of tokens plus 1.
     Shape { token: usize },
     /// An allocation failed.
     Memory,

@@ -6,12 +6,12 @@ pub fn one_spelling()
     ensures { OneSpelling }
 {}
 
-/// States that each list of tokens is spelled by some list of statements, or has a token that fits nowhere.
+/// States that each list of tokens is spelled by some list of statements, or has a misplaced token.
 pub fn spelled_or_faulty()
     ensures { SpelledOrFaulty }
 {}
 
-/// States that each list of tokens has at most one token that fits nowhere.
+/// States that each list of tokens has at most one misplaced token.
 pub fn one_shape_fault()
     ensures { OneShapeFault }
 {}

@@ -1,8 +1,8 @@
 //! Statements of a Metamath text.
 //!
-//! `Stmt` is a statement, of one of nine shapes. `read` returns the one list of statements that a text writes, or why it
-//! writes none; `spell` writes statements in the export form. `specs/Reads` says what a text writes. The crates above use
-//! the clauses of `read`. Read `stmt`, `fault`, `parse`, `statement`, `part`, `keyword`, then `export` and `laws`.
+//! `Stmt` is a statement, of one of nine shapes. `read` returns the one list of statements that a text reads as, or why it
+//! reads as none; `spell` writes statements in the export form. `specs/Reads` says what a text reads as. The crates above
+//! use the clauses of `read`. Read `stmt`, `fault`, `parse`, `statement`, `part`, `keyword`, then `export` and `laws`.
 #![tactic(auto)]
 
 mod export;

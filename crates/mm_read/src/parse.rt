@@ -13,7 +13,7 @@ use crate::stmt::Stmt;
 use mm_lex::{LexFault, count_tokens, first_bad_byte, next_token};
 use std::alloc::Global;
 
-/// How many bytes of text are read between two such allocations.
+/// How many bytes of text are read between two calls of `ask_for_room` that allocate.
 const STRETCH: usize = 90_000;
 
 /// How many bytes are allocated at once: more than the statements of a stretch usually take.
@@ -22,7 +22,7 @@ const ROOM: usize = 120_000;
 /// Returns the statements that the text writes.
 ///
 /// Errors: `Text`, the first bad byte or else the first fault of the comments, even if every allocation fails; else `Shape`,
-/// the first token that fits nowhere; `Memory` in place of that or of the statements. Cost: the size of the text.
+/// the first misplaced token; `Memory` in place of that or of the statements. Cost: the size of the text.
 /// Source: Metamath, 4.1 and appendix E.
 pub fn read(alloc: Global, text: &[u8]) -> Result<Vec<Stmt>, ReadFault>
     ensures found { IfOk result (λ statements. Reads text.now statements.items) }
@@ -84,8 +84,8 @@ fn add_next(
     Ok(Some(next))
 }
 
-/// Allocates room and frees it, once a stretch of the text. Later statements are allocated in it: so a heap that grows by no
-/// more than it must, as that of a thread may, grows once for hundreds of them. If the allocation fails, nothing is lost.
+/// Allocates room and frees it at once, once a stretch of the text, so that a heap which else grows by each request alone,
+/// as that of a thread may, grows once for hundreds of statements. If the allocation fails, nothing is lost.
 fn ask_for_room(alloc: Global, at: usize, next: usize) {
     if at / STRETCH != next / STRETCH {
         let _ = Vec::<u8>::with_capacity(alloc, ROOM);

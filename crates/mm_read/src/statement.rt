@@ -14,7 +14,7 @@ use std::alloc::Global;
 
 /// Returns the statement whose first token stands at `first`, and the offset after it.
 ///
-/// Errors: `Text`, if the comments are at fault before its end; `Shape`, the number, from 1, of its token that fits nowhere;
+/// Errors: `Text`, if the comments are at fault before its end; `Shape`, the number, from 1, of its misplaced token;
 /// `Memory`. Cost: the statement's own size.
 pub fn statement(alloc: Global, text: &[u8], first: Span) -> Result<(Stmt, usize), ReadFault>
     requires clean { IsClean text.now }

@@ -1,4 +1,4 @@
-//! A text read by halves, each half of a large one by a thread of its own.
+//! A text read in parts: a large one is cut in two again and again, and threads read the parts.
 ghost use Rattle.std.specs.Prelude.{◌≡◌, ℕ, ◌⊎◌, ◌++◌, IfOk, IfErr, IfSome, IsErrAnd, MatchResult};
 ghost use Rattle.std.specs.Thread.{IsSync};
 ghost use Rattle.mm_lex.specs.TextFaults.{IsFirstBadByte, IsCommentFault};
@@ -12,12 +12,13 @@ use mm_read::{ReadFault, Stmt, read};
 use std::alloc::Global;
 use std::thread::{Threads, join};
 
-/// Returns the statements that the text writes, as `mm_read::read` returns them, read by so many workers.
+/// Returns the statements that the text reads as, as `mm_read::read` returns them, read by so many workers.
 ///
-/// A large text is cut into as many parts as there are workers, each of a MiB or more, where a statement seems to end. If
-/// a part does not read, or an allocation fails, the calling thread reads the whole text; so no answer depends on the
-/// workers or on the places.
-/// Errors: those of `read`. Cost: the size of the text, over the workers; twice that of `read` if the text is refused.
+/// A large text is cut into at most as many parts as there are workers, of a MiB or more on average, each cut moved to the
+/// right to where a statement seems to end. If a part does not read, or an allocation fails, the calling thread reads the
+/// whole text; so no answer depends on the workers or on the places.
+/// Errors: those of `read`. Cost: the size of the text, over the workers; if a part does not read (the text is refused, or a
+/// cut stands in a comment), that of `read` as well.
 pub fn read_by<R: Threads + Sync>(
     rt: &R,
     alloc: Global,
