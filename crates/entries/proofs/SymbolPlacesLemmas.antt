@@ -1,5 +1,5 @@
 -- The symbols of an expression by their keys in order: each run of keys of one symbol is a group of indexes.
-use Rattle.entries.proofs.Words.{◌≡◌, ℕ, suc, ◌+◌, ◌-◌, ◌<◌, ◌≤◌, List, [], ◌∷◌, ◌++◌, length, drop, slice_get, slice_range, Some, refl, ◌∙◌, ap, sym, subst, arith, inl, inr, length-map, length-drop, length-take-le, get_or_from_slice_get, slice_get_within, BufferPart, cut, AreSpansIn, ⊎_elim, Contains, IsPermutation, IsSorted, eqb, get_or, map, nat_cmp, dedup, cases_lt, get_or-drop, get_or-map, get_or-take, get_or_default, Contains-get_or, AllPairs-from_increasing, Contains-dedup_nat, Contains-from_dedup, Contains-permutation, IsPermutation-sym, IsStrictlyIncreasing-dedup, div-mul-add, mod-mul-add, slice_get-get_or, INDEXES, key_of, symbol_of, index_of, AreKeys, AreKeysOf, IsRun, AreRuns, IsGroupOf, AreGroupsFrom, IsGrouped, ArePlacesOf}
+use Rattle.entries.proofs.Words.{◌≡◌, ℕ, suc, ◌+◌, ◌-◌, ◌<◌, ◌≤◌, List, [], ◌∷◌, ◌++◌, length, drop, slice_get, slice_range, Some, refl, ◌∙◌, ap, sym, subst, arith, inl, inr, length-map, length-drop, length-take-le, get_or_from_slice_get, slice_get_within, BufferPart, cut, AreSpansIn, ⊎_elim, Contains, IsPermutation, IsSorted, eqb, get_or, map, nat_cmp, dedup, cases_lt, get_or-drop, get_or-map, get_or-take, get_or_default, Contains-get_or, AllPairs-from_increasing, Contains-dedup_nat, Contains-from_dedup, Contains-permutation, IsPermutation-sym, IsStrictlyIncreasing-dedup, div-mul-add, mod-mul-add, slice_get-get_or, INDEXES, key_of, symbol_of, symbol_at, index_of, AreKeys, AreKeysOf, IsRun, AreRuns, IsGroupOf, AreGroupsFrom, IsGrouped, ArePlacesOf}
 
 -- ---- one key and another
 
@@ -149,13 +149,12 @@ module _ (e keys : List ℕ) (k : AreKeysOf e keys) where
           subst (Contains (slice_range (map index_of keys) from to)) index-is (part-has from to j low high r.end)
 
   groups-from : (runs : List BufferPart) (from low : ℕ) → AreRuns keys from (length keys) runs
-      → ((j : ℕ) → from ≤ j → j < length keys → low ≤ symbol_of (get_or keys j 0)) → ((j : ℕ) → j < from → from < length keys → symbol_of (get_or keys j 0) < symbol_of (get_or keys from 0)) → AreGroupsFrom e low (cut (map index_of keys) runs)
+      → ((j : ℕ) → from ≤ j → j < length keys → low ≤ symbol_of (get_or keys j 0)) → ((j : ℕ) → j < from → from < length keys → symbol_of (get_or keys j 0) < symbol_of (get_or keys from 0)) → AreGroupsFrom e low (map (symbol_at keys) runs) (cut (map index_of keys) runs)
   groups-from [] from low r lows before = tt
   groups-from (s ∷ runs) from low r lows before =
       let run = r.1 in
       let some = run.some in
       let end = run.end in (
-        symbol_of (get_or keys s.from 0),
         lows s.from (omega (arith, r.0)) (omega (arith, some, end)),
         group-run s.from s.to run (λ j h. subst (λ n. symbol_of (get_or keys j 0) < symbol_of (get_or keys n 0)) (sym r.0) (before j (omega (arith, h, r.0)) (omega (arith, r.0, some, end)))),
         groups-from runs s.to (suc (symbol_of (get_or keys s.from 0))) r.2 (λ j h l. let p = past s.from s.to j run h l in omega (arith, p)) (λ j h l.
@@ -170,7 +169,7 @@ module _ (e keys : List ℕ) (k : AreKeysOf e keys) where
   grouped (s ∷ runs) from r j h l = ⊎_elim (λ less. inl (part-has s.from s.to j (omega (arith, r.0, h)) less r.1.end)) (λ ge. inr (grouped runs s.to r.2 j ge l)) (cases_lt j s.to)
 
   -- the runs of all keys are the groups of all symbols
-  places-of : (runs : List BufferPart) → AreRuns keys 0 (length keys) runs → ArePlacesOf e (cut (map index_of keys) runs)
+  places-of : (runs : List BufferPart) → AreRuns keys 0 (length keys) runs → ArePlacesOf e (record { symbols = map (symbol_at keys) runs; groups = cut (map index_of keys) runs })
   places-of runs r = record {
     each = groups-from runs 0 0 r (λ j h l. omega arith) (λ j h l. absurd (omega (arith, h)));
     all = λ i h.
@@ -181,12 +180,15 @@ module _ (e keys : List ℕ) (k : AreKeysOf e keys) where
   }
 
 -- the lists that were made of the keys
-pub record IsMade (e indexes : List ℕ) (runs : List BufferPart) : Type 0 where
-  pub places : ArePlacesOf e (cut indexes runs)
+pub record IsMade (e symbols indexes : List ℕ) (runs : List BufferPart) : Type 0 where
+  pub places : ArePlacesOf e (record { symbols = symbols; groups = cut indexes runs })
   pub inside : AreSpansIn (length indexes) runs
 
-pub made : (e keys first second indexes : List ℕ) (runs : List BufferPart) → AreKeysOf e keys → first ≡ keys → second ≡ keys → AreRuns first 0 (length first) runs → indexes ≡ map index_of second → IsMade e indexes runs
-made e keys first second indexes runs k p q r is =
-    let same : map index_of keys ≡ indexes = sym (is ∙ ap (map index_of) q) in
+pub made : (e keys first second third symbols indexes : List ℕ) (runs parts : List BufferPart) → AreKeysOf e keys → first ≡ keys → second ≡ keys → third ≡ keys → AreRuns first 0 (length first) runs
+    → parts ≡ runs → symbols ≡ map (symbol_at second) parts → indexes ≡ map index_of third → IsMade e symbols indexes runs
+made e keys first second third symbols indexes runs parts k p q t r same is at =
     let whole = subst (λ ks. AreRuns ks 0 (length ks) runs) p r in
-    subst (λ xs. IsMade e xs runs) same (record { places = places-of e keys k runs whole; inside = runs-inside keys runs 0 (length keys) (length (map index_of keys)) whole (length-map keys index_of) })
+    let symbols-are : map (symbol_at keys) runs ≡ symbols = sym (is ∙ (ap (λ ks. map (symbol_at ks) parts) q ∙ ap (map (symbol_at keys)) same)) in
+    let indexes-are : map index_of keys ≡ indexes = sym (at ∙ ap (map index_of) t) in
+    subst (λ xs. IsMade e xs indexes runs) symbols-are (subst (λ xs. IsMade e (map (symbol_at keys) runs) xs runs) indexes-are
+    (record { places = places-of e keys k runs whole; inside = runs-inside keys runs 0 (length keys) (length (map index_of keys)) whole (length-map keys index_of) }))

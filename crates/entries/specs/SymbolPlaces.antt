@@ -12,17 +12,24 @@ pub record IsGroupOf (expr : List ℕ) (symbol : ℕ) (group : List ℕ) : Type 
   pub only : All (λ i. slice_get expr i ≡ Some symbol) group
   pub all : (i : ℕ) → slice_get expr i ≡ Some symbol → Contains group i
 
--- each group is that of a symbol, `low` or a greater one, and each symbol is greater than the earlier ones
-abbrev pub AreGroupsFrom : List ℕ → ℕ → List (List ℕ) → Type 0
-AreGroupsFrom expr low [] = Unit {0}
-AreGroupsFrom expr low (g ∷ groups) = (symbol : ℕ) × (low ≤ symbol) × IsGroupOf expr symbol g × AreGroupsFrom expr (suc symbol) groups
+-- each group is that of its symbol; the symbols are `low` or greater, and each is greater than the earlier ones
+abbrev pub AreGroupsFrom : List ℕ → ℕ → List ℕ → List (List ℕ) → Type 0
+AreGroupsFrom expr low [] [] = Unit {0}
+AreGroupsFrom expr low (s ∷ symbols) (g ∷ groups) = (low ≤ s) × IsGroupOf expr s g × AreGroupsFrom expr (suc s) symbols groups
+AreGroupsFrom expr low [] (g ∷ groups) = ⊥
+AreGroupsFrom expr low (s ∷ symbols) [] = ⊥
 
 -- the index stands in one of the groups
 abbrev pub IsGrouped : ℕ → List (List ℕ) → Type 0
 IsGrouped i [] = ⊥
 IsGrouped i (g ∷ groups) = Contains g i ⊎ IsGrouped i groups
 
+-- symbols, and the group of each
+pub record SymbolGroups : Type 0 where
+  pub symbols : List ℕ
+  pub groups : List (List ℕ)
+
 -- the groups are those of the symbols of the expression, each symbol once, in ascending order
-pub record ArePlacesOf (expr : List ℕ) (groups : List (List ℕ)) : Type 0 where
-  pub each : AreGroupsFrom expr 0 groups
-  pub all : (i : ℕ) → i < length expr → IsGrouped i groups
+pub record ArePlacesOf (expr : List ℕ) (places : SymbolGroups) : Type 0 where
+  pub each : AreGroupsFrom expr 0 places.symbols places.groups
+  pub all : (i : ℕ) → i < length expr → IsGrouped i places.groups

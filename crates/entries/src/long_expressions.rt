@@ -1,7 +1,7 @@
 //! Where the symbols of long expressions stand, by the index of their statement.
 ghost use Rattle.std.specs.Prelude.{◌≡◌, ◌<◌, ◌++◌, ◌∷◌, [], ℕ, List, nat_eq, nat_lt, Some, None, IfSome, IfNone, OnOk, OnErr};
 ghost use Rattle.std.specs.{List.All, List.filter, Map.lookup};
-ghost use Rattle.entries.specs.SymbolPlaces.{ArePlacesOf};
+ghost use Rattle.entries.specs.SymbolPlaces.{ArePlacesOf, SymbolGroups};
 
 use crate::room::give_back;
 use crate::symbol_places::SymbolPlaces;
@@ -9,7 +9,7 @@ use std::alloc::{AllocError, Global};
 use std::marker::Model;
 
 /// The places of the symbols of long expressions, by the index of their statement. Contracts see the list of the indexes,
-/// in ascending order, each with the groups of its expression.
+/// in ascending order, each with the symbols of its expression and their groups.
 #[derive(Drop)]
 pub struct LongExpressions {
     alloc: Global,
@@ -20,8 +20,9 @@ pub struct LongExpressions {
 impl Model for LongExpressions {
     ghost use Rattle.std.specs.Prelude.{ℕ, List, length, ◌≡◌};
     ghost use Rattle.std.specs.{List.zip, List.Sorted.IsStrictlyIncreasing};
+    ghost use Rattle.entries.specs.SymbolPlaces.{SymbolGroups};
 
-    ghost Value = { List (ℕ × List (List ℕ)) };
+    ghost Value = { List (ℕ × SymbolGroups) };
 
     ghost view = { λ a. zip a.indexes.items a.places.items };
 
@@ -59,7 +60,7 @@ impl LongExpressions {
     /// Cost: n log n for n symbols.
     pub fn push(&mut self, index: usize, expr: &[u32]) -> Result<(), AllocError>
         requires { All (λ e. e.0 < index) self.old }
-        ensures added { OnOk result ((groups : List (List ℕ)) × ArePlacesOf expr.now groups × (self.new ≡ self.old ++ (index, groups) ∷ [])) }
+        ensures added { OnOk result ((places : SymbolGroups) × ArePlacesOf expr.now places × (self.new ≡ self.old ++ (index, places) ∷ [])) }
         ensures same { OnErr result (self.new ≡ self.old) }
     {
         let places = SymbolPlaces::of(self.alloc, expr)?;

@@ -1,6 +1,6 @@
 //! Where each symbol of an expression stands.
 ghost use Rattle.std.specs.Prelude.{◌≡◌, ◌≢◌, ◌+◌, ◌<◌, true, false, length, map, slice_index, IfOk};
-ghost use Rattle.entries.specs.{SymbolPlaces.ArePlacesOf, Stored.Keys.symbol_of, Stored.Keys.index_of, Stored.Keys.AreKeys, Stored.Keys.AreKeysOf, Stored.Keys.AreRuns};
+ghost use Rattle.entries.specs.{SymbolPlaces.ArePlacesOf, Stored.Keys.symbol_of, Stored.Keys.symbol_at, Stored.Keys.index_of, Stored.Keys.AreKeys, Stored.Keys.AreKeysOf, Stored.Keys.AreRuns};
 
 use crate::buffer_part::{BufferPart, between};
 use crate::groups::Groups;
@@ -10,23 +10,25 @@ use std::marker::Model;
 /// The largest number of indexes: a key is a symbol times this, plus its index.
 const INDEXES: u64 = 4_294_967_296;
 
-/// The indexes of an expression's symbols, grouped by symbol, the least symbol first. Contracts see the list of the groups,
-/// each the ascending list of the indexes at which one symbol stands.
+/// The indexes of an expression's symbols, grouped by symbol, the least symbol first. Contracts see the list of the distinct
+/// symbols and the list of their groups, each the ascending list of the indexes at which one symbol stands.
 ///
-/// Cost: four bytes for each symbol of the expression, and eight for each distinct one.
+/// Cost: four bytes for each symbol of the expression, and twelve for each distinct one.
 #[derive(Drop)]
 pub struct SymbolPlaces {
+    symbols: Vec<u32>,
     indexes: Vec<u32>,
     groups: Vec<BufferPart>,
 }
 
 impl Model for SymbolPlaces {
-    ghost use Rattle.std.specs.Prelude.{ℕ, List, length};
+    ghost use Rattle.std.specs.Prelude.{length};
     ghost use Rattle.entries.specs.Stored.Spans.{cut, AreSpansIn};
+    ghost use Rattle.entries.specs.SymbolPlaces.{SymbolGroups};
 
-    ghost Value = { List (List ℕ) };
+    ghost Value = { SymbolGroups };
 
-    ghost view = { λ a. cut a.indexes.items a.groups.items };
+    ghost view = { λ a. record { symbols = a.symbols.items; groups = cut a.indexes.items a.groups.items } };
 
     ghost invariant = { λ a. AreSpansIn (length a.indexes.items) a.groups.items };
 }
@@ -41,13 +43,25 @@ impl SymbolPlaces {
     {
         let keys = ordered_keys(alloc, expr)?;
         let groups = runs_of(alloc, &keys)?;
+        let symbols = symbols_of(alloc, &keys, &groups)?;
         let indexes = indexes_of(alloc, &keys)?;
-        Ok(SymbolPlaces { indexes, groups })
+        Ok(SymbolPlaces {
+            symbols,
+            indexes,
+            groups,
+        })
     }
 
-    /// Returns the groups.
+    /// Returns the distinct symbols, in ascending order.
+    pub fn symbols(&self) -> &[u32]
+        ensures { result.now ≡ self.now.symbols }
+    {
+        &self.symbols
+    }
+
+    /// Returns the group of each of the distinct symbols.
     pub fn groups(&self) -> Groups<'_>
-        ensures { result ≡ self.now }
+        ensures { result ≡ self.now.groups }
     {
         Groups::new(&self.groups, &self.indexes)
     }
@@ -102,6 +116,27 @@ fn runs_of(alloc: Global, keys: &[u64]) -> Result<Vec<BufferPart>, AllocError>
         }
     }
     Ok(runs)
+}
+
+/// Returns the symbol of the keys of a part.
+fn symbol_of_part(keys: &[u64], part: BufferPart) -> u32
+    ensures { result ≡ symbol_at keys.now part }
+{
+    match keys.get(part.from as usize) {
+        Some(key) => (*key / INDEXES) as u32,
+        None => 0,
+    }
+}
+
+/// Returns the symbol of each part.
+fn symbols_of(alloc: Global, keys: &[u64], parts: &[BufferPart]) -> Result<Vec<u32>, AllocError>
+    ensures { IfOk result (λ symbols. symbols.items ≡ map (symbol_at keys.now) parts.now) }
+{
+    let mut symbols = Vec::with_capacity(alloc, parts.len())?;
+    for part in parts {
+        symbols.push(symbol_of_part(keys, *part))?;
+    }
+    Ok(symbols)
 }
 
 /// Returns the index of each key.

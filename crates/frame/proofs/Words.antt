@@ -12,7 +12,7 @@ pub use Rattle.entries.specs.Histories.{AreKeptUntil, AreSame, AreUntil, IsUntil
 pub use Rattle.entries.specs.Hypotheses.{told}
 pub use Rattle.entries.specs.PositionSets.{AreAbove, Ascends, IsSet, count_below, has_position, set_at, with_position}
 pub use Rattle.entries.specs.Stored.Spans.{AreSpansIn, Extends, cut}
-pub use Rattle.entries.specs.SymbolPlaces.{ArePlacesOf}
+pub use Rattle.entries.specs.SymbolPlaces.{ArePlacesOf, SymbolGroups}
 pub use Rattle.entries.specs.declared.assertion_view.AssertionView.{AssertionView}
 pub use Rattle.entries.specs.declared.assertion_view.Hypothesis.{Hypothesis}
 pub use Rattle.entries.specs.declared.buffer_part.BufferPart.{BufferPart}

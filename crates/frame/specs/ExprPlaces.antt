@@ -2,11 +2,11 @@
 -- Metamath, 4.2.6: an image is put in for a variable wherever it stands.
 -- The code keeps this for long expressions alone.
 use Rattle.std.specs.Prelude.{◌≡◌, ℕ, List, length}
-use Rattle.frame.specs.Words.{Name, Expr, decode, ArePlacesOf}
+use Rattle.frame.specs.Words.{Name, Expr, decode, ArePlacesOf, SymbolGroups}
 use Rattle.frame.specs.Below.{AreBelow}
 
 -- the groups are the places of numbers that stand for the expression
-pub record AreExprPlaces (names : List Name) (e : Expr) (groups : List (List ℕ)) : Type 0 where
+pub record AreExprPlaces (names : List Name) (e : Expr) (groups : SymbolGroups) : Type 0 where
   pub codes : List ℕ
   pub below : AreBelow (length names) codes
   pub named : decode names codes ≡ e

@@ -1,5 +1,5 @@
 -- Images are read off results that begin with the typecodes of their hypotheses.
-use Rattle.steps.proofs.Words.{◌≡◌, ℕ, Bool, true, false, List, [], length, map, get_or, slice_get, IfSome, None, Option, Some, Bor, subst, sym, ◌∙◌, Name, Expr, AreDistinct, decode, ArePlacesOf, decode-injective, AreBelow, AreExprPlaces, SymbolRange, seen_at, images_at, AreWithin, Hypothesis, Float, IsTyped, AreRead, Reads, ReadsAll, reads-seen}
+use Rattle.steps.proofs.Words.{◌≡◌, ℕ, Bool, true, false, List, [], length, map, get_or, slice_get, IfSome, None, Option, Some, Bor, subst, sym, ◌∙◌, Name, Expr, AreDistinct, decode, ArePlacesOf, SymbolGroups, decode-injective, AreBelow, AreExprPlaces, SymbolRange, seen_at, images_at, AreWithin, Hypothesis, Float, IsTyped, AreRead, Reads, ReadsAll, reads-seen}
 
 module _ (xs ys typecodes : List ℕ) (hs : List Hypothesis) (places : List SymbolRange) (images : List (ℕ × SymbolRange)) (same : ys ≡ xs) (count : length places ≡ length hs) (within : AreWithin (length xs) places) where
   -- the images read by places are those read off the results that stand there
@@ -16,7 +16,7 @@ module _ (xs ys typecodes : List ℕ) (hs : List Hypothesis) (places : List Symb
   all-read b r e = subst (λ v. Reads v typecodes hs (map (seen_at xs) places) (images_at xs images)) e (seen b r)
 
 -- the places of an expression are those of its numbers
-pub standing-codes : (names : List Name) (e : List ℕ) (x : Expr) (standing : Option (Bor (List (List ℕ)))) → AreDistinct names → AreBelow (length names) e → decode names e ≡ x
+pub standing-codes : (names : List Name) (e : List ℕ) (x : Expr) (standing : Option (Bor SymbolGroups)) → AreDistinct names → AreBelow (length names) e → decode names e ≡ x
     → IfSome standing (λ places. AreExprPlaces names x places.now) → IfSome standing (λ places. ArePlacesOf e places.now)
 standing-codes names e x None distinct below same p = tt
 standing-codes names e x (Some places) distinct below same p = subst (λ c. ArePlacesOf c places.now) (decode-injective names p.codes e distinct p.below below (p.named ∙ sym same)) p.places

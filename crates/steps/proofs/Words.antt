@@ -1,7 +1,7 @@
 -- The words in which this crate is proved, passed on from one place.
 pub use Rattle.entries.proofs.StatementRecordLemmas.{get-last}
 pub use Rattle.entries.specs.Hypotheses.{told}
-pub use Rattle.entries.specs.SymbolPlaces.{ArePlacesOf}
+pub use Rattle.entries.specs.SymbolPlaces.{ArePlacesOf, SymbolGroups}
 pub use Rattle.entries.specs.declared.assertion_view.AssertionView.{AssertionView}
 pub use Rattle.entries.specs.declared.assertion_view.Hypothesis.{Hypothesis}
 pub use Rattle.entries.specs.declared.assertion_view.Hypothesis.TheVariants.{Essential, Float}

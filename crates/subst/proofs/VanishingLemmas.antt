@@ -1,6 +1,6 @@
 -- What is left of an expression without the symbols whose images are empty has the same result: such images add nothing.
-use Rattle.subst.proofs.Words.{append-nil, ◌≡◌, ℕ, suc, ◌+◌, ◌-◌, ◌<◌, ◌≤◌, Bool, true, false, true≢false, inl, inr, cond, nat_eq, List, [], ◌∷◌, ◌++◌, length, take, drop, slice_get, Option, Some, None, refl, lookup, sym, ◌∙◌, ap, subst, arith, code_image, code_apply, SymbolRange, images_at, ⊎_elim, get_or, cases_lt, ltb-false, Contains, cons_option, filter, filter_map, flat_map, All-contains, Contains-append_cases, Contains-append_left, Contains-append_right, filter_map-append, flat_map_more, take_more, get_or_from_slice_get, slice_get_within, IsGroupOf, AreGroupsFrom, IsGrouped, AreAbove, Ascends, In, AreThose, contains-in, in-contains, is_left, is_place_left, is_symbol_left, is_group_left, group_left, remaining}
-use Rattle.entries.specs.SymbolPlaces.{ArePlacesOf}
+use Rattle.subst.proofs.Words.{append-nil, ◌≡◌, ℕ, zero, suc, ◌+◌, ◌-◌, ◌<◌, ◌≤◌, Bool, true, false, true≢false, inl, inr, cond, nat_eq, List, [], ◌∷◌, ◌++◌, length, take, take_all, drop, slice_get, Option, Some, None, refl, lookup, sym, ◌∙◌, ap, subst, arith, code_image, code_apply, SymbolRange, images_at, ⊎_elim, get_or, cases_lt, ltb-false, Contains, cons_option, filter, filter_map, flat_map, All-contains, Contains-append_cases, Contains-append_left, Contains-append_right, filter_map-append, flat_map_more, take_more, get_or_from_slice_get, slice_get-get_or, slice_get_within, IsGroupOf, AreGroupsFrom, IsGrouped, AreAbove, Ascends, In, AreThose, contains-in, in-contains, is_left, is_place_left, is_symbol_left, is_group_left, group_left, remaining}
+use Rattle.entries.specs.SymbolPlaces.{ArePlacesOf, SymbolGroups}
 use Rattle.subst.proofs.ImageRangesLemmas.{image-some}
 
 -- ---- an image that is empty
@@ -32,23 +32,26 @@ group-left ps e s [] h = absurd (let some = h.some in omega (arith, some))
 group-left ps e s (i ∷ g) h = ap (is_symbol_left ps) (h.only 0 i (omega arith))
 
 -- what is collected are indexes of symbols that are left
-collected-only : (ps : List (ℕ × SymbolRange)) (e : List ℕ) (gs : List (List ℕ)) (low : ℕ) → AreGroupsFrom e low gs → (i : ℕ) → Contains (flat_map (group_left ps e) gs) i → (x : ℕ) × (slice_get e i ≡ Some x) × (is_left ps x ≡ true)
-collected-only ps e [] low h i c = absurd (let l = c.1 in omega (arith, l))
-collected-only ps e (g ∷ gs) low h i c =
-    ⊎_elim (λ here. by (is_group_left ps e g) (group-left ps e h.0 g h.2) here) (λ there. collected-only ps e gs (suc h.0) h.3 i there) (Contains-append_cases (group_left ps e g) (flat_map (group_left ps e) gs) i c)
+collected-only : (ps : List (ℕ × SymbolRange)) (e ss : List ℕ) (gs : List (List ℕ)) (low : ℕ) → AreGroupsFrom e low ss gs → (i : ℕ) → Contains (flat_map (group_left ps e) gs) i → (x : ℕ) × (slice_get e i ≡ Some x) × (is_left ps x ≡ true)
+collected-only ps e [] [] low h i c = absurd (let l = c.1 in omega (arith, l))
+collected-only ps e (s ∷ ss) [] low h i c = absurd h
+collected-only ps e [] (g ∷ gs) low h i c = absurd h
+collected-only ps e (s ∷ ss) (g ∷ gs) low h i c =
+    ⊎_elim (λ here. by (is_group_left ps e g) (group-left ps e s g h.1) here) (λ there. collected-only ps e ss gs (suc s) h.2 i there) (Contains-append_cases (group_left ps e g) (flat_map (group_left ps e) gs) i c)
   where
-    by : (b : Bool) → b ≡ is_left ps h.0 → Contains (cond b g []) i → (x : ℕ) × (slice_get e i ≡ Some x) × (is_left ps x ≡ true)
-    by true l here = (h.0, All-contains (λ k. slice_get e k ≡ Some h.0) g i h.2.only here, sym l)
+    by : (b : Bool) → b ≡ is_left ps s → Contains (cond b g []) i → (x : ℕ) × (slice_get e i ≡ Some x) × (is_left ps x ≡ true)
+    by true l here = (s, All-contains (λ k. slice_get e k ≡ Some s) g i h.1.only here, sym l)
     by false l here = absurd (let n = here.1 in omega (arith, n))
 
 -- and all of them
-collected-all : (ps : List (ℕ × SymbolRange)) (e : List ℕ) (gs : List (List ℕ)) (low : ℕ) → AreGroupsFrom e low gs → (i x : ℕ) → slice_get e i ≡ Some x → is_left ps x ≡ true → IsGrouped i gs → Contains (flat_map (group_left ps e) gs) i
-collected-all ps e [] low h i x at left in_one = absurd in_one
-collected-all ps e (g ∷ gs) low h i x at left (inr there) = Contains-append_right (group_left ps e g) (flat_map (group_left ps e) gs) i (collected-all ps e gs (suc h.0) h.3 i x at left there)
-collected-all ps e (g ∷ gs) low h i x at left (inl here) =
-    let is : slice_get e i ≡ Some h.0 = All-contains (λ k. slice_get e k ≡ Some h.0) g i h.2.only here in
-    let same : x ≡ h.0 = cc in
-    let kept : is_group_left ps e g ≡ true = group-left ps e h.0 g h.2 ∙ (ap (is_left ps) (sym same) ∙ left) in
+collected-all : (ps : List (ℕ × SymbolRange)) (e ss : List ℕ) (gs : List (List ℕ)) (low : ℕ) → AreGroupsFrom e low ss gs → (i x : ℕ) → slice_get e i ≡ Some x → is_left ps x ≡ true → IsGrouped i gs → Contains (flat_map (group_left ps e) gs) i
+collected-all ps e ss [] low h i x at left in_one = absurd in_one
+collected-all ps e [] (g ∷ gs) low h i x at left in_one = absurd h
+collected-all ps e (s ∷ ss) (g ∷ gs) low h i x at left (inr there) = Contains-append_right (group_left ps e g) (flat_map (group_left ps e) gs) i (collected-all ps e ss gs (suc s) h.2 i x at left there)
+collected-all ps e (s ∷ ss) (g ∷ gs) low h i x at left (inl here) =
+    let is : slice_get e i ≡ Some s = All-contains (λ k. slice_get e k ≡ Some s) g i h.1.only here in
+    let same : x ≡ s = cc in
+    let kept : is_group_left ps e g ≡ true = group-left ps e s g h.1 ∙ (ap (is_left ps) (sym same) ∙ left) in
     Contains-append_left (group_left ps e g) (flat_map (group_left ps e) gs) i (subst (λ b. Contains (cond b g []) i) (sym kept) here)
 
 -- one more group is gone over
@@ -58,11 +61,51 @@ collect-more f gs at g old new here is more =
     let last = ap (λ x. take at gs ++ x ∷ []) (sym (get_or_from_slice_get gs at g [] here)) ∙ sym (take_more gs at [] within) in
     more ∙ (ap (λ o. o ++ f g) is ∙ (flat_map_more f [] (take at gs) g ∙ ap (flat_map f) last))
 
-pub collect-kept : (ps : List (ℕ × SymbolRange)) (e : List ℕ) (gs : List (List ℕ)) (at : ℕ) (g old new : List ℕ) → slice_get gs at ≡ Some g → old ≡ flat_map (group_left ps e) (take at gs) → is_group_left ps e g ≡ true → new ≡ old ++ g → new ≡ flat_map (group_left ps e) (take (at + 1) gs)
+collect-kept : (ps : List (ℕ × SymbolRange)) (e : List ℕ) (gs : List (List ℕ)) (at : ℕ) (g old new : List ℕ) → slice_get gs at ≡ Some g → old ≡ flat_map (group_left ps e) (take at gs) → is_group_left ps e g ≡ true → new ≡ old ++ g → new ≡ flat_map (group_left ps e) (take (at + 1) gs)
 collect-kept ps e gs at g old new here is kept more = collect-more (group_left ps e) gs at g old new here is (more ∙ ap (λ b. old ++ cond b g []) (sym kept))
 
-pub collect-passed : (ps : List (ℕ × SymbolRange)) (e : List ℕ) (gs : List (List ℕ)) (at : ℕ) (g old : List ℕ) → slice_get gs at ≡ Some g → old ≡ flat_map (group_left ps e) (take at gs) → is_group_left ps e g ≡ false → old ≡ flat_map (group_left ps e) (take (at + 1) gs)
+collect-passed : (ps : List (ℕ × SymbolRange)) (e : List ℕ) (gs : List (List ℕ)) (at : ℕ) (g old : List ℕ) → slice_get gs at ≡ Some g → old ≡ flat_map (group_left ps e) (take at gs) → is_group_left ps e g ≡ false → old ≡ flat_map (group_left ps e) (take (at + 1) gs)
 collect-passed ps e gs at g old here is passed = collect-more (group_left ps e) gs at g old old here is (sym (append-nil old) ∙ ap (λ b. old ++ cond b g []) (sym passed))
+
+-- each symbol has its group
+pub groups-count : (e ss : List ℕ) (gs : List (List ℕ)) (low : ℕ) → AreGroupsFrom e low ss gs → length gs ≡ length ss
+groups-count e [] [] low h = refl
+groups-count e [] (g ∷ gs) low h = absurd h
+groups-count e (s ∷ ss) [] low h = absurd h
+groups-count e (s ∷ ss) (g ∷ gs) low h = ap suc (groups-count e ss gs (suc s) h.2)
+
+group-at : (e ss : List ℕ) (gs : List (List ℕ)) (low at : ℕ) → AreGroupsFrom e low ss gs → at < length ss → IsGroupOf e (get_or ss at 0) (get_or gs at [])
+group-at e [] gs low at h l = absurd (omega (arith, l))
+group-at e (s ∷ ss) [] low at h l = absurd h
+group-at e (s ∷ ss) (g ∷ gs) low zero h l = h.1
+group-at e (s ∷ ss) (g ∷ gs) low (suc at) h l = group-at e ss gs (suc s) at h.2 (omega (arith, l))
+
+-- a group is left where its symbol is
+module _ (ps : List (ℕ × SymbolRange)) (e : List ℕ) (gs : SymbolGroups) (places : ArePlacesOf e gs) where
+  told : (at : ℕ) (b : Bool) → at < length gs.symbols → is_left ps (get_or gs.symbols at 0) ≡ b → is_group_left ps e (get_or gs.groups at []) ≡ b
+  told at b within h = group-left ps e (get_or gs.symbols at 0) (get_or gs.groups at []) (group-at e gs.symbols gs.groups 0 at places.each within) ∙ h
+
+  there : (at : ℕ) → at < length gs.symbols → slice_get gs.groups at ≡ Some (get_or gs.groups at [])
+  there at within = slice_get-get_or gs.groups at [] (let n = groups-count e gs.symbols gs.groups 0 places.each in omega (arith, n, within))
+
+  pub symbol-kept : (at : ℕ) (old g new : List ℕ) → at < length gs.symbols → old ≡ flat_map (group_left ps e) (take at gs.groups) → slice_get gs.groups at ≡ Some g → is_left ps (get_or gs.symbols at 0) ≡ true → new ≡ old ++ g
+      → new ≡ flat_map (group_left ps e) (take (at + 1) gs.groups)
+  symbol-kept at old g new within done here kept more =
+      let same : get_or gs.groups at [] ≡ g = get_or_from_slice_get gs.groups at g [] here in
+      collect-kept ps e gs.groups at g old new here done (subst (λ x. is_group_left ps e x ≡ true) same (told at true within kept)) more
+
+  -- symbols that are passed add nothing
+  pub symbols-passed : (from more to : ℕ) (old : List ℕ) → from + more ≡ to → to ≤ length gs.symbols → old ≡ flat_map (group_left ps e) (take from gs.groups)
+      → ((j : ℕ) → from ≤ j → j < to → is_left ps (get_or gs.symbols j 0) ≡ false) → old ≡ flat_map (group_left ps e) (take to gs.groups)
+  symbols-passed from zero to old count within done passed = (let n : from ≡ to = omega (arith, count) in done ∙ ap (λ m. flat_map (group_left ps e) (take m gs.groups)) n)
+  symbols-passed from (suc more) to old count within done passed =
+      let here : from < length gs.symbols = omega (arith, count, within) in
+      let next = collect-passed ps e gs.groups from (get_or gs.groups from []) old (there from here) done (told from false here (passed from (omega arith) (omega (arith, count)))) in
+      symbols-passed (from + 1) more to old (omega (arith, count)) within next (λ j low high. passed j (omega (arith, low)) high)
+
+  -- and the symbols to the end of all groups
+  pub all-groups : (at : ℕ) (found : List ℕ) → length gs.symbols ≤ at → found ≡ flat_map (group_left ps e) (take at gs.groups) → found ≡ flat_map (group_left ps e) gs.groups
+  all-groups at found end done = done ∙ ap (flat_map (group_left ps e)) (take_all at gs.groups (let n = groups-count e gs.symbols gs.groups 0 places.each in omega (arith, n, end)))
 
 -- ---- indexes in order, and the symbols that stand there
 
@@ -121,13 +164,13 @@ picks p f (x ∷ e) k list at h =
     pick-one p f x e k here (λ l a. picks p f e (suc k) l (λ j. let n : suc k + j ≡ k + suc j = omega arith in ap f n ∙ at (suc j)) a) (p x) refl list h
 
 -- the indexes of the groups that are left, in order, give the symbols that are left
-pub remaining-read : (ps : List (ℕ × SymbolRange)) (e : List ℕ) (gs : List (List ℕ)) (all list : List ℕ) → ArePlacesOf e gs → all ≡ flat_map (group_left ps e) gs → AreThose (λ i. In i all) list → filter_map (slice_get e) list ≡ remaining ps e
+pub remaining-read : (ps : List (ℕ × SymbolRange)) (e : List ℕ) (gs : SymbolGroups) (all list : List ℕ) → ArePlacesOf e gs → all ≡ flat_map (group_left ps e) gs.groups → AreThose (λ i. In i all) list → filter_map (slice_get e) list ≡ remaining ps e
 remaining-read ps e gs all list places is those =
     picks (is_left ps) (slice_get e) e 0 list (λ j. let n : 0 + j ≡ j = omega arith in ap (slice_get e) n) (record {
       ascends = those.ascends;
       low = λ i m. omega arith;
-      only = λ i m. collected-only ps e gs 0 places.each i (subst (λ xs. Contains xs i) is (in-contains i all (those.only i m)));
-      all = λ i x l at left. those.all i (contains-in i all (subst (λ xs. Contains xs i) (sym is) (collected-all ps e gs 0 places.each i x at left (places.all i (slice_get_within e i x at)))));
+      only = λ i m. collected-only ps e gs.symbols gs.groups 0 places.each i (subst (λ xs. Contains xs i) is (in-contains i all (those.only i m)));
+      all = λ i x l at left. those.all i (contains-in i all (subst (λ xs. Contains xs i) (sym is) (collected-all ps e gs.symbols gs.groups 0 places.each i x at left (places.all i (slice_get_within e i x at)))));
     })
 
 -- one more index is read

@@ -1,12 +1,12 @@
 //! An expression without the symbols whose images are empty.
-ghost use Rattle.std.specs.Prelude.{◌≡◌, slice_get, IfOk, IfSome, IsTrue, OnOk};
+ghost use Rattle.std.specs.Prelude.{◌≡◌, ℕ, ◌<◌, ◌≤◌, true, false, length, slice_get, slice_index, IfOk, IfSome, IsTrue, OnOk};
 ghost use Rattle.std.specs.List.{filter_map, flat_map};
 ghost use Rattle.entries.specs.SymbolPlaces.{ArePlacesOf};
 ghost use Rattle.frame.specs.Stored.Hypotheses.{In, AreThose};
-ghost use Rattle.subst.specs.Vanishing.{is_left, first_symbol, is_group_left, group_left, remaining, HaveSameResult};
+ghost use Rattle.subst.specs.Vanishing.{is_left, group_left, remaining, HaveSameResult};
 
 use crate::image_ranges::{ImageRanges, ImageTable};
-use entries::{Groups, SymbolPlaces};
+use entries::SymbolPlaces;
 use std::alloc::{AllocError, Global};
 
 /// If more than one in this many symbols is left, the whole expression costs about as much.
@@ -35,7 +35,7 @@ impl Remaining {
     /// caller then goes over the whole expression, which only costs more.
     ///
     /// Errors: an allocation fails.
-    /// Cost: one step for each distinct symbol of the expression, and t log t for the t symbols that are returned.
+    /// Cost: a look-up for each distinct symbol of the expression, and t log t for the t symbols that are returned.
     /// Source: Metamath, 4.2.6: the image of a variable may be the empty sequence of symbols.
     pub fn of<'a>(
         &'a mut self,
@@ -47,7 +47,7 @@ impl Remaining {
         ensures left { IfOk result (λ found. IfSome found (λ left. left.now ≡ remaining images.now expr.now)) }
         ensures same { IfOk result (λ found. IfSome found (λ left. HaveSameResult images.now left.now expr.now)) }
     {
-        let few = collect(&mut self.indexes, &images.table(), expr, &places.groups())?;
+        let few = collect(&mut self.indexes, &images.table(), expr, places)?;
         if !few {
             return Ok(None);
         }
@@ -74,24 +74,22 @@ fn symbol_at(expr: &[u32], index: u32) -> Option<u32>
     expr.get(index as usize).copied()
 }
 
-/// Returns the symbol at the first index of a group.
-fn symbol_of_group(expr: &[u32], group: &[u32]) -> Option<u32>
-    ensures { result ≡ first_symbol expr.now group.now }
+/// Returns the index of the first symbol from `from` on whose image is not empty, or the count of the symbols.
+///
+/// A function of its own, so that the loop has all it needs in registers: it decides what a citation on empty images costs.
+#[inline(never)]
+fn next_kept(images: &ImageTable<'_>, symbols: &[u32], from: usize) -> usize
+    requires { from ≤ length symbols.now }
+    ensures within { (from ≤ result) × (result ≤ length symbols.now) }
+    ensures passed { (j : ℕ) → from ≤ j → j < result → is_left images.now (slice_index symbols.now j) ≡ false }
+    ensures kept { result < length symbols.now → is_left images.now (slice_index symbols.now result) ≡ true }
 {
-    match group {
-        [first, ..] => symbol_at(expr, *first),
-        [] => None,
+    for at in from..symbols.len() {
+        if is_kept(images, symbols[at]) {
+            return at;
+        }
     }
-}
-
-/// Returns whether the image of the symbol at the indexes of a group is not empty.
-fn is_group_kept(images: &ImageTable<'_>, expr: &[u32], group: &[u32]) -> bool
-    ensures { result ≡ is_group_left images.now expr.now group.now }
-{
-    match symbol_of_group(expr, group) {
-        Some(symbol) => is_kept(images, symbol),
-        None => false,
-    }
+    symbols.len()
 }
 
 /// Collects the indexes of the symbols whose images are not empty, group by group, or returns `false` if they are more than a
@@ -100,20 +98,23 @@ fn collect(
     indexes: &mut Vec<u32>,
     images: &ImageTable<'_>,
     expr: &[u32],
-    groups: &Groups<'_>,
+    places: &SymbolPlaces,
 ) -> Result<bool, AllocError>
-    ensures { IfOk result (λ few. IsTrue few → indexes.new.items ≡ flat_map (group_left images.now expr.now) groups.now) }
+    requires { ArePlacesOf expr.now places.now }
+    ensures { IfOk result (λ few. IsTrue few → indexes.new.items ≡ flat_map (group_left images.now expr.now) places.now.groups) }
 {
     indexes.clear();
     let most = expr.len() / PART;
-    for at in 0..groups.len() {
+    let symbols = places.symbols();
+    let groups = places.groups();
+    let mut at = next_kept(images, symbols, 0);
+    while at < symbols.len() {
         let group = groups.get(at);
-        if is_group_kept(images, expr, group) {
-            if group.len() > most - indexes.len() {
-                return Ok(false);
-            }
-            indexes.extend_from_slice(group)?;
+        if group.len() > most - indexes.len() {
+            return Ok(false);
         }
+        indexes.extend_from_slice(group)?;
+        at = next_kept(images, symbols, at + 1);
     }
     Ok(true)
 }

@@ -3,7 +3,7 @@ pub use Prim.Native.String.{String}
 pub use Rattle.entries.proofs.SpanLemmas.{cut-more, cut-push, extends-refl, range-behind, spans-push}
 pub use Rattle.entries.specs.Hypotheses.{told}
 pub use Rattle.entries.specs.Stored.Spans.{AreSpansIn, cut}
-pub use Rattle.entries.specs.SymbolPlaces.{ArePlacesOf}
+pub use Rattle.entries.specs.SymbolPlaces.{ArePlacesOf, SymbolGroups}
 pub use Rattle.entries.specs.declared.assertion_view.AssertionView.{AssertionView}
 pub use Rattle.entries.specs.declared.assertion_view.Hypothesis.TheVariants.{Essential, Float}
 pub use Rattle.entries.specs.declared.assertion_view.Hypothesis.{Hypothesis}

@@ -15,6 +15,10 @@ symbol_of key = key / INDEXES
 abbrev pub index_of : ℕ → ℕ
 index_of key = key % INDEXES
 
+-- the symbol of the keys of a part
+abbrev pub symbol_at : List ℕ → BufferPart → ℕ
+symbol_at keys part = symbol_of (slice_index keys part.from)
+
 -- the key of each symbol, in the order of the expression
 pub record AreKeys (expr keys : List ℕ) : Type 0 where
   pub few : length expr < INDEXES

@@ -2,11 +2,11 @@
 -- Metamath, 4.2.6: an image may be empty, and then nothing stands for its variable.
 -- The code keeps the places of the symbols of an expression with 128 symbols or more.
 use Rattle.std.specs.Prelude.{◌≡◌, ℕ, List, Some, slice_get}
-use Rattle.frame.specs.Words.{All, Entry, ArePlacesOf}
+use Rattle.frame.specs.Words.{All, Entry, ArePlacesOf, SymbolGroups}
 
 -- a statement stands at the index, and these are the places of its symbols
-abbrev pub IsLongIn : List Entry → ℕ × List (List ℕ) → Type 0
+abbrev pub IsLongIn : List Entry → ℕ × SymbolGroups → Type 0
 IsLongIn es p = (e : Entry) × (slice_get es p.0 ≡ Some e) × ArePlacesOf e.symbols p.1
 
-pub record AreLongIn (es : List Entry) (long : List (ℕ × List (List ℕ))) : Type 0 where
+pub record AreLongIn (es : List Entry) (long : List (ℕ × SymbolGroups)) : Type 0 where
   pub each : All (IsLongIn es) long

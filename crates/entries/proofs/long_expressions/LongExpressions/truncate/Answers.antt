@@ -1,4 +1,4 @@
-use Rattle.entries.proofs.Words.{ℕ, List, sym, ◌∙◌, ap, subst, nat_lt, take, filter, zip}
+use Rattle.entries.proofs.Words.{SymbolGroups, ℕ, List, sym, ◌∙◌, ap, subst, nat_lt, take, filter, zip}
 use Rattle.entries.proofs.LongExpressionsLemmas.{IsCut, result-of, cut-found, cut-missed, filter-cut}
 use Rattle.entries.proofs.long_expressions.LongExpressions.truncate.Goals as goal
 use Rattle.entries.proofs.long_expressions.LongExpressions.truncate.Goals.{in-Ok, in-Err}
@@ -15,4 +15,4 @@ returns c =
     ] in
     ap (λ xs. zip xs c.truncate-2.new.self.items) c.truncate.ensures.items
     ∙ (ap (zip (take kept is)) c.truncate-2.ensures.items
-    ∙ (filter-cut is ps c.args.len kept c.self.invariant.1 cut ∙ ap (λ (es : List (ℕ × List (List ℕ))). filter (λ e. nat_lt e.0 c.args.len) es) c.self.view_is))
+    ∙ (filter-cut is ps c.args.len kept c.self.invariant.1 cut ∙ ap (λ (es : List (ℕ × SymbolGroups)). filter (λ e. nat_lt e.0 c.args.len) es) c.self.view_is))

@@ -1,8 +1,8 @@
-use Rattle.verify.proofs.Words.{◌≡◌, ℕ, Bool, List, [], ◌∷◌, length, filter, sym, ◌∙◌, subst, Name, Expr, decode, decode-injective, expr_of, stands-within, AreBelow, AreDistinct, ArePlacesOf, AreExprPlaces, is_left, inl, inr, cases_Bool}
+use Rattle.verify.proofs.Words.{◌≡◌, ℕ, Bool, List, [], ◌∷◌, length, filter, sym, ◌∙◌, subst, Name, Expr, decode, decode-injective, expr_of, stands-within, AreBelow, AreDistinct, ArePlacesOf, SymbolGroups, AreExprPlaces, is_left, inl, inr, cases_Bool}
 use Rattle.verify.proofs.results.Results.shorten.Goals as goal
 
 -- the numbers of the expression are those whose places are kept
-places-of : (names : List Name) (e : List ℕ) (x : Expr) (groups : List (List ℕ)) → AreDistinct names → AreBelow (length names) e → decode names e ≡ x → AreExprPlaces names x groups → ArePlacesOf e groups
+places-of : (names : List Name) (e : List ℕ) (x : Expr) (groups : SymbolGroups) → AreDistinct names → AreBelow (length names) e → decode names e ≡ x → AreExprPlaces names x groups → ArePlacesOf e groups
 places-of names e x groups distinct below same p =
     subst (λ c. ArePlacesOf c groups) (decode-injective names p.codes e distinct p.below below (p.named ∙ sym same)) p.places
 
