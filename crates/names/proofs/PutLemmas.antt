@@ -53,10 +53,10 @@ names-put slots a b names new name n key at is h count few fresh overflow same m
     at-n = last-name names name n count
 
 -- a name came that is in the overflow
-pub names-set_apart : (slots : List Slot) (a b : Kept) (names new : List Name) (name : Name) (n : ℕ) → new ≡ names ++ name ∷ [] → Holds slots a names → n ≡ length names → n < NO_NAME → has_name name names ≡ false
+pub names-put_in_overflow : (slots : List Slot) (a b : Kept) (names new : List Name) (name : Name) (n : ℕ) → new ≡ names ++ name ∷ [] → Holds slots a names → n ≡ length names → n < NO_NAME → has_name name names ≡ false
     → ((y : Name) → AreBytes y → y ≢ name → number_of b.overflow y ≡ number_of a.overflow y) → ((k : ℕ) → k < n → get_or b.keys.items k 0 ≡ get_or a.keys.items k 0) → n < length b.keys.items → get_or b.keys.items n 0 ≡ APART
     → number_of b.overflow name ≡ Some n → AreBytes name → Holds slots b new
-names-set_apart slots a b names new name n is h count few fresh others same more last own bytes =
+names-put_in_overflow slots a b names new name n is h count few fresh others same more last own bytes =
     subst (λ xs. Holds slots b xs) (sym is) (
       more-names names name n count few,
       (

@@ -73,7 +73,7 @@ impl Kept {
     }
 
     /// Puts a name that stands in the table into the overflow.
-    pub(crate) fn set_apart(
+    pub(crate) fn put_in_overflow(
         &mut self,
         alloc: Global,
         number: usize,

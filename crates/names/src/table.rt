@@ -252,7 +252,7 @@ fn settle(
             slots[at] = make_slot(key, number as u32);
             Ok(())
         }
-        None => kept.set_apart(alloc, number, texts.get(number)),
+        None => kept.put_in_overflow(alloc, number, texts.get(number)),
     }
 }
 

@@ -21,8 +21,8 @@ ended None = []
 ended (Some letter) = if letter.ends == 1 then letter.value ∷ [] else []
 
 -- the effect of one byte on limit and digits, and the numbers that it ends, whatever text follows
-abbrev pub Goes : ℕ → ℕ → ℕ → List ℕ → ℕ → ℕ → Type 0
-Goes limit digits byte numbers limit' digits' =
+abbrev pub TakesByte : ℕ → ℕ → ℕ → List ℕ → ℕ → ℕ → Type 0
+TakesByte limit digits byte numbers limit' digits' =
     (text : List ℕ) → numbers_from limit digits (letters_of (byte ∷ text)) ≡ before_rest numbers (numbers_from limit' digits' (letters_of text))
 
 -- the value of the digits with a letter A to Z after them, and whether it ends a number; for a mark the value is 0, or, after

@@ -4,7 +4,7 @@
 //! changes the digits before it, and the one test for each letter is whether a number is over the limit.
 ghost use Rattle.std.specs.Prelude.{◌≡◌, ◌==◌, if◌then◌else◌, ◌+◌, ◌*◌, ◌^◌, ◌<◌, ◌≤◌, ◌∷◌, ℕ, List, length, take, max, None, Some, IfNone, IfSome, MatchOption};
 ghost use Rattle.proof_code.specs.Text.{letters_of, numbers_from, starts_with_mark};
-ghost use Rattle.proof_code.specs.Reading.{Goes, IsLetter, ended};
+ghost use Rattle.proof_code.specs.Reading.{TakesByte, IsLetter, ended};
 
 /// The effect of a letter on the digits before it.
 #[derive(Clone, Copy)]
@@ -68,7 +68,7 @@ impl Word {
         requires most { self.old.limit < 20 * most + 20 }
         requires small { 20 * most + 26 < 2 ^ 64 }
         requires beyond { self.old.limit + most < 2 ^ 64 }
-        ensures some { IfSome result (λ letter. Goes self.old.limit self.old.digits byte (ended letter) self.new.limit self.new.digits) }
+        ensures some { IfSome result (λ letter. TakesByte self.old.limit self.old.digits byte (ended letter) self.new.limit self.new.digits) }
         ensures none { IfNone result ((text : List ℕ) → numbers_from self.old.limit self.old.digits (letters_of (byte ∷ text)) ≡ None) }
         ensures limit { (self.old.limit ≤ self.new.limit) × (self.new.limit ≤ self.old.limit + 1) }
         ensures begun { self.new.digits ≤ most }

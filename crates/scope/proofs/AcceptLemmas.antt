@@ -1,5 +1,5 @@
 -- Each kind of legal statement keeps what the rules keep.
-use Rattle.scope.proofs.Words.{◌≡◌, ℕ, ◌+◌, ◌<◌, ◌==◌, Bool, true, false, not, ◌&&◌, ◌||◌, List, [], ◌∷◌, ◌++◌, cond, nat_lt, length, None, is_some, refl, Result, Ok, Err, OnOk, is_err, list_any, list_all, ◌∙◌, ap, sym, subst, true≢false, arith, append-nil, not-true, and_parts, ltb-true, Name, name_eq, has_name, Stmt, Open, Close, Const, Var, Disj, Float, Ess, Axiom, Prove, Database, bare, has_float, active_variables, typed_variables, all_different, broken_rule, numbers_differ, name_at, decode, with_names, numbers_in, number_in, AreNamed, AreCodes, AreDistinct, Declared, kind_in, with_kind, with_kinds, IsKept, IsPlain, can_push, symbols_of, AreNumbers, StackHeights, NameKind, with_names-more, numbers_in-more, has-with_names, same_name, code-at, found-number}
+use Rattle.scope.proofs.Words.{◌≡◌, ℕ, ◌+◌, ◌<◌, ◌==◌, Bool, true, false, not, ◌&&◌, ◌||◌, List, [], ◌∷◌, ◌++◌, cond, nat_lt, length, None, is_some, refl, Result, Ok, Err, OnOk, is_err, list_any, list_all, ◌∙◌, ap, sym, subst, true≢false, arith, append-nil, not-true, and_parts, ltb-true, Name, name_eq, has_name, Stmt, Open, Close, Const, Var, Disj, Float, Ess, Axiom, Prove, Database, bare, has_float, active_variables, typed_variables, all_different, broken_rule, are_numbers_distinct, name_at, decode, with_names, numbers_in, number_in, AreNamed, AreCodes, AreDistinct, Declared, kind_in, with_kind, with_kinds, IsKept, IsPlain, can_push, symbols_of, AreNumbers, StackHeights, NameKind, with_names-more, numbers_in-more, has-with_names, same_name, code-at, found-number}
 use Rattle.std.proofs.lemmas.List.{append_assoc}
 use Rattle.scope.proofs.NamesLemmas.{symbols_of-append, symbols-distinct, active-named}
 use Rattle.scope.proofs.SortsLemmas.{numbers-has, is_variable-active, has_float-typed}
@@ -47,10 +47,10 @@ numbers-of names numbers xs distinct codes stand = ap (numbers_in names) (sym st
         ap (λ m. m ∷ numbers_in names (decode names ns)) (one n (ltb-true n (length names) p.0)) ∙ ap (λ ms. n ∷ ms) (by ns p.1)
 
 -- they differ where the names do
-pub numbers-differ : (names : List Name) (numbers : List ℕ) (xs : List Name) → AreDistinct names → AreNumbers names xs numbers → numbers_differ numbers ≡ all_different xs
+pub numbers-differ : (names : List Name) (numbers : List ℕ) (xs : List Name) → AreDistinct names → AreNumbers names xs numbers → are_numbers_distinct numbers ≡ all_different xs
 numbers-differ names numbers xs distinct are = by numbers are.0 ∙ ap all_different are.1
   where
-    by : (ns : List ℕ) → AreCodes names ns → numbers_differ ns ≡ all_different (decode names ns)
+    by : (ns : List ℕ) → AreCodes names ns → are_numbers_distinct ns ≡ all_different (decode names ns)
     by [] h = refl
     by (n ∷ ns) h =
         let p = and_parts (nat_lt n (length names)) (list_all (λ m. nat_lt m (length names)) ns) h in
@@ -58,7 +58,7 @@ numbers-differ names numbers xs distinct are = by numbers are.0 ∙ ap all_diffe
         let f = found-number names x n (sym (code-at names x n distinct (ltb-true n (length names) p.0) refl)) in
         let one : list_any (λ m. m == n) ns ≡ has_name x (decode names ns) =
         ap (λ k. list_any (λ m. m == k) ns) (sym f.1) ∙ (ap (list_any (λ m. m == number_in names x)) (sym (numbers-of names ns (decode names ns) distinct p.1 refl)) ∙ numbers-has names x (decode names ns) f.0) in
-        ap (λ b. not b && numbers_differ ns) one ∙ ap (λ b. not (has_name x (decode names ns)) && b) (by ns p.1)
+        ap (λ b. not b && are_numbers_distinct ns) one ∙ ap (λ b. not (has_name x (decode names ns)) && b) (by ns p.1)
 
 -- the second of the numbers of a `$f` is that of its variable
 pub float-number : (S : Database) (l c v : Name) (numbers : List ℕ) → AreNumbers (with_names (symbols_of S) []) (c ∷ v ∷ []) numbers → (a : ℕ) × (b : ℕ) × (numbers ≡ a ∷ b ∷ []) × (number_in (symbols_of S) v ≡ b)

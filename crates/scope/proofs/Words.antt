@@ -19,7 +19,7 @@ pub use Rattle.scope.specs.Standing.{standing_of, stands_at}
 pub use Rattle.scope.specs.Stored.KindCounts.{AreCounted, behind, kinds_of, places_that}
 pub use Rattle.scope.specs.Stored.Ordered.{DifferNext, IsTwice}
 pub use Rattle.scope.specs.Stored.Stacks.{IsKept, IsMarked, IsPlain, IsScope, blocks_from, blocks_of, can_push, sizes_of}
-pub use Rattle.scope.specs.Stored.SymbolNumbers.{AreRecorded, IsAppended, numbers_differ}
+pub use Rattle.scope.specs.Stored.SymbolNumbers.{AreRecorded, IsAppended, are_numbers_distinct}
 pub use Rattle.scope.specs.Symbols.{AreNumbers, AreVariableNumbers, labels_of, option_list, symbols_after, symbols_by, symbols_from, symbols_in, symbols_of}
 pub use Rattle.scope.specs.contracts.history.History.{the_row, the_type}
 pub use Rattle.scope.specs.declared.legal.Sort.{Sort}

@@ -6,7 +6,7 @@ ghost use Rattle.mm_read.specs.Statements.{Expr};
 ghost use Rattle.mm_read.specs.declared.stmt.Stmt.TheVariants as stmt;
 ghost use Rattle.scope.specs.Active.{is_constant, is_variable, was_label, was_symbol};
 ghost use Rattle.scope.specs.Legal.{all_different, are_typed, starts_with_constant, broken_rule};
-ghost use Rattle.scope.specs.Stored.SymbolNumbers.{AreRecorded, numbers_differ};
+ghost use Rattle.scope.specs.Stored.SymbolNumbers.{AreRecorded, are_numbers_distinct};
 ghost use Rattle.scope.specs.Stored.Ordered.{DifferNext, IsTwice};
 ghost use Rattle.scope.specs.Kinds.{IsNumberOf};
 ghost use Rattle.scope.specs.Sorts.{IsSort, is_symbol_sort, sorts_rule};
@@ -106,7 +106,7 @@ impl<'a> Judge<'a> {
         if !self.are_fresh(symbols) {
             return Some(Rule::G2);
         }
-        if !are_different(self.alloc, symbols) {
+        if !are_words_distinct(self.alloc, symbols) {
             return Some(Rule::G2);
         }
         None
@@ -118,7 +118,7 @@ impl<'a> Judge<'a> {
         if !self.are_inactive(symbols) {
             return Some(Rule::G3);
         }
-        if !are_different(self.alloc, symbols) {
+        if !are_words_distinct(self.alloc, symbols) {
             return Some(Rule::G3);
         }
         None
@@ -241,10 +241,10 @@ impl<'a> Judge<'a> {
     {
         if let Some(numbers) = recorded.numbers() {
             if numbers.len() < FEW {
-                return numbers_differ(numbers);
+                return are_numbers_distinct(numbers);
             }
         }
-        are_different(self.alloc, symbols)
+        are_words_distinct(self.alloc, symbols)
     }
 
     /// Returns the sort of a name.
@@ -314,8 +314,8 @@ fn broken_by_sorts(constant: Sort, variable: Sort) -> Option<Rule>
 }
 
 /// Returns whether no number stands twice. Cost: the square of their count.
-fn numbers_differ(numbers: &[u32]) -> bool
-    ensures { result ≡ numbers_differ numbers.now }
+fn are_numbers_distinct(numbers: &[u32]) -> bool
+    ensures { result ≡ are_numbers_distinct numbers.now }
 {
     let mut left = numbers;
     while let [first, others @ ..] = left {
@@ -329,7 +329,7 @@ fn numbers_differ(numbers: &[u32]) -> bool
 
 /// Returns whether no word stands twice in the list. Cost: that of sorting the list, or, if an allocation fails, the square of
 /// its length.
-fn are_different(alloc: Global, words: &Words) -> bool
+fn are_words_distinct(alloc: Global, words: &Words) -> bool
     ensures { result ≡ all_different words.now }
 {
     if words.len() < FEW {
@@ -350,11 +350,11 @@ fn differ_by_order(alloc: Global, words: &Words) -> Result<bool, AllocError>
         ordered.push(word)?;
     }
     ordered.sort_unstable();
-    Ok(differ_next(&ordered))
+    Ok(are_neighbours_distinct(&ordered))
 }
 
 /// Returns whether no word equals the one before it.
-fn differ_next(words: &[&[u8]]) -> bool
+fn are_neighbours_distinct(words: &[&[u8]]) -> bool
     ensures yes { result ≡ true → DifferNext words.now (length words.now) }
     ensures no { result ≡ false → IsTwice words.now }
 {

@@ -14,6 +14,6 @@ abbrev pub IsAppended : ℕ → Option (List ℕ) → Option (List ℕ) → Type
 IsAppended n old new = IfSome new (λ numbers. Some numbers ≡ option_map (λ ns. ns ++ n ∷ []) old)
 
 -- no number stands twice
-abbrev pub numbers_differ : List ℕ → Bool
-numbers_differ [] = true
-numbers_differ (n ∷ ns) = not (list_any (λ m. m == n) ns) && numbers_differ ns
+abbrev pub are_numbers_distinct : List ℕ → Bool
+are_numbers_distinct [] = true
+are_numbers_distinct (n ∷ ns) = not (list_any (λ m. m == n) ns) && are_numbers_distinct ns

@@ -26,15 +26,15 @@ returns-in-Some-clause-held c =
 pub returns-in-None-clause-kept : goal.returns-in-None-clause-kept
 returns-in-None-clause-kept c =
     let a = c.args.kept.now in
-    let b = c.set_apart.new.self in
+    let b = c.put_in_overflow.new.self in
     let names = c.args.texts.now in
     let n = c.args.number in
     let key = c.index-key.result.now in
     let k = c.requires.kept n c.requires.number in
     let is : key ≡ get_or a.keys.items n 0 = get_or_read a.keys.items n key k.there c.index-key.ensures 0 in
-    let e = c.set_apart.ensures in
+    let e = c.put_in_overflow.ensures in
     let others = subst (λ y. (x : List ℕ) → AreBytes x → x ≢ y → number_of b.overflow x ≡ number_of a.overflow x) c.get.ensures e.others in
-    either c.set_apart.result _ _ _ e.keys e.own e.err (AreKept b names)
+    either c.put_in_overflow.result _ _ _ e.keys e.own e.err (AreKept b names)
     (λ keys own. kept-apart a b names n c.requires.kept c.requires.distinct c.requires.number keys (subst (λ y. number_of b.overflow y ≡ Some n) c.get.ensures own) others)
     (λ same. kept-failed a b names n c.requires.kept c.requires.distinct c.requires.number (λ z. c.if-key-eq-APART.false (is ∙ z)) (ap (λ v. v.items) same) others)
 
@@ -42,15 +42,15 @@ pub returns-in-None-clause-held : goal.returns-in-None-clause-held
 returns-in-None-clause-held c =
     let n = c.args.number in
     let k = c.requires.kept n c.requires.number in
-    on-ok c.set_apart.result _ _ c.set_apart.ensures.keys (λ keys. held-apart c.args.slots.now.items c.args.kept.now c.set_apart.new.self c.args.texts.now n keys k.there c.requires.held)
+    on-ok c.put_in_overflow.result _ _ c.put_in_overflow.ensures.keys (λ keys. held-apart c.args.slots.now.items c.args.kept.now c.put_in_overflow.new.self c.args.texts.now n keys k.there c.requires.held)
 
 pub returns-in-None-clause-fewer : goal.returns-in-None-clause-fewer
 returns-in-None-clause-fewer c =
     let a = c.args.kept.now in
-    let b = c.set_apart.new.self in
+    let b = c.put_in_overflow.new.self in
     let n = c.args.number in
     let k = c.requires.kept n c.requires.number in
-    let e = c.set_apart.ensures in
-    either c.set_apart.result _ _ _ e.keys e.own e.err (AreFewer a b)
+    let e = c.put_in_overflow.ensures in
+    either c.put_in_overflow.result _ _ _ e.keys e.own e.err (AreFewer a b)
     (λ keys own. fewer-apart a b n keys k.there)
     (λ same j ne z. ne (ap (λ v. get_or v.items j 0) same ∙ z))

@@ -9,4 +9,4 @@ returns c =
     let is = c.deref.ensures.value in
     let whole = sym (append-nil (map (λ (w : Bor Name). w.now) ws)) ∙ (ap (λ r. map (λ (w : Bor Name). w.now) ws ++ r) (sym c.in-None.ensures.steps.0) ∙ c.loop-word.invariant) in
     differ-told c.args.words.now ws c.deref.result.now _ whole (subst (IsPermutation ws) (sym is) c.sort_unstable.ensures.permutation)
-    (subst (IsSorted order) (sym is) c.sort_unstable.ensures.sorted) c.differ_next.ensures.yes c.differ_next.ensures.no
+    (subst (IsSorted order) (sym is) c.sort_unstable.ensures.sorted) c.are_neighbours_distinct.ensures.yes c.are_neighbours_distinct.ensures.no

@@ -1,6 +1,6 @@
 use Rattle.names.proofs.Words.{◌≡◌, ◌∙◌, ap, sym, subst, ◌<◌, slice_set, rules, false, refl, has_name, NO_NAME, name_at, number_of, IsFree}
 use Rattle.names.proofs.KeptKeyLemmas.{none-is}
-use Rattle.names.proofs.PutLemmas.{Holds, names-same, names-put, names-set_apart}
+use Rattle.names.proofs.PutLemmas.{Holds, names-same, names-put, names-put_in_overflow}
 use Rattle.names.proofs.names.NameTable.add.Goals as goal
 
 pub invariant_of-self : goal.invariant_of-self
@@ -51,7 +51,7 @@ invariant_of-self-in-Continue-branch-6 c =
     let n = c.len-code.result in
     let few : n < NO_NAME = search rules in
     let fresh : has_name c.args.name.now c.self.inside.texts ≡ false = ap (has_name c.args.name.now) (c.self.view_is ∙ c.in_ok-make_room.ensures) ∙ c.requires in
-    names-set_apart c.self.inside.slots.items c.self.inside.kept (record { keys = c.push-in-None.new.self.keys; overflow = c.insert.new.self }) c.self.inside.texts c.push-in-None-2.new.self c.args.name.now n
+    names-put_in_overflow c.self.inside.slots.items c.self.inside.kept (record { keys = c.push-in-None.new.self.keys; overflow = c.insert.new.self }) c.self.inside.texts c.push-in-None-2.new.self c.args.name.now n
     c.in_ok-push-in-None-2.ensures.ok c.self.invariant c.len-code.ensures few fresh (λ y bytes ne. c.insert.ensures.others y bytes ne ∙ ap (λ o. number_of o y) e.overflow) e.same e.more e.last c.in_ok-insert-in-None.ensures.own c.key-key.ensures.bytes
 
 pub invariant_of-self-in_err-push-in-None-2 : goal.invariant_of-self-in_err-push-in-None-2
