@@ -1,5 +1,5 @@
 -- The tie between cells and switch: what it gives, and how a call keeps it.
-use Rattle.cluster.proofs.Words.{◌≡◌, ℕ, suc, ◌<◌, ◌≤◌, nat_lt, Bool, true, false, List, [], ◌∷◌, ◌++◌, length, slice_get, Option, Some, None, Result, Ok, Err, refl, ap, sym, ◌∙◌, subst, arith, append_assoc, IsOk, MatchOption, is_err, option_map, Bor, nat_tests, StepFault, NoNode, log_after, IsBeginningOf, SwitchView, world_of, BeginsLog, Carried, carried_size, NodeLibrary, Cell, new_cell, AddsEntry, TakesOver, Belongs}
+use Rattle.cluster.proofs.Words.{◌≡◌, ℕ, suc, ◌<◌, ◌≤◌, nat_lt, Bool, true, false, List, [], ◌∷◌, ◌++◌, length, slice_get, Option, Some, None, Result, Ok, Err, refl, ap, sym, ◌∙◌, subst, arith, append_assoc, IsOk, MatchOption, is_err, option_map, Bor, nat_tests, StepFault, NoNode, log_after, IsPrefixOf, SwitchView, world_of, BeginsLog, Carried, carried_size, NodeLibrary, Cell, new_cell, AddsEntry, TakesOver, Belongs}
 
 -- What a switch shows of a log.
 
@@ -25,7 +25,7 @@ get_past [] (y ∷ more) x is = let same : y ≡ x = cc in (more, ap (λ z. z �
 get_past (y ∷ xs) rest x is = get_past xs rest x is
 
 -- a prefix of a list with the next element of the list is a prefix
-one_more_begins : {A : Type 0} (xs ys : List A) (x : A) → IsBeginningOf xs ys → slice_get ys (length xs) ≡ Some x → IsBeginningOf (xs ++ x ∷ []) ys
+one_more_begins : {A : Type 0} (xs ys : List A) (x : A) → IsPrefixOf xs ys → slice_get ys (length xs) ≡ Some x → IsPrefixOf (xs ++ x ∷ []) ys
 one_more_begins {A} xs ys x h at =
     let rest = get_past xs h.0 x (ap (λ (zs : List A). slice_get zs (length xs)) h.1 ∙ at) in
     (rest.0, append_assoc xs (x ∷ []) rest.0 ∙ ap (λ (zs : List A). xs ++ zs) (sym rest.1) ∙ h.1)
@@ -39,7 +39,7 @@ module _ (s : SwitchView Carried) (k : ℕ) (old new : List (Option Carried)) (b
   pub taken_belongs : (next : Option (Option Carried)) (result : Result Bool StepFault) (slot : ℕ) → slot ≡ length old → next ≡ slice_get (log_after (world_of carried_size s) k) slot → AddsEntry old new next result → BeginsLog carried_size s k new
   taken_belongs (Some entry) (Ok true) slot is shows adds = record {
     node = b.node;
-    begins = subst (λ (es : List (Option Carried)). IsBeginningOf es (log_after (world_of carried_size s) k)) (sym adds)
+    begins = subst (λ (es : List (Option Carried)). IsPrefixOf es (log_after (world_of carried_size s) k)) (sym adds)
         (one_more_begins old (log_after (world_of carried_size s) k) entry b.begins (ap (λ (i : ℕ). slice_get (log_after (world_of carried_size s) k) i) (sym is) ∙ sym shows));
   }
   taken_belongs (Some entry) (Ok false) slot is shows adds = elim adds [ ]
@@ -66,7 +66,7 @@ takes_over s k node es now seen fs found slot is shown result adds =
 -- Entries found one by one.
 
 -- a list is a prefix of another that has each of its elements at the same index
-pub all_found : {A : Type 0} (xs ys : List A) → ((i : ℕ) → i < length xs → slice_get ys i ≡ slice_get xs i) → IsBeginningOf xs ys
+pub all_found : {A : Type 0} (xs ys : List A) → ((i : ℕ) → i < length xs → slice_get ys i ≡ slice_get xs i) → IsPrefixOf xs ys
 all_found [] ys each = (ys, refl)
 all_found (x ∷ xs) [] each = let no : None ≡ Some x = each 0 (omega arith) in cc
 all_found {A} (x ∷ xs) (y ∷ ys) each =

@@ -1,5 +1,5 @@
 -- Of the libraries of two cells of one switch one is a prefix of the other.
-use Rattle.cluster.proofs.Words.{◌≡◌, ◌+◌, ◌<◌, ◌≤◌, true, false, List, [], ◌∷◌, ◌++◌, length, inl, inr, Option, Result, Ok, Err, refl, ap, sym, ◌∙◌, subst, arith, append-nil, length-append, IsOk, Database, Carried, StepFault, World, log, log_after, IsBeginningOf, Agree, Taken, IsMoment, carried_size, entries_of, IsOfLog, Headline, entries_begin, headline_holds, of_longer, SwitchView, world_of, Cell, IsCell, Belongs}
+use Rattle.cluster.proofs.Words.{◌≡◌, ◌+◌, ◌<◌, ◌≤◌, true, false, List, [], ◌∷◌, ◌++◌, length, inl, inr, Option, Result, Ok, Err, refl, ap, sym, ◌∙◌, subst, arith, append-nil, length-append, IsOk, Database, Carried, StepFault, World, log, log_after, IsPrefixOf, Agree, Taken, IsMoment, carried_size, entries_of, IsOfLog, Headline, entries_begin, headline_holds, of_longer, SwitchView, world_of, Cell, IsCell, Belongs}
 
 module _ (s : SwitchView Carried) (w : World Carried) (is : world_of carried_size s ≡ Ok w) where
   abbrev taken : Taken Carried
@@ -8,7 +8,7 @@ module _ (s : SwitchView Carried) (w : World Carried) (is : world_of carried_siz
   -- the library is that of the node's log
   of_log : (c : Cell) → Belongs c s → IsCell c → IsOfLog (entries_of (log w c.at)) c.node
   of_log c b h = of_longer (entries_of c.entries) (entries_of (log w c.at)) c.node
-      (entries_begin c.entries (log w c.at) (subst (λ (es : List (Option Carried)). IsBeginningOf c.entries es) (ap (λ (r : Result (World Carried) StepFault). log_after r c.at) is) b.begins)) h.of_entries
+      (entries_begin c.entries (log w c.at) (subst (λ (es : List (Option Carried)). IsPrefixOf c.entries es) (ap (λ (r : Result (World Carried) StepFault). log_after r c.at) is) b.begins)) h.of_entries
 
   -- the statements of two cells of the switch agree, by the headline in its world
   agree_in : (one other : Cell) → Belongs one s → Belongs other s → IsCell one → IsCell other → Agree one.node.library.statements other.node.library.statements
@@ -30,17 +30,17 @@ cells_agree one other s ok b d h k = from (world_of carried_size s) refl ok wher
 
 module _ (xs ys : Database) where
   -- where the first of two lists that agree is longer, the second begins it
-  pub is_first : Agree xs ys → length ys < length xs → IsBeginningOf ys xs × (length ys < length xs)
+  pub is_first : Agree xs ys → length ys < length xs → IsPrefixOf ys xs × (length ys < length xs)
   is_first (inl h) more = let count : length xs + length h.0 ≡ length ys = sym (length-append xs h.0) ∙ ap (λ (zs : Database). length zs) h.1 in absurd (omega (arith, count, more))
   is_first (inr h) more = (h, more)
 
   -- where the second of two lists that agree is longer, the first begins it
-  pub is_second : Agree xs ys → length xs < length ys → IsBeginningOf xs ys × (length xs < length ys)
+  pub is_second : Agree xs ys → length xs < length ys → IsPrefixOf xs ys × (length xs < length ys)
   is_second (inl h) more = (h, more)
   is_second (inr h) more = let count : length ys + length h.0 ≡ length xs = sym (length-append ys h.0) ∙ ap (λ (zs : Database). length zs) h.1 in absurd (omega (arith, count, more))
 
 -- a prefix that is no shorter than the list is the list
-all_begun : (xs ys : Database) → IsBeginningOf xs ys → length ys ≤ length xs → xs ≡ ys
+all_begun : (xs ys : Database) → IsPrefixOf xs ys → length ys ≤ length xs → xs ≡ ys
 all_begun xs ys h few = by_rest h.0 h.1 where
   by_rest : (rest : Database) → xs ++ rest ≡ ys → xs ≡ ys
   by_rest [] is = sym (append-nil xs) ∙ is

@@ -1,5 +1,5 @@
 -- A map that ends in an entry stays one with an entry more, and is copied slot by slot.
-use Rattle.cluster.proofs.Words.{◌≡◌, ℕ, zero, suc, ◌+◌, ◌<◌, List, [], ◌∷◌, Option, Some, None, length, take, refl, ap, sym, ◌∙◌, subst, arith, add-one, le_of_suc-le-suc, entry_at, put_at, trim_head, trimmed, Held, Change, Round, Promise, Kept, changed_by, with_entry}
+use Rattle.cluster.proofs.Words.{◌≡◌, ℕ, zero, suc, ◌+◌, ◌<◌, List, [], ◌∷◌, Option, Some, None, length, take, refl, ap, sym, ◌∙◌, subst, arith, add-one, le_of_suc-le-suc, entry_at, put_at, trim_head, trimmed, AcceptedEntry, Change, Round, Promise, Kept, changed_by, with_entry}
 use Rattle.synod.specs.declared.change.Change.TheVariants.{Entry}
 
 -- a gap in front of entries, one of which was put, is not trimmed away
@@ -54,4 +54,4 @@ stays_whole {V} old new change is whole = subst (λ (k : Kept V). trimmed k.acce
   by_change None = whole
   by_change (Some (Round r)) = whole
   by_change (Some (Promise b)) = whole
-  by_change (Some (Entry s held)) = trimmed-put_at old.accepted s held ∙ ap (λ (xs : List (Option (Held V))). put_at xs s held) whole
+  by_change (Some (Entry s held)) = trimmed-put_at old.accepted s held ∙ ap (λ (xs : List (Option (AcceptedEntry V))). put_at xs s held) whole

@@ -8,7 +8,7 @@ pub use Rattle.library.specs.LibraryOf.{Replica}
 pub use Rattle.library.specs.declared.entry.Entry.{Entry}
 pub use Rattle.library.specs.declared.verdict.Verdict.{Verdict}
 pub use Rattle.mm_read.specs.Statements.{Database}
-pub use Rattle.net.specs.Agree.{Agree, IsBeginningOf}
+pub use Rattle.net.specs.Agree.{Agree, IsPrefixOf}
 pub use Rattle.net.specs.History.{IsMoment}
 pub use Rattle.net.specs.Taken.{Taken}
 pub use Rattle.net.specs.World.{World, log, log_after}
@@ -25,7 +25,7 @@ pub use Rattle.switch.specs.Switch.{SwitchView, new_views, world_of}
 pub use Rattle.synod.specs.Record.{Kept, changed_by}
 pub use Rattle.synod.specs.declared.change.Change.{Change}
 pub use Rattle.synod.specs.declared.change.Change.TheVariants.{Promise, Round}
-pub use Rattle.synod.specs.declared.change.Held.{Held}
+pub use Rattle.synod.specs.declared.change.AcceptedEntry.{AcceptedEntry}
 pub use Rattle.world.proofs.EntryLogs.{entries_begin, entries_of-get, entries_of-none}
 pub use Rattle.world.proofs.HeadlineLemmas.{headline_holds}
 pub use Rattle.world.proofs.ReplicasLemmas.{of_log_applied, of_longer}

@@ -2,7 +2,7 @@
 -- Source: Lamport, Paxos Made Simple, section 3: all servers execute the same commands, each as far as it learned them.
 -- The code tests this entry by entry where it has both switch and cell, since two locks share no fact.
 use Rattle.std.specs.Prelude.{◌≡◌, ◌<◌, ℕ, List, Some, length, slice_get}
-use Rattle.cluster.specs.Words.{Database, IsBeginningOf, SwitchView, BeginsLog, Carried, carried_size}
+use Rattle.cluster.specs.Words.{Database, IsPrefixOf, SwitchView, BeginsLog, Carried, carried_size}
 use Rattle.cluster.specs.declared.compare.Ahead.{Ahead}
 use Rattle.cluster.specs.declared.compare.Ahead.TheVariants.{First, Same, Second}
 use Rattle.cluster.specs.Cell.{Cell}
@@ -17,6 +17,6 @@ EachBelongs cells switch = (k : ℕ) (c : Cell) → slice_get cells k ≡ Some c
 
 -- which library has more statements: the other's statements are a prefix of its own
 abbrev pub IsAhead : Ahead → Database → Database → Type 0
-IsAhead First one other = IsBeginningOf other one × (length other < length one)
+IsAhead First one other = IsPrefixOf other one × (length other < length one)
 IsAhead Same one other = one ≡ other
-IsAhead Second one other = IsBeginningOf one other × (length one < length other)
+IsAhead Second one other = IsPrefixOf one other × (length one < length other)

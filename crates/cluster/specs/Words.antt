@@ -1,7 +1,7 @@
 -- The words of the layers below in which this crate's definitions are written, passed on from one place.
 pub use Rattle.library.specs.declared.entry.Entry.{Entry}
 pub use Rattle.mm_read.specs.Statements.{Database}
-pub use Rattle.net.specs.Agree.{IsBeginningOf}
+pub use Rattle.net.specs.Agree.{IsPrefixOf}
 pub use Rattle.net.specs.declared.fault.StepFault.{StepFault}
 pub use Rattle.net.specs.declared.fault.StepFault.TheVariants.{Memory}
 pub use Rattle.slots.specs.FiniteMap.{put_at}

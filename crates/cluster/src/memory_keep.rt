@@ -8,7 +8,7 @@ ghost use Rattle.cluster.specs.LongerRecord.{with_entry};
 use scope::Steps;
 use slots::SLOTS;
 use std::alloc::{AllocError, Global};
-use synod::{Change, Failed, Held, Keep, Record, Value, copy_value};
+use synod::{AcceptedEntry, Change, Failed, Keep, Record, Value, copy_value};
 
 /// A node's storage that lasts as long as the process. A call fails if an allocation fails.
 #[derive(Drop)]
@@ -115,10 +115,10 @@ fn copy_slot<V: Value>(
 }
 
 /// Returns a copy of an accepted entry.
-fn copy_held<V: Value>(held: &Held<V>) -> Result<Held<V>, AllocError>
+fn copy_held<V: Value>(held: &AcceptedEntry<V>) -> Result<AcceptedEntry<V>, AllocError>
     ensures { IfOk result (λ copy. copy ≡ held.now) }
 {
-    Ok(Held {
+    Ok(AcceptedEntry {
         ballot: held.ballot,
         value: copy_value(&held.value)?,
     })

@@ -1,5 +1,5 @@
 -- A Prepare and an Accept continue the story: a promise tells the truth of the acceptor's votes, and a vote keeps its promises.
-use Rattle.net.proofs.Words.{◌≡◌, ℕ, suc, ◌+◌, ◌≤◌, Bool, true, false, List, [], ◌∷◌, length, Option, Some, inl, inr, refl, ap, sym, ◌∙◌, subst, arith, if◌then◌else◌, slice_get, AllByRecursion, entry_at, put_at, In, put_either, put_same, Ballot, SlotReport, Accepted, Held, is_under, pages_of, Node, reports_from, promise_pages, promises, refuses, on_prepare, held, takes_value, on_accept, Under, Upto, upto_self, upto_upto, upto_under, under_is_upto, not_both, under_true, under_false, reports-held, held-reported, Vote, vote}
+use Rattle.net.proofs.Words.{◌≡◌, ℕ, suc, ◌+◌, ◌≤◌, Bool, true, false, List, [], ◌∷◌, length, Option, Some, inl, inr, refl, ap, sym, ◌∙◌, subst, arith, if◌then◌else◌, slice_get, AllByRecursion, entry_at, put_at, In, put_either, put_same, Ballot, SlotReport, Accepted, AcceptedEntry, is_under, pages_of, Node, reports_from, promise_pages, promises, refuses, on_prepare, held, takes_value, on_accept, Under, Upto, upto_self, upto_upto, upto_under, under_is_upto, not_both, under_true, under_false, reports-held, held-reported, Vote, vote}
 use Rattle.net.proofs.Ledger.{begun_as, Promised, proposal, Ledger, HasHigher, IsBacked, OnePromise, IsSound}
 use Rattle.net.proofs.LedgerGrows.{AllPromisedUpto, Grows, with_promise, with_vote, grows-with_promise, grows-with_vote}
 use Rattle.net.proofs.LedgerSteps.{promised_sound, voted_sound}
@@ -116,10 +116,10 @@ module _ {V : Type 0} {offers : List V} {l : Ledger V} (n : Node V) (sound : IsS
     ]
 
     -- each entry held, once the new one is put, was voted for
-    put_voted : (t : ℕ) (h : Held V) → entry_at (put_at n.accepted s (held b v)) t ≡ Some h → In (vote n.me h.ballot t h.value) (vote n.me b s v ∷ l.votes)
+    put_voted : (t : ℕ) (h : AcceptedEntry V) → entry_at (put_at n.accepted s (held b v)) t ≡ Some h → In (vote n.me h.ballot t h.value) (vote n.me b s v ∷ l.votes)
     put_voted t h e = elim (put_either n.accepted s t (held b v)) [
       | inl put ↦ let same : held b v ≡ h = cc (put.1, e) in
-          inl (subst (λ (h : Held V). vote n.me b s v ≡ vote n.me h.ballot t h.value) same (ap (λ (s : ℕ). vote n.me b s v) (sym put.0)))
+          inl (subst (λ (h : AcceptedEntry V). vote n.me b s v ≡ vote n.me h.ballot t h.value) same (ap (λ (s : ℕ). vote n.me b s v) (sym put.0)))
       | inr same ↦ inr (holds.acceptor.held t h (sym same ∙ e))
     ]
 

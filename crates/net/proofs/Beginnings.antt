@@ -1,8 +1,8 @@
 -- Lists that agree: one is a beginning of the other.
-use Rattle.net.proofs.Words.{◌≡◌, ℕ, suc, List, [], ◌∷◌, ◌++◌, Some, inl, inr, refl, ap, sym, ◌∙◌, slice_get, append_assoc, IsBeginningOf, Agree}
+use Rattle.net.proofs.Words.{◌≡◌, ℕ, suc, List, [], ◌∷◌, ◌++◌, Some, inl, inr, refl, ap, sym, ◌∙◌, slice_get, append_assoc, IsPrefixOf, Agree}
 
 -- a beginning of a beginning is one
-pub then_begins : {A : Type 0} (xs ys zs : List A) → IsBeginningOf xs ys → IsBeginningOf ys zs → IsBeginningOf xs zs
+pub then_begins : {A : Type 0} (xs ys zs : List A) → IsPrefixOf xs ys → IsPrefixOf ys zs → IsPrefixOf xs zs
 then_begins xs ys zs h k = (h.0 ++ k.0, sym (append_assoc xs h.0 k.0) ∙ ap (λ ws. ws ++ k.0) h.1 ∙ k.1)
 
 -- lists that agree do so in the other order
@@ -22,7 +22,7 @@ agree_lists (x ∷ xs) [] same = inr (x ∷ xs, refl)
 agree_lists (x ∷ xs) (y ∷ ys) same = agree_more x y xs ys (same 0 x y refl refl) (agree_lists xs ys (λ s u v e d. same (suc s) u v e d))
 
 -- two beginnings of one list agree
-pub beginnings_agree : {A : Type 0} (xs ys zs : List A) → IsBeginningOf xs zs → IsBeginningOf ys zs → Agree xs ys
+pub beginnings_agree : {A : Type 0} (xs ys zs : List A) → IsPrefixOf xs zs → IsPrefixOf ys zs → Agree xs ys
 beginnings_agree [] ys zs first second = inl (ys, refl)
 beginnings_agree (x ∷ xs) [] zs first second = inr (x ∷ xs, refl)
 beginnings_agree (x ∷ xs) (y ∷ ys) [] first second = let e = first.1 in cc

@@ -1,6 +1,6 @@
 -- What always holds of a world: some sound ledger tells its story. The votes of the ledger are those ever cast; what each node
 -- keeps is what it did; each packet says what was done.
-use Rattle.net.proofs.Words.{◌≡◌, ◌≢◌, ℕ, suc, ◌≤◌, true, List, [], ◌∷◌, length, Option, Some, ◌⊎◌, inl, inr, ap, sym, ◌∙◌, slice_get, AllByRecursion, entry_at, In, Ballot, SlotReport, Packet, Body, Prepare, Promise, Accept, Accepted, Nack, Ask, Told, Held, Heard, Role, Idle, Preparing, Leading, Tally, pages_of, joined_pages, Node, pages_from, page_of, has_voter, Upto, Vote, vote, IsChosen, World}
+use Rattle.net.proofs.Words.{◌≡◌, ◌≢◌, ℕ, suc, ◌≤◌, true, List, [], ◌∷◌, length, Option, Some, ◌⊎◌, inl, inr, ap, sym, ◌∙◌, slice_get, AllByRecursion, entry_at, In, Ballot, SlotReport, Packet, Body, Prepare, Promise, Accept, Accepted, Nack, Ask, Told, AcceptedEntry, Heard, Role, Idle, Preparing, Leading, Tally, pages_of, joined_pages, Node, pages_from, page_of, has_voter, Upto, Vote, vote, IsChosen, World}
 use Rattle.net.proofs.GrowingLists.{all_more}
 use Rattle.net.proofs.Ledger.{Begun, begun_as, Promised, Proposal, proposal, Ledger, IsFree, IsBegun, IsSound}
 use Rattle.net.proofs.LedgerGrows.{Grows, begun_lasts, chosen_lasts, free_lasts}
@@ -8,16 +8,16 @@ use Rattle.net.proofs.LedgerSteps.{AllProposedBelow}
 
 -- The acceptor: its promise is not below what it promised and voted, and it holds the highest vote of each slot.
 
-pub record IsHeldFrom {V : Type 0} (accepted : List (Option (Held V))) (x : Vote V) : Type 0 where
-  pub entry : Held V
+pub record IsHeldFrom {V : Type 0} (accepted : List (Option (AcceptedEntry V))) (x : Vote V) : Type 0 where
+  pub entry : AcceptedEntry V
   pub is_held : entry_at accepted x.slot ≡ Some entry
   pub upto : Upto x.ballot entry.ballot
 
-pub record AcceptorHolds {V : Type 0} (promises : List (Promised V)) (votes : List (Vote V)) (k : ℕ) (promise : Ballot) (accepted : List (Option (Held V))) : Type 0 where
+pub record AcceptorHolds {V : Type 0} (promises : List (Promised V)) (votes : List (Vote V)) (k : ℕ) (promise : Ballot) (accepted : List (Option (AcceptedEntry V))) : Type 0 where
   pub promised : (p : Promised V) → In p promises → p.node ≡ k → Upto p.ballot promise
   pub voted : (x : Vote V) → In x votes → x.node ≡ k → Upto x.ballot promise
   pub held_from : (x : Vote V) → In x votes → x.node ≡ k → IsHeldFrom accepted x
-  pub held : (s : ℕ) (h : Held V) → entry_at accepted s ≡ Some h → In (vote k h.ballot s h.value) votes
+  pub held : (s : ℕ) (h : AcceptedEntry V) → entry_at accepted s ≡ Some h → In (vote k h.ballot s h.value) votes
 
 -- The proposer: preparing, it had true pages and proposed nothing yet; leading, it may propose anything from its next slot on.
 

@@ -1,10 +1,10 @@
 -- A log only grows: a step of a node learns at an empty slot alone, and forgets nothing but at a restart.
-use Rattle.net.proofs.Words.{◌≡◌, ◌≢◌, ℕ, zero, suc, ◌-◌, ◌^◌, ◌==◌, ◌&&◌, not, nat_lt, Bool, true, false, List, [], ◌∷◌, ◌++◌, length, Option, Some, None, Result, Ok, Err, refl, ap, sym, ◌∙◌, subst, slice_get, if◌then◌else◌, append-nil, arith, nat_tests, SLOTS, entry_at, put_at, entries_to_gap, Ballot, Packet, SlotReport, Body, Prepare, Promise, Accept, Accepted, Nack, Ask, Told, MOST_WAITING, Heard, Role, Idle, Preparing, Leading, Refusal, Busy, LogFull, RoundsSpent, TooLong, MOST_BYTES, is_under, is_same, is_quorum, all_had, Node, Stepped, unchanged, pages_from, with_page, is_heard, log_of, log_length, promises, refuses, takes_value, waits, takes_slot, offer_waits, offer_as, offered, next_round, begins, begun, top_reported, all_reports, leads, keeps_page, keeps_promise, hears, gathers, on_promise_as, is_at, idles, has_voter, counted, chooses, on_accepted_at, on_ask_at, on_told_at, on_body, on_packet, restarted, MOST_EVENTS, Event, Offer, Begin, Deliver, Restart, World, stepped, answered, at_node, delivered, happens_at, happens, log_at, log, IsBeginningOf, LogsOnlyGrow, RestartEmptiesLog}
+use Rattle.net.proofs.Words.{◌≡◌, ◌≢◌, ℕ, zero, suc, ◌-◌, ◌^◌, ◌==◌, ◌&&◌, not, nat_lt, Bool, true, false, List, [], ◌∷◌, ◌++◌, length, Option, Some, None, Result, Ok, Err, refl, ap, sym, ◌∙◌, subst, slice_get, if◌then◌else◌, append-nil, arith, nat_tests, SLOTS, entry_at, put_at, entries_to_gap, Ballot, Packet, SlotReport, Body, Prepare, Promise, Accept, Accepted, Nack, Ask, Told, MOST_WAITING, Heard, Role, Idle, Preparing, Leading, Refusal, Busy, LogFull, RoundsSpent, TooLong, MOST_BYTES, is_under, is_same, is_quorum, all_had, Node, Stepped, unchanged, pages_from, with_page, is_heard, log_of, log_length, promises, refuses, takes_value, waits, takes_slot, offer_waits, offer_as, offered, next_round, begins, begun, top_reported, all_reports, leads, keeps_page, keeps_promise, hears, gathers, on_promise_as, is_at, idles, has_voter, counted, chooses, on_accepted_at, on_ask_at, on_told_at, on_body, on_packet, restarted, MOST_EVENTS, Event, Offer, Begin, Deliver, Restart, World, stepped, answered, at_node, delivered, happens_at, happens, log_at, log, IsPrefixOf, LogsOnlyGrow, RestartEmptiesLog}
 use Rattle.net.proofs.EveryEvent.{IfTaken, if_taken, spent_or}
 use Rattle.net.proofs.GrowingLists.{at_set, at_set_other}
 
 -- an entry at an empty slot lengthens the log or leaves it
-log-put : {T : Type 0} (xs : List (Option T)) (s : ℕ) (v : T) → entry_at xs s ≡ None → IsBeginningOf (entries_to_gap xs) (entries_to_gap (put_at xs s v))
+log-put : {T : Type 0} (xs : List (Option T)) (s : ℕ) (v : T) → entry_at xs s ≡ None → IsPrefixOf (entries_to_gap xs) (entries_to_gap (put_at xs s v))
 log-put [] s v empty = (entries_to_gap (put_at [] s v), refl)
 log-put (None ∷ xs) s v empty = (entries_to_gap (put_at (None ∷ xs) s v), refl)
 log-put (Some x ∷ xs) zero v empty = cc
@@ -12,7 +12,7 @@ log-put (Some x ∷ xs) (suc s) v empty = let more = log-put xs s v empty in (mo
 
 -- the step leaves the log a beginning of the new one
 abbrev LogGrows : {V : Type 0} → Node V → Stepped V → Type 0
-LogGrows n step = IsBeginningOf (log_of n) (log_of step.node)
+LogGrows n step = IsPrefixOf (log_of n) (log_of step.node)
 
 -- the same, where the step is not refused
 abbrev LogGrowsOnOk : {V : Type 0} → Node V → Result (Stepped V) Refusal → Type 0
@@ -31,7 +31,7 @@ either_ok n one other false h k = k
 
 module _ {V : Type 0} (n : Node V) where
   -- a log is a beginning of itself
-  same : IsBeginningOf (log_of n) (log_of n)
+  same : IsPrefixOf (log_of n) (log_of n)
   same = ([], append-nil (log_of n))
 
   -- an offer to a node that does not lead keeps the log
@@ -101,7 +101,7 @@ module _ {V : Type 0} (n : Node V) where
 -- The logs of a world: that of the node of an event grows, and each other stays.
 
 -- a list is a beginning of each that is equal to it
-same_log : {A : Type 0} (xs ys : List A) → ys ≡ xs → IsBeginningOf xs ys
+same_log : {A : Type 0} (xs ys : List A) → ys ≡ xs → IsPrefixOf xs ys
 same_log xs ys is = ([], append-nil xs ∙ sym is)
 
 module _ {V : Type 0} (w : World V) (j k : ℕ) where
@@ -110,46 +110,46 @@ module _ {V : Type 0} (w : World V) (j k : ℕ) where
   other_log step other = ap (λ (o : Option (Node V)). log_at o) (at_set_other w.nodes j k step.node other)
 
   -- a step that keeps or lengthens its node's log does so in the world
-  own_log : (n : Node V) (step : Stepped V) → slice_get w.nodes j ≡ Some n → LogGrows n step → IsBeginningOf (log w j) (log (stepped w j step) j)
+  own_log : (n : Node V) (step : Stepped V) → slice_get w.nodes j ≡ Some n → LogGrows n step → IsPrefixOf (log w j) (log (stepped w j step) j)
   own_log n step is grows =
       (grows.0, ap (λ (o : Option (Node V)). log_at o ++ grows.0) is ∙ grows.1 ∙ ap (λ (o : Option (Node V)). log_at o) (sym (at_set w.nodes j step.node n is)))
 
   -- a step of node j that keeps or lengthens its log does so to the log of any node k
-  either_log : (n : Node V) (step : Stepped V) → slice_get w.nodes j ≡ Some n → LogGrows n step → (t : Bool) → (j == k) ≡ t → IsBeginningOf (log w k) (log (stepped w j step) k)
-  either_log n step is grows true test = let e : j ≡ k = grind (arith, nat_tests) in subst (λ (i : ℕ). IsBeginningOf (log w i) (log (stepped w j step) i)) e (own_log n step is grows)
+  either_log : (n : Node V) (step : Stepped V) → slice_get w.nodes j ≡ Some n → LogGrows n step → (t : Bool) → (j == k) ≡ t → IsPrefixOf (log w k) (log (stepped w j step) k)
+  either_log n step is grows true test = let e : j ≡ k = grind (arith, nat_tests) in subst (λ (i : ℕ). IsPrefixOf (log w i) (log (stepped w j step) i)) e (own_log n step is grows)
   either_log n step is grows false test = same_log (log w k) (log (stepped w j step) k) (other_log step (grind (arith, nat_tests)))
 
   -- the answer of node j, if it is a step, keeps or lengthens the log of any node k
-  grows_answered : (n : Node V) → slice_get w.nodes j ≡ Some n → (r : Result (Stepped V) Refusal) → LogGrowsOnOk n r → IfTaken (answered w j r) (λ x. IsBeginningOf (log w k) (log x k))
+  grows_answered : (n : Node V) → slice_get w.nodes j ≡ Some n → (r : Result (Stepped V) Refusal) → LogGrowsOnOk n r → IfTaken (answered w j r) (λ x. IsPrefixOf (log w k) (log x k))
   grows_answered n is (Ok step) grows = either_log n step is grows (j == k) refl
   grows_answered n is (Err refusal) grows = tt
 
   -- what node j makes of itself, if it is there, keeps or lengthens the log of any node k
-  grows_at : (make : Node V → Result (Stepped V) Refusal) → ((n : Node V) → LogGrowsOnOk n (make n)) → (o : Option (Node V)) → slice_get w.nodes j ≡ o → IfTaken (at_node w j make o) (λ x. IsBeginningOf (log w k) (log x k))
+  grows_at : (make : Node V → Result (Stepped V) Refusal) → ((n : Node V) → LogGrowsOnOk n (make n)) → (o : Option (Node V)) → slice_get w.nodes j ≡ o → IfTaken (at_node w j make o) (λ x. IsPrefixOf (log w k) (log x k))
   grows_at make grows None is = tt
   grows_at make grows (Some n) is = grows_answered n is (make n) (grows n)
 
 module _ {V : Type 0} (size : V → ℕ) (w : World V) (k : ℕ) where
   -- a delivery keeps or lengthens the log of any node k
-  grows_delivered : (o : Option (Packet V)) → IfTaken (delivered w o) (λ x. IsBeginningOf (log w k) (log x k))
+  grows_delivered : (o : Option (Packet V)) → IfTaken (delivered w o) (λ x. IsPrefixOf (log w k) (log x k))
   grows_delivered None = tt
   grows_delivered (Some p) = grows_at w p.to k (λ n. Ok (on_packet n p)) (λ n. body_grows n p.from p.body) (slice_get w.nodes p.to) refl
 
   -- a restart of another node keeps the log of node k
-  others_restart : (j : ℕ) → j ≢ k → (o : Option (Node V)) → IfTaken (at_node w j (λ n. Ok (restarted n)) o) (λ x. IsBeginningOf (log w k) (log x k))
+  others_restart : (j : ℕ) → j ≢ k → (o : Option (Node V)) → IfTaken (at_node w j (λ n. Ok (restarted n)) o) (λ x. IsPrefixOf (log w k) (log x k))
   others_restart j other None = tt
   others_restart j other (Some n) = same_log _ _ (other_log w j k (restarted n) other)
 
   -- an event but a restart of node k keeps or lengthens its log, before the limit of events is tested
-  grows_happens_at : (e : Event V) → e ≢ Restart k → IfTaken (happens_at size w e) (λ x. IsBeginningOf (log w k) (log x k))
+  grows_happens_at : (e : Event V) → e ≢ Restart k → IfTaken (happens_at size w e) (λ x. IsPrefixOf (log w k) (log x k))
   grows_happens_at (Offer j v) other = grows_at w j k (λ n. offered size n v) (λ n. offered_grows n size v) (slice_get w.nodes j) refl
   grows_happens_at (Begin j) other = grows_at w j k begun (λ n. begun_grows n) (slice_get w.nodes j) refl
   grows_happens_at (Deliver number) other = grows_delivered (slice_get w.packets number)
   grows_happens_at (Restart j) other = others_restart j (λ same. other (ap (λ (i : ℕ). let e : Event V = Restart i in e) same)) (slice_get w.nodes j)
 
   -- an event that is no restart of node k leaves its log a beginning of the new one
-  pub log_grows : (e : Event V) → e ≢ Restart k → IfTaken (happens size w e) (λ x. IsBeginningOf (log w k) (log x k))
-  log_grows e other = spent_or (λ x. IsBeginningOf (log w k) (log x k)) (happens_at size w e) (w.taken == MOST_EVENTS) (grows_happens_at e other)
+  pub log_grows : (e : Event V) → e ≢ Restart k → IfTaken (happens size w e) (λ x. IsPrefixOf (log w k) (log x k))
+  log_grows e other = spent_or (λ x. IsPrefixOf (log w k) (log x k)) (happens_at size w e) (w.taken == MOST_EVENTS) (grows_happens_at e other)
 
   -- a restart of node k, if it is there, empties its log
   emptied : (o : Option (Node V)) → slice_get w.nodes k ≡ o → IfTaken (at_node w k (λ n. Ok (restarted n)) o) (λ x. log x k ≡ [])
@@ -158,7 +158,7 @@ module _ {V : Type 0} (size : V → ℕ) (w : World V) (k : ℕ) where
 
 -- the log of a node begins the one that it has after an event that is no restart of it
 pub logs_only_grow : {V : Type 0} → LogsOnlyGrow V
-logs_only_grow size weights events e k w x is_after happened other = if_taken (λ x. IsBeginningOf (log w k) (log x k)) (happens size w e) x happened (log_grows size w k e other)
+logs_only_grow size weights events e k w x is_after happened other = if_taken (λ x. IsPrefixOf (log w k) (log x k)) (happens size w e) x happened (log_grows size w k e other)
 
 -- a restart of the node empties its log
 pub restart_empties_log : {V : Type 0} → RestartEmptiesLog V

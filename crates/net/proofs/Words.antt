@@ -1,5 +1,5 @@
 -- The words in which this crate is proved, passed on from one place.
-pub use Rattle.net.specs.Agree.{Agree, ChosenAgree, IsAfter, IsBeginningOf, IsProposed, LogsAgree}
+pub use Rattle.net.specs.Agree.{Agree, ChosenAgree, IsAfter, IsPrefixOf, IsProposed, LogsAgree}
 pub use Rattle.net.specs.Chosen.{IsChosen, IsChosenAt, Vote, vote}
 pub use Rattle.net.specs.History.{Agreement, IsMetOrMemory, IsMoment, StopsAt}
 pub use Rattle.net.specs.KeptPart.{AreOfOthers, addressed, change_answered, change_at, change_delivered, change_of, kept_part, node_of}
@@ -56,7 +56,7 @@ pub use Rattle.synod.specs.Weights.{IsWeights, is_quorum}
 pub use Rattle.synod.specs.declared.ballot.Ballot.{Ballot}
 pub use Rattle.synod.specs.declared.change.Change.{Change}
 pub use Rattle.synod.specs.declared.change.Change.TheVariants.{Entry, Round}
-pub use Rattle.synod.specs.declared.change.Held.{Held}
+pub use Rattle.synod.specs.declared.change.AcceptedEntry.{AcceptedEntry}
 pub use Rattle.synod.specs.declared.packet.Body.{Body}
 pub use Rattle.synod.specs.declared.packet.Body.TheVariants.{Accept, Accepted, Ask, Nack, Prepare, Promise, Told}
 pub use Rattle.synod.specs.declared.packet.Packet.{Packet}

@@ -30,12 +30,12 @@ ChosenAgree {V} w x = (s : ℕ) (u v : Option V) → IsChosen w.weights w.votes_
 abbrev pub LogsChosen : {V : Type 0} → World V → Type 0
 LogsChosen {V} w = (k s : ℕ) (v : Option V) → slice_get (log w k) s ≡ Some v → IsChosen w.weights w.votes_cast s v
 
-abbrev pub IsBeginningOf : {A : Type 0} → List A → List A → Type 0
-IsBeginningOf {A} xs ys = (rest : List A) × (xs ++ rest ≡ ys)
+abbrev pub IsPrefixOf : {A : Type 0} → List A → List A → Type 0
+IsPrefixOf {A} xs ys = (rest : List A) × (xs ++ rest ≡ ys)
 
 -- one list is a prefix of the other
 abbrev pub Agree : {A : Type 0} → List A → List A → Type 0
-Agree xs ys = IsBeginningOf xs ys ⊎ IsBeginningOf ys xs
+Agree xs ys = IsPrefixOf xs ys ⊎ IsPrefixOf ys xs
 
 abbrev pub LogsAgree : {V : Type 0} → World V → World V → Type 0
 LogsAgree w x = (j k : ℕ) → Agree (log w j) (log x k)

@@ -4,13 +4,13 @@
 use Rattle.std.specs.Prelude.{◌≡◌, ◌⊎◌, ◌<◌, ℕ, List, length, take, suc, Result, Ok, Err, IsOk}
 use Rattle.net.specs.Words.{Event, StepFault, Memory}
 use Rattle.net.specs.World.{World, after}
-use Rattle.net.specs.Agree.{IsAfter, OneValue, LaterValue, ChosenAgree, LogsChosen, IsBeginningOf, LogsAgree, LogsOffered}
+use Rattle.net.specs.Agree.{IsAfter, OneValue, LaterValue, ChosenAgree, LogsChosen, IsPrefixOf, LogsAgree, LogsOffered}
 use Rattle.net.specs.Taken.{Taken, world_of}
 
 -- w is the world at a moment of the history: after a prefix of its events
 pub record IsMoment {V : Type 0} (size : V → ℕ) (taken : Taken V) (w : World V) : Type 0 where
   pub early : List (Event V)
-  pub begins : IsBeginningOf early taken.events
+  pub begins : IsPrefixOf early taken.events
   pub is_after : IsAfter size taken.weights early w
 
 pub record Agreement {V : Type 0} (size : V → ℕ) (taken : Taken V) : Type 0 where

@@ -4,7 +4,7 @@
 use Rattle.std.specs.Prelude.{◌≡◌, ◌≢◌, ℕ, List, [], ◌∷◌, ◌++◌, Some, Ok}
 use Rattle.net.specs.Words.{option_map, changed_by, Event, Restart}
 use Rattle.net.specs.World.{World, happens, log}
-use Rattle.net.specs.Agree.{IsAfter, OneValue, LaterValue, ChosenAgree, LogsChosen, IsBeginningOf, LogsAgree, LogsOffered}
+use Rattle.net.specs.Agree.{IsAfter, OneValue, LaterValue, ChosenAgree, LogsChosen, IsPrefixOf, LogsAgree, LogsOffered}
 use Rattle.net.specs.KeptPart.{kept_part, node_of, change_of, AreOfOthers}
 
 -- the fact holds of the world after any events
@@ -56,7 +56,7 @@ KeptPartSurvives V = (size : V → ℕ) (weights : List ℕ) (events others : Li
 -- after an event that is no restart of node k, the old log of k is a prefix of the new one
 abbrev pub LogsOnlyGrow : Type 0 → Type 0
 LogsOnlyGrow V = (size : V → ℕ) (weights : List ℕ) (events : List (Event V)) (e : Event V) (k : ℕ) (w x : World V)
-    → IsAfter size weights events w → happens size w e ≡ Ok x → e ≢ Restart k → IsBeginningOf (log w k) (log x k)
+    → IsAfter size weights events w → happens size w e ≡ Ok x → e ≢ Restart k → IsPrefixOf (log w k) (log x k)
 
 -- a restart of node k empties it
 abbrev pub RestartEmptiesLog : Type 0 → Type 0

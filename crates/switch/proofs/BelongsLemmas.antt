@@ -1,5 +1,5 @@
 -- A prefix of a node's log stays one, whatever event comes, but for a restart of that node.
-use Rattle.switch.proofs.Words.{◌≡◌, ◌≢◌, ℕ, ◌<◌, ◌==◌, Bool, true, false, List, [], ◌∷◌, ◌++◌, length, slice_get, inl, inr, Option, Some, None, Result, Ok, Err, refl, ap, sym, ◌∙◌, subst, arith, nat_lt, ◌+◌, IsSome, OnErr, option_map, nat_tests, length-set, Packet, Change, Refusal, Node, Stepped, offered, begun, on_packet, restarted, MOST_EVENTS, Event, Offer, Begin, Deliver, Restart, StepFault, World, at_node, delivered, happens_at, happens, log, log_after, all_happen, start, IsAfter, IsBeginningOf, node_of, change_of, IfTaken, if_taken, spent_or, all_happen-append, after-push, log_grows, then_begins, Standing, up, down, StoreView, SwitchView, world_of, with_store, IsViewOf, AreStores, is_down, is_down_view, is_down_at, due, change_due, events_due, FailsAt, TakesAt, ActsUp, RevivesAt, Revives, ActsDown, Acts, BeginsLog, StaysBelonging, KeepsLogs, append-nil}
+use Rattle.switch.proofs.Words.{◌≡◌, ◌≢◌, ℕ, ◌<◌, ◌==◌, Bool, true, false, List, [], ◌∷◌, ◌++◌, length, slice_get, inl, inr, Option, Some, None, Result, Ok, Err, refl, ap, sym, ◌∙◌, subst, arith, nat_lt, ◌+◌, IsSome, OnErr, option_map, nat_tests, length-set, Packet, Change, Refusal, Node, Stepped, offered, begun, on_packet, restarted, MOST_EVENTS, Event, Offer, Begin, Deliver, Restart, StepFault, World, at_node, delivered, happens_at, happens, log, log_after, all_happen, start, IsAfter, IsPrefixOf, node_of, change_of, IfTaken, if_taken, spent_or, all_happen-append, after-push, log_grows, then_begins, Standing, up, down, StoreView, SwitchView, world_of, with_store, IsViewOf, AreStores, is_down, is_down_view, is_down_at, due, change_due, events_due, FailsAt, TakesAt, ActsUp, RevivesAt, Revives, ActsDown, Acts, BeginsLog, StaysBelonging, KeepsLogs, append-nil}
 use Rattle.switch.specs.Switch.{with_event}
 
 -- The node of an event that is taken is there.
@@ -35,8 +35,8 @@ module _ {V : Type 0} (size : V → ℕ) (w : World V) where
   node_there e x happened = if_taken (λ (y : World V). IsOfNode w e) (happens size w e) x happened (spent_or (λ (y : World V). IsOfNode w e) (happens_at size w e) (w.taken == MOST_EVENTS) (there_happens_at e))
 
 -- an event that is no restart of node j leaves its log a beginning of the new one
-log_goes_on : {V : Type 0} (size : V → ℕ) (w : World V) (e : Event V) (x : World V) → happens size w e ≡ Ok x → (j : ℕ) → e ≢ Restart j → IsBeginningOf (log w j) (log x j)
-log_goes_on {V} size w e x happened j other = if_taken (λ (y : World V). IsBeginningOf (log w j) (log y j)) (happens size w e) x happened (log_grows size w j e other)
+log_goes_on : {V : Type 0} (size : V → ℕ) (w : World V) (e : Event V) (x : World V) → happens size w e ≡ Ok x → (j : ℕ) → e ≢ Restart j → IsPrefixOf (log w j) (log x j)
+log_goes_on {V} size w e x happened j other = if_taken (λ (y : World V). IsPrefixOf (log w j) (log y j)) (happens size w e) x happened (log_grows size w j e other)
 
 -- The logs after a call.
 
@@ -54,13 +54,13 @@ module _ {V : Type 0} (size : V → ℕ) (old : SwitchView V) where
 
   module _ (w : World V) (was : world_of size old ≡ Ok w) where
     -- a history of which x is the world
-    longer_stays : (new : SwitchView V) (x : World V) → world_of size new ≡ Ok x → length new.stores ≡ length old.stores → (j : ℕ) (entries : List (Option V)) → IsBeginningOf (log w j) (log x j) → BeginsLog size old j entries → BeginsLog size new j entries
+    longer_stays : (new : SwitchView V) (x : World V) → world_of size new ≡ Ok x → length new.stores ≡ length old.stores → (j : ℕ) (entries : List (Option V)) → IsPrefixOf (log w j) (log x j) → BeginsLog size old j entries → BeginsLog size new j entries
     longer_stays new x is count j entries grows h = record {
       node = subst (λ (n : ℕ). j < n) (sym count) h.node;
       begins =
           let now : log_after (world_of size old) j ≡ log w j = ap (λ (r : Result (World V) StepFault). log_after r j) was in
           let then : log_after (world_of size new) j ≡ log x j = ap (λ (r : Result (World V) StepFault). log_after r j) is in
-          subst (λ (es : List (Option V)). IsBeginningOf entries es) (sym then) (then_begins entries (log w j) (log x j) (subst (λ (es : List (Option V)). IsBeginningOf entries es) now h.begins) grows);
+          subst (λ (es : List (Option V)). IsPrefixOf entries es) (sym then) (then_begins entries (log w j) (log x j) (subst (λ (es : List (Option V)). IsPrefixOf entries es) now h.begins) grows);
     }
 
     -- where the event is taken, and is no restart of node j, what begins the log of j begins the longer one
@@ -144,7 +144,7 @@ module _ {V : Type 0} (size : V → ℕ) (old : SwitchView V) (w : World V) (was
         takes_logs e x happened of.k view.0 result (acts.taken x happened of.k of.node view.0 view.1)
 
   -- the logs of other nodes go on where the event that node j owes is taken
-  owed_goes_on : (j : ℕ) (e : Option (Event V)) → ((ev : Event V) → e ≡ Some ev → node_of w ev ≡ Some j) → (m : World V) → IsAfter size old.weights (old.history ++ events_due e) m → (k : ℕ) → k ≢ j → IsBeginningOf (log w k) (log m k)
+  owed_goes_on : (j : ℕ) (e : Option (Event V)) → ((ev : Event V) → e ≡ Some ev → node_of w ev ≡ Some j) → (m : World V) → IsAfter size old.weights (old.history ++ events_due e) m → (k : ℕ) → k ≢ j → IsPrefixOf (log w k) (log m k)
   owed_goes_on j None owed m is k other =
       let both : Ok w ≡ Ok m = sym was ∙ ap (λ (es : List (Event V)). world_of size (record { weights = old.weights; history = es; stores = old.stores })) (sym (append-nil old.history)) ∙ is in
       let same : w ≡ m = cc in

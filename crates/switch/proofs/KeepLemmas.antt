@@ -1,5 +1,5 @@
 -- A record with or without a change.
-use Rattle.switch.proofs.Words.{◌≡◌, ℕ, zero, suc, List, [], ◌∷◌, Option, Some, None, refl, ap, ◌∙◌, subst, inl, inr, put_at, Change, Round, Promise, Entry, Held, Kept, changed_by, IsWithOrWithout}
+use Rattle.switch.proofs.Words.{◌≡◌, ℕ, zero, suc, List, [], ◌∷◌, Option, Some, None, refl, ap, ◌∙◌, subst, inl, inr, put_at, Change, Round, Promise, Entry, AcceptedEntry, Kept, changed_by, IsWithOrWithout}
 
 -- an entry that is put twice at one slot
 put_twice : {T : Type 0} (xs : List (Option T)) (s : ℕ) (v : T) → put_at (put_at xs s v) s v ≡ put_at xs s v
@@ -13,7 +13,7 @@ changed_twice : {V : Type 0} (kept : Kept V) (change : Option (Change V)) → ch
 changed_twice kept None = refl
 changed_twice kept (Some (Round r)) = refl
 changed_twice kept (Some (Promise b)) = refl
-changed_twice {V} kept (Some (Entry s h)) = ap (λ (xs : List (Option (Held V))). let k : Kept V = record { promise = h.ballot; round = kept.round; accepted = xs } in k) (put_twice kept.accepted s h)
+changed_twice {V} kept (Some (Entry s h)) = ap (λ (xs : List (Option (AcceptedEntry V))). let k : Kept V = record { promise = h.ballot; round = kept.round; accepted = xs } in k) (put_twice kept.accepted s h)
 
 -- a record with or without a change, once the change is made of it, has the change
 pub with_either : {V : Type 0} (base kept : Kept V) (change : Option (Change V)) → IsWithOrWithout base change kept → changed_by kept change ≡ changed_by base change

@@ -10,7 +10,7 @@ pub use Rattle.net.proofs.StagedTaken.{posts_same}
 pub use Rattle.net.proofs.StepsStaged.{still_more}
 pub use Rattle.net.proofs.TakenLemmas.{after-push, count_shown, happens-not_spent, length-nodes_of, makes, next_is, nodes_of-set, rooms_stay, set_same, taken_count}
 pub use Rattle.net.proofs.TwoMoments.{all_happen-append, world_lasts}
-pub use Rattle.net.specs.Agree.{IsAfter, IsBeginningOf}
+pub use Rattle.net.specs.Agree.{IsAfter, IsPrefixOf}
 pub use Rattle.net.specs.KeptPart.{addressed, change_of, kept_part, node_of}
 pub use Rattle.net.specs.Staged.{AreStill, ComesTo, HasRoom, IsEventAt, IsOfEvent, IsReadyAt, IsStaged, IsStill, IsTaken, NetView, StagedEvent, StagedWork, change_in, loads, posts_of, restarts, step_of, steps, with_record}
 pub use Rattle.net.specs.Taken.{AreOfWorld, Taken, nodes_of, with_event, world_of as world_of_taken}
@@ -42,7 +42,7 @@ pub use Rattle.synod.specs.Record.{Kept, changed_by, new_kept}
 pub use Rattle.synod.specs.Step.{on_packet, reloaded, restarted}
 pub use Rattle.synod.specs.declared.change.Change.{Change}
 pub use Rattle.synod.specs.declared.change.Change.TheVariants.{Entry, Promise, Round}
-pub use Rattle.synod.specs.declared.change.Held.{Held}
+pub use Rattle.synod.specs.declared.change.AcceptedEntry.{AcceptedEntry}
 pub use Rattle.synod.specs.declared.packet.Body.TheVariants.{Ask}
 pub use Rattle.synod.specs.declared.packet.Packet.{Packet}
 pub use Rattle.synod.specs.declared.refusal.Refusal.{Refusal}

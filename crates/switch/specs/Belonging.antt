@@ -2,13 +2,13 @@
 -- Source: Lamport, Paxos Made Simple, section 3: all servers execute the same commands, each as far as it learned them.
 -- The code (of `cluster`) tests entry by entry whether entries are a prefix.
 use Rattle.std.specs.Prelude.{◌≢◌, ◌≡◌, ◌<◌, ℕ, List, Option, Result, OnErr, length}
-use Rattle.switch.specs.Words.{Event, Restart, StepFault, log_after, IsBeginningOf}
+use Rattle.switch.specs.Words.{Event, Restart, StepFault, log_after, IsPrefixOf}
 use Rattle.switch.specs.Switch.{SwitchView, world_of}
 
 -- there is a node k, and these entries are a prefix of its log in the world after the history
 pub record BeginsLog {V : Type 0} (size : V → ℕ) (switch : SwitchView V) (k : ℕ) (entries : List (Option V)) : Type 0 where
   pub node : k < length switch.stores
-  pub begins : IsBeginningOf entries (log_after (world_of size switch) k)
+  pub begins : IsPrefixOf entries (log_after (world_of size switch) k)
 
 -- a prefix of a log stays one
 abbrev pub StaysBelonging : {V : Type 0} → (V → ℕ) → SwitchView V → SwitchView V → Type 0

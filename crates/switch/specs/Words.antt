@@ -1,5 +1,5 @@
 -- The words of the layers below in which this crate's definitions are written, passed on from one place.
-pub use Rattle.net.specs.Agree.{IsAfter, IsBeginningOf}
+pub use Rattle.net.specs.Agree.{IsAfter, IsPrefixOf}
 pub use Rattle.net.specs.Staged.{StagedEvent, HasRoom, IsStaged, IsTaken, NetView, change_in, posts_of}
 pub use Rattle.net.specs.KeptPart.{change_of, kept_part, node_of}
 pub use Rattle.net.specs.Taken.{AreOfWorld}

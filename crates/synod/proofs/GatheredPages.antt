@@ -1,6 +1,6 @@
 -- A page that is new is kept, and its sender may be heard with it.
 use Rattle.synod.proofs.Words.{◌≡◌, ◌∙◌, ◌<◌, ◌≤◌, ◌-◌, ◌&&◌, not, ℕ, Bool, true, false, List, [], ◌∷◌, ◌++◌, Option, None, length, ap, sym, arith, if◌then◌else◌, nat_tests, get_or_past, set_past, entry_at, put_at, front_of, Ballot, Role, Preparing, is_same, is_quorum, all_had, SlotReport, Packet, Heard, Page, CompletePromise, Node, Stepped, unchanged, answers, kept_of, pages_from, page_of, with_page, is_heard, ProposerState, assembled, proposer_state, learner_state, keeps_page, keeps_promise, hears, leads_with, gathers, on_promise_as, on_promise, with_proposer_update}
-use Rattle.synod.proofs.PagesWithLemmas.{with_new}
+use Rattle.synod.proofs.PagesWithDeliveredLemmas.{with_new}
 
 abbrev pub with_proposing : {V : Type 0} → Node V → ProposerState V → Node V
 with_proposing n p = assembled n.me n.weights (kept_of n) p (learner_state n)

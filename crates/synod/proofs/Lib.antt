@@ -7,7 +7,7 @@ pub mod ReportsLemmas
 pub mod KnownVoteLemmas
 pub mod PostsLemmas
 pub mod LaterTalliesLemmas
-pub mod PagesHadLemmas
+pub mod ReceivedPagesLemmas
 pub mod KeptPartLemmas
 pub mod NodeKeeps
 pub mod PageKeeps
@@ -17,7 +17,7 @@ pub mod NodeLemmas
 pub mod AcceptedLemmas
 pub mod LogLemmas
 pub mod ReportPages
-pub mod PagesWithLemmas
+pub mod PagesWithDeliveredLemmas
 pub mod GatheredPages
 pub mod HeightsLemmas
 pub mod LeadLemmas

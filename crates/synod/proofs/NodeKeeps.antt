@@ -1,5 +1,5 @@
 -- What every node is, and what it posts, over steps that change no proposal.
-use Rattle.synod.proofs.Words.{◌≡◌, ℕ, zero, suc, ◌+◌, ◌^◌, ◌<◌, ◌≤◌, Bool, true, false, ◌&&◌, ◌==◌, nat_lt, List, [], ◌∷◌, ◌++◌, length, Option, Some, None, Result, Ok, Err, refl, arith, set, if◌then◌else◌, nat_tests, AllByRecursion, SLOTS, entry_at, put_at, top_of-put_at, front_of-le, MOST_BYTES, MOST_WAITING, Ballot, SlotReport, Packet, Body, Prepare, Accept, Accepted, Nack, Ask, Told, Held, Heard, Role, Idle, Preparing, Leading, Refusal, Busy, LogFull, RoundsSpent, TooLong, is_under, packet, to_all_from, to_all, to_others_from, to_others, accepts, IsBody, IsPost, Kept, Node, Stepped, unchanged, no_pages, log_length, refuses, held, takes_value, on_accept, waits, takes_slot, offer_waits, offer_as, offered, next_round, next_ballot, begins, begun, is_at, idles, on_nack, learns, chooses, on_ask_at, on_ask, on_told_at, on_told, Keeps, reloaded, IsRole, ArePages, IsNode}
+use Rattle.synod.proofs.Words.{◌≡◌, ℕ, zero, suc, ◌+◌, ◌^◌, ◌<◌, ◌≤◌, Bool, true, false, ◌&&◌, ◌==◌, nat_lt, List, [], ◌∷◌, ◌++◌, length, Option, Some, None, Result, Ok, Err, refl, arith, set, if◌then◌else◌, nat_tests, AllByRecursion, SLOTS, entry_at, put_at, top_of-put_at, front_of-le, MOST_BYTES, MOST_WAITING, Ballot, SlotReport, Packet, Body, Prepare, Accept, Accepted, Nack, Ask, Told, AcceptedEntry, Heard, Role, Idle, Preparing, Leading, Refusal, Busy, LogFull, RoundsSpent, TooLong, is_under, packet, to_all_from, to_all, to_others_from, to_others, accepts, IsBody, IsPost, Kept, Node, Stepped, unchanged, no_pages, log_length, refuses, held, takes_value, on_accept, waits, takes_slot, offer_waits, offer_as, offered, next_round, next_ballot, begins, begun, is_at, idles, on_nack, learns, chooses, on_ask_at, on_ask, on_told_at, on_told, Keeps, reloaded, IsRole, ArePages, IsNode}
 use Rattle.std.specs.List.{slice_index_or}
 
 -- where it is not refused
@@ -78,7 +78,7 @@ module _ {V : Type 0} (n : Node V) (is : IsNode n) where
   same = record { node = is; posts = tt }
 
   -- the node with other slots, role and pages
-  pub with_parts : (promise : Ballot) (round : ℕ) (accepted : List (Option (Held V))) (role : Role) (pages : List (List (Option (List (SlotReport V))))) (heard : List Heard) (learned : List (Option (Option V))) (waiting : List V)
+  pub with_parts : (promise : Ballot) (round : ℕ) (accepted : List (Option (AcceptedEntry V))) (role : Role) (pages : List (List (Option (List (SlotReport V))))) (heard : List Heard) (learned : List (Option (Option V))) (waiting : List V)
       → length accepted ≤ SLOTS → length learned ≤ SLOTS → IsRole role → AllByRecursion (AllByRecursion ArePages) pages
       → IsNode (record n { promise = promise; round = round; accepted = accepted; role = role; pages = pages; heard = heard; learned = learned; waiting = waiting })
   with_parts promise round accepted role pages heard learned waiting low low_learned as_role each =

@@ -1,5 +1,5 @@
 -- The pages of a promise, and what is proposed, stay below the limit.
-use Rattle.synod.proofs.Words.{◌≡◌, ℕ, zero, suc, ◌+◌, ◌*◌, ◌<◌, ◌≤◌, max, Bool, true, false, nat_lt, is_some, List, [], ◌∷◌, length, Option, Some, None, refl, ap, arith, set, if◌then◌else◌, AllByRecursion, SLOTS, put_at, MOST_PAGES, Ballot, SlotReport, Promise, Held, Heard, IsReport, IsPost, onto_first, cut, joined_pages, pages_from, page_of, with_page, reports_from, promise_pages, above_all, top_reported, fills, all_reports, ArePages}
+use Rattle.synod.proofs.Words.{◌≡◌, ℕ, zero, suc, ◌+◌, ◌*◌, ◌<◌, ◌≤◌, max, Bool, true, false, nat_lt, is_some, List, [], ◌∷◌, length, Option, Some, None, refl, ap, arith, set, if◌then◌else◌, AllByRecursion, SLOTS, put_at, MOST_PAGES, Ballot, SlotReport, Promise, AcceptedEntry, Heard, IsReport, IsPost, onto_first, cut, joined_pages, pages_from, page_of, with_page, reports_from, promise_pages, above_all, top_reported, fills, all_reports, ArePages}
 use Rattle.synod.proofs.NodeKeeps.{all_append, all_set, all_index, post, nodes}
 
 -- The pages of a promise.
@@ -10,7 +10,7 @@ reported_either first s r rs true h rest = rest
 reported_either first s r rs false h rest = (h, rest)
 
 -- the reports of accepted entries are below the limit where the entries are
-pub reports_low : {V : Type 0} (first s : ℕ) (accepted : List (Option (Held V))) → s + length accepted ≤ SLOTS → AllByRecursion IsReport (reports_from first s accepted)
+pub reports_low : {V : Type 0} (first s : ℕ) (accepted : List (Option (AcceptedEntry V))) → s + length accepted ≤ SLOTS → AllByRecursion IsReport (reports_from first s accepted)
 reports_low first s [] le = tt
 reports_low first s (None ∷ hs) le = reports_low first (suc s) hs (omega arith)
 reports_low first s (Some h ∷ hs) le =
@@ -22,7 +22,7 @@ few_either r rs true = omega arith
 few_either r rs false = omega arith
 
 -- there are no more reports than slots
-pub reports_few : {V : Type 0} (first s : ℕ) (accepted : List (Option (Held V))) → length (reports_from first s accepted) ≤ length accepted
+pub reports_few : {V : Type 0} (first s : ℕ) (accepted : List (Option (AcceptedEntry V))) → length (reports_from first s accepted) ≤ length accepted
 reports_few first s [] = omega arith
 reports_few first s (None ∷ hs) = let h = reports_few first (suc s) hs in omega arith
 reports_few first s (Some x ∷ hs) =

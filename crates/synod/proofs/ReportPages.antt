@@ -1,5 +1,5 @@
 -- The reports of a promise, gathered slot by slot and cut into pages on the way.
-use Rattle.synod.proofs.Words.{◌≡◌, ℕ, zero, suc, ◌+◌, ◌-◌, ◌<◌, ◌≤◌, ◌≢◌, Bool, true, false, nat_lt, List, [], ◌∷◌, ◌++◌, length, drop, Option, Some, None, refl, ap, sym, ◌∙◌, subst, arith, if◌then◌else◌, append_assoc, append-nil, add-one, le_of_suc-le-suc, length-append, drop_of_length-le, nat_tests, SLOTS, entry_at, MOST_PAGES, Ballot, SlotReport, Packet, Promise, Held, packet, onto_first, cut, pages_of, reports_from, promise_pages}
+use Rattle.synod.proofs.Words.{◌≡◌, ℕ, zero, suc, ◌+◌, ◌-◌, ◌<◌, ◌≤◌, ◌≢◌, Bool, true, false, nat_lt, List, [], ◌∷◌, ◌++◌, length, drop, Option, Some, None, refl, ap, sym, ◌∙◌, subst, arith, if◌then◌else◌, append_assoc, append-nil, add-one, le_of_suc-le-suc, length-append, drop_of_length-le, nat_tests, SLOTS, entry_at, MOST_PAGES, Ballot, SlotReport, Packet, Promise, AcceptedEntry, packet, onto_first, cut, pages_of, reports_from, promise_pages}
 use Rattle.synod.proofs.PageKeeps.{reports_few, pages_few}
 
 -- a page that was begun, and the pages after it
@@ -66,7 +66,7 @@ above_if r rs true e = cc
 above_if r rs false e = refl
 
 -- slots below the first are passed over
-pub reports-skip : {V : Type 0} (first s i : ℕ) (hs : List (Option (Held V))) → s + i ≤ first → reports_from first (s + i) (drop i hs) ≡ reports_from first s hs
+pub reports-skip : {V : Type 0} (first s i : ℕ) (hs : List (Option (AcceptedEntry V))) → s + i ≤ first → reports_from first (s + i) (drop i hs) ≡ reports_from first s hs
 reports-skip {V} first s zero hs le = let e : s + 0 ≡ s = omega arith in ap (λ (j : ℕ). reports_from first j hs) e
 reports-skip first s (suc i) [] le = refl
 reports-skip {V} first s (suc i) (None ∷ hs) le = let e : s + suc i ≡ suc s + i = omega arith in ap (λ (j : ℕ). reports_from first j (drop i hs)) e ∙ reports-skip first (suc s) i hs (omega arith)
@@ -75,24 +75,24 @@ reports-skip {V} first s (suc i) (Some h ∷ hs) le =
     ap (λ (j : ℕ). reports_from first j (drop i hs)) e ∙ reports-skip first (suc s) i hs (omega arith)
     ∙ sym (below_if (record { slot = s; ballot = h.ballot; value = h.value }) (reports_from first (suc s) hs) (nat_lt s first) (grind (arith, nat_tests)))
 
-pub reports-none : {V : Type 0} (first s i : ℕ) (hs : List (Option (Held V))) → i < length hs → entry_at hs i ≡ None → reports_from first s (drop i hs) ≡ reports_from first (suc s) (drop (suc i) hs)
+pub reports-none : {V : Type 0} (first s i : ℕ) (hs : List (Option (AcceptedEntry V))) → i < length hs → entry_at hs i ≡ None → reports_from first s (drop i hs) ≡ reports_from first (suc s) (drop (suc i) hs)
 reports-none first s i [] low e = absurd (omega arith)
 reports-none first s zero (None ∷ hs) low e = refl
 reports-none first s zero (Some h ∷ hs) low e = cc
 reports-none first s (suc i) (x ∷ hs) low e = reports-none first s i hs (le_of_suc-le-suc low) e
 
-pub reports-some : {V : Type 0} (first s i : ℕ) (hs : List (Option (Held V))) (h : Held V) → first ≤ s → entry_at hs i ≡ Some h
+pub reports-some : {V : Type 0} (first s i : ℕ) (hs : List (Option (AcceptedEntry V))) (h : AcceptedEntry V) → first ≤ s → entry_at hs i ≡ Some h
     → reports_from first s (drop i hs) ≡ record { slot = s; ballot = h.ballot; value = h.value } ∷ reports_from first (suc s) (drop (suc i) hs)
 reports-some first s i [] h from e = cc
 reports-some first s zero (None ∷ hs) h from e = cc
 reports-some {V} first s zero (Some x ∷ hs) h from e =
     let same : x ≡ h = cc in
     above_if (record { slot = s; ballot = x.ballot; value = x.value }) (reports_from first (suc s) hs) (nat_lt s first) (grind (arith, nat_tests))
-    ∙ ap (λ (y : Held V). record { slot = s; ballot = y.ballot; value = y.value } ∷ reports_from first (suc s) hs) same
+    ∙ ap (λ (y : AcceptedEntry V). record { slot = s; ballot = y.ballot; value = y.value } ∷ reports_from first (suc s) hs) same
 reports-some first s (suc i) (x ∷ hs) h from e = reports-some first s i hs h from e
 
-pub reports-end : {V : Type 0} (first s i : ℕ) (hs : List (Option (Held V))) → length hs ≤ i → reports_from first s (drop i hs) ≡ []
-reports-end {V} first s i hs le = ap (λ (rest : List (Option (Held V))). reports_from first s rest) (drop_of_length-le hs le)
+pub reports-end : {V : Type 0} (first s i : ℕ) (hs : List (Option (AcceptedEntry V))) → length hs ≤ i → reports_from first s (drop i hs) ≡ []
+reports-end {V} first s i hs le = ap (λ (rest : List (Option (AcceptedEntry V))). reports_from first s rest) (drop_of_length-le hs le)
 
 -- The packets, page by page.
 
@@ -105,19 +105,19 @@ promise_pages-push {V} me to b count i (next ∷ pages) page =
     (promise_pages-push me to b count (suc i) pages page ∙ ap (λ (j : ℕ). promise_pages me to b count (suc i) pages ++ packet me to (Promise b j count page) ∷ []) e)
 
 -- as many pages as may be sent
-pub pages-within : {V : Type 0} (first : ℕ) (accepted : List (Option (Held V))) → length accepted ≤ SLOTS → length (pages_of (reports_from first 0 accepted)) ≤ MOST_PAGES
+pub pages-within : {V : Type 0} (first : ℕ) (accepted : List (Option (AcceptedEntry V))) → length accepted ≤ SLOTS → length (pages_of (reports_from first 0 accepted)) ≤ MOST_PAGES
 pages-within first accepted low =
     let few = reports_few first 0 accepted in
     let count = (pages_few 256 (reports_from first 0 accepted)).0 in
     omega (arith, low, few, count)
 
 -- What the loop over the slots keeps: the pages so far, the page begun and the reports of the slots to come are all pages.
-pub record Gathers {V : Type 0} (first s : ℕ) (accepted : List (Option (Held V))) (full : List (List (SlotReport V))) (page : List (SlotReport V)) : Type 0 where
+pub record Gathers {V : Type 0} (first s : ℕ) (accepted : List (Option (AcceptedEntry V))) (full : List (List (SlotReport V))) (page : List (SlotReport V)) : Type 0 where
   pub from : first ≤ s
   pub low : length page ≤ 256
   pub all : pages_with full page (reports_from first s (drop s accepted)) ≡ pages_of (reports_from first 0 accepted)
 
-pub gathers-first : {V : Type 0} (first : ℕ) (accepted : List (Option (Held V))) (full : List (List (SlotReport V))) (page : List (SlotReport V)) → full ≡ [] → page ≡ [] → Gathers first first accepted full page
+pub gathers-first : {V : Type 0} (first : ℕ) (accepted : List (Option (AcceptedEntry V))) (full : List (List (SlotReport V))) (page : List (SlotReport V)) → full ≡ [] → page ≡ [] → Gathers first first accepted full page
 gathers-first {V} first accepted full page no_pages no_page =
     let z : 0 + first ≡ first = omega arith in
     let skip : reports_from first first (drop first accepted) ≡ reports_from first 0 accepted = ap (λ (j : ℕ). reports_from first j (drop first accepted)) (sym z) ∙ reports-skip first 0 first accepted (omega arith) in
@@ -128,7 +128,7 @@ gathers-first {V} first accepted full page no_pages no_page =
       all = ap (λ (rs : List (SlotReport V)). pages_with [] [] rs) skip ∙ pages_with-none (reports_from first 0 accepted);
     })
 
-module _ {V : Type 0} (first s : ℕ) (accepted : List (Option (Held V))) (full : List (List (SlotReport V))) (page : List (SlotReport V)) (h : Gathers first s accepted full page) (low : s < length accepted) where
+module _ {V : Type 0} (first s : ℕ) (accepted : List (Option (AcceptedEntry V))) (full : List (List (SlotReport V))) (page : List (SlotReport V)) (h : Gathers first s accepted full page) (low : s < length accepted) where
   abbrev rest : List (SlotReport V)
   rest = reports_from first (suc s) (drop (suc s) accepted)
 
@@ -140,7 +140,7 @@ module _ {V : Type 0} (first s : ℕ) (accepted : List (Option (Held V))) (full 
   pub gathers-gap : entry_at accepted s ≡ None → Gathers first (s + 1) accepted full page
   gathers-gap none = gathers-at full page h.low (ap (λ (rs : List (SlotReport V)). pages_with full page rs) (sym (reports-none first s s accepted low none)) ∙ h.all)
 
-  module _ (x : Held V) (is : entry_at accepted s ≡ Some x) where
+  module _ (x : AcceptedEntry V) (is : entry_at accepted s ≡ Some x) where
     abbrev here : SlotReport V
     here = record { slot = s; ballot = x.ballot; value = x.value }
 
@@ -161,7 +161,7 @@ module _ {V : Type 0} (first s : ℕ) (accepted : List (Option (Held V))) (full 
         (subst (λ (begun : List (SlotReport V)). Gathers first (s + 1) accepted (full ++ page ∷ []) begun) (sym one)
         (gathers-at (full ++ page ∷ []) (here ∷ []) (omega arith) (sym (pages_with-new full page here rest whole) ∙ with_here)))
 
-pub gathers-last : {V : Type 0} (first s : ℕ) (accepted : List (Option (Held V))) (full : List (List (SlotReport V))) (page : List (SlotReport V)) → Gathers first s accepted full page → length accepted ≤ s → (pages : List (List (SlotReport V))) → pages ≡ full ++ page ∷ []
+pub gathers-last : {V : Type 0} (first s : ℕ) (accepted : List (Option (AcceptedEntry V))) (full : List (List (SlotReport V))) (page : List (SlotReport V)) → Gathers first s accepted full page → length accepted ≤ s → (pages : List (List (SlotReport V))) → pages ≡ full ++ page ∷ []
     → pages ≡ pages_of (reports_from first 0 accepted)
 gathers-last {V} first s accepted full page h past pages more =
     more ∙ sym (pages_with-last full page) ∙ ap (λ (rs : List (SlotReport V)). pages_with full page rs) (sym (reports-end first s s accepted past)) ∙ h.all

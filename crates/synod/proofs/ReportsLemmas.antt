@@ -1,11 +1,11 @@
 -- What reports say, and what the highest of them is.
-use Rattle.synod.proofs.Words.{Held, ◌≡◌, ℕ, zero, suc, ◌+◌, ◌<◌, ◌≤◌, max, Bool, true, false, ◌==◌, nat_lt, List, [], ◌∷◌, Option, Some, None, inl, inr, refl, ap, ◌∙◌, subst, arith, ltb-true, ltb-false, eqb-true, if◌then◌else◌, nat_tests, In, entry_at, Ballot, SlotReport, is_under, reports_from, higher, highest_at, above_all, top_reported}
+use Rattle.synod.proofs.Words.{AcceptedEntry, ◌≡◌, ℕ, zero, suc, ◌+◌, ◌<◌, ◌≤◌, max, Bool, true, false, ◌==◌, nat_lt, List, [], ◌∷◌, Option, Some, None, inl, inr, refl, ap, ◌∙◌, subst, arith, ltb-true, ltb-false, eqb-true, if◌then◌else◌, nat_tests, In, entry_at, Ballot, SlotReport, is_under, reports_from, higher, highest_at, above_all, top_reported}
 use Rattle.synod.proofs.BallotsLemmas.{Upto, upto_self, under_true, under_false, under_is_upto, upto_upto}
 
 -- a report says what is held at its slot, the list beginning at slot s
-pub record IsReport {V : Type 0} (first s : ℕ) (hs : List (Option (Held V))) (r : SlotReport V) : Type 0 where
+pub record IsReport {V : Type 0} (first s : ℕ) (hs : List (Option (AcceptedEntry V))) (r : SlotReport V) : Type 0 where
   pub index : ℕ
-  pub entry : Held V
+  pub entry : AcceptedEntry V
   pub is_held : entry_at hs index ≡ Some entry
   pub slot : r.slot ≡ s + index
   pub ballot : r.ballot ≡ entry.ballot
@@ -13,11 +13,11 @@ pub record IsReport {V : Type 0} (first s : ℕ) (hs : List (Option (Held V))) (
   pub from_first : first ≤ r.slot
 
 -- a report of the later entries is one of the list with an entry before them
-next_report : {V : Type 0} {first s : ℕ} {hs : List (Option (Held V))} {r : SlotReport V} (x : Option (Held V)) → IsReport first (suc s) hs r → IsReport first s (x ∷ hs) r
+next_report : {V : Type 0} {first s : ℕ} {hs : List (Option (AcceptedEntry V))} {r : SlotReport V} (x : Option (AcceptedEntry V)) → IsReport first (suc s) hs r → IsReport first s (x ∷ hs) r
 next_report x h = record { index = suc h.index; entry = h.entry; is_held = h.is_held; slot = omega (arith, h.slot); ballot = h.ballot; value = h.value; from_first = h.from_first }
 
 -- where the first slot has an entry, a report is of that one, unless it is passed over, or of a later one
-here_held : {V : Type 0} (first s : ℕ) (h : Held V) (hs : List (Option (Held V))) (r : SlotReport V) (b : Bool) → nat_lt s first ≡ b
+here_held : {V : Type 0} (first s : ℕ) (h : AcceptedEntry V) (hs : List (Option (AcceptedEntry V))) (r : SlotReport V) (b : Bool) → nat_lt s first ≡ b
     → In r (if b then reports_from first (suc s) hs else (record { slot = s; ballot = h.ballot; value = h.value } ∷ reports_from first (suc s) hs))
     → (In r (reports_from first (suc s) hs) → IsReport first (suc s) hs r) → IsReport first s (Some h ∷ hs) r
 here_held first s h hs r true e i more = next_report (Some h) (more i)
@@ -32,7 +32,7 @@ here_held {V} first s h hs r false e (inl d) more = subst (λ (r : SlotReport V)
 }
 here_held first s h hs r false e (inr i) more = next_report (Some h) (more i)
 
-pub reports-held : {V : Type 0} (first s : ℕ) (hs : List (Option (Held V))) (r : SlotReport V) → In r (reports_from first s hs) → IsReport first s hs r
+pub reports-held : {V : Type 0} (first s : ℕ) (hs : List (Option (AcceptedEntry V))) (r : SlotReport V) → In r (reports_from first s hs) → IsReport first s hs r
 reports-held first s [] r i = elim i [ ]
 reports-held first s (None ∷ hs) r i = next_report None (reports-held first (suc s) hs r i)
 reports-held first s (Some h ∷ hs) r i = here_held first s h hs r (nat_lt s first) refl i (reports-held first (suc s) hs r)
@@ -49,25 +49,25 @@ one_more : {V : Type 0} {slot : ℕ} {b : Ballot} {rs : List (SlotReport V)} (r 
 one_more r h = record { report = h.report; is_in = inr h.is_in; slot = h.slot; ballot = h.ballot }
 
 -- what is reported of later entries is reported, whether the entry before them is passed over or not
-here_reported : {V : Type 0} (first s : ℕ) (h : Held V) (hs : List (Option (Held V))) (slot : ℕ) (ballot : Ballot) (b : Bool) → nat_lt s first ≡ b
+here_reported : {V : Type 0} (first s : ℕ) (h : AcceptedEntry V) (hs : List (Option (AcceptedEntry V))) (slot : ℕ) (ballot : Ballot) (b : Bool) → nat_lt s first ≡ b
     → HasReport slot ballot (reports_from first (suc s) hs)
     → HasReport slot ballot (if b then reports_from first (suc s) hs else (record { slot = s; ballot = h.ballot; value = h.value } ∷ reports_from first (suc s) hs))
 here_reported first s h hs slot ballot true e m = m
 here_reported first s h hs slot ballot false e m = one_more _ m
 
 -- an entry is reported at its own slot, where that is not below the first that is asked for
-is_here : {V : Type 0} (first s : ℕ) (h : Held V) (rs : List (SlotReport V)) (slot : ℕ) (b : Bool) → nat_lt s first ≡ b → first ≤ slot → s ≡ slot
+is_here : {V : Type 0} (first s : ℕ) (h : AcceptedEntry V) (rs : List (SlotReport V)) (slot : ℕ) (b : Bool) → nat_lt s first ≡ b → first ≤ slot → s ≡ slot
     → HasReport slot h.ballot (if b then rs else (record { slot = s; ballot = h.ballot; value = h.value } ∷ rs))
 is_here first s h rs slot true e l d = let f = ltb-true _ _ e in absurd (omega arith)
 is_here first s h rs slot false e l d = record { report = record { slot = s; ballot = h.ballot; value = h.value }; is_in = inl refl; slot = d; ballot = refl }
 
-pub held-reported : {V : Type 0} (first s : ℕ) (hs : List (Option (Held V))) (i : ℕ) (x : Held V) (slot : ℕ) → entry_at hs i ≡ Some x → slot ≡ s + i → first ≤ slot → HasReport slot x.ballot (reports_from first s hs)
+pub held-reported : {V : Type 0} (first s : ℕ) (hs : List (Option (AcceptedEntry V))) (i : ℕ) (x : AcceptedEntry V) (slot : ℕ) → entry_at hs i ≡ Some x → slot ≡ s + i → first ≤ slot → HasReport slot x.ballot (reports_from first s hs)
 held-reported first s [] i x slot e d l = cc
 held-reported first s (None ∷ hs) zero x slot e d l = cc
 held-reported first s (None ∷ hs) (suc i) x slot e d l = held-reported first (suc s) hs i x slot e (omega arith) l
 held-reported {V} first s (Some h ∷ hs) zero x slot e d l =
     let p : h ≡ x = cc in
-    subst (λ (y : Held V). HasReport slot y.ballot (reports_from first s (Some h ∷ hs))) p
+    subst (λ (y : AcceptedEntry V). HasReport slot y.ballot (reports_from first s (Some h ∷ hs))) p
     (is_here first s h (reports_from first (suc s) hs) slot (nat_lt s first) refl l (omega arith))
 held-reported first s (Some h ∷ hs) (suc i) x slot e d l =
     here_reported first s h hs slot x.ballot (nat_lt s first) refl (held-reported first (suc s) hs i x slot e (omega arith) l)

@@ -33,13 +33,13 @@ pub use Rattle.synod.specs.Record.{HasRoomFor, Kept, RecordView, changed_by}
 pub use Rattle.synod.specs.Rooms.{HasAtLeast, RoomsGrow}
 pub use Rattle.synod.specs.Step.{ArePages, IsNode, IsRole, Keeps, on_body, on_packet, reloaded, restarted}
 pub use Rattle.synod.specs.Stored.LaterTallies.{IsLearner, later_at, tallies_from, tally, voters_among}
-pub use Rattle.synod.specs.Stored.PagesHad.{entries_of, pages_with, put_page, rooms_of}
+pub use Rattle.synod.specs.Stored.ReceivedPages.{entries_of, pages_with, put_page, rooms_of}
 pub use Rattle.synod.specs.Updates.{CanCount, CanUpdateLearner, CanUpdateProposer}
 pub use Rattle.synod.specs.Weights.{is_quorum, weigh}
 pub use Rattle.synod.specs.declared.ballot.Ballot.{Ballot}
 pub use Rattle.synod.specs.declared.change.Change.{Change}
 pub use Rattle.synod.specs.declared.change.Change.TheVariants.{Entry, Round}
-pub use Rattle.synod.specs.declared.change.Held.{Held}
+pub use Rattle.synod.specs.declared.change.AcceptedEntry.{AcceptedEntry}
 pub use Rattle.synod.specs.declared.learner.LearnerUpdate.{LearnerUpdate}
 pub use Rattle.synod.specs.declared.learner.LearnerUpdate.TheVariants.{Choose, Count, Learn}
 pub use Rattle.synod.specs.declared.packet.Body.{Body}

@@ -2,7 +2,7 @@
 -- Source: Lamport, Paxos Made Simple, 2.2, phases 1(b) and 2(b); a refused proposer is told (2.5).
 -- The code makes the pages of a promise straight from the slots. The model cuts the list of all reports into pages.
 use Rattle.std.specs.Prelude.{ℕ, suc, nat_lt, List, [], ◌∷◌, Option, Some, None, length, if◌then◌else◌}
-use Rattle.synod.specs.Words.{put_at, Ballot, SlotReport, Packet, Promise, Accepted, Nack, Held, Entry}
+use Rattle.synod.specs.Words.{put_at, Ballot, SlotReport, Packet, Promise, Accepted, Nack, AcceptedEntry, Entry}
 use Rattle.synod.specs.declared.change.Change.TheVariants.{Promise as PromiseChange}
 use Rattle.synod.specs.Ballots.{is_under}
 use Rattle.synod.specs.Packets.{packet, to_all}
@@ -10,7 +10,7 @@ use Rattle.synod.specs.PromisePages.{pages_of}
 use Rattle.synod.specs.Node.{Node, Stepped, answers}
 
 -- the reports of the slots from first on, where the list begins at slot s
-abbrev pub reports_from : {V : Type 0} → ℕ → ℕ → List (Option (Held V)) → List (SlotReport V)
+abbrev pub reports_from : {V : Type 0} → ℕ → ℕ → List (Option (AcceptedEntry V)) → List (SlotReport V)
 reports_from first s [] = []
 reports_from first s (None ∷ hs) = reports_from first (suc s) hs
 reports_from first s (Some h ∷ hs) =
@@ -42,7 +42,7 @@ refuses n p b = answers n (packet n.me p (Nack b n.promise) ∷ [])
 abbrev pub on_prepare : {V : Type 0} → Node V → ℕ → Ballot → ℕ → Stepped V
 on_prepare n p b first = if is_under n.promise b then promises n p b first else refuses n p b
 
-abbrev pub held : {V : Type 0} → Ballot → Option V → Held V
+abbrev pub held : {V : Type 0} → Ballot → Option V → AcceptedEntry V
 held b v = record { ballot = b; value = v }
 
 -- the value is accepted, and the ballot is promised with it

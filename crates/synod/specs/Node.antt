@@ -2,7 +2,7 @@
 -- Source: Lamport, Paxos Made Simple, 2.1 to 2.3 and 3.
 -- The code also has reserved room, and keeps the maps in pages.
 use Rattle.std.specs.Prelude.{ℕ, Bool, false, ◌==◌, ◌||◌, List, [], ◌∷◌, Option, None, is_some, map, slice_set, slice_index_or, if◌then◌else◌}
-use Rattle.synod.specs.Words.{entry_at, put_at, Ballot, SlotReport, Packet, Held, Change, Role, Idle, Heard, Tally}
+use Rattle.synod.specs.Words.{entry_at, put_at, Ballot, SlotReport, Packet, AcceptedEntry, Change, Role, Idle, Heard, Tally}
 use Rattle.synod.specs.Record.{Kept, new_kept}
 
 pub record Node (V : Type 0) : Type 0 where
@@ -10,7 +10,7 @@ pub record Node (V : Type 0) : Type 0 where
   pub weights : List ℕ
   pub promise : Ballot
   pub round : ℕ
-  pub accepted : List (Option (Held V))  -- by slot
+  pub accepted : List (Option (AcceptedEntry V))  -- by slot
   pub role : Role
   pub pages : List (List (Option (List (SlotReport V))))  -- by node, and then by page, from 0
   pub heard : List Heard  -- in the order in which they were heard

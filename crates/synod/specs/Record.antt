@@ -2,7 +2,7 @@
 -- Source: Lamport, Paxos Made Simple, 2.5, on stable storage.
 -- The code stores one change at a time and loads a record. The kept part is that record.
 use Rattle.std.specs.Prelude.{ℕ, ◌<◌, List, [], Option, Some, None}
-use Rattle.synod.specs.Words.{put_at, Ballot, Held, Change, Round, Entry}
+use Rattle.synod.specs.Words.{put_at, Ballot, AcceptedEntry, Change, Round, Entry}
 use Rattle.synod.specs.declared.change.Change.TheVariants.{Promise}
 use Rattle.synod.specs.Ballots.{no_ballot}
 
@@ -10,7 +10,7 @@ use Rattle.synod.specs.Ballots.{no_ballot}
 pub record Kept (V : Type 0) : Type 0 where
   pub promise : Ballot
   pub round : ℕ
-  pub accepted : List (Option (Held V))
+  pub accepted : List (Option (AcceptedEntry V))
 
 -- the kept part of a new node
 abbrev pub new_kept : {V : Type 0} → Kept V

@@ -10,7 +10,7 @@ use Rattle.synod.specs.declared.learner.LearnerUpdate.{LearnerUpdate}
 use Rattle.synod.specs.declared.learner.LearnerUpdate.TheVariants.{Count, Choose, Learn}
 use Rattle.synod.specs.Learner.{counted}
 use Rattle.synod.specs.Core.{ProposerState, ProposerView, LearnerState, LearnerView}
-use Rattle.synod.specs.Stored.PagesHad.{entries_of, put_page}
+use Rattle.synod.specs.Stored.ReceivedPages.{entries_of, put_page}
 
 abbrev pub proposer_after : {V : Type 0} → ProposerState V → Option (ProposerUpdate V) → ProposerState V
 proposer_after p None = p

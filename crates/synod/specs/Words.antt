@@ -8,7 +8,7 @@ pub use Rattle.std.specs.declared.alloc.Global.{Global}
 pub use Rattle.synod.specs.declared.ballot.Ballot.{Ballot}
 pub use Rattle.synod.specs.declared.change.Change.{Change}
 pub use Rattle.synod.specs.declared.change.Change.TheVariants.{Entry, Round}
-pub use Rattle.synod.specs.declared.change.Held.{Held}
+pub use Rattle.synod.specs.declared.change.AcceptedEntry.{AcceptedEntry}
 pub use Rattle.synod.specs.declared.packet.Body.{Body}
 pub use Rattle.synod.specs.declared.packet.Body.TheVariants.{Accept, Accepted, Ask, Nack, Prepare, Promise, Told}
 pub use Rattle.synod.specs.declared.packet.Packet.{Packet}

@@ -3,7 +3,7 @@ use crate::ballot::Ballot;
 
 /// The entry that an acceptor holds at a slot; a value of `None` is the no-operation.
 #[derive(Drop)]
-pub struct Held<V> {
+pub struct AcceptedEntry<V> {
     pub ballot: Ballot,
     pub value: Option<V>,
 }
@@ -16,5 +16,5 @@ pub enum Change<V> {
     /// The ballot promised.
     Promise(Ballot),
     /// An accepted entry; its ballot becomes the promise.
-    Entry { slot: u32, held: Held<V> },
+    Entry { slot: u32, held: AcceptedEntry<V> },
 }

@@ -8,13 +8,13 @@ ghost use Rattle.std.specs.Option.{option_copied};
 ghost use Rattle.synod.specs.Proposer.{above_all, top_reported, highest_at, reported_value, fills, all_reports};
 ghost use Rattle.synod.specs.PromisePages.{joined_pages};
 ghost use Rattle.synod.specs.Node.{pages_from};
-ghost use Rattle.synod.specs.Stored.PagesHad.{pages_with};
+ghost use Rattle.synod.specs.Stored.ReceivedPages.{pages_with};
 ghost use Rattle.synod.specs.Heights.{all_of, AreHighest, some_of, IsLead};
 
 use crate::ballot::Ballot;
 use crate::packet::{Packet, SlotReport};
 use crate::posts::{Broadcast, post_broadcast};
-use crate::promise_pages::PagesWith;
+use crate::promise_pages::PagesWithDelivered;
 use crate::proposer::Heard;
 use crate::value::{Value, copy_value};
 use crate::weights::Weights;
@@ -145,7 +145,7 @@ fn fill_posts<V: Value>(
 /// Appends the first `count` pages of a node, in order.
 fn add_pages<'a, V: Drop>(
     all: &mut Vec<&'a [SlotReport<V>]>,
-    pages: &'a PagesWith<'a, V>,
+    pages: &'a PagesWithDelivered<'a, V>,
     node: u8,
     count: u32,
 ) -> Result<(), AllocError>
@@ -163,7 +163,7 @@ fn add_pages<'a, V: Drop>(
 /// Returns the pages of all nodes heard, in the order in which they were heard.
 fn heard_pages<'a, V: Drop>(
     alloc: Global,
-    pages: &'a PagesWith<'a, V>,
+    pages: &'a PagesWithDelivered<'a, V>,
     heard: &[Heard],
 ) -> Result<Vec<&'a [SlotReport<V>]>, AllocError>
     requires { pages.now.node < length pages.now.pages.now }
@@ -227,7 +227,7 @@ pub(crate) fn lead_posts<V: Value>(
     weights: &Weights,
     ballot: Ballot,
     first: u32,
-    pages: &PagesWith<V>,
+    pages: &PagesWithDelivered<V>,
     heard: &[Heard],
     waiting: &[V],
 ) -> Result<Lead<V>, AllocError>

@@ -29,7 +29,7 @@ mod value;
 mod weights;
 
 pub use ballot::Ballot;
-pub use change::{Change, Held};
+pub use change::{AcceptedEntry, Change};
 pub use keep::{Failed, Keep};
 pub use node::{NodeCore, NodeState};
 pub use packet::{Body, MOST_PAGES, PAGE_REPORTS, Packet, Reports, SlotReport};

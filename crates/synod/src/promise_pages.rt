@@ -4,7 +4,7 @@ ghost use Rattle.slots.specs.declared.slots.TheConstants.{SLOTS};
 ghost use Rattle.slots.specs.FiniteMap.{entry_at, put_at, front_of};
 ghost use Rattle.synod.specs.declared.packet.SlotReport.{SlotReport};
 ghost use Rattle.synod.specs.Node.{no_pages, pages_from, page_of, with_page};
-ghost use Rattle.synod.specs.Stored.PagesHad.{entries_of, rooms_of, put_page};
+ghost use Rattle.synod.specs.Stored.ReceivedPages.{entries_of, rooms_of, put_page};
 ghost use Rattle.synod.specs.Rooms.{RoomsGrow};
 
 use crate::packet::Reports;
@@ -15,11 +15,11 @@ use std::marker::Model;
 
 /// The received pages: a finite map for each node.
 #[derive(Drop)]
-pub struct PagesHad<V> {
+pub struct ReceivedPages<V> {
     by_node: Vec<Slots<Reports<V>>>,
 }
 
-impl<V> Model for PagesHad<V> {
+impl<V> Model for ReceivedPages<V> {
     ghost use Rattle.std.specs.Prelude.{List};
     ghost use Rattle.slots.specs.FiniteMap.{SlotsView};
     ghost use Rattle.synod.specs.declared.packet.SlotReport.{SlotReport};
@@ -29,14 +29,14 @@ impl<V> Model for PagesHad<V> {
     ghost view = { λ p. p.by_node.items };
 }
 
-impl<V: Drop> PagesHad<V> {
+impl<V: Drop> ReceivedPages<V> {
     ghost use Rattle.std.specs.Prelude.{[]};
 
     /// Creates a map for no node. It does not allocate.
     pub(crate) fn none(alloc: Global) -> Self
         ensures { result ≡ [] }
     {
-        PagesHad {
+        ReceivedPages {
             by_node: Vec::new(alloc),
         }
     }
@@ -49,7 +49,7 @@ impl<V: Drop> PagesHad<V> {
         for _weight in weights.as_slice() {
             by_node.push(Slots::new(alloc))?;
         }
-        Ok(PagesHad { by_node })
+        Ok(ReceivedPages { by_node })
     }
 
     /// Reserves room for a page. The pages are unchanged.
@@ -112,7 +112,7 @@ impl<V: Drop> PagesHad<V> {
 }
 
 /// Returns the first page of a node that is missing once `page` is received, perhaps again.
-pub(crate) fn front_after<V: Drop>(pages: &PagesHad<V>, node: u8, page: u32) -> u32
+pub(crate) fn front_after<V: Drop>(pages: &ReceivedPages<V>, node: u8, page: u32) -> u32
     requires node { node < length pages.now }
     requires page { page < SLOTS }
     ensures { (reports : List (SlotReport V)) → front_of (pages_from (with_page (entries_of pages.now) node page reports) node) ≡ result }
@@ -126,15 +126,15 @@ pub(crate) fn front_after<V: Drop>(pages: &PagesHad<V>, node: u8, page: u32) -> 
 
 /// The received pages, with the one just delivered.
 #[derive(Drop)]
-pub struct PagesWith<'a, V> {
-    pub pages: &'a PagesHad<V>,
+pub struct PagesWithDelivered<'a, V> {
+    pub pages: &'a ReceivedPages<V>,
     pub node: u8,
     pub page: u32,
     pub reports: &'a Reports<V>,
 }
 
-impl<V: Drop> PagesWith<'_, V> {
-    ghost use Rattle.synod.specs.Stored.PagesHad.{pages_with};
+impl<V: Drop> PagesWithDelivered<'_, V> {
+    ghost use Rattle.synod.specs.Stored.ReceivedPages.{pages_with};
 
     /// Returns a page of a node, or `None` if it was neither received before nor just delivered.
     pub(crate) fn get(&self, node: u8, page: u32) -> Option<&Reports<V>>

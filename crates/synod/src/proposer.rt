@@ -3,7 +3,7 @@ ghost use Rattle.std.specs.Prelude.{◌≡◌, ◌<◌, ◌≤◌, ℕ, OnOk, If
 
 use crate::ballot::Ballot;
 use crate::packet::Reports;
-use crate::promise_pages::PagesHad;
+use crate::promise_pages::ReceivedPages;
 use crate::weights::MOST_NODES;
 use std::alloc::{AllocError, Global};
 use std::marker::Model;
@@ -61,7 +61,7 @@ pub enum ProposerUpdate<V> {
     Begin {
         ballot: Ballot,
         first: u32,
-        pages: PagesHad<V>,
+        pages: ReceivedPages<V>,
     },
     /// A page of a promise came.
     Page {
@@ -92,7 +92,7 @@ pub enum ProposerUpdate<V> {
 pub struct Proposer<V> {
     alloc: Global,
     role: Role,
-    pages: PagesHad<V>,
+    pages: ReceivedPages<V>,
     heard: Vec<Heard>,
     waiting: Vec<V>,
 }
@@ -100,7 +100,7 @@ pub struct Proposer<V> {
 impl<V> Model for Proposer<V> {
     ghost use Rattle.std.specs.Prelude.{vec_capacity};
     ghost use Rattle.synod.specs.Core.{ProposerView};
-    ghost use Rattle.synod.specs.Stored.PagesHad.{entries_of, rooms_of};
+    ghost use Rattle.synod.specs.Stored.ReceivedPages.{entries_of, rooms_of};
 
     ghost Value = { ProposerView V };
 
@@ -116,7 +116,7 @@ impl<V: Drop> Proposer<V> {
     ghost use Rattle.std.specs.Prelude.{[]};
     ghost use Rattle.synod.specs.declared.proposer.Role.TheVariants.{Idle};
     ghost use Rattle.slots.specs.declared.slots.TheConstants.{SLOTS};
-    ghost use Rattle.synod.specs.Stored.PagesHad.{entries_of, rooms_of};
+    ghost use Rattle.synod.specs.Stored.ReceivedPages.{entries_of, rooms_of};
     ghost use Rattle.synod.specs.Updates.{proposer_after, CanUpdateProposer};
     ghost use Rattle.synod.specs.Rooms.{RoomsGrow};
 
@@ -130,7 +130,7 @@ impl<V: Drop> Proposer<V> {
         Proposer {
             alloc,
             role: Role::Idle,
-            pages: PagesHad::none(alloc),
+            pages: ReceivedPages::none(alloc),
             heard: Vec::new(alloc),
             waiting: Vec::new(alloc),
         }
@@ -158,7 +158,7 @@ impl<V: Drop> Proposer<V> {
     }
 
     /// Returns the received pages.
-    pub(crate) fn pages(&self) -> &PagesHad<V>
+    pub(crate) fn pages(&self) -> &ReceivedPages<V>
         ensures pages { entries_of result.now ≡ self.now.state.pages }
         ensures rooms { rooms_of result.now ≡ self.now.page_rooms }
     {
@@ -244,7 +244,7 @@ impl<V: Drop> Proposer<V> {
     }
 
     /// Begins a ballot, with empty maps of pages.
-    fn begin(&mut self, ballot: Ballot, first: u32, pages: PagesHad<V>)
+    fn begin(&mut self, ballot: Ballot, first: u32, pages: ReceivedPages<V>)
         ensures { self.new.state ≡ proposer_after self.old.state (Some (ProposerUpdate.Begin ballot first pages)) }
     {
         self.role = Role::Preparing { ballot, first };
@@ -267,7 +267,7 @@ impl<V: Drop> Proposer<V> {
         ensures { self.new.state ≡ proposer_after self.old.state (Some (ProposerUpdate.Lead ballot next taken)) }
     {
         self.role = Role::Leading { ballot, next };
-        self.pages = PagesHad::none(self.alloc);
+        self.pages = ReceivedPages::none(self.alloc);
         self.heard.clear();
         self.waiting.drain(..taken);
     }

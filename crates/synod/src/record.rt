@@ -4,7 +4,7 @@ ghost use Rattle.slots.specs.declared.slots.TheConstants.{SLOTS};
 ghost use Rattle.slots.specs.FiniteMap.{entry_at, top_of};
 
 use crate::ballot::Ballot;
-use crate::change::{Change, Held};
+use crate::change::{AcceptedEntry, Change};
 use slots::Slots;
 use std::alloc::{AllocError, Global};
 use std::marker::Model;
@@ -16,7 +16,7 @@ use std::marker::Model;
 pub struct Record<V> {
     promise: Ballot,
     round: u64,
-    accepted: Slots<Held<V>>,
+    accepted: Slots<AcceptedEntry<V>>,
 }
 
 impl<V> Model for Record<V> {
@@ -63,7 +63,7 @@ impl<V: Drop> Record<V> {
     }
 
     /// Returns the entry accepted at a slot, if there is one.
-    pub fn get(&self, slot: u32) -> Option<&Held<V>>
+    pub fn get(&self, slot: u32) -> Option<&AcceptedEntry<V>>
         ensures { MatchOption result (entry_at self.now.kept.accepted slot ≡ None) (λ held. entry_at self.now.kept.accepted slot ≡ Some held.now) }
     {
         self.accepted.get(slot)

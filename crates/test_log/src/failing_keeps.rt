@@ -4,7 +4,7 @@ use cluster::{MemoryKeep, NodeCell, Switch, begin_on};
 use net::{Event, StepFault};
 use slots::SLOTS;
 use std::alloc::Global;
-use synod::{Ballot, Body, Change, Failed, Held, Keep};
+use synod::{Ballot, Body, Change, Failed, AcceptedEntry, Keep};
 use world::Carried;
 
 #[test]
@@ -95,7 +95,7 @@ fn keeps(alloc: Global, slot: u32) -> Result<bool, Failed> {
 /// Returns whether a no-operation that is stored at the slot is loaded.
 fn is_kept<K: Keep<Carried>>(keep: &mut K, slot: u32) -> Result<bool, Failed> {
     let ballot = Ballot { round: 1, node: 0 };
-    let held = Held {
+    let held = AcceptedEntry {
         ballot,
         value: None,
     };

@@ -1,5 +1,5 @@
 -- Events and logs of entries, as those of the values that carry them.
-use Rattle.world.proofs.Words.{◌≡◌, ℕ, zero, suc, List, [], ◌∷◌, ◌++◌, slice_get, Option, Some, None, inl, inr, refl, ap, sym, ◌∙◌, Entry, Carried, Event, IsBeginningOf, Agree, carried, all_carried, entry_of, entries_of}
+use Rattle.world.proofs.Words.{◌≡◌, ℕ, zero, suc, List, [], ◌∷◌, ◌++◌, slice_get, Option, Some, None, inl, inr, refl, ap, sym, ◌∙◌, Entry, Carried, Event, IsPrefixOf, Agree, carried, all_carried, entry_of, entries_of}
 
 pub all_carried-append : (es ds : List (Event Entry)) → all_carried (es ++ ds) ≡ all_carried es ++ all_carried ds
 all_carried-append [] ds = refl
@@ -10,7 +10,7 @@ entries_of-append [] us = refl
 entries_of-append (v ∷ vs) us = ap (λ es. entry_of v ∷ es) (entries_of-append vs us)
 
 -- a beginning of a log of values is, as entries, a beginning of the log of entries
-pub entries_begin : (vs us : List (Option Carried)) → IsBeginningOf vs us → IsBeginningOf (entries_of vs) (entries_of us)
+pub entries_begin : (vs us : List (Option Carried)) → IsPrefixOf vs us → IsPrefixOf (entries_of vs) (entries_of us)
 entries_begin vs us h = (entries_of h.0, sym (entries_of-append vs h.0) ∙ ap (λ ws. entries_of ws) h.1)
 
 -- logs of values that agree do so as logs of entries

@@ -1,9 +1,9 @@
 -- The headline: logs of entries agree, the library of a log begins that of a longer one, and each library of a log is good.
-use Rattle.world.proofs.Words.{◌≡◌, ℕ, zero, suc, true, false, List, [], ◌∷◌, take, Option, Result, Ok, Err, inl, inr, refl, ap, sym, subst, IsOk, Entry, Replica, IsLibraryOf, library-begins, library-good, Carried, StepFault, World, log, IsBeginningOf, Agree, Taken, world_of, Agreement, carried_size, entries_of, Headline, HeadlineHolds, then_begins, beginnings_agree, agreement_of}
+use Rattle.world.proofs.Words.{◌≡◌, ℕ, zero, suc, true, false, List, [], ◌∷◌, take, Option, Result, Ok, Err, inl, inr, refl, ap, sym, subst, IsOk, Entry, Replica, IsLibraryOf, library-begins, library-good, Carried, StepFault, World, log, IsPrefixOf, Agree, Taken, world_of, Agreement, carried_size, entries_of, Headline, HeadlineHolds, then_begins, beginnings_agree, agreement_of}
 use Rattle.world.proofs.EntryLogs.{entries_agree}
 
 -- the first elements of a list are a beginning of it
-take_begins : {A : Type 0} (n : ℕ) (xs : List A) → IsBeginningOf (take n xs) xs
+take_begins : {A : Type 0} (n : ℕ) (xs : List A) → IsPrefixOf (take n xs) xs
 take_begins zero xs = (xs, refl)
 take_begins (suc n) [] = ([], refl)
 take_begins (suc n) (x ∷ xs) = let rest = take_begins n xs in (rest.0, ap (λ ys. x ∷ ys) rest.1)

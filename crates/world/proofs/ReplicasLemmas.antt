@@ -1,5 +1,5 @@
 -- The libraries of a world: each is that of its log, whatever event comes and whichever entry is applied.
-use Rattle.world.proofs.Words.{◌≡◌, ◌≢◌, ℕ, zero, suc, ◌+◌, ◌==◌, Bool, true, false, List, [], ◌∷◌, ◌++◌, length, take, replicate, set, slice_get, Option, Some, None, Result, Ok, Err, refl, ap, sym, ◌∙◌, subst, arith, add-one, length-append, IsOk, IfErr, nat_tests, length-set, length-replicate, take-append-le, slice_get_within, take_next, Entry, Verdict, Applies, IsLibraryOf, library-more, Carried, Event, Offer, Begin, Deliver, Restart, StepFault, World, start, happens, all_happen, log, log_after, IsBeginningOf, Taken, world_of, with_event, carried_size, carried, all_carried, entries_of, NodeLibrary, Replicas, new_library, new_libraries, restarts, given_up, then_event, log_entries, IsOfLog, AreReplicas, if_taken, all_happen-append, after-push, log_grows, at_set_other}
+use Rattle.world.proofs.Words.{◌≡◌, ◌≢◌, ℕ, zero, suc, ◌+◌, ◌==◌, Bool, true, false, List, [], ◌∷◌, ◌++◌, length, take, replicate, set, slice_get, Option, Some, None, Result, Ok, Err, refl, ap, sym, ◌∙◌, subst, arith, add-one, length-append, IsOk, IfErr, nat_tests, length-set, length-replicate, take-append-le, slice_get_within, take_next, Entry, Verdict, Applies, IsLibraryOf, library-more, Carried, Event, Offer, Begin, Deliver, Restart, StepFault, World, start, happens, all_happen, log, log_after, IsPrefixOf, Taken, world_of, with_event, carried_size, carried, all_carried, entries_of, NodeLibrary, Replicas, new_library, new_libraries, restarts, given_up, then_event, log_entries, IsOfLog, AreReplicas, if_taken, all_happen-append, after-push, log_grows, at_set_other}
 use Rattle.world.proofs.EntryLogs.{all_carried-append, entries_begin}
 
 -- A library and its log.
@@ -9,7 +9,7 @@ pub new_is_of_log : (log : List (Option Entry)) → IsOfLog log new_library
 new_is_of_log log = record { within = omega arith; library = refl }
 
 -- it is that of a longer log too
-pub of_longer : (log longer : List (Option Entry)) (node : NodeLibrary) → IsBeginningOf log longer → IsOfLog log node → IsOfLog longer node
+pub of_longer : (log longer : List (Option Entry)) (node : NodeLibrary) → IsPrefixOf log longer → IsOfLog log node → IsOfLog longer node
 of_longer log longer node begins h = record {
   within = let count : length log + length begins.0 ≡ length longer = sym (length-append log begins.0) ∙ ap (λ (es : List (Option Entry)). length es) begins.1 in
       let low = h.within in omega (arith, count, low);
@@ -69,9 +69,9 @@ module _ (taken : Taken Carried) (w x : World Carried) (was : world_of carried_s
   happened = sym (after-push carried_size taken.weights taken.events w e was) ∙ is
 
   -- an event but a restart of node k leaves the log of its entries a beginning of the new one
-  log_longer : (k : ℕ) → e ≢ Restart k → IsBeginningOf (log_entries taken k) (log_entries (with_event taken e) k)
+  log_longer : (k : ℕ) → e ≢ Restart k → IsPrefixOf (log_entries taken k) (log_entries (with_event taken e) k)
   log_longer k other =
-      let grows = if_taken (λ (y : World Carried). IsBeginningOf (log w k) (log y k)) (happens carried_size w e) x happened (log_grows carried_size w k e other) in
+      let grows = if_taken (λ (y : World Carried). IsPrefixOf (log w k) (log y k)) (happens carried_size w e) x happened (log_grows carried_size w k e other) in
       let longer = entries_begin (log w k) (log x k) grows in
       (longer.0, ap (λ (r : Result (World Carried) StepFault). entries_of (log_after r k) ++ longer.0) was ∙ longer.1 ∙ ap (λ (r : Result (World Carried) StepFault). entries_of (log_after r k)) (sym is))
 

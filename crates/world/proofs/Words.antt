@@ -10,7 +10,7 @@ pub use Rattle.net.proofs.HistoryLemmas.{agreement_of, stops_there, taken_front}
 pub use Rattle.net.proofs.LogsGrow.{log_grows}
 pub use Rattle.net.proofs.TakenLemmas.{after-push, set_same}
 pub use Rattle.net.proofs.TwoMoments.{all_happen-append}
-pub use Rattle.net.specs.Agree.{Agree, IsBeginningOf}
+pub use Rattle.net.specs.Agree.{Agree, IsPrefixOf}
 pub use Rattle.net.specs.History.{Agreement}
 pub use Rattle.net.specs.Taken.{Taken, with_event, world_of}
 pub use Rattle.net.specs.World.{World, all_happen, happens, log, log_after, start}

@@ -3,7 +3,7 @@ ghost use Rattle.std.specs.Prelude.{◌≡◌, ◌<◌, IfOk, length};
 ghost use Rattle.slots.specs.declared.slots.TheConstants.{SLOTS};
 
 use crate::ballot::Ballot;
-use crate::change::{Change, Held};
+use crate::change::{AcceptedEntry, Change};
 use crate::node::NodeCore;
 use crate::packet::{Body, Packet};
 use crate::posts::{Broadcast, broadcast_posts};
@@ -77,11 +77,11 @@ impl<V: Value> NodeCore<V> {
         }
         self.kept_part.room(slot)?;
         let value = copy_value(value)?;
-        self.ready_entry(slot, Held { ballot, value })
+        self.ready_entry(slot, AcceptedEntry { ballot, value })
     }
 
     /// Stages an accepted entry, which is told to all.
-    fn ready_entry(&self, slot: u32, held: Held<V>) -> Result<Ready<V>, AllocError>
+    fn ready_entry(&self, slot: u32, held: AcceptedEntry<V>) -> Result<Ready<V>, AllocError>
         requires room { slot < self.now.accepted_room }
         requires keeps { Keeps (length self.now.node.weights) (takes_value self.now.node held.ballot slot held.value) }
         ensures { IfOk result (IsReadyFor self.now (takes_value self.now.node held.ballot slot held.value)) }

@@ -7,7 +7,7 @@ use crate::ballot::Ballot;
 use crate::leading::lead_posts;
 use crate::node::NodeCore;
 use crate::packet::{Reports, copy_reports};
-use crate::promise_pages::{PagesWith, front_after};
+use crate::promise_pages::{PagesWithDelivered, front_after};
 use crate::proposer::{Heard, ProposerUpdate, Role, is_heard, marks_of};
 use crate::ready::Ready;
 use crate::value::Value;
@@ -142,7 +142,7 @@ impl<V: Value> NodeCore<V> {
         requires keeps { Keeps (length self.now.node.weights) (leads_with self.now.node ballot first (with_page self.now.node.pages node page reports.now) heard.now) }
         ensures { IfOk result (IsReadyFor self.now (leads_with self.now.node ballot first (with_page self.now.node.pages node page reports.now) heard.now)) }
     {
-        let delivered = PagesWith {
+        let delivered = PagesWithDelivered {
             pages: self.proposer.pages(),
             node,
             page,

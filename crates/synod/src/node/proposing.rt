@@ -7,7 +7,7 @@ use crate::change::Change;
 use crate::node::NodeCore;
 use crate::packet::Packet;
 use crate::posts::{Broadcast, broadcast_posts};
-use crate::promise_pages::PagesHad;
+use crate::promise_pages::ReceivedPages;
 use crate::proposer::ProposerUpdate;
 use crate::ready::{Ready, StagedStep};
 use crate::value::Value;
@@ -83,7 +83,7 @@ impl<V: Value> NodeCore<V> {
         ensures room { HasAtLeast self.old self.new }
     {
         let first = self.learner.front();
-        let pages = PagesHad::of_nodes(self.alloc, &self.weights)?;
+        let pages = ReceivedPages::of_nodes(self.alloc, &self.weights)?;
         let message = Broadcast::Prepare { ballot, first };
         let posts = broadcast_posts(self.alloc, self.me, &self.weights, &message)?;
         let staged = StagedStep {

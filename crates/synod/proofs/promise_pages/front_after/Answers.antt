@@ -1,6 +1,6 @@
 use Rattle.synod.proofs.Words.{◌∙◌, ap, sym, arith, List, Option, length-map, SlotsView, front_of, SlotReport, page_of, pages_from, entries_of}
 use Rattle.synod.proofs.AcceptedLemmas.{none_is}
-use Rattle.synod.proofs.PagesWithLemmas.{with_had, pages_new, some_is}
+use Rattle.synod.proofs.PagesWithDeliveredLemmas.{with_had, pages_new, some_is}
 use Rattle.synod.proofs.promise_pages.front_after.Goals as goal
 
 pub returns-then-is_some : goal.returns-then-is_some

@@ -3,7 +3,7 @@
 -- The code has a map of pages for each node, with its room.
 use Rattle.std.specs.Prelude.{ℕ, List, Option, map, slice_set}
 use Rattle.synod.specs.Words.{SlotsView, put_at, SlotReport}
-use Rattle.synod.specs.declared.promise_pages.PagesWith.{PagesWith}
+use Rattle.synod.specs.declared.promise_pages.PagesWithDelivered.{PagesWithDelivered}
 use Rattle.synod.specs.Node.{pages_from, with_page}
 
 -- the entries of several maps
@@ -18,5 +18,5 @@ abbrev pub put_page : {V : Type 0} → List (List (Option (List (SlotReport V)))
 put_page pages k i reports = slice_set pages k (put_at (pages_from pages k) i reports)
 
 -- the received pages, with the one just delivered
-abbrev pub pages_with : {V : Type 0} → PagesWith V → List (List (Option (List (SlotReport V))))
+abbrev pub pages_with : {V : Type 0} → PagesWithDelivered V → List (List (Option (List (SlotReport V))))
 pages_with w = with_page (entries_of w.pages.now) w.node w.page w.reports.now

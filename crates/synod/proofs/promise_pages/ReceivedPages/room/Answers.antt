@@ -1,7 +1,7 @@
 use Rattle.synod.proofs.Words.{◌∙◌, ap, subst, set, length, List, arith, SlotsView, SlotReport, entries_of, rooms_of, RoomsGrow}
 use Rattle.synod.proofs.RoomLemmas.{rooms_grow}
-use Rattle.synod.proofs.PagesHadLemmas.{entries-same, room-after, ok-room}
-use Rattle.synod.proofs.promise_pages.PagesHad.room.Goals as goal
+use Rattle.synod.proofs.ReceivedPagesLemmas.{entries-same, room-after, ok-room}
+use Rattle.synod.proofs.promise_pages.ReceivedPages.room.Goals as goal
 
 pub returns-clause-ok : goal.returns-clause-ok
 returns-clause-ok g c =

@@ -1,7 +1,7 @@
 use Rattle.synod.proofs.Words.{◌∙◌, sym, inl, inr, arith, List, length-map, SlotsView, SlotReport, page_of, entries_of, pages_with}
 use Rattle.synod.proofs.AcceptedLemmas.{none_is}
-use Rattle.synod.proofs.PagesWithLemmas.{page_new, page_other, match_stays}
-use Rattle.synod.proofs.promise_pages.PagesWith.get.Goals as goal
+use Rattle.synod.proofs.PagesWithDeliveredLemmas.{page_new, page_other, match_stays}
+use Rattle.synod.proofs.promise_pages.PagesWithDelivered.get.Goals as goal
 
 pub returns-then-is_some : goal.returns-then-is_some
 returns-then-is_some g c =

@@ -1,6 +1,6 @@
 use Rattle.synod.proofs.Words.{◌∙◌, ap, List, SlotsView, SlotReport, entries_of, put_page}
-use Rattle.synod.proofs.PagesHadLemmas.{entries-put, room-within}
-use Rattle.synod.proofs.promise_pages.PagesHad.put.Goals as goal
+use Rattle.synod.proofs.ReceivedPagesLemmas.{entries-put, room-within}
+use Rattle.synod.proofs.promise_pages.ReceivedPages.put.Goals as goal
 
 pub returns : goal.returns
 returns g c =
