@@ -1,5 +1,5 @@
-use Rattle.mm_read.proofs.ShapeFaults.{spelled_or_faulty}
-use Rattle.mm_read.proofs.laws.spelled_or_faulty.Goals as goal
+use Rattle.mm_read.proofs.ShapeFaults.{statements_or_fault}
+use Rattle.mm_read.proofs.laws.statements_or_fault.Goals as goal
 
 pub returns : goal.returns
-returns c = spelled_or_faulty
+returns c = statements_or_fault
