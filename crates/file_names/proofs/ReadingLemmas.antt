@@ -12,7 +12,7 @@ use Rattle.std.proofs.lemmas.List.Folds.{list_all-append}
 use Rattle.mm_lex.specs.Alphabet.{Name, has_name, is_empty, is_label, is_label_byte}
 use Rattle.file_names.specs.FileNames.{escaped_byte, escaped, reserved, mark, is_spelled, spelled, numbered}
 use Rattle.file_names.specs.Laws as laws
-use Rattle.file_names.specs.Laws.{is_name_byte, begins_with_dot}
+use Rattle.file_names.specs.Laws.{is_name_byte, is_empty_or_begins_with_dot}
 
 -- the label that a name spells; the flag says that a `+` was read
 read_by : Bool → List ℕ → Name
@@ -169,25 +169,25 @@ digits_in_names (c ∷ cs) h =
 -- the bytes of a name without its ending, the first of them no dot
 record IsFront (text : List ℕ) : Type 0 where
   pub bytes : list_all is_name_byte text ≡ true
-  pub undotted : (rest : List ℕ) → begins_with_dot (text ++ rest) ≡ false
+  pub undotted : (rest : List ℕ) → is_empty_or_begins_with_dot (text ++ rest) ≡ false
 
 spelled-front : (label : Name) → is_spelled label ≡ true → IsFront (spelled label)
 spelled-front label h =
     let parts = label-bytes label h in
     record { bytes = joined_bytes (escaped label) (mark label) (escaped_bytes label parts.1) (mark_bytes label); undotted = λ rest. first label parts.0 rest }
   where
-    byte : (b : ℕ) (rest : List ℕ) → begins_with_dot (escaped_byte b ++ rest) ≡ false
+    byte : (b : ℕ) (rest : List ℕ) → is_empty_or_begins_with_dot (escaped_byte b ++ rest) ≡ false
     byte b rest = by (is_ascii_uppercase b) (b == 46) refl
       where
-        by : (t u : Bool) → (b == 46) ≡ u → begins_with_dot ((if t then 43 ∷ (b + 32) ∷ [] else if u then 43 ∷ b ∷ [] else b ∷ []) ++ rest) ≡ false
+        by : (t u : Bool) → (b == 46) ≡ u → is_empty_or_begins_with_dot ((if t then 43 ∷ (b + 32) ∷ [] else if u then 43 ∷ b ∷ [] else b ∷ []) ++ rest) ≡ false
         by true u f = refl
         by false true f = refl
         by false false f = f
 
-    first : (l : Name) → not (is_empty l) ≡ true → (rest : List ℕ) → begins_with_dot ((escaped l ++ mark label) ++ rest) ≡ false
+    first : (l : Name) → not (is_empty l) ≡ true → (rest : List ℕ) → is_empty_or_begins_with_dot ((escaped l ++ mark label) ++ rest) ≡ false
     first [] some rest = absurd (let e = some in cc)
     first (b ∷ l) some rest =
-        ap begins_with_dot (append_assoc (escaped_byte b ++ escaped l) (mark label) rest ∙ append_assoc (escaped_byte b) (escaped l) (mark label ++ rest))
+        ap is_empty_or_begins_with_dot (append_assoc (escaped_byte b ++ escaped l) (mark label) rest ∙ append_assoc (escaped_byte b) (escaped l) (mark label ++ rest))
         ∙ byte b (escaped l ++ (mark label ++ rest))
 
 front : (label : Name) (p : ℕ) → p < 2 ^ 64 → (t : Bool) → is_spelled label ≡ t → IsFront (if t then spelled label else numbered p)

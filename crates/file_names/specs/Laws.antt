@@ -11,14 +11,14 @@ use Rattle.file_names.specs.FileNames.{file_name}
 abbrev pub is_name_byte : ℕ → Bool
 is_name_byte b = is_ascii_lowercase b || (is_ascii_digit b || has_byte b (codes ".-_+"))
 
--- the empty name counts as one
-abbrev pub begins_with_dot : List ℕ → Bool
-begins_with_dot [] = true
-begins_with_dot (b ∷ bytes) = b == 46
+-- the name is empty, or its first byte is a dot
+abbrev pub is_empty_or_begins_with_dot : List ℕ → Bool
+is_empty_or_begins_with_dot [] = true
+is_empty_or_begins_with_dot (b ∷ bytes) = b == 46
 
 abbrev pub NamesDiffer : Type 0
 NamesDiffer = (one other : Name) (p q : ℕ) → p < 2 ^ 64 → q < 2 ^ 64 → file_name one p ≡ file_name other q → (one ≡ other) ⊎ (p ≡ q)
 
--- all bytes of a name are of these, and the first is no dot
+-- all bytes of a name are of these; it is not empty, and its first byte is no dot
 abbrev pub NamesStay : Type 0
-NamesStay = (label : Name) (p : ℕ) → p < 2 ^ 64 → (list_all is_name_byte (file_name label p) ≡ true) × (begins_with_dot (file_name label p) ≡ false)
+NamesStay = (label : Name) (p : ℕ) → p < 2 ^ 64 → (list_all is_name_byte (file_name label p) ≡ true) × (is_empty_or_begins_with_dot (file_name label p) ≡ false)

@@ -7,8 +7,8 @@ pub fn names_differ()
 {}
 
 /// A name consists of lowercase letters, digits and `.`, `-`, `_`, `+`: it has no separator of a path
-/// and no capital letter, so names that differ do so too if case is ignored. It does not begin with a
-/// dot.
+/// and no capital letter, so names that differ do so too if case is ignored. It is not empty and does
+/// not begin with a dot.
 pub fn names_stay_in_a_folder()
     ensures { NamesStay }
 {}

@@ -1,14 +1,14 @@
 -- One verdict: one answer is true of a text that is judged after given statements, under a given charter.
-use Rattle.library.proofs.Words.{◌≡◌, ◌≢◌, ℕ, zero, suc, ◌+◌, ◌-◌, ◌<◌, ◌≤◌, true, false, IsTrue, IsFalse, List, ◌++◌, length, Option, Some, None, refl, sym, ◌∙◌, ap, subst, arith, Name, Stmt, Database, spelled, Reads, HasTokens, IsNoDatabase, BrokenRule, proof_of, first_broken, is_unfinished, Submission, Cause, TooLong, Shape, NotChartered, Rule, Proof, Unfinished, Verdict, Added, Refused, forbidden, Good, IsReadable, IsAllowed, IsFirstUnproved, IsFault, IsCause, LexFault, IsLexFault, IsClean-no_fault, AreTokens-no_comment_fault, one_spelling, MOST_BYTES, some-same, same_tokens}
+use Rattle.library.proofs.Words.{◌≡◌, ◌≢◌, ℕ, zero, suc, ◌+◌, ◌-◌, ◌<◌, ◌≤◌, true, false, IsTrue, IsFalse, List, ◌++◌, length, Option, Some, None, refl, sym, ◌∙◌, ap, subst, arith, Name, Stmt, Database, tokens_of, Reads, HasTokens, IsNoDatabase, BrokenRule, proof_of, first_broken, is_unfinished, Submission, Cause, TooLong, Shape, NotChartered, Rule, Proof, Unfinished, Verdict, Added, Refused, forbidden, Good, IsReadable, IsAllowed, IsFirstUnproved, IsFault, IsCause, LexFault, IsLexFault, IsClean-no_fault, AreTokens-no_comment_fault, one_statement_list, MOST_BYTES, some-same, same_tokens}
 use Rattle.mm_lex.specs.declared.fault.LexFault.TheVariants as lex
 use Rattle.library.specs.declared.verdict.Cause.TheVariants.{Text}
-use Rattle.library.proofs.GoodLemmas.{provable-behind}
+use Rattle.library.proofs.GoodLemmas.{provable-after}
 use Rattle.library.proofs.JoinedRulesLemmas.{legal-text}
 
 -- ---- the statements that a text reads as
 
 pub one-reading : (text : List ℕ) (S T : Database) → Reads text S → Reads text T → S ≡ T
-one-reading text S T p q = one_spelling S T p.shaped q.shaped (same_tokens text (spelled S) (spelled T) p.tokens q.tokens)
+one-reading text S T p q = one_statement_list S T p.shaped q.shaped (same_tokens text (tokens_of S) (tokens_of T) p.tokens q.tokens)
 
 fault-or-tokens : (text : List ℕ) (tokens : List Name) (fault : LexFault) → IsLexFault text fault → fault ≢ lex.Memory → HasTokens text tokens → ⊥
 fault-or-tokens text tokens (lex.Text offset) is other has = IsClean-no_fault text offset has.1.0 is
@@ -16,7 +16,7 @@ fault-or-tokens text tokens (lex.Comment offset) is other has = AreTokens-no_com
 fault-or-tokens text tokens lex.Memory is other has = other refl
 
 none-or-reading : (text : List ℕ) (tokens : List Name) (T : Database) → HasTokens text tokens → IsNoDatabase tokens → Reads text T → ⊥
-none-or-reading text tokens T has none reads = none T reads.shaped (same_tokens text (spelled T) tokens reads.tokens has)
+none-or-reading text tokens T has none reads = none T reads.shaped (same_tokens text (tokens_of T) tokens reads.tokens has)
 
 -- ---- the least `$p` that is not proved
 
@@ -70,8 +70,8 @@ module _ (L : Database) (charter : Option (List ℕ)) (submission : Submission) 
 
     good-or-fault : Good (L ++ T) → (c : Cause) → IsFault L T c → ⊥
     good-or-fault good (Rule n rule) p = some-or-none (first_broken 1 L T) (n, rule) p (legal-text L T good.legal)
-    good-or-fault good (Proof n) p = p.2.unproved (good.proved (length L + n) p.0 (provable-behind L T n p.0 p.2.here))
-    good-or-fault good (Unfinished n) p = p.2.unproved (good.proved (length L + n) p.0 (provable-behind L T n p.0 p.2.here))
+    good-or-fault good (Proof n) p = p.2.unproved (good.proved (length L + n) p.0 (provable-after L T n p.0 p.2.here))
+    good-or-fault good (Unfinished n) p = p.2.unproved (good.proved (length L + n) p.0 (provable-after L T n p.0 p.2.here))
     good-or-fault good c p = p
 
     one-late : (o : Option ℕ) (v w : Verdict) → Late T o v → Late T o w → v ≡ w
@@ -121,13 +121,13 @@ module _ (L : Database) (charter : Option (List ℕ)) (submission : Submission) 
   one-reason v w (faulty e p) (long f q) = too-long q p.0
   one-reason v w (faulty e p) (faulty f q) = e ∙ sym f
   one-reason v w (faulty e p) (shapeless f q) = absurd (fault-or-tokens submission.text q.1.0 p.1.0 p.1.1 p.1.2 q.1.1)
-  one-reason v w (faulty e p) (late T r l) = absurd (fault-or-tokens submission.text (spelled T) p.1.0 p.1.1 p.1.2 r.read.tokens)
+  one-reason v w (faulty e p) (late T r l) = absurd (fault-or-tokens submission.text (tokens_of T) p.1.0 p.1.1 p.1.2 r.read.tokens)
   one-reason v w (shapeless e p) (long f q) = too-long q p.0
   one-reason v w (shapeless e p) (faulty f q) = absurd (fault-or-tokens submission.text p.1.0 q.1.0 q.1.1 q.1.2 p.1.1)
   one-reason v w (shapeless e p) (shapeless f q) = e ∙ sym f
   one-reason v w (shapeless e p) (late T r l) = absurd (none-or-reading submission.text p.1.0 T p.1.1 p.1.2 r.read)
   one-reason v w (late T r l) (long f q) = too-long q r.short
-  one-reason v w (late T r l) (faulty f q) = absurd (fault-or-tokens submission.text (spelled T) q.1.0 q.1.1 q.1.2 r.read.tokens)
+  one-reason v w (late T r l) (faulty f q) = absurd (fault-or-tokens submission.text (tokens_of T) q.1.0 q.1.1 q.1.2 r.read.tokens)
   one-reason v w (late T r l) (shapeless f q) = absurd (none-or-reading submission.text q.1.0 T q.1.1 q.1.2 r.read)
   one-reason v w (late T r l) (late U r' m) =
       one-late U (forbidden charter submission.author U) v w (subst (λ V. Late V (forbidden charter submission.author V) v) (one-reading submission.text T U r.read r'.read) l) m

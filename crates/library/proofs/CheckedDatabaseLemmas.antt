@@ -1,8 +1,8 @@
 -- A text whole or not at all: what the judging of its statements makes of good statements.
 use Rattle.library.proofs.Words.{◌≡◌, ℕ, zero, suc, ◌+◌, ◌-◌, ◌<◌, ◌≤◌, ◌&&◌, [], ◌∷◌, ◌++◌, length, take, drop, get_or, Option, Some, None, refl, list_all, sym, ◌∙◌, ap, subst, arith, inl, inr, Result, Ok, IfOk, length-append, true_from_ne_false, true≢false, map-append, take-append-drop, length-take-le, length-map, take_rest, take-append_seam, drop-append_seam, Stmt, Database, AreShaped, is_shaped, BrokenRule, bare, bares, is_provable, stmt_at, first_broken, stands-within, IsProvable, Good, IsProved, IsFirstUnproved, IsKnown, IsLeastUnproved, IsJudged, IsChecked, list_all-append, IsAdded, IsAddedAfter, Tables}
 use Rattle.library.specs.declared.adding.Added.{Added}
-use Rattle.library.proofs.FrontLemmas.{stmt_at-behind, stands_index}
-use Rattle.library.proofs.GoodLemmas.{provable-where, provable-behind, proved-later}
+use Rattle.library.proofs.FrontLemmas.{stmt_at-after, stands_index}
+use Rattle.library.proofs.GoodLemmas.{provable-where, provable-after, proved-later}
 use Rattle.library.proofs.JoinedRulesLemmas.{legal-more, first_broken-bares, bare-bare}
 use Rattle.library.proofs.ProvingLemmas.{not-there}
 
@@ -19,17 +19,17 @@ shaped-append S T p q = list_all-append is_shaped S T ∙ (ap (λ b. b && list_a
 
 module _ (L T : Database) where
   -- a `$p` of T stands after L
-  stands-behind : (n : ℕ) (s : Stmt) → IsProvable T n s → (length L < length L + n) × (length L + n ≤ length (L ++ T))
-  stands-behind n s p =
+  stands-after : (n : ℕ) (s : Stmt) → IsProvable T n s → (length L < length L + n) × (length L + n ≤ length (L ++ T))
+  stands-after n s p =
       let w = stands-within T n s p.stands in
       let l = length-append L T in
       (omega (arith, w.0), omega (arith, w.1, l))
 
-  all-behind : IsLeastUnproved (L ++ T) (length L) None → (n : ℕ) (s : Stmt) → IsProvable T n s → IsProved (L ++ T) (length L + n)
-  all-behind h n s p = let w = stands-behind n s p in h (length L + n) w.0 w.1 s (provable-behind L T n s p)
+  all-after : IsLeastUnproved (L ++ T) (length L) None → (n : ℕ) (s : Stmt) → IsProvable T n s → IsProved (L ++ T) (length L + n)
+  all-after h n s p = let w = stands-after n s p in h (length L + n) w.0 w.1 s (provable-after L T n s p)
 
-  first-behind : (at : ℕ) (s : Stmt) → IsLeastUnproved (L ++ T) (length L) (Some at) → stmt_at (L ++ T) at ≡ Some s → IsFirstUnproved L T (at - length L) s
-  first-behind at s least stands = by (at - length L) refl
+  first-after : (at : ℕ) (s : Stmt) → IsLeastUnproved (L ++ T) (length L) (Some at) → stmt_at (L ++ T) at ≡ Some s → IsFirstUnproved L T (at - length L) s
+  first-after at s least stands = by (at - length L) refl
     where
       by : (n : ℕ) → at - length L ≡ n → IsFirstUnproved L T n s
       by zero e = let low = least.0 in absurd (omega (arith, low, e))
@@ -37,11 +37,11 @@ module _ (L T : Database) where
           let here : at ≡ length L + suc n = omega (arith, least.0, e) in
           record {
             here = record {
-              stands = sym (stmt_at-behind L T n) ∙ (ap (stmt_at (L ++ T)) (sym here) ∙ stands);
+              stands = sym (stmt_at-after L T n) ∙ (ap (stmt_at (L ++ T)) (sym here) ∙ stands);
               provable = true_from_ne_false (is_provable s) (λ e. least.2 (λ r p. absurd (not-there (L ++ T) at s stands (λ f. true≢false (sym f ∙ e)) r p)));
             };
             unproved = λ p. least.2 (λ r q. subst (IsProved (L ++ T)) (sym here) p);
-            earlier = λ m r below p. let w = stands-behind m r p in least.3 (length L + m) w.0 (omega (arith, here, below)) r (provable-behind L T m r p);
+            earlier = λ m r below p. let w = stands-after m r p in least.3 (length L + m) w.0 (omega (arith, here, below)) r (provable-after L T m r p);
           }
 
 -- the same for a list that is cut
@@ -52,21 +52,21 @@ module _ (S : Database) (front : ℕ) (within : front ≤ length S) where
       (subst (λ n. IsLeastUnproved S n o) (sym (length-take-le front S within)) h)
 
   pub all-proved : IsLeastUnproved S front None → (n : ℕ) (s : Stmt) → IsProvable (drop front S) n s → IsProved (take front S ++ drop front S) (length (take front S) + n)
-  all-proved h = all-behind (take front S) (drop front S) (least-cut None h)
+  all-proved h = all-after (take front S) (drop front S) (least-cut None h)
 
   pub first-fault : (at : ℕ) (s : Stmt) → IsLeastUnproved S front (Some at) → s ≡ get_or S (at - 1) s → IsFirstUnproved (take front S) (drop front S) (at - front) s
   first-fault at s least is =
       subst (λ n. IsFirstUnproved (take front S) (drop front S) (at - n) s) (length-take-le front S within)
-      (first-behind (take front S) (drop front S) at s (least-cut (Some at) least)
+      (first-after (take front S) (drop front S) at s (least-cut (Some at) least)
       (ap (λ U. stmt_at U at) (take-append-drop front S) ∙ stands_index S at s (omega (arith, least.0)) least.1 is))
 
 pub known-front : (S : Database) (front known : ℕ) → IsKnown S front known → front ≤ length S
 known-front S front known h = omega (arith, h.low, h.within)
 
 -- where none is broken
-pub legal-behind : {E : Type 0} (S : Database) (front : ℕ) (broken : Result (Option (ℕ × BrokenRule)) E) (found : Option (ℕ × BrokenRule))
+pub legal-after : {E : Type 0} (S : Database) (front : ℕ) (broken : Result (Option (ℕ × BrokenRule)) E) (found : Option (ℕ × BrokenRule))
     → IfOk broken (λ b. b ≡ first_broken 1 (take front S) (drop front S)) → broken ≡ Ok found → found ≡ None → first_broken 1 (take front S) (drop front S) ≡ None
-legal-behind S front broken found h is none = sym (subst (λ r. IfOk r (λ b. b ≡ first_broken 1 (take front S) (drop front S))) is h) ∙ none
+legal-after S front broken found h is none = sym (subst (λ r. IfOk r (λ b. b ≡ first_broken 1 (take front S) (drop front S))) is h) ∙ none
 
 -- ---- added whole, or gone back
 
@@ -99,5 +99,5 @@ module _ (S : Database) (front : ℕ) {tables : Tables} (checked : IsChecked (ta
       }
 
 -- a text that is appended
-pub good-behind : {L : Database} (T : Database) {whole : Database} {front : ℕ} → Good L → whole ≡ L ++ T → front ≡ length L → IsJudged (take front whole) (drop front whole) None → Good (L ++ T)
-good-behind {L = L} T good is_whole is_front judged = good-more L T good (rw (is_whole, is_front, take-append_seam L T, drop-append_seam L T) at judged)
+pub good-after : {L : Database} (T : Database) {whole : Database} {front : ℕ} → Good L → whole ≡ L ++ T → front ≡ length L → IsJudged (take front whole) (drop front whole) None → Good (L ++ T)
+good-after {L = L} T good is_whole is_front judged = good-more L T good (rw (is_whole, is_front, take-append_seam L T, drop-append_seam L T) at judged)

@@ -36,7 +36,7 @@ module _ (S : Database) (at : ℕ) where
   AllEarlier items = (k : ℕ) (label : Name) → slice_get items k ≡ Some (Cite label) → (i : ℕ) × (s : Stmt) × Carries S i s label × (i < at)
 
   earlier-append : (front rest : List Item) → AllEarlier front → AllEarlier rest → AllEarlier (front ++ rest)
-  earlier-append front rest p q k label e = elim (get-either front rest k (Cite label) e) [ inl there ↦ p there.0 label there.1 | inr behind ↦ q behind.0 label behind.1 ]
+  earlier-append front rest p q k label e = elim (get-either front rest k (Cite label) e) [ inl there ↦ p there.0 label there.1 | inr later ↦ q later.0 label later.1 ]
 
   earlier-one : (item : Item) → ((label : Name) → item ≡ Cite label → (i : ℕ) × (s : Stmt) × Carries S i s label × (i < at)) → AllEarlier (item ∷ [])
   earlier-one item known zero label e = known label (let f = e in cc)

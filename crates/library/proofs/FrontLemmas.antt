@@ -6,16 +6,16 @@ get-front [] ys n h = absurd (omega (arith, h))
 get-front (x ∷ xs) ys zero h = refl
 get-front (x ∷ xs) ys (suc n) h = get-front xs ys n (omega (arith, h))
 
-get-behind : {A : Type 0} (xs ys : List A) (n : ℕ) → slice_get (xs ++ ys) (length xs + n) ≡ slice_get ys n
-get-behind [] ys n = let e : 0 + n ≡ n = omega arith in ap (slice_get ys) e
-get-behind (x ∷ xs) ys n = let e : suc (length xs) + n ≡ suc (length xs + n) = omega arith in ap (slice_get (x ∷ (xs ++ ys))) e ∙ get-behind xs ys n
+get-after : {A : Type 0} (xs ys : List A) (n : ℕ) → slice_get (xs ++ ys) (length xs + n) ≡ slice_get ys n
+get-after [] ys n = let e : 0 + n ≡ n = omega arith in ap (slice_get ys) e
+get-after (x ∷ xs) ys n = let e : suc (length xs) + n ≡ suc (length xs + n) = omega arith in ap (slice_get (x ∷ (xs ++ ys))) e ∙ get-after xs ys n
 
 pub stmt_at-front : (S T : Database) (i : ℕ) → i ≤ length S → stmt_at (S ++ T) i ≡ stmt_at S i
 stmt_at-front S T zero h = refl
 stmt_at-front S T (suc n) h = get-front S T n (omega (arith, h))
 
-pub stmt_at-behind : (S T : Database) (n : ℕ) → stmt_at (S ++ T) (length S + suc n) ≡ stmt_at T (suc n)
-stmt_at-behind S T n = let e : length S + suc n ≡ suc (length S + n) = omega arith in ap (stmt_at (S ++ T)) e ∙ get-behind S T n
+pub stmt_at-after : (S T : Database) (n : ℕ) → stmt_at (S ++ T) (length S + suc n) ≡ stmt_at T (suc n)
+stmt_at-after S T n = let e : length S + suc n ≡ suc (length S + n) = omega arith in ap (stmt_at (S ++ T)) e ∙ get-after S T n
 
 pub before-front : (S T : Database) (i : ℕ) → i ≤ length S → before (S ++ T) i ≡ before S i
 before-front S T i h = take-append-le (i - 1) S T (omega (arith, h))
@@ -55,7 +55,7 @@ hypotheses-stand S s = by (hypotheses S s) (hyps S s)
     one p h =
         let there : stmt_at S (suc (length h.front)) ≡ slice_get (h.front ++ h.stmt ∷ h.rest) (length h.front) = ap (λ U. slice_get U (length h.front)) h.whole in
         let last : length h.front ≡ length h.front + 0 = omega arith in
-        record { stmt = h.stmt; stands = ap (stmt_at S) h.at ∙ (there ∙ (ap (slice_get (h.front ++ h.stmt ∷ h.rest)) last ∙ get-behind h.front (h.stmt ∷ h.rest) 0)); kind = hypothesis-kinds S s h.stmt h.passes }
+        record { stmt = h.stmt; stands = ap (stmt_at S) h.at ∙ (there ∙ (ap (slice_get (h.front ++ h.stmt ∷ h.rest)) last ∙ get-after h.front (h.stmt ∷ h.rest) 0)); kind = hypothesis-kinds S s h.stmt h.passes }
 
     by : (ps : List ℕ) → AreHyps S s ps → AreHypothesesAt S ps
     by [] h = tt

@@ -2,7 +2,7 @@
 -- at earlier statements alone.
 use Rattle.library.proofs.Words.{◌≡◌, ℕ, ◌-◌, ◌≤◌, IsTrue, List, ◌∷◌, ◌++◌, length, map, zero, suc, ◌+◌, refl, ◌⊎◌, list_all, sym, ◌∙◌, ap, subst, arith, inl, inr, map-append, length-map, Name, Stmt, Expr, Database, before, is_variable, bare, bares, stmt_at, proof_of, stands-within, hypotheses, mandatory_groups, Carries, IsHypothesis, IsInstance, premises, expr_at, option_expr, Item, Derivation, Derivations, hyp, apply, more, Spells, SpellsAll, cites_hypothesis, cites_assertion, recalls, marks, spells_none, spells_more, IsRight, IsProvable, stmt_stays, Writes, mandatory_labels, label_or_none, IsProved, are_groups_disjoint, Concludes, ConcludeAll}
 use Rattle.frame.specs.Substitution.{Images, apply as applied}
-use Rattle.library.proofs.FrontLemmas.{stmt_at-front, before-front, active-later, map-stand, hypotheses-at, stmt_at-behind}
+use Rattle.library.proofs.FrontLemmas.{stmt_at-front, before-front, active-later, map-stand, hypotheses-at, stmt_at-after}
 
 -- ---- a derivation at a position stays one when statements are appended
 
@@ -95,11 +95,11 @@ provable-where S T at s p = by (at - length S) refl
         inl (within, record { stands = sym (stmt_at-front S T at within) ∙ p.stands; provable = p.provable })
     by (suc n) e =
         let here : at ≡ length S + suc n = omega (arith, e) in
-        inr (suc n, here, record { stands = sym (stmt_at-behind S T n) ∙ (ap (stmt_at (S ++ T)) (sym here) ∙ p.stands); provable = p.provable })
+        inr (suc n, here, record { stands = sym (stmt_at-after S T n) ∙ (ap (stmt_at (S ++ T)) (sym here) ∙ p.stands); provable = p.provable })
 
-pub provable-behind : (S T : Database) (n : ℕ) (s : Stmt) → IsProvable T n s → IsProvable (S ++ T) (length S + n) s
-provable-behind S T zero s p = absurd (let e = p.stands in cc)
-provable-behind S T (suc n) s p = record { stands = stmt_at-behind S T n ∙ p.stands; provable = p.provable }
+pub provable-after : (S T : Database) (n : ℕ) (s : Stmt) → IsProvable T n s → IsProvable (S ++ T) (length S + n) s
+provable-after S T zero s p = absurd (let e = p.stands in cc)
+provable-after S T (suc n) s p = record { stands = stmt_at-after S T n ∙ p.stands; provable = p.provable }
 
 labels-front : (S T : Database) (at : ℕ) (s : Stmt) → at ≤ length S → mandatory_labels (S ++ T) at s ≡ mandatory_labels S at s
 labels-front S T at s within =

@@ -42,19 +42,19 @@ legal-more L T legal h = none-join 1 1 [] L T (none-split 1 1 [] L [] (ap (first
 pub legal-text : (L T : Database) → AllLegal (L ++ T) → first_broken 1 L T ≡ None
 legal-text L T legal = (none-split 1 1 [] L T legal).1
 
-legal-behind : (L T : Database) (i : ℕ) (s : Stmt) → AreLegal L T → slice_get T i ≡ Some s → IsLegal (L ++ take i T) s
-legal-behind L [] i s legal stands = cc
-legal-behind L (x ∷ T) zero s legal stands =
+legal-after : (L T : Database) (i : ℕ) (s : Stmt) → AreLegal L T → slice_get T i ≡ Some s → IsLegal (L ++ take i T) s
+legal-after L [] i s legal stands = cc
+legal-after L (x ∷ T) zero s legal stands =
     let same : x ≡ s = cc in
     subst (λ U. IsLegal U s) (sym (append-nil L)) (subst (IsLegal L) same legal.0)
-legal-behind L (x ∷ T) (suc i) s legal stands = subst (λ U. IsLegal U s) (append_assoc L (x ∷ []) (take i T)) (legal-behind (L ++ x ∷ []) T i s legal.1 stands)
+legal-after L (x ∷ T) (suc i) s legal stands = subst (λ U. IsLegal U s) (append_assoc L (x ∷ []) (take i T)) (legal-after (L ++ x ∷ []) T i s legal.1 stands)
 
 -- each statement of a legal list is legal after those before it
 pub legal-each : (S : Database) → AllLegal S → (j : ℕ) (s : Stmt) → stmt_at S j ≡ Some s → IsLegal (before S j) s
 legal-each S legal zero s stands = cc
 legal-each S legal (suc i) s stands =
     let same : i ≡ suc i - 1 = omega arith in
-    subst (λ n. IsLegal (take n S) s) same (legal-behind [] S i s (none-split 1 1 [] S [] (ap (first_broken 1 []) (append-nil S) ∙ legal)).0 stands)
+    subst (λ n. IsLegal (take n S) s) same (legal-after [] S i s (none-split 1 1 [] S [] (ap (first_broken 1 []) (append-nil S) ∙ legal)).0 stands)
 
 -- the rule that is broken after statements does not depend on their proofs
 pub broken-bares : (S U : Database) → bares S ≡ bares U → (s : Stmt) → broken_rule S s ≡ broken_rule U s

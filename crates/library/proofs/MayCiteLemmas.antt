@@ -32,8 +32,8 @@ labels-listed (token ∷ labels) rest are k label e =
     subst (λ ns. has_name label ns ≡ true) (sym (listed-more token (labels ++ rest) (no-finish token both.0))) (by k e (λ i e. labels-listed labels rest both.1 i label e))
   where
     by : (k : ℕ) → slice_get (token ∷ labels) k ≡ Some label → ((i : ℕ) → slice_get labels i ≡ Some label → has_name label (listed_in (labels ++ rest)) ≡ true) → has_name label (token ∷ listed_in (labels ++ rest)) ≡ true
-    by zero e behind = let same : token ≡ label = (let h = e in cc) in ap (λ b. b || has_name label (listed_in (labels ++ rest))) (ap (name_eq label) same ∙ name_same label)
-    by (suc k) e behind = or_right (name_eq label token) (has_name label (listed_in (labels ++ rest))) (behind k e)
+    by zero e later = let same : token ≡ label = (let h = e in cc) in ap (λ b. b || has_name label (listed_in (labels ++ rest))) (ap (name_eq label) same ∙ name_same label)
+    by (suc k) e later = or_right (name_eq label token) (has_name label (listed_in (labels ++ rest))) (later k e)
 
 -- an item cites a mandatory label or one before `)`
 pub cited-label : (tokens mandatory : List Name) (items : List Item) → Writes tokens mandatory items → (place : ℕ) (label : Name) → slice_get items place ≡ Some (Cite label)

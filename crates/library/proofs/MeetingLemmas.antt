@@ -57,7 +57,7 @@ module _ (S : Database) (marks : List Bool) where
     pub one-tested : (label : Name) (rest : List Name) (o : Option ℕ) (test : Bool) (more : List Bool) → left ≡ label ∷ rest → IsPosition S label o → test ≡ is_marked marks o → more ≡ wanted ++ test ∷ [] → AreTested words rest (n + 1) old more
     one-tested label rest o test more first is same grown =
         record {
-          rest = let e = at_drop in let behind : drop (n + 1) words ≡ rest = cc in behind;
+          rest = let e = at_drop in let after : drop (n + 1) words ≡ rest = cc in after;
           tests = λ front w.
               subst (λ ls. AreWanted S ls marks more) (append_assoc front (take n words) (label ∷ []) ∙ ap (λ ls. front ++ ls) (sym taken))
               (subst (AreWanted S ((front ++ take n words) ++ label ∷ []) marks) (sym (grown ∙ ap (λ b. wanted ++ b ∷ []) same)) (wanted-end (front ++ take n words) wanted label o (tested.tests front w) is));

@@ -1,9 +1,9 @@
 -- Verdicts, worked out.
-use Rattle.library.proofs.Words.{◌≡◌, ℕ, zero, suc, ◌+◌, ◌<◌, true, false, List, [], ◌∷◌, ◌++◌, codes, refl, length, Some, None, list_all, true≢false, sym, ◌∙◌, ap, arith, inl, inr, lit≤, append-nil, Name, is_allowed, runs, word, Stmt, Const, Var, Axiom, Prove, Database, AreShaped, spelled, Reads, proof_of, stmt_at, is_provable, G4, Writes, is_unfinished, IsProvable, Submission, Text, Charter, Rule, Unfinished, NotChartered, Added, Nothing, Repeat, Refused, is_rising, forbidden, IsProved, IsCause, Replica, empty, Applies, is_plain, words, w, some-same}
+use Rattle.library.proofs.Words.{◌≡◌, ℕ, zero, suc, ◌+◌, ◌<◌, true, false, List, [], ◌∷◌, ◌++◌, codes, refl, length, Some, None, list_all, true≢false, sym, ◌∙◌, ap, arith, inl, inr, lit≤, append-nil, Name, is_allowed, runs, word, Stmt, Const, Var, Axiom, Prove, Database, AreShaped, tokens_of, Reads, proof_of, stmt_at, is_provable, G4, Writes, is_unfinished, IsProvable, Submission, Text, Charter, Rule, Unfinished, NotChartered, Added, Nothing, Repeat, Refused, is_rising, forbidden, IsProved, IsCause, Replica, empty, Applies, is_plain, words, w, some-same}
 use Rattle.library.proofs.LibraryLemmas.{good-empty}
 
 -- a text without comments
-plain_reads : (text : List ℕ) (T : Database) → AreShaped T → list_all is_allowed text ≡ true → list_all (λ s. is_plain (word text s)) (runs text) ≡ true → words text (runs text) ≡ spelled T → Reads text T
+plain_reads : (text : List ℕ) (T : Database) → AreShaped T → list_all is_allowed text ≡ true → list_all (λ s. is_plain (word text s)) (runs text) ≡ true → words text (runs text) ≡ tokens_of T → Reads text T
 plain_reads text T shaped clean plain same = record {
   shaped = shaped;
   tokens = (runs text, (clean, record { first = runs text; parts = []; whole = sym (append-nil (runs text)); plain = plain; comments = tt; outside = sym (append-nil (runs text)) }), same);

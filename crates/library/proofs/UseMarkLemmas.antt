@@ -61,7 +61,7 @@ one-marked n (suc k) ms h w is = (ap length same ∙ (mark-count (Some (suc k)) 
 pub get-either : {A : Type 0} (xs ys : List A) (k : ℕ) (x : A) → slice_get (xs ++ ys) k ≡ Some x → ((i : ℕ) × (slice_get xs i ≡ Some x)) ⊎ ((i : ℕ) × (slice_get ys i ≡ Some x))
 get-either [] ys k x e = inr (k, e)
 get-either (y ∷ xs) ys zero x e = inl (0, e)
-get-either (y ∷ xs) ys (suc k) x e = elim (get-either xs ys k x e) [ inl there ↦ inl (suc there.0, there.1) | inr behind ↦ inr behind ]
+get-either (y ∷ xs) ys (suc k) x e = elim (get-either xs ys k x e) [ inl there ↦ inl (suc there.0, there.1) | inr later ↦ inr later ]
 
 pub position-is : (S : Database) (label : Name) (o : Option ℕ) (a : ℕ) (s : Stmt) → HasLabelsOnce S → IsPosition S label o → Carries S a s label → o ≡ Some a
 position-is S label None a s once p c = absurd (p a s c)

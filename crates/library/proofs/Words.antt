@@ -20,7 +20,7 @@ pub use Rattle.library.specs.LibraryState.{IsTableOf, IsWithinEntry, IsWithinTex
 pub use Rattle.library.specs.Listed.{listed, listed_of}
 pub use Rattle.library.specs.PlainLibraryOf.{IsPlainCause, PlainApplies, PlainAppliesAt, PlainDecides, PlainReplica, PlainRuns}
 pub use Rattle.library.specs.Queries.{HasNoLabel, IsNoProof, IsTreeOf, IsUsage, NamesNoProof, NamesProof, SpellsTree}
-pub use Rattle.library.specs.Unproved.{AreBehind, AreProofs, IsRightProof}
+pub use Rattle.library.specs.Unproved.{AreAfter, AreProofs, IsRightProof}
 pub use Rattle.library.specs.UseMarks.{AreWanted, IsMarked, IsMarkedAxiom, ItemsMeet, ListsNone, ListsSome, Marks, ProofMeets, is_marked, listed_in, mark, mark_items, place_of}
 pub use Rattle.library.specs.Uses.{AreLabelsOf, Cites, HasItems, IsAxiomAt, IsIn, IsUser, ItemsCite, RestsOn, Rises, Uses, directly, is_axiom, through}
 pub use Rattle.library.specs.Words.{is_closed}
@@ -47,9 +47,9 @@ pub use Rattle.mm_lex.specs.Tokens.{is_plain, words}
 pub use Rattle.mm_lex.specs.declared.fault.LexFault.{LexFault}
 pub use Rattle.mm_read.proofs.NextLemmas.{on_ok}
 pub use Rattle.mm_read.proofs.OneReading.{same_tokens}
-pub use Rattle.mm_read.proofs.OneSpelling.{one_spelling}
+pub use Rattle.mm_read.proofs.OneStatementList.{one_statement_list}
 pub use Rattle.mm_read.specs.Reads.{HasTokens, IsNoDatabase, Reads}
-pub use Rattle.mm_read.specs.Statements.{AreShaped, Database, Expr, is_shaped, spelled}
+pub use Rattle.mm_read.specs.Statements.{AreShaped, Database, Expr, is_shaped, tokens_of}
 pub use Rattle.mm_read.specs.declared.stmt.Stmt.{Stmt}
 pub use Rattle.mm_read.specs.declared.stmt.Stmt.TheVariants.{Axiom, Const, Ess, Float, Prove, Var}
 pub use Rattle.proof_code.proofs.OneList.{malformed-none, one_answer, one_list}

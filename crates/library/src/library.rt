@@ -20,7 +20,7 @@ use crate::unproved::Proofs;
 use crate::verdict::{Cause, Verdict};
 use frame::Frames;
 use mm_read::{ReadFault, Stmt, read};
-use read_pool::read_by;
+use read_pool::read_in_parts;
 use scope::{Rules, Steps};
 use std::alloc::{AllocError, Global};
 use std::collections::BTreeMap;
@@ -149,7 +149,7 @@ impl Library {
         { add_all_verifying(&parallel, statements, tables, steps, checkers) };
         self.apply_by(
             next,
-            &|text: &[u8]| read_by(rt, alloc, text, count),
+            &|text: &[u8]| read_in_parts(rt, alloc, text, count),
             &add,
             &|proofs: &Proofs<'_>, checkers: &mut Checkers| {
                 judge_all(rt, checkers, proofs, workers, gate)

@@ -1,5 +1,5 @@
 -- From place to place in a text: what stands between two places, and between a third one; and what then stands after them.
-use Rattle.mm_lex.proofs.Prelude.{◌≡◌, ℕ, ◌≤◌, true, List, [], ◌∷◌, ◌++◌, length, flat_map, None, Ok, Err, refl, sym, ◌∙◌, ap, arith, subst, append_assoc, append-nil, map-append, drop-length, and_from, and_parts, Span, LexFault, Text, Comment, Memory, Name, word, runs_from, IsRunAt, opener, is_plain, AllPlain, Part, part_spans, AreParts, Cuts, words, StopsAt, runs_behind, IsClosedAt, HasBetween, AreBehind, StopsBehind, FailsBehind}
+use Rattle.mm_lex.proofs.Prelude.{◌≡◌, ℕ, ◌≤◌, true, List, [], ◌∷◌, ◌++◌, length, flat_map, None, Ok, Err, refl, sym, ◌∙◌, ap, arith, subst, append_assoc, append-nil, map-append, drop-length, and_from, and_parts, Span, LexFault, Text, Comment, Memory, Name, word, runs_from, IsRunAt, opener, is_plain, AllPlain, Part, part_spans, AreParts, Cuts, words, StopsAt, runs_after, IsClosedAt, HasBetween, AreAfter, StopsAfter, FailsAfter}
 use Rattle.mm_lex.proofs.Cutting.{Outcome, prepend, scan, scan_cut, scan-cut, scan-stops}
 use Rattle.mm_lex.proofs.CuttingMeans.{with_plain, with_comment, cuts_as, no_runs, cut-scan, stops-scan}
 
@@ -50,7 +50,7 @@ module _ {text : List ℕ} where
     within = more.within;
     passed = has.passed ++ more.passed;
     tokens = has.tokens ++ more.tokens;
-    whole = has.whole ∙ (ap (λ r. has.passed ++ r) more.whole ∙ sym (append_assoc has.passed more.passed (runs_behind text end)));
+    whole = has.whole ∙ (ap (λ r. has.passed ++ r) more.whole ∙ sym (append_assoc has.passed more.passed (runs_after text end)));
     cut = cuts_join has.passed has.tokens more.passed more.tokens has.cut more.cut;
     are = map-append (word text) has.tokens more.tokens ∙ (ap (λ r. r ++ words text more.tokens) has.are ∙ ap (λ r. ws ++ r) more.are);
   }
@@ -60,11 +60,11 @@ module _ {text : List ℕ} where
   between_as {from} {at} e has = subst (λ ws. HasBetween text from at ws) e has
 
   -- runs that are the same after two places
-  pub between_runs : (from at : ℕ) → from ≤ at → at ≤ length text → runs_behind text from ≡ runs_behind text at → HasBetween text from at []
+  pub between_runs : (from at : ℕ) → from ≤ at → at ≤ length text → runs_after text from ≡ runs_after text at → HasBetween text from at []
   between_runs from at later within same = record { later = later; within = within; passed = []; tokens = []; whole = same; cut = no_runs text; are = refl }
 
   -- plain runs
-  pub between_plain : (from at : ℕ) (front : List Span) → from ≤ at → at ≤ length text → runs_behind text from ≡ front ++ runs_behind text at → AllPlain text front
+  pub between_plain : (from at : ℕ) (front : List Span) → from ≤ at → at ≤ length text → runs_after text from ≡ front ++ runs_after text at → AllPlain text front
       → HasBetween text from at (words text front)
   between_plain from at front later within whole are = record {
     later = later;
@@ -76,7 +76,7 @@ module _ {text : List ℕ} where
     are = refl;
   }
 
-  module _ (from : ℕ) (s : Span) (run : runs_behind text from ≡ s ∷ runs_behind text s.end) (is : IsRunAt text s) (later : from ≤ s.start) where
+  module _ (from : ℕ) (s : Span) (run : runs_after text from ≡ s ∷ runs_after text s.end) (is : IsRunAt text s) (later : from ≤ s.start) where
     -- one token
     pub between_token : is_plain (word text s) ≡ true → HasBetween text from s.end (word text s ∷ [])
     between_token plain = between_plain from s.end (s ∷ []) (omega (arith, later, is.some)) is.within run (and_from _ _ plain refl)
@@ -88,7 +88,7 @@ module _ {text : List ℕ} where
       within = closed.within;
       passed = s ∷ (closed.inside ++ closed.at ∷ []);
       tokens = [];
-      whole = run ∙ (ap (λ r. s ∷ r) closed.whole ∙ ap (λ r. s ∷ r) (sym (append_assoc closed.inside (closed.at ∷ []) (runs_behind text end))));
+      whole = run ∙ (ap (λ r. s ∷ r) closed.whole ∙ ap (λ r. s ∷ r) (sym (append_assoc closed.inside (closed.at ∷ []) (runs_after text end))));
       cut = with_comment text s closed.at closed.inside [] [] opens closed.plain closed.closes (no_runs text);
       are = refl;
     }
@@ -96,82 +96,82 @@ module _ {text : List ℕ} where
   -- ---- after a place
 
   -- no token after a place where no run is left
-  pub none_behind : (at : ℕ) → runs_behind text at ≡ [] → AreBehind text at []
-  none_behind at none = ([], cuts_as text (runs_behind text at) [] [] none (no_runs text), refl)
+  pub none_after : (at : ℕ) → runs_after text at ≡ [] → AreAfter text at []
+  none_after at none = ([], cuts_as text (runs_after text at) [] [] none (no_runs text), refl)
 
   -- no token after the end of the text
-  pub none_behind_end : (at : ℕ) → length text ≤ at → at ≤ length text → AreBehind text at []
-  none_behind_end at end within =
+  pub none_after_end : (at : ℕ) → length text ≤ at → at ≤ length text → AreAfter text at []
+  none_after_end at end within =
       let all : at ≡ length text = omega (arith, end, within) in
-      none_behind at (ap (runs_behind text) all ∙ ap (λ r. runs_from (length text) r) (drop-length text))
+      none_after at (ap (runs_after text) all ∙ ap (λ r. runs_from (length text) r) (drop-length text))
 
   -- the same tokens after a place, by another list of words
-  pub behind_as : (at : ℕ) {ws vs : List Name} → ws ≡ vs → AreBehind text at ws → AreBehind text at vs
-  behind_as at e are = subst (λ ws. AreBehind text at ws) e are
+  pub after_as : (at : ℕ) {ws vs : List Name} → ws ≡ vs → AreAfter text at ws → AreAfter text at vs
+  after_as at e are = subst (λ ws. AreAfter text at ws) e are
 
   module _ {from at : ℕ} {ws : List Name} (has : HasBetween text from at ws) where
     -- the scan goes on
-    pub between_scan : scan text (runs_behind text from) None ≡ prepend has.tokens (scan text (runs_behind text at) None)
-    between_scan = ap (λ r. scan text r None) has.whole ∙ scan_cut text has.passed has.tokens (runs_behind text at) has.cut
+    pub between_scan : scan text (runs_after text from) None ≡ prepend has.tokens (scan text (runs_after text at) None)
+    between_scan = ap (λ r. scan text r None) has.whole ∙ scan_cut text has.passed has.tokens (runs_after text at) has.cut
 
     -- the words after the later place
-    pub behind_on : {vs : List Name} → AreBehind text at vs → AreBehind text from (ws ++ vs)
-    behind_on {vs} are = (
+    pub after_on : {vs : List Name} → AreAfter text at vs → AreAfter text from (ws ++ vs)
+    after_on {vs} are = (
       has.tokens ++ are.0,
-      cuts_as text _ _ _ has.whole (cuts_join has.passed has.tokens (runs_behind text at) are.0 has.cut are.1),
+      cuts_as text _ _ _ has.whole (cuts_join has.passed has.tokens (runs_after text at) are.0 has.cut are.1),
       map-append (word text) has.tokens are.0 ∙ (ap (λ r. r ++ words text are.0) has.are ∙ ap (λ r. ws ++ r) are.2),
     )
 
     -- where the comments stop after the later place, they stop after the earlier one
-    pub stops_on : (offset : ℕ) → StopsAt text (runs_behind text at) offset → StopsAt text (runs_behind text from) offset
-    stops_on offset is = stops-scan text (runs_behind text from) offset (between_scan ∙ ap (prepend has.tokens) (scan-stops text (runs_behind text at) offset is))
+    pub stops_on : (offset : ℕ) → StopsAt text (runs_after text at) offset → StopsAt text (runs_after text from) offset
+    stops_on offset is = stops-scan text (runs_after text from) offset (between_scan ∙ ap (prepend has.tokens) (scan-stops text (runs_after text at) offset is))
 
     -- a fault after the later place is one after the earlier, where no allocation failed
-    pub stops_behind : (fault : LexFault) → StopsBehind text at fault → StopsBehind text from fault
-    stops_behind (Text offset) is = is
-    stops_behind (Comment offset) is = stops_on offset is
-    stops_behind Memory is = is
+    pub stops_after : (fault : LexFault) → StopsAfter text at fault → StopsAfter text from fault
+    stops_after (Text offset) is = is
+    stops_after (Comment offset) is = stops_on offset is
+    stops_after Memory is = is
 
     -- .. and where one may have been
-    pub fails_behind : (fault : LexFault) → FailsBehind text at fault → FailsBehind text from fault
-    fails_behind (Text offset) is = is
-    fails_behind (Comment offset) is = stops_on offset is
-    fails_behind Memory is = tt
+    pub fails_after : (fault : LexFault) → FailsAfter text at fault → FailsAfter text from fault
+    fails_after (Text offset) is = is
+    fails_after (Comment offset) is = stops_on offset is
+    fails_after Memory is = tt
 
     -- the words after the earlier place
-    pub behind_rest : {vs : List Name} → AreBehind text from vs → (us : List Name) × AreBehind text at us × (vs ≡ ws ++ us)
-    behind_rest {vs} are = by (scan text (runs_behind text at) None) refl
+    pub after_rest : {vs : List Name} → AreAfter text from vs → (us : List Name) × AreAfter text at us × (vs ≡ ws ++ us)
+    after_rest {vs} are = by (scan text (runs_after text at) None) refl
       where
-        all : scan text (runs_behind text from) None ≡ Ok are.0
-        all = scan-cut text (runs_behind text from) are.0 are.1
+        all : scan text (runs_after text from) None ≡ Ok are.0
+        all = scan-cut text (runs_after text from) are.0 are.1
 
-        by : (r : Outcome) → scan text (runs_behind text at) None ≡ r → (us : List Name) × AreBehind text at us × (vs ≡ ws ++ us)
+        by : (r : Outcome) → scan text (runs_after text at) None ≡ r → (us : List Name) × AreAfter text at us × (vs ≡ ws ++ us)
         by (Ok rest) e =
             let same : ◌≡◌ {A = Outcome} (Ok are.0) (Ok (has.tokens ++ rest)) = sym all ∙ (between_scan ∙ ap (prepend has.tokens) e) in
             let these : are.0 ≡ has.tokens ++ rest = cc in (
               words text rest,
-              (rest, cut-scan text (runs_behind text at) rest e, refl),
+              (rest, cut-scan text (runs_after text at) rest e, refl),
               sym are.2 ∙ (ap (words text) these ∙ (map-append (word text) has.tokens rest ∙ ap (λ r. r ++ words text rest) has.are)),
             )
         by (Err offset) e =
             let other : ◌≡◌ {A = Outcome} (Ok are.0) (Err offset) = sym all ∙ (between_scan ∙ ap (prepend has.tokens) e) in cc
 
   -- the words after a place are one list
-  pub behind_unique : (at : ℕ) {ws vs : List Name} → AreBehind text at ws → AreBehind text at vs → ws ≡ vs
-  behind_unique at are also =
-      let a = scan-cut text (runs_behind text at) are.0 are.1 in
-      let b = scan-cut text (runs_behind text at) also.0 also.1 in
+  pub after_unique : (at : ℕ) {ws vs : List Name} → AreAfter text at ws → AreAfter text at vs → ws ≡ vs
+  after_unique at are also =
+      let a = scan-cut text (runs_after text at) are.0 are.1 in
+      let b = scan-cut text (runs_after text at) also.0 also.1 in
       let same : are.0 ≡ also.0 = cc in
       sym are.2 ∙ (ap (words text) same ∙ also.2)
 
   -- a place with tokens after it has no fault of comments after it
-  pub behind_no_stop : (at offset : ℕ) {ws : List Name} → AreBehind text at ws → StopsAt text (runs_behind text at) offset → ⊥
-  behind_no_stop at offset are is =
-      let a = scan-cut text (runs_behind text at) are.0 are.1 in
-      let b = scan-stops text (runs_behind text at) offset is in cc
+  pub after_no_stop : (at offset : ℕ) {ws : List Name} → AreAfter text at ws → StopsAt text (runs_after text at) offset → ⊥
+  after_no_stop at offset are is =
+      let a = scan-cut text (runs_after text at) are.0 are.1 in
+      let b = scan-stops text (runs_after text at) offset is in cc
 
 -- a fault of the comments is one also where an allocation may have failed
-pub stops_fail : (text : List ℕ) (at : ℕ) (fault : LexFault) → StopsBehind text at fault → FailsBehind text at fault
+pub stops_fail : (text : List ℕ) (at : ℕ) (fault : LexFault) → StopsAfter text at fault → FailsAfter text at fault
 stops_fail text at (Text offset) is = is
 stops_fail text at (Comment offset) is = is
 stops_fail text at Memory is = tt

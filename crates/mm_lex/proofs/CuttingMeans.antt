@@ -62,8 +62,8 @@ module _ (text : List ℕ) where
   IsFront front out = (spans tokens : List Span) → Cuts text spans tokens → Cuts text (front ++ spans) (out ++ tokens)
 
   -- a fault of the runs after such a front is one of the whole
-  behind : (front out : List Span) → IsFront front out → (spans : List Span) (offset : ℕ) → StopsAt text spans offset → StopsAt text (front ++ spans) offset
-  behind front out is_front spans offset (inl is) = inl (record {
+  later_stop : (front out : List Span) → IsFront front out → (spans : List Span) (offset : ℕ) → StopsAt text spans offset → StopsAt text (front ++ spans) offset
+  later_stop front out is_front spans offset (inl is) = inl (record {
     before = front ++ is.before;
     tokens = out ++ is.tokens;
     at = is.at;
@@ -73,7 +73,7 @@ module _ (text : List ℕ) where
     closes = is.closes;
     place = is.place;
   })
-  behind front out is_front spans offset (inr (inl is)) = inr (inl (record {
+  later_stop front out is_front spans offset (inr (inl is)) = inr (inl (record {
     before = front ++ is.before;
     tokens = out ++ is.tokens;
     outer = is.outer;
@@ -87,7 +87,7 @@ module _ (text : List ℕ) where
     opens_again = is.opens_again;
     place = is.place;
   }))
-  behind front out is_front spans offset (inr (inr is)) = inr (inr (record {
+  later_stop front out is_front spans offset (inr (inr is)) = inr (inr (record {
     before = front ++ is.before;
     tokens = out ++ is.tokens;
     at = is.at;
@@ -183,12 +183,12 @@ module _ (text : List ℕ) where
     }))
     opened is (Err offset) (inr (inr m)) =
         let whole : s ∷ spans ≡ (s ∷ (m.inner ++ m.end ∷ [])) ++ m.rest = ap (λ r. s ∷ r) (m.whole ∙ sym (append_assoc m.inner (m.end ∷ []) m.rest)) in
-        rw whole (behind (s ∷ (m.inner ++ m.end ∷ [])) [] (comment_front s m.end m.inner is m.plain m.ends) m.rest offset m.stops)
+        rw whole (later_stop (s ∷ (m.inner ++ m.end ∷ [])) [] (comment_front s m.end m.inner is m.plain m.ends) m.rest offset m.stops)
 
     -- a plain run outside of comments is one token more
     passed : is_plain (word text s) ≡ true → (r : Outcome) → Meaning spans None r → Meaning (s ∷ spans) None (prepend (s ∷ []) r)
     passed is (Ok tokens) m = with_plain s spans tokens is m
-    passed is (Err offset) m = behind (s ∷ []) (s ∷ []) (plain_front s is) spans offset m
+    passed is (Err offset) m = later_stop (s ∷ []) (s ∷ []) (plain_front s is) spans offset m
 
     -- one run more outside of comments, by what it is
     out_step : (a b : Bool) → opens s ≡ a → closes s ≡ b → (r t : Outcome) → Meaning spans (Some s.start) r → Meaning spans None t

@@ -1,8 +1,8 @@
 -- A list of symbols, piece by piece and word by word.
-use Rattle.mm_lex.proofs.Prelude.{◌≡◌, ℕ, ◌+◌, ◌-◌, ◌<◌, ◌≤◌, true, false, List, [], ◌∷◌, ◌++◌, length, take, drop, refl, list_all, sym, ◌∙◌, ap, arith, append_assoc, append-nil, list_all-append, and_from, Span, Name, starts_white, word, is_symbol, words_of, AreWords, IsClean, words, runs_behind, stretch, AreBehind, IsTokenBehind, AddsSymbols, EndsSymbols}
+use Rattle.mm_lex.proofs.Prelude.{◌≡◌, ℕ, ◌+◌, ◌-◌, ◌<◌, ◌≤◌, true, false, List, [], ◌∷◌, ◌++◌, length, take, drop, refl, list_all, sym, ◌∙◌, ap, arith, append_assoc, append-nil, list_all-append, and_from, Span, Name, starts_white, word, is_symbol, words_of, AreWords, IsClean, words, runs_after, stretch, AreAfter, IsTokenAfter, AddsSymbols, EndsSymbols}
 use Rattle.mm_lex.proofs.LanesLemmas.{clean-drop}
 use Rattle.mm_lex.proofs.VisibleRunLemmas.{IsFrontOf, stretch_front, symbols_words}
-use Rattle.mm_lex.proofs.BetweenLemmas.{between_none, between_on, between_as, between_plain, between_runs, behind_on, behind_as}
+use Rattle.mm_lex.proofs.BetweenLemmas.{between_none, between_on, between_as, between_plain, between_runs, after_on, after_as}
 
 module _ {text : List ℕ} where
   -- no symbols between a place and itself
@@ -19,11 +19,11 @@ module _ {text : List ℕ} where
   }
 
   -- white bytes
-  pub adds_white : (at start : ℕ) (words : List Name) → at ≤ start → start ≤ length text → runs_behind text at ≡ runs_behind text start → AddsSymbols text at start words words
+  pub adds_white : (at start : ℕ) (words : List Name) → at ≤ start → start ≤ length text → runs_after text at ≡ runs_after text start → AddsSymbols text at start words words
   adds_white at start words later within same = record { more = []; whole = sym (append-nil words); between = between_runs at start later within same; symbols = refl }
 
   -- one symbol more
-  pub adds_word : (at : ℕ) (s : Span) (w : Name) (old new : List Name) → IsTokenBehind text at s → w ≡ word text s → is_symbol w ≡ true → new ≡ old ++ w ∷ []
+  pub adds_word : (at : ℕ) (s : Span) (w : Name) (old new : List Name) → IsTokenAfter text at s → w ≡ word text s → is_symbol w ≡ true → new ≡ old ++ w ∷ []
       → AddsSymbols text at s.end old new
   adds_word at s w old new is same symbol e = record {
     more = w ∷ [];
@@ -39,7 +39,7 @@ module _ {text : List ℕ} where
     all_symbols = ap (list_all is_symbol) adds.whole ∙ adds.symbols
 
     -- the list ends with a token that is no symbol
-    pub ends_with : (s : Span) → IsTokenBehind text at s → is_symbol (word text s) ≡ false → EndsSymbols text from words s
+    pub ends_with : (s : Span) → IsTokenAfter text at s → is_symbol (word text s) ≡ false → EndsSymbols text from words s
     ends_with s is other = record {
       token = is.token;
       later = omega (arith, adds.between.later, is.later);
@@ -48,8 +48,8 @@ module _ {text : List ℕ} where
     }
 
     -- .. or with the text, where no token is after the place
-    pub ends_text : AreBehind text at [] → AreBehind text from words
-    ends_text none = behind_as from (append-nil adds.more ∙ sym adds.whole) (behind_on adds.between none)
+    pub ends_text : AreAfter text at [] → AreAfter text from words
+    ends_text none = after_as from (append-nil adds.more ∙ sym adds.whole) (after_on adds.between none)
 
 module _ (text : List ℕ) where
   -- a stretch
@@ -80,6 +80,6 @@ module _ (text : List ℕ) where
       more = words_of piece;
       whole = e;
       between = between_as (front.are ∙ piece_is) (between_plain start end front.spans (omega (arith, same)) within
-          (front.whole ∙ ap (λ k. front.spans ++ runs_behind text k) (sym same)) front.plain);
+          (front.whole ∙ ap (λ k. front.spans ++ runs_after text k) (sym same)) front.plain);
       symbols = ap (list_all is_symbol) (sym piece_is) ∙ front.symbols;
     }

@@ -65,8 +65,8 @@ module _ (text : List ℕ) where
       (marked_closer p.end are.0.ends) (marked_closer q.end also.0.ends) joined in
       let back = inner.back in
       let ends : p.end ≡ q.end = cc in
-      let behind : p.after ++ flat_map part_spans ps ≡ q.after ++ flat_map part_spans qs = cc in
-      let outer = same_split p.after q.after (flat_map part_spans ps) (flat_map part_spans qs) are.0.after also.0.after (marked_parts ps are.1) (marked_parts qs also.1) behind in
+      let tails_after : p.after ++ flat_map part_spans ps ≡ q.after ++ flat_map part_spans qs = cc in
+      let outer = same_split p.after q.after (flat_map part_spans ps) (flat_map part_spans qs) are.0.after also.0.after (marked_parts ps are.1) (marked_parts qs also.1) tails_after in
       let rest = same_parts ps qs are.1 also.1 outer.back in
       let insides = inner.front in
       let afters = outer.front in

@@ -1,5 +1,5 @@
 -- Runs whose bytes hold no `$` are plain, and a list of bytes that ends white can be cut off.
-use Rattle.mm_lex.proofs.Prelude.{◌≡◌, ℕ, ◌+◌, ◌-◌, ◌<◌, ◌≤◌, suc, zero, Bool, true, false, List, [], ◌∷◌, ◌++◌, length, take, drop, refl, sym, ◌∙◌, ap, arith, get_or, subst, eqb, eq-eqb, append-nil, get_or-take, get_or-drop, length-take, length-drop, take-append-drop, drop-drop, drop-length, and_from, Nowhere, NoneBefore, Passes, is_byte, Span, Name, is_white, starts_white, with_byte, runs_from, word, is_plain, AllPlain, runs_behind, PassesPlain}
+use Rattle.mm_lex.proofs.Prelude.{◌≡◌, ℕ, ◌+◌, ◌-◌, ◌<◌, ◌≤◌, suc, zero, Bool, true, false, List, [], ◌∷◌, ◌++◌, length, take, drop, refl, sym, ◌∙◌, ap, arith, get_or, subst, eqb, eq-eqb, append-nil, get_or-take, get_or-drop, length-take, length-drop, take-append-drop, drop-drop, drop-length, and_from, Nowhere, NoneBefore, Passes, is_byte, Span, Name, is_white, starts_white, with_byte, runs_from, word, is_plain, AllPlain, runs_after, PassesPlain}
 
 -- ---- where the runs stand
 
@@ -137,11 +137,11 @@ module _ (text : List ℕ) (at : ℕ) (start : at ≤ length text) where
   plain_rest none =
       let long : at + length (drop at text) ≡ length text = omega (arith, length-drop at text) in
       let between = runs_between_to at (length text) (drop at text) long in record {
-        passed = runs_behind text at;
+        passed = runs_after text at;
         later = start;
         within = omega arith;
-        whole = sym (append-nil (runs_behind text at)) ∙ ap (λ r. runs_behind text at ++ runs_from (length text) r) (sym (drop-length text));
-        plain = plain_spans text at (length text) (omega arith) none (runs_behind text at) between;
+        whole = sym (append-nil (runs_after text at)) ∙ ap (λ r. runs_after text at ++ runs_from (length text) r) (sym (drop-length text));
+        plain = plain_spans text at (length text) (omega arith) none (runs_after text at) between;
       }
 
   -- up to a place after a white byte, or none at all

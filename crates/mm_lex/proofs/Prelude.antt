@@ -1,8 +1,8 @@
 -- The words in which this crate is proved, passed on from one place.
 pub use Rattle.memchr.specs.Find.{NoneBefore, Nowhere, Passes, is_byte}
 pub use Rattle.mm_lex.specs.Alphabet.{IsRunAt, Name, has_byte, is_allowed, is_empty, is_label, is_symbol, is_visible, is_white, name_eq, runs, runs_from, starts_white, with_byte, word}
-pub use Rattle.mm_lex.specs.Between.{AreBehind, FailsBehind, HasBetween, IsNextToken, IsTokenBehind, StopsBehind}
-pub use Rattle.mm_lex.specs.Comments.{IsClosedAt, IsNestedAt, PassesPlain, runs_behind}
+pub use Rattle.mm_lex.specs.Between.{AreAfter, FailsAfter, HasBetween, IsNextToken, IsTokenAfter, StopsAfter}
+pub use Rattle.mm_lex.specs.Comments.{IsClosedAt, IsNestedAt, PassesPlain, runs_after}
 pub use Rattle.mm_lex.specs.Laws.{SomeAnswer}
 pub use Rattle.mm_lex.specs.Stored.Stretch.{ends_between, ends_here, lanes_end, stretch}
 pub use Rattle.mm_lex.specs.SymbolList.{AddsSymbols, EndsSymbols}

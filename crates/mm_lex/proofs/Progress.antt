@@ -1,5 +1,5 @@
 -- How far the code has read: what the scan of the whole text gives, by what is left of it.
-use Rattle.mm_lex.proofs.Prelude.{◌≡◌, ℕ, ◌-◌, ◌<◌, ◌≤◌, Bool, true, false, not, cond, ◌||◌, List, [], ◌∷◌, ◌++◌, length, drop, Some, None, Ok, Err, refl, list_all, All, sym, ◌∙◌, ap, arith, append_assoc, true≢false, min, append-nil, length-take, length-drop, All-push, list_all-append, bytes_eq-Decides, and_from, and_parts, Span, Name, is_white, is_visible, is_allowed, runs, word, IsRunAt, is_word, opener, closer, is_plain, AllPlain, IsClean, AreTokens, IsWordAt, IsCommentFault, runs_behind, PassesPlain, IsClosedAt, IsNestedAt}
+use Rattle.mm_lex.proofs.Prelude.{◌≡◌, ℕ, ◌-◌, ◌<◌, ◌≤◌, Bool, true, false, not, cond, ◌||◌, List, [], ◌∷◌, ◌++◌, length, drop, Some, None, Ok, Err, refl, list_all, All, sym, ◌∙◌, ap, arith, append_assoc, true≢false, min, append-nil, length-take, length-drop, All-push, list_all-append, bytes_eq-Decides, and_from, and_parts, Span, Name, is_white, is_visible, is_allowed, runs, word, IsRunAt, is_word, opener, closer, is_plain, AllPlain, IsClean, AreTokens, IsWordAt, IsCommentFault, runs_after, PassesPlain, IsClosedAt, IsNestedAt}
 use Rattle.mm_lex.proofs.LanesLemmas.{clean-take, clean-drop}
 use Rattle.mm_lex.proofs.Cutting.{prepend, prepend-append, scan, opens, closes, scan_opener, scan_closer, scan_plain, scan_nested, scan_closing, scan_all_inside, is_opener, is_closer, closer_no_opener, scan-stops}
 use Rattle.mm_lex.proofs.CuttingMeans.{cut-scan, stops-scan, plain}
@@ -42,7 +42,7 @@ passes_on {text} {from} {at} {end} so more = record {
   passed = so.passed ++ more.passed;
   later = omega (arith, so.later, more.later);
   within = more.within;
-  whole = so.whole ∙ (ap (λ r. so.passed ++ r) more.whole ∙ sym (append_assoc so.passed more.passed (runs_behind text end)));
+  whole = so.whole ∙ (ap (λ r. so.passed ++ r) more.whole ∙ sym (append_assoc so.passed more.passed (runs_after text end)));
   plain = list_all-append (λ s. is_plain (word text s)) so.passed more.passed ∙ and_from _ _ so.plain more.plain;
 }
 
@@ -51,9 +51,9 @@ all_plain-push text [] s h k = and_from _ _ k refl
 all_plain-push text (x ∷ xs) s h k = and_from (is_plain (word text x)) _ (and_parts (is_plain (word text x)) _ h).0 (all_plain-push text xs s (and_parts (is_plain (word text x)) _ h).1 k)
 
 module _ {text : List ℕ} {from at : ℕ} (so : PassesPlain text from at) where
-  module _ (s : Span) (run : runs_behind text at ≡ s ∷ runs_behind text s.end) (is : IsRunAt text s) (later : at ≤ s.start) where
+  module _ (s : Span) (run : runs_after text at ≡ s ∷ runs_after text s.end) (is : IsRunAt text s) (later : at ≤ s.start) where
     -- the runs from the start of the comment's inside: those passed, this one, and those after it
-    inside_whole : runs_behind text from ≡ so.passed ++ s ∷ runs_behind text s.end
+    inside_whole : runs_after text from ≡ so.passed ++ s ∷ runs_after text s.end
     inside_whole = so.whole ∙ ap (λ r. so.passed ++ r) run
 
     -- the comment ends with this run, a `$)`
@@ -73,7 +73,7 @@ module _ {text : List ℕ} {from at : ℕ} (so : PassesPlain text from at) where
     inside_nested opens = record {
       inside = so.passed;
       at = s;
-      rest = runs_behind text s.end;
+      rest = runs_after text s.end;
       whole = inside_whole;
       plain = so.plain;
       opens_again = opens;
@@ -86,12 +86,12 @@ module _ {text : List ℕ} {from at : ℕ} (so : PassesPlain text from at) where
       passed = so.passed ++ s ∷ [];
       later = omega (arith, so.later, later, is.some);
       within = is.within;
-      whole = inside_whole ∙ sym (append_assoc so.passed (s ∷ []) (runs_behind text s.end));
+      whole = inside_whole ∙ sym (append_assoc so.passed (s ∷ []) (runs_after text s.end));
       plain = all_plain-push text so.passed s so.plain is_plain;
     }
 
   -- where no run is left, all runs inside are plain
-  pub inside_unclosed : runs_behind text at ≡ [] → AllPlain text (runs_behind text from)
+  pub inside_unclosed : runs_after text at ≡ [] → AllPlain text (runs_after text from)
   inside_unclosed none = rw (so.whole ∙ (ap (λ r. so.passed ++ r) none ∙ append-nil so.passed)) so.plain
 
 -- ---- outside of comments
@@ -99,7 +99,7 @@ module _ {text : List ℕ} {from at : ℕ} (so : PassesPlain text from at) where
 pub record Cut (text : List ℕ) (spans : List Span) (refused : Bool) (at : ℕ) : Type 0 where
   pub tokens : List Span
   pub within : at ≤ length text
-  pub whole : scan text (runs text) None ≡ prepend tokens (scan text (runs_behind text at) None)
+  pub whole : scan text (runs text) None ≡ prepend tokens (scan text (runs_after text at) None)
   pub kept : refused ≡ false → spans ≡ tokens
   pub words : All (IsWordAt text) spans
 
@@ -115,9 +115,9 @@ words_push text true spans s are is = are
 words_push text false spans s are is = All-push (IsWordAt text) spans s are is
 
 module _ {text : List ℕ} {spans : List Span} {refused : Bool} {at : ℕ} (so : Cut text spans refused at) where
-  module _ (s : Span) (run : runs_behind text at ≡ s ∷ runs_behind text s.end) where
+  module _ (s : Span) (run : runs_after text at ≡ s ∷ runs_after text s.end) where
     -- the scan of the text, as far as this run
-    here : scan text (runs text) None ≡ prepend so.tokens (scan text (s ∷ runs_behind text s.end) None)
+    here : scan text (runs text) None ≡ prepend so.tokens (scan text (s ∷ runs_after text s.end) None)
     here = so.whole ∙ ap (λ r. prepend so.tokens (scan text r None)) run
 
     -- a token more
@@ -126,7 +126,7 @@ module _ {text : List ℕ} {spans : List Span} {refused : Bool} {at : ℕ} (so :
     cut_more clean is unopened unclosed new r e stays = record {
       tokens = so.tokens ++ s ∷ [];
       within = is.within;
-      whole = here ∙ (ap (prepend so.tokens) (scan_plain text s (runs_behind text s.end) unopened unclosed) ∙ prepend-append so.tokens (s ∷ []) (scan text (runs_behind text s.end) None));
+      whole = here ∙ (ap (prepend so.tokens) (scan_plain text s (runs_after text s.end) unopened unclosed) ∙ prepend-append so.tokens (s ∷ []) (scan text (runs_after text s.end) None));
       kept = λ f. e ∙ kept_push refused r spans so.tokens s so.kept stays f;
       words = rw e (words_push text r spans s so.words (IsWordAt-run text s clean is));
     }
@@ -135,12 +135,12 @@ module _ {text : List ℕ} {spans : List Span} {refused : Bool} {at : ℕ} (so :
     pub stops_closer : closes text s ≡ true → scan text (runs text) None ≡ Err s.start
     stops_closer closed =
         let unopened = closer_no_opener text s ((bytes_eq-Decides _ _).0 closed) in
-        here ∙ ap (prepend so.tokens) (scan_closer text s (runs_behind text s.end) unopened closed)
+        here ∙ ap (prepend so.tokens) (scan_closer text s (runs_after text s.end) unopened closed)
 
     module _ (yes : opens text s ≡ true) where
       -- a `$(`: the scan goes on inside of a comment that began here
-      opened : scan text (runs text) None ≡ prepend so.tokens (scan text (runs_behind text s.end) (Some s.start))
-      opened = here ∙ ap (prepend so.tokens) (scan_opener text s (runs_behind text s.end) yes)
+      opened : scan text (runs text) None ≡ prepend so.tokens (scan text (runs_after text s.end) (Some s.start))
+      opened = here ∙ ap (prepend so.tokens) (scan_opener text s (runs_after text s.end) yes)
 
       -- a comment is passed over
       pub cut_comment : (end : ℕ) → IsClosedAt text s.end end → Cut text spans refused end
@@ -148,8 +148,8 @@ module _ {text : List ℕ} {spans : List Span} {refused : Bool} {at : ℕ} (so :
         tokens = so.tokens;
         within = is.within;
         whole = opened ∙ ap (prepend so.tokens) (ap (λ r. scan text r (Some s.start)) is.whole
-            ∙ (scan_all_inside text is.inside (is.at ∷ runs_behind text end) s.start is.plain
-            ∙ scan_closing text is.at (runs_behind text end) s.start (closer_no_opener text is.at is.closes) (is_closer text is.at is.closes)));
+            ∙ (scan_all_inside text is.inside (is.at ∷ runs_after text end) s.start is.plain
+            ∙ scan_closing text is.at (runs_after text end) s.start (closer_no_opener text is.at is.closes) (is_closer text is.at is.closes)));
         kept = so.kept;
         words = so.words;
       }
@@ -163,13 +163,13 @@ module _ {text : List ℕ} {spans : List Span} {refused : Bool} {at : ℕ} (so :
           ∙ ap Err is.place)
 
       -- a comment that is never closed: the scan of the text stops at its begin
-      pub stops_unclosed : AllPlain text (runs_behind text s.end) → scan text (runs text) None ≡ Err s.start
+      pub stops_unclosed : AllPlain text (runs_after text s.end) → scan text (runs text) None ≡ Err s.start
       stops_unclosed plain =
-          opened ∙ ap (prepend so.tokens) (ap (λ r. scan text r (Some s.start)) (sym (append-nil (runs_behind text s.end)))
-          ∙ scan_all_inside text (runs_behind text s.end) [] s.start plain)
+          opened ∙ ap (prepend so.tokens) (ap (λ r. scan text r (Some s.start)) (sym (append-nil (runs_after text s.end)))
+          ∙ scan_all_inside text (runs_after text s.end) [] s.start plain)
 
   -- where no run is left, the scan of the text gives the tokens read
-  pub cut_end : runs_behind text at ≡ [] → scan text (runs text) None ≡ Ok so.tokens
+  pub cut_end : runs_after text at ≡ [] → scan text (runs text) None ≡ Ok so.tokens
   cut_end none = so.whole ∙ (ap (λ r. prepend so.tokens (scan text r None)) none ∙ ap Ok (append-nil so.tokens))
 
 -- ---- the answer that the code may then give

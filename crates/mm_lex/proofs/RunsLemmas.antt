@@ -168,8 +168,8 @@ module _ (text : List ℕ) (at white : ℕ) (within : at ≤ length text) (blank
       ∙ (ap (λ n. runs_from (at + n) (drop n (drop at text))) (sym blanks) ∙ ap (runs_from (at + white)) (drop-drop white at text))
 
   -- the rest does not start white, if there is one
-  pub shown_behind : at + white < length text → starts_white (drop (at + white) text) ≡ false
-  shown_behind inside =
+  pub shown_after : at + white < length text → starts_white (drop (at + white) text) ≡ false
+  shown_after inside =
       let k : position_or_len is_shown (drop at text) < length (drop at text) = omega (arith, blanks, inside, length-drop at text) in
       let begins = begins_shown (drop at text) k in
       ap starts_white (sym (drop-drop white at text) ∙ (ap (λ n. drop n (drop at text)) blanks ∙ begins.whole)) ∙ begins.shown

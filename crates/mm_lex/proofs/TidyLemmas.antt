@@ -70,15 +70,15 @@ goes_next d (e ∷ bytes) h = (above_dollar d e h).0
 -- at three bytes or more: what holds from the next one and from the one after it, holds from here
 two_more : (b c d : ℕ) (bytes : List ℕ) → is_symbol_byte b ≡ true → is_allowed c ≡ true → Tidies c (d ∷ bytes) → Tidies d bytes
     → (t : Bool) → ends_here (c ∷ d ∷ bytes) ≡ t → is_tidy (b ∷ rest_of (c ∷ d ∷ bytes)) ≡ true
-two_more b c d bytes shown clean from behind true e = rw (stretch_off c (d ∷ bytes) e) shown
-two_more b c d bytes shown clean from behind false e = rw (stretch_on c (d ∷ bytes) e) (by (is_space c) refl)
+two_more b c d bytes shown clean from goes_on true e = rw (stretch_off c (d ∷ bytes) e) shown
+two_more b c d bytes shown clean from goes_on false e = rw (stretch_on c (d ∷ bytes) e) (by (is_space c) refl)
   where
     by : (u : Bool) → is_space c ≡ u → is_tidy (b ∷ c ∷ rest_of (d ∷ bytes)) ≡ true
     by true k =
         let high = space_byte c d k e in
         let on = goes_next d bytes high in
         tidy_cons b c (rest_of (d ∷ bytes)) true k shown
-        (ap (λ n. is_tidy (take n (d ∷ bytes))) (stretch_on d bytes on) ∙ behind (above_dollar d 32 high).1 on)
+        (ap (λ n. is_tidy (take n (d ∷ bytes))) (stretch_on d bytes on) ∙ goes_on (above_dollar d 32 high).1 on)
     by false k = tidy_cons b c (rest_of (d ∷ bytes)) false k shown (from (other_byte c d clean k e) e)
 
 -- the stretch from a byte that is not white is tidy
@@ -154,12 +154,12 @@ module _ (b c : ℕ) (bytes : List ℕ) (tidy : is_tidy (b ∷ c ∷ bytes) ≡ 
   first_byte = (and_parts (is_symbol_byte b) _ tidy).0
 
   -- after a space the bytes are tidy
-  pub behind_gap : is_space c ≡ true → is_tidy bytes ≡ true
-  behind_gap e = ap (λ u. cond u (is_tidy bytes) (is_tidy (c ∷ bytes))) (sym e) ∙ (and_parts (is_symbol_byte b) _ tidy).1
+  pub after_gap : is_space c ≡ true → is_tidy bytes ≡ true
+  after_gap e = ap (λ u. cond u (is_tidy bytes) (is_tidy (c ∷ bytes))) (sym e) ∙ (and_parts (is_symbol_byte b) _ tidy).1
 
   -- after another byte they are tidy with it
-  pub behind_byte : is_space c ≡ false → is_tidy (c ∷ bytes) ≡ true
-  behind_byte e = ap (λ u. cond u (is_tidy bytes) (is_tidy (c ∷ bytes))) (sym e) ∙ (and_parts (is_symbol_byte b) _ tidy).1
+  pub after_byte : is_space c ≡ false → is_tidy (c ∷ bytes) ≡ true
+  after_byte e = ap (λ u. cond u (is_tidy bytes) (is_tidy (c ∷ bytes))) (sym e) ∙ (and_parts (is_symbol_byte b) _ tidy).1
 
 -- a byte of a symbol put to the first of some symbols leaves symbols
 symbols_onto : (b : ℕ) (parts : List Name) (w : Name) (ws : List Name) → parts ≡ w ∷ ws → is_symbol_byte b ≡ true → list_all is_symbol parts ≡ true → list_all is_symbol (onto_first b parts) ≡ true
@@ -184,4 +184,4 @@ tidy_symbols [] h = cc
 tidy_symbols (b ∷ []) h = ap (list_all is_symbol) (split_byte b [] h) ∙ and_from _ _ (symbol_one b h) refl
 tidy_symbols (b ∷ c ∷ bytes) h =
     ap (list_all is_symbol) (split_byte b (c ∷ bytes) (first_byte b c bytes h))
-    ∙ symbols_step b c bytes (first_byte b c bytes h) (is_space c) refl (λ e. tidy_symbols bytes (behind_gap b c bytes h e)) (λ e. tidy_symbols (c ∷ bytes) (behind_byte b c bytes h e))
+    ∙ symbols_step b c bytes (first_byte b c bytes h) (is_space c) refl (λ e. tidy_symbols bytes (after_gap b c bytes h e)) (λ e. tidy_symbols (c ∷ bytes) (after_byte b c bytes h e))

@@ -1,7 +1,7 @@
 -- The runs of tidy bytes, and the words of a stretch.
 use Rattle.mm_lex.proofs.Prelude.{◌≡◌, ℕ, ◌+◌, ◌-◌, ◌<◌, ◌≤◌, suc, Bool, true, false, not, ◌||◌, ◌==◌, List, [], ◌∷◌, ◌++◌, length, take, drop, refl, list_all, onto_first, sym, ◌∙◌, ap, arith, take-append-drop, drop-drop, length-take-le, length-drop, and_from, and_parts, Span, Name, is_white, is_visible, starts_white, with_byte, runs_from, word, is_symbol, has_byte, words_of, is_word, is_plain, AllPlain, IsClean, words, stretch}
 use Rattle.mm_lex.proofs.PlainLemmas.{append_step}
-use Rattle.mm_lex.proofs.TidyLemmas.{is_space, is_symbol_byte, is_tidy, stretch_tidy, space_is, not_white, split_of, split_byte, split_gap, first_byte, behind_gap, behind_byte, tidy_symbols}
+use Rattle.mm_lex.proofs.TidyLemmas.{is_space, is_symbol_byte, is_tidy, stretch_tidy, space_is, not_white, split_of, split_byte, split_gap, first_byte, after_gap, after_byte, tidy_symbols}
 
 -- ---- the runs of tidy bytes
 
@@ -22,8 +22,8 @@ shown_run : (at b : ℕ) (bytes : List ℕ) → is_white b ≡ false → runs_fr
 shown_run at b bytes e = rw e refl
 
 -- the byte at a place, and the bytes after it
-behind_one : (text : List ℕ) (at b : ℕ) (bytes : List ℕ) → drop at text ≡ b ∷ bytes → drop (at + 1) text ≡ bytes
-behind_one text at b bytes e = let next : drop (1 + at) text ≡ drop (at + 1) text = ap (λ n. drop n text) (omega arith) in sym next ∙ (sym (plus at) ∙ ap (drop 1) e)
+after_one : (text : List ℕ) (at b : ℕ) (bytes : List ℕ) → drop at text ≡ b ∷ bytes → drop (at + 1) text ≡ bytes
+after_one text at b bytes e = let next : drop (1 + at) text ≡ drop (at + 1) text = ap (λ n. drop n text) (omega arith) in sym next ∙ (sym (plus at) ∙ ap (drop 1) e)
   where
     plus : (at : ℕ) → drop 1 (drop at text) ≡ drop (1 + at) text
     plus at = drop-drop 1 at text ∙ ap (λ n. drop n text) (omega arith)
@@ -37,7 +37,7 @@ word_more : (text : List ℕ) (at end b : ℕ) (bytes : List ℕ) → drop at te
     → word text (record { start = at; end = end }) ≡ b ∷ word text (record { start = at + 1; end = end })
 word_more text at end b bytes e long =
     let one : end - at ≡ suc (end - (at + 1)) = omega (arith, long) in
-    ap (λ n. take n (drop at text)) one ∙ (ap (take (suc (end - (at + 1)))) e ∙ ap (λ r. b ∷ take (end - (at + 1)) r) (sym (behind_one text at b bytes e)))
+    ap (λ n. take n (drop at text)) one ∙ (ap (take (suc (end - (at + 1)))) e ∙ ap (λ r. b ∷ take (end - (at + 1)) r) (sym (after_one text at b bytes e)))
 
 -- tidy bytes begin with a byte of a symbol
 head_byte : (c : ℕ) (bytes : List ℕ) → is_tidy (c ∷ bytes) ≡ true → is_symbol_byte c ≡ true
@@ -62,7 +62,7 @@ module _ (text more : List ℕ) where
       }
   runs_step at b c bytes e h false k gap on =
       let shown = first_byte b c bytes h in
-      let white : is_white c ≡ false = not_white c (head_byte c bytes (behind_byte b c bytes h k)) in
+      let white : is_white c ≡ false = not_white c (head_byte c bytes (after_byte b c bytes h k)) in
       let rest = on refl in record {
         end = rest.end;
         spans = rest.spans;
@@ -83,10 +83,10 @@ module _ (text more : List ℕ) where
     are = ap (λ w. w ∷ []) (word_one text at b more e) ∙ sym (split_byte b [] h);
   }
   tidy_runs at (b ∷ c ∷ bytes) e h =
-      let next : drop (at + 1) text ≡ c ∷ (bytes ++ more) = behind_one text at b (c ∷ (bytes ++ more)) e in
+      let next : drop (at + 1) text ≡ c ∷ (bytes ++ more) = after_one text at b (c ∷ (bytes ++ more)) e in
       runs_step at b c bytes e h (is_space c) refl
-      (λ k. tidy_runs (at + 1 + 1) bytes (behind_one text (at + 1) c (bytes ++ more) next) (behind_gap b c bytes h k))
-      (λ k. tidy_runs (at + 1) (c ∷ bytes) next (behind_byte b c bytes h k))
+      (λ k. tidy_runs (at + 1 + 1) bytes (after_one text (at + 1) c (bytes ++ more) next) (after_gap b c bytes h k))
+      (λ k. tidy_runs (at + 1) (c ∷ bytes) next (after_byte b c bytes h k))
 
 -- ---- runs before a white byte
 

@@ -87,9 +87,9 @@ slice_split-whole [] h = refl
 slice_split-whole (b ∷ text) h = whole_step (is_space b) b text h (slice_split-whole text)
 
 -- the text after a space has a word
-words_of-behind : (text rest : List ℕ) (w : Name) → slice_split is_space text ≡ w ∷ slice_split is_space rest → list_all is_word (slice_split is_space text) ≡ true → slice_split is_space rest ≡ words_of rest
-words_of-behind text [] w e k = absurd (true≢false (sym (and_parts (is_word w) false (sym (ap (list_all is_word) e) ∙ k)).1))
-words_of-behind text (b ∷ rest) w e k = refl
+words_of-after : (text rest : List ℕ) (w : Name) → slice_split is_space text ≡ w ∷ slice_split is_space rest → list_all is_word (slice_split is_space text) ≡ true → slice_split is_space rest ≡ words_of rest
+words_of-after text [] w e k = absurd (true≢false (sym (and_parts (is_word w) false (sym (ap (list_all is_word) e) ∙ k)).1))
+words_of-after text (b ∷ rest) w e k = refl
 
 words_of-last : (text : List ℕ) → position_or_len is_space text ≡ length text → 0 < length text → words_of text ≡ text ∷ []
 words_of-last [] all some = absurd (omega (arith, some))
@@ -100,7 +100,7 @@ words_of-first : (text : List ℕ) → position_or_len is_space text < length te
 words_of-first [] inside k = absurd (omega (arith, inside))
 words_of-first (b ∷ text) inside k =
     let cut = slice_split_first is_space (b ∷ text) 0 inside in
-    cut ∙ ap (λ r. before_first is_space (b ∷ text) ∷ r) (words_of-behind (b ∷ text) (after_first is_space (b ∷ text)) (before_first is_space (b ∷ text)) cut k)
+    cut ∙ ap (λ r. before_first is_space (b ∷ text) ∷ r) (words_of-after (b ∷ text) (after_first is_space (b ∷ text)) (before_first is_space (b ∷ text)) cut k)
 
 -- where the search for a space ends
 module _ (text : List ℕ) where
@@ -121,8 +121,8 @@ module _ (text : List ℕ) where
       by false e h some = words_of-last text (omega (arith, ltb-false _ _ e, prefix_len-le-length (λ c. not (is_space c)) text)) some
 
 -- the words after the first are words
-pub AreWords-behind : (ws vs : List Name) (w : Name) → ws ≡ w ∷ vs → list_all is_word ws ≡ true → list_all is_word vs ≡ true
-AreWords-behind ws vs w e k = (and_parts (is_word w) (list_all is_word vs) (sym (ap (list_all is_word) e) ∙ k)).1
+pub AreWords-after : (ws vs : List Name) (w : Name) → ws ≡ w ∷ vs → list_all is_word ws ≡ true → list_all is_word vs ≡ true
+AreWords-after ws vs w e k = (and_parts (is_word w) (list_all is_word vs) (sym (ap (list_all is_word) e) ∙ k)).1
 
 pub length-words_of : (text : List ℕ) → 0 < length text → length (words_of text) ≡ count_by is_space text + 1
 length-words_of [] some = absurd (omega (arith, some))

@@ -8,7 +8,7 @@ use Rattle.mm_lex.specs.declared.fault.LexFault.TheVariants.{Text, Comment, Memo
 use Rattle.mm_lex.specs.Alphabet.{Name, word}
 use Rattle.mm_lex.specs.Tokens.{Cuts, IsWordAt, words}
 use Rattle.mm_lex.specs.TextFaults.{StopsAt}
-use Rattle.mm_lex.specs.Comments.{runs_behind}
+use Rattle.mm_lex.specs.Comments.{runs_after}
 
 -- between the two places stand the tokens that are these words
 pub record HasBetween (text : List ℕ) (from at : ℕ) (ws : List Name) : Type 0 where
@@ -16,37 +16,37 @@ pub record HasBetween (text : List ℕ) (from at : ℕ) (ws : List Name) : Type 
   pub within : at ≤ length text
   pub passed : List Span
   pub tokens : List Span
-  pub whole : runs_behind text from ≡ passed ++ runs_behind text at
+  pub whole : runs_after text from ≡ passed ++ runs_after text at
   pub cut : Cuts text passed tokens
   pub are : words text tokens ≡ ws
 
 -- the tokens after a place, up to the end of the text, are these words
-abbrev pub AreBehind : List ℕ → ℕ → List Name → Type 0
-AreBehind text at ws = (tokens : List Span) × Cuts text (runs_behind text at) tokens × (words text tokens ≡ ws)
+abbrev pub AreAfter : List ℕ → ℕ → List Name → Type 0
+AreAfter text at ws = (tokens : List Span) × Cuts text (runs_after text at) tokens × (words text tokens ≡ ws)
 
 -- `count` tokens stand after a place
-abbrev pub CountBehind : List ℕ → ℕ → ℕ → Type 0
-CountBehind text at count = (ws : List Name) × AreBehind text at ws × (length ws ≡ count)
+abbrev pub CountAfter : List ℕ → ℕ → ℕ → Type 0
+CountAfter text at count = (ws : List Name) × AreAfter text at ws × (length ws ≡ count)
 
 -- after a place the comments are at fault
-abbrev pub StopsBehind : List ℕ → ℕ → LexFault → Type 0
-StopsBehind text at (Text offset) = ⊥
-StopsBehind text at (Comment offset) = StopsAt text (runs_behind text at) offset
-StopsBehind text at Memory = ⊥
+abbrev pub StopsAfter : List ℕ → ℕ → LexFault → Type 0
+StopsAfter text at (Text offset) = ⊥
+StopsAfter text at (Comment offset) = StopsAt text (runs_after text at) offset
+StopsAfter text at Memory = ⊥
 
 -- .. or an allocation failed
-abbrev pub FailsBehind : List ℕ → ℕ → LexFault → Type 0
-FailsBehind text at (Text offset) = ⊥
-FailsBehind text at (Comment offset) = StopsAt text (runs_behind text at) offset
-FailsBehind text at Memory = Unit {0}
+abbrev pub FailsAfter : List ℕ → ℕ → LexFault → Type 0
+FailsAfter text at (Text offset) = ⊥
+FailsAfter text at (Comment offset) = StopsAt text (runs_after text at) offset
+FailsAfter text at Memory = Unit {0}
 
 -- the next token after a place stands here
-pub record IsTokenBehind (text : List ℕ) (at : ℕ) (s : Span) : Type 0 where
+pub record IsTokenAfter (text : List ℕ) (at : ℕ) (s : Span) : Type 0 where
   pub token : IsWordAt text s
   pub later : at < s.end
   pub between : HasBetween text at s.end (word text s ∷ [])
 
 -- the next token, or none at all
 abbrev pub IsNextToken : List ℕ → ℕ → Option Span → Type 0
-IsNextToken text at (Some s) = IsTokenBehind text at s
-IsNextToken text at None = AreBehind text at []
+IsNextToken text at (Some s) = IsTokenAfter text at s
+IsNextToken text at None = AreAfter text at []

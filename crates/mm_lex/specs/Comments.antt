@@ -9,15 +9,15 @@ use Rattle.mm_lex.specs.Alphabet.{runs_from, word}
 use Rattle.mm_lex.specs.Tokens.{opener, closer, AllPlain}
 
 -- the runs that begin at a place or after it
-abbrev pub runs_behind : List ℕ → ℕ → List Span
-runs_behind text at = runs_from at (drop at text)
+abbrev pub runs_after : List ℕ → ℕ → List Span
+runs_after text at = runs_from at (drop at text)
 
 -- the runs from one place up to another are plain
 pub record PassesPlain (text : List ℕ) (from at : ℕ) : Type 0 where
   pub passed : List Span
   pub later : from ≤ at
   pub within : at ≤ length text
-  pub whole : runs_behind text from ≡ passed ++ runs_behind text at
+  pub whole : runs_after text from ≡ passed ++ runs_after text at
   pub plain : AllPlain text passed
 
 -- the next `$)` ends here, and no `$(` stands before it
@@ -26,7 +26,7 @@ pub record IsClosedAt (text : List ℕ) (from end : ℕ) : Type 0 where
   pub at : Span
   pub later : from < end
   pub within : end ≤ length text
-  pub whole : runs_behind text from ≡ inside ++ at ∷ runs_behind text end
+  pub whole : runs_after text from ≡ inside ++ at ∷ runs_after text end
   pub plain : AllPlain text inside
   pub closes : word text at ≡ closer
 
@@ -35,7 +35,7 @@ pub record IsNestedAt (text : List ℕ) (from offset : ℕ) : Type 0 where
   pub inside : List Span
   pub at : Span
   pub rest : List Span
-  pub whole : runs_behind text from ≡ inside ++ at ∷ rest
+  pub whole : runs_after text from ≡ inside ++ at ∷ rest
   pub plain : AllPlain text inside
   pub opens_again : word text at ≡ opener
   pub place : at.start ≡ offset
@@ -43,4 +43,4 @@ pub record IsNestedAt (text : List ℕ) (from offset : ℕ) : Type 0 where
 abbrev pub EndsComment : List ℕ → ℕ → CommentEnd → Type 0
 EndsComment text from (Closed end) = IsClosedAt text from end
 EndsComment text from (Nested offset) = IsNestedAt text from offset
-EndsComment text from Unclosed = AllPlain text (runs_behind text from)
+EndsComment text from Unclosed = AllPlain text (runs_after text from)

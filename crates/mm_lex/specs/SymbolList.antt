@@ -6,7 +6,7 @@ use Rattle.std.specs.List.{list_all}
 use Rattle.mm_lex.specs.declared.span.Span.{Span}
 use Rattle.mm_lex.specs.Alphabet.{Name, is_symbol, word}
 use Rattle.mm_lex.specs.Tokens.{IsWordAt}
-use Rattle.mm_lex.specs.Between.{HasBetween, AreBehind}
+use Rattle.mm_lex.specs.Between.{HasBetween, AreAfter}
 
 -- more symbols, which stand between two places
 pub record AddsSymbols (text : List ℕ) (from at : ℕ) (old new : List Name) : Type 0 where
@@ -25,4 +25,4 @@ pub record EndsSymbols (text : List ℕ) (from : ℕ) (ws : List Name) (s : Span
 -- the end of the list: such a token, or the end of the text
 abbrev pub IsListEnd : List ℕ → ℕ → List Name → Option Span → Type 0
 IsListEnd text from ws (Some s) = EndsSymbols text from ws s
-IsListEnd text from ws None = AreBehind text from ws
+IsListEnd text from ws None = AreAfter text from ws

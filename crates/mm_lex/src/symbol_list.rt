@@ -4,7 +4,7 @@ ghost use Rattle.std.specs.List.{list_all};
 ghost use Rattle.mm_lex.specs.Alphabet.{starts_white, is_symbol};
 ghost use Rattle.mm_lex.specs.Words.{is_word};
 ghost use Rattle.mm_lex.specs.Tokens.{IsClean};
-ghost use Rattle.mm_lex.specs.Between.{FailsBehind};
+ghost use Rattle.mm_lex.specs.Between.{FailsAfter};
 ghost use Rattle.mm_lex.specs.SymbolList.{AddsSymbols, IsListEnd};
 
 use crate::fault::LexFault;
@@ -25,7 +25,7 @@ pub fn symbols(alloc: Global, text: &[u8], from: usize) -> Result<(Words, Option
     requires place { from ≤ length text.now }
     ensures symbols { IfOk result (λ r. IsTrue (list_all is_symbol r.0)) }
     ensures end { IfOk result (λ r. IsListEnd text.now from r.0 r.1) }
-    ensures fault { IfErr result (FailsBehind text.now from) }
+    ensures fault { IfErr result (FailsAfter text.now from) }
 {
     let mut words = with_room(alloc, &text[from..])?;
     let mut at = push_pieces(&mut words, text, from)?;
@@ -67,7 +67,7 @@ fn push_pieces(words: &mut Words, text: &[u8], from: usize) -> Result<usize, All
     while at < text.len() {
         let start = pass_white(text, at);
         let end = start + count_spaced(&text[start..]);
-        if start == end || !is_behind_word(text, end) {
+        if start == end || !is_after_word(text, end) {
             return Ok(start);
         }
         words.push_text(&text[start..end])?;
@@ -77,7 +77,7 @@ fn push_pieces(words: &mut Words, text: &[u8], from: usize) -> Result<usize, All
 }
 
 /// Returns whether no word goes on at an offset.
-fn is_behind_word(text: &[u8], at: usize) -> bool
+fn is_after_word(text: &[u8], at: usize) -> bool
     requires { at ≤ length text.now }
     ensures { result ≡ starts_white (drop at text.now) }
 {

@@ -1,5 +1,5 @@
 -- Why no statement stands after a place: by the tokens that stand before it, and what the parts of the statement tell.
-use Rattle.mm_read.proofs.Words.{◌≡◌, ℕ, Bool, ◌+◌, ◌≤◌, true, false, List, [], ◌∷◌, ◌++◌, length, Some, None, codes, list_all, option_and_then, sym, ◌∙◌, ap, arith, refl, subst, append_assoc, length-append, LexFault, Name, name_eq, is_symbol, is_label, HasBetween, AreBehind, StopsBehind, behind_rest, behind_unique, stops_behind, between_on, ReadFault, Text, Shape, Memory, IsShapeFault, read_fault, StopsList, IsListStop, IsListFault, StartsOtherwise, IsTokenFault, IsFaultAfter}
+use Rattle.mm_read.proofs.Words.{◌≡◌, ℕ, Bool, ◌+◌, ◌≤◌, true, false, List, [], ◌∷◌, ◌++◌, length, Some, None, codes, list_all, option_and_then, sym, ◌∙◌, ap, arith, refl, subst, append_assoc, length-append, LexFault, Name, name_eq, is_symbol, is_label, HasBetween, AreAfter, StopsAfter, after_rest, after_unique, stops_after, between_on, ReadFault, Text, Shape, Memory, IsShapeFault, read_fault, BeginsBrokenList, HasBrokenList, IsListFault, StartsOtherwise, IsTokenFault, IsFaultAfter}
 use Rattle.mm_lex.specs.declared.fault.LexFault.TheVariants as lex
 use Rattle.mm_read.proofs.Places.{Place, between, labelled, listing, floating, proving, step, go}
 use Rattle.mm_read.proofs.PlacesOver.{go-label, go-proving}
@@ -16,14 +16,14 @@ module _ (text : List ℕ) where
   -- a fault after a place, after the tokens up to it, is one after the earlier place
   pub fault_back : {from at : ℕ} {ws : List Name} (before : List Name) → HasBetween text from at ws → (fault : ReadFault) → IsFaultAfter text (before ++ ws) at fault
       → IsFaultAfter text before from fault
-  fault_back before has (Text fault) is = stops_behind has fault is
+  fault_back before has (Text fault) is = stops_after has fault is
   fault_back {from} {at} {ws} before has (Shape token) is = λ tokens are.
-      let r : (us : List Name) × AreBehind text at us × (tokens ≡ ws ++ us) = behind_rest has are in
+      let r : (us : List Name) × AreAfter text at us × (tokens ≡ ws ++ us) = after_rest has are in
       subst (λ ts. IsShapeFault ts token) (append_assoc before ws r.0 ∙ ap (λ ts. before ++ ts) (sym r.2)) (is r.0 r.1)
   fault_back before has Memory is = tt
 
   -- a fault of the comments
-  pub comments_after : (at : ℕ) (before : List Name) (fault : LexFault) → StopsBehind text at fault → IsFaultAfter text before at (read_fault fault)
+  pub comments_after : (at : ℕ) (before : List Name) (fault : LexFault) → StopsAfter text at fault → IsFaultAfter text before at (read_fault fault)
   comments_after at before (lex.Text offset) is = is
   comments_after at before (lex.Comment offset) is = is
   comments_after at before lex.Memory is = tt
@@ -32,13 +32,13 @@ module _ (text : List ℕ) where
 
   module _ (at : ℕ) (done : List Name) (p : Place) (goes : go between done ≡ Some p) (inside : p ≡ between → ⊥) where
     -- none is left
-    pub none_after : AreBehind text at [] → IsFaultAfter text done at (Shape (length done + 1))
-    none_after none = λ tokens are. stuck (done ++ tokens) done tokens p refl goes inside (subst (Stuck p) (behind_unique at none are) tt)
+    pub none_after : AreAfter text at [] → IsFaultAfter text done at (Shape (length done + 1))
+    none_after none = λ tokens are. stuck (done ++ tokens) done tokens p refl goes inside (subst (Stuck p) (after_unique at none are) tt)
 
     -- another stands there
     pub other_after : {end : ℕ} (t : Name) → HasBetween text at end (t ∷ []) → step p t ≡ None → IsFaultAfter text done at (Shape (length done + 1))
     other_after {end} t has stop = λ tokens are.
-        let r : (us : List Name) × AreBehind text end us × (tokens ≡ t ∷ us) = behind_rest has are in
+        let r : (us : List Name) × AreAfter text end us × (tokens ≡ t ∷ us) = after_rest has are in
         stuck (done ++ tokens) done tokens p refl goes inside (subst (Stuck p) (sym r.2) stop)
 
     -- why no token of this kind stands there is why no statement does, where no other kind fits
@@ -72,7 +72,7 @@ module _ (text : List ℕ) where
 
   module _ (at : ℕ) (label : Name) (is_one : is_label label ≡ true) where
     -- a label with nothing after it: the second token is missing
-    pub label_alone : AreBehind text at [] → IsFaultAfter text (label ∷ []) at (Shape 2)
+    pub label_alone : AreAfter text at [] → IsFaultAfter text (label ∷ []) at (Shape 2)
     label_alone none = none_after at (label ∷ []) labelled (go-label label [] is_one) (λ bad. cc) none
 
     -- a label with another token after it than a keyword of labelled statements
@@ -97,11 +97,11 @@ module _ (text : List ℕ) where
         (λ t e. step-floating_symbol 0 t e) is)
 
     -- both symbols are read, and no `$.` stands after them
-    pub end_fault : {after behind : ℕ} (c v : Name) → is_symbol c ≡ true → is_symbol v ≡ true → HasBetween text at after (c ∷ []) → HasBetween text after behind (v ∷ [])
-        → (fault : ReadFault) → IsTokenFault text behind 5 (λ w. name_eq w (codes "$.")) fault → IsFaultAfter text (label ∷ codes "$f" ∷ []) at fault
-    end_fault {after} {behind} c v symbol other has next fault is =
+    pub end_fault : {after_constant after_variable : ℕ} (c v : Name) → is_symbol c ≡ true → is_symbol v ≡ true → HasBetween text at after_constant (c ∷ []) → HasBetween text after_constant after_variable (v ∷ [])
+        → (fault : ReadFault) → IsTokenFault text after_variable 5 (λ w. name_eq w (codes "$.")) fault → IsFaultAfter text (label ∷ codes "$f" ∷ []) at fault
+    end_fault {after_constant} {after_variable} c v symbol other has next fault is =
         fault_back (label ∷ codes "$f" ∷ []) (between_on has next) fault
-        (token_after behind (label ∷ codes "$f" ∷ c ∷ v ∷ []) (floating 0) (goes_on label is_one (codes "$f") (floating 2) (c ∷ v ∷ []) refl ∙ go-floating_two c v symbol other) (λ bad. cc) 5
+        (token_after after_variable (label ∷ codes "$f" ∷ c ∷ v ∷ []) (floating 0) (goes_on label is_one (codes "$f") (floating 2) (c ∷ v ∷ []) refl ∙ go-floating_two c v symbol other) (λ bad. cc) 5
         (λ w. name_eq w (codes "$.")) fault refl (λ t e. step-floating_end t e) is)
 
     -- `$p`
@@ -110,14 +110,14 @@ module _ (text : List ℕ) where
 
     module _ {after : ℕ} (expr : List Name) (symbols : list_all is_symbol expr ≡ true) (many : 1 ≤ length expr) (has : HasBetween text at after (expr ++ codes "$=" ∷ [])) where
       -- the expression is read, and the tokens of the proof stop before a `$.`
-      pub proof_fault : (token : ℕ) → IsListStop text after 1 0 (codes "$.") token → IsFaultAfter text (label ∷ codes "$p" ∷ []) at (Shape (3 + length expr + token))
+      pub proof_fault : (token : ℕ) → HasBrokenList text after 1 0 (codes "$.") token → IsFaultAfter text (label ∷ codes "$p" ∷ []) at (Shape (3 + length expr + token))
       proof_fault token is =
           let done = label ∷ codes "$p" ∷ (expr ++ codes "$=" ∷ []) in
           let goes : go between done ≡ Some (listing 0) = goes_on label is_one (codes "$p") (proving 1) (expr ++ codes "$=" ∷ []) refl ∙ go-proving 1 expr (codes "$=" ∷ []) symbols many in
           fault_back (label ∷ codes "$p" ∷ []) has (Shape (3 + length expr + token))
           (λ tokens are.
           let s = is.stops tokens are in
-          let moved : StopsList tokens (length done + 1) 0 (codes "$.") (3 + length expr + token) = record {
+          let moved : BeginsBrokenList tokens (length done + 1) 0 (codes "$.") (3 + length expr + token) = record {
             ws = s.ws;
             rest = s.rest;
             symbols = s.symbols;

@@ -1,6 +1,6 @@
 -- The export form of statements reads as these statements: it is their tokens, each with one white byte after it, and no
 -- token of a statement begins or ends a comment.
-use Rattle.mm_read.proofs.Words.{◌≡◌, ℕ, ◌+◌, ◌-◌, Bool, true, false, not, ◌&&◌, ◌||◌, cond, List, [], ◌∷◌, ◌++◌, length, take, map, codes, list_all, sym, ◌∙◌, ap, arith, refl, true≢false, append_assoc, length-append, append-nil, take-append_seam, drop-append_seam, and_parts, and_from, nat_tests, list_all-map, list_all-append, word-visible, Span, Name, is_empty, is_white, is_visible, is_allowed, is_symbol, is_label, is_label_byte, has_byte, runs, runs_from, starts_white, with_byte, word, spaced, is_word, is_plain, words, Stmt, Open, Close, Const, Var, Disj, Float, Ess, Axiom, Prove, Database, is_shaped, are_symbols, has_two, stmt_tokens, spelled, export_of, white_run}
+use Rattle.mm_read.proofs.Words.{◌≡◌, ℕ, ◌+◌, ◌-◌, Bool, true, false, not, ◌&&◌, ◌||◌, cond, List, [], ◌∷◌, ◌++◌, length, take, map, codes, list_all, sym, ◌∙◌, ap, arith, refl, true≢false, append_assoc, length-append, append-nil, take-append_seam, drop-append_seam, and_parts, and_from, nat_tests, list_all-map, list_all-append, word-visible, Span, Name, is_empty, is_white, is_visible, is_allowed, is_symbol, is_label, is_label_byte, has_byte, runs, runs_from, starts_white, with_byte, word, spaced, is_word, is_plain, words, Stmt, Open, Close, Const, Var, Disj, Float, Ess, Axiom, Prove, Database, is_shaped, are_symbols, has_two, stmt_tokens, tokens_of, export_of, white_run}
 use Rattle.mm_read.specs.Laws as laws
 use Rattle.mm_read.proofs.StatementsLemmas.{symbol_plain, label_plain, symbols_of, plain_is_no_key}
 
@@ -200,11 +200,11 @@ stmt-tokens (Prove label ws proof) h =
     let parts : (is_label label ≡ true) × (are_symbols ws ≡ true) = and_parts (is_label label) (are_symbols ws) both.0 in
     rw (label_token label parts.0) (then_tokens ws (codes "$=" ∷ (proof ++ codes "$." ∷ [])) (symbols_of ws parts.1) (then_tokens proof (codes "$." ∷ []) both.1 refl))
 
-spelled-tokens : (S : Database) → list_all is_shaped S ≡ true → list_all is_token (spelled S) ≡ true
-spelled-tokens [] h = refl
-spelled-tokens (s ∷ S) h =
+tokens_of-are_tokens : (S : Database) → list_all is_shaped S ≡ true → list_all is_token (tokens_of S) ≡ true
+tokens_of-are_tokens [] h = refl
+tokens_of-are_tokens (s ∷ S) h =
     let parts : (is_shaped s ≡ true) × (list_all is_shaped S ≡ true) = and_parts (is_shaped s) (list_all is_shaped S) h in
-    list_all-append is_token (stmt_tokens s) (spelled S) ∙ and_from (list_all is_token (stmt_tokens s)) (list_all is_token (spelled S)) (stmt-tokens s parts.0) (spelled-tokens S parts.1)
+    list_all-append is_token (stmt_tokens s) (tokens_of S) ∙ and_from (list_all is_token (stmt_tokens s)) (list_all is_token (tokens_of S)) (stmt-tokens s parts.0) (tokens_of-are_tokens S parts.1)
 
 -- one part of a test of each
 all_words : (ws : List Name) → list_all is_token ws ≡ true → (list_all is_word ws ≡ true) × (list_all is_plain ws ≡ true)
@@ -239,7 +239,7 @@ export-laid (s ∷ S) =
     ∙ (ap (λ r. spaced (t.0 ∷ t.1) ++ 10 ∷ r) (export-laid S)
     ∙ (sym (append_assoc (spaced (t.0 ∷ t.1)) (10 ∷ []) (export_of S)) ∙ ap (λ ts. (spaced ts ++ 10 ∷ []) ++ export_of S) (sym t.2))))
 
-words-export : (S : Database) → laid_words (laid_of S) ≡ spelled S
+words-export : (S : Database) → laid_words (laid_of S) ≡ tokens_of S
 unfolding laid_of
 words-export [] = refl
 words-export (s ∷ S) = line-words (stmt_tokens s) (laid_of S) ∙ ap (λ r. stmt_tokens s ++ r) (words-export S)
@@ -252,7 +252,7 @@ export-is_laid (s ∷ S) h =
     line-is_laid (stmt_tokens s) (laid_of S) (all_words (stmt_tokens s) (stmt-tokens s parts.0)).0 (export-is_laid S parts.1)
 
 -- the runs of the export form have the words of the statements
-export_words : (S : Database) → list_all is_shaped S ≡ true → words (export_of S) (runs (export_of S)) ≡ spelled S
+export_words : (S : Database) → list_all is_shaped S ≡ true → words (export_of S) (runs (export_of S)) ≡ tokens_of S
 export_words S h = ap (λ text. words text (runs text)) (sym (export-laid S)) ∙ (words-laid (laid_of S) [] (export-is_laid S h) ∙ words-export S)
 
 -- the law: what is exported reads as the statements
@@ -267,7 +267,7 @@ export_reads S h = record {
         first = runs (export_of S);
         parts = [];
         whole = sym (append-nil (runs (export_of S)));
-        plain = sym (list_all-map is_plain (word (export_of S)) (runs (export_of S))) ∙ (ap (list_all is_plain) (export_words S h) ∙ (all_words (spelled S) (spelled-tokens S h)).1);
+        plain = sym (list_all-map is_plain (word (export_of S)) (runs (export_of S))) ∙ (ap (list_all is_plain) (export_words S h) ∙ (all_words (tokens_of S) (tokens_of-are_tokens S h)).1);
         comments = tt;
         outside = sym (append-nil (runs (export_of S)));
       },

@@ -1,5 +1,5 @@
 -- Where the tokens after others stop being a statement, the machine of `Places` stops.
-use Rattle.mm_read.proofs.Words.{◌≡◌, ℕ, ◌+◌, ◌-◌, ◌<◌, ◌⊎◌, zero, suc, true, false, cond, List, [], ◌∷◌, ◌++◌, length, Some, None, codes, list_all, option_and_then, sym, ◌∙◌, ap, arith, refl, inl, inr, subst, append_assoc, length-append, append-nil, and_parts, or_parts, Name, name_eq, has_name, is_symbol, is_label, Keyword, Other, IsShapeFault, IsKeyword, StopsList, EndsNoList}
+use Rattle.mm_read.proofs.Words.{◌≡◌, ℕ, ◌+◌, ◌-◌, ◌<◌, ◌⊎◌, zero, suc, true, false, cond, List, [], ◌∷◌, ◌++◌, length, Some, None, codes, list_all, option_and_then, sym, ◌∙◌, ap, arith, refl, inl, inr, subst, append_assoc, length-append, append-nil, and_parts, or_parts, Name, name_eq, has_name, is_symbol, is_label, Keyword, Other, IsShapeFault, IsKeyword, BeginsBrokenList, BreaksList}
 use Rattle.mm_read.specs.declared.keyword.Keyword.TheVariants.{Open, Close, Const, Var, Disj, Float, Ess, Axiom, Prove}
 use Rattle.mm_read.proofs.Places.{Place, between, labelled, listing, floating, proving, step, go, go-append}
 use Rattle.mm_read.proofs.ShapeFaults.{stops_at, ends_inside}
@@ -68,19 +68,19 @@ fewer least ws (inl few) = inl (omega (arith, few))
 fewer least ws (inr other) = inr other
 
 -- a token that ends no list up to `$.`
-listing_stuck : (least : ℕ) (ws rest : List Name) → EndsNoList least (codes "$.") ws rest → Stuck (listing (least - length ws)) rest
+listing_stuck : (least : ℕ) (ws rest : List Name) → BreaksList least (codes "$.") ws rest → Stuck (listing (least - length ws)) rest
 listing_stuck least ws [] why = tt
 listing_stuck least ws (t ∷ rest) why = step-listing_none (least - length ws) t why.0 (fewer least ws why.1)
 
 -- a token that ends no expression up to `$=`
-proving_stuck : (least : ℕ) (ws rest : List Name) → EndsNoList least (codes "$=") ws rest → Stuck (proving (least - length ws)) rest
+proving_stuck : (least : ℕ) (ws rest : List Name) → BreaksList least (codes "$=") ws rest → Stuck (proving (least - length ws)) rest
 proving_stuck least ws [] why = tt
 proving_stuck least ws (t ∷ rest) why = step-proving_none (least - length ws) t why.0 (fewer least ws why.1)
 
 -- ---- a list that stops
 
 module _ (done tokens : List Name) (number least : ℕ) (long : number ≡ length done + 1) (token : ℕ) where
-  module _ (end : Name) (s : StopsList tokens number least end token) where
+  module _ (end : Name) (s : BeginsBrokenList tokens number least end token) where
     -- the tokens before the one that does not fit
     split : done ++ tokens ≡ (done ++ s.ws) ++ s.rest
     split = ap (λ r. done ++ r) s.whole ∙ sym (append_assoc done s.ws s.rest)
@@ -90,14 +90,14 @@ module _ (done tokens : List Name) (number least : ℕ) (long : number ≡ lengt
     counted = omega (arith, s.place, long, length-append done s.ws)
 
   -- tokens that begin no list up to `$.` have their fault where the list stops
-  pub list_stops : go between done ≡ Some (listing least) → StopsList tokens number least (codes "$.") token → IsShapeFault (done ++ tokens) token
+  pub list_stops : go between done ≡ Some (listing least) → BeginsBrokenList tokens number least (codes "$.") token → IsShapeFault (done ++ tokens) token
   list_stops e s =
       subst (IsShapeFault (done ++ tokens)) (counted (codes "$.") s)
       (stuck (done ++ tokens) (done ++ s.ws) s.rest (listing (least - length s.ws)) (split (codes "$.") s)
       (go-append between done s.ws ∙ (ap (option_and_then (λ p. go p s.ws)) e ∙ go-listing_part least s.ws s.symbols)) (λ bad. cc) (listing_stuck least s.ws s.rest s.stop))
 
   -- .. and those that begin no expression up to `$=`
-  pub expr_stops : go between done ≡ Some (proving least) → StopsList tokens number least (codes "$=") token → IsShapeFault (done ++ tokens) token
+  pub expr_stops : go between done ≡ Some (proving least) → BeginsBrokenList tokens number least (codes "$=") token → IsShapeFault (done ++ tokens) token
   expr_stops e s =
       subst (IsShapeFault (done ++ tokens)) (counted (codes "$=") s)
       (stuck (done ++ tokens) (done ++ s.ws) s.rest (proving (least - length s.ws)) (split (codes "$=") s)

@@ -1,7 +1,7 @@
--- Two joined texts write the statements of the first and then those of the second, if no word goes on from the first into the
+-- Two joined texts read as the statements of the first and then those of the second, if no word goes on from the first into the
 -- other: the runs of both are those of the one and then those of the other, runs with the same words are cut at the same
 -- comments, and a cut may stand after another.
-use Rattle.mm_read.proofs.Words.{◌≡◌, ℕ, ◌+◌, ◌-◌, ◌<◌, suc, Bool, true, false, ◌||◌, if◌then◌else◌, List, [], ◌∷◌, ◌++◌, length, take, drop, Option, Some, None, Ok, Err, refl, list_all, sym, ◌∙◌, ap, arith, subst, true≢false, drop-append_seam, and_from, flat_map-append, drop-drop, map-append, list_all-append, Span, Name, name_eq, is_white, is_allowed, starts_white, with_byte, runs, runs_from, word, opener, closer, Cuts, words, append_step, Outcome, outside, inside, prepend, scan, scan-cut, cuts_as, cut-scan, cuts_join, is_shaped, stmt_tokens, spelled, HasTokens, is_apart}
+use Rattle.mm_read.proofs.Words.{◌≡◌, ℕ, ◌+◌, ◌-◌, ◌<◌, suc, Bool, true, false, ◌||◌, if◌then◌else◌, List, [], ◌∷◌, ◌++◌, length, take, drop, Option, Some, None, Ok, Err, refl, list_all, sym, ◌∙◌, ap, arith, subst, true≢false, drop-append_seam, and_from, flat_map-append, drop-drop, map-append, list_all-append, Span, Name, name_eq, is_white, is_allowed, starts_white, with_byte, runs, runs_from, word, opener, closer, Cuts, words, append_step, Outcome, outside, inside, prepend, scan, scan-cut, cuts_as, cut-scan, cuts_join, is_shaped, stmt_tokens, tokens_of, HasTokens, is_apart}
 use Rattle.std.proofs.lemmas.List.{append-nil}
 use Rattle.mm_read.specs.Laws as laws
 
@@ -35,32 +35,32 @@ StartsAt at [] = Unit {0}
 StartsAt at (s ∷ spans) = (s.start ≡ at) × (at < s.end)
 
 -- .. or ends after it
-abbrev EndsBehind : ℕ → List Span → Type 0
-EndsBehind at [] = Unit {0}
-EndsBehind at (s ∷ spans) = at < s.end
+abbrev EndsAfter : ℕ → List Span → Type 0
+EndsAfter at [] = Unit {0}
+EndsAfter at (s ∷ spans) = at < s.end
 
-with-starts : (at : ℕ) (t : Bool) (spans : List Span) → EndsBehind (at + 1) spans → StartsAt at (with_byte at t spans)
+with-starts : (at : ℕ) (t : Bool) (spans : List Span) → EndsAfter (at + 1) spans → StartsAt at (with_byte at t spans)
 with-starts at true spans later = (refl, omega arith)
 with-starts at false [] later = (refl, omega arith)
 with-starts at false (s ∷ spans) later = (refl, omega (arith, later))
 
 -- a first span that stands there ends after it
-ends_behind : (at : ℕ) (spans : List Span) → StartsAt at spans → EndsBehind at spans
-ends_behind at [] starts = tt
-ends_behind at (s ∷ spans) starts = starts.1
+ends_after : (at : ℕ) (spans : List Span) → StartsAt at spans → EndsAfter at spans
+ends_after at [] starts = tt
+ends_after at (s ∷ spans) starts = starts.1
 
 -- a run that ends after a place ends after the one before
-ends_earlier : (at : ℕ) (spans : List Span) → EndsBehind (at + 1) spans → EndsBehind at spans
+ends_earlier : (at : ℕ) (spans : List Span) → EndsAfter (at + 1) spans → EndsAfter at spans
 ends_earlier at [] later = tt
 ends_earlier at (s ∷ spans) later = omega (arith, later)
 
 -- one byte more before runs: the first of them ends after it
-ends_step : (at b : ℕ) (bytes : List ℕ) (t : Bool) → is_white b ≡ t → EndsBehind (at + 1) (runs_from (at + 1) bytes) → EndsBehind at (runs_from at (b ∷ bytes))
+ends_step : (at b : ℕ) (bytes : List ℕ) (t : Bool) → is_white b ≡ t → EndsAfter (at + 1) (runs_from (at + 1) bytes) → EndsAfter at (runs_from at (b ∷ bytes))
 ends_step at b bytes true e later = rw e (ends_earlier at (runs_from (at + 1) bytes) later)
 ends_step at b bytes false e later =
-    rw e (ends_behind at (with_byte at (starts_white bytes) (runs_from (at + 1) bytes)) (with-starts at (starts_white bytes) (runs_from (at + 1) bytes) later))
+    rw e (ends_after at (with_byte at (starts_white bytes) (runs_from (at + 1) bytes)) (with-starts at (starts_white bytes) (runs_from (at + 1) bytes) later))
 
-runs-end : (at : ℕ) (bytes : List ℕ) → EndsBehind at (runs_from at bytes)
+runs-end : (at : ℕ) (bytes : List ℕ) → EndsAfter at (runs_from at bytes)
 runs-end at [] = tt
 runs-end at (b ∷ bytes) = ends_step at b bytes (is_white b) refl (runs-end (at + 1) bytes)
 
@@ -73,8 +73,8 @@ span_of start end = record { start = start; end = end }
 
 module _ (text : List ℕ) (at b : ℕ) (bytes : List ℕ) (here : drop at text ≡ b ∷ bytes) where
   -- the bytes after the first
-  behind : drop (at + 1) text ≡ bytes
-  behind = sym (drop-drop 1 at text ∙ ap (λ n. drop n text) (omega arith)) ∙ ap (drop 1) here
+  bytes_after : drop (at + 1) text ≡ bytes
+  bytes_after = sym (drop-drop 1 at text ∙ ap (λ n. drop n text) (omega arith)) ∙ ap (drop 1) here
 
   word-one : word text (span_of at (at + 1)) ≡ b ∷ []
   word-one = let one : at + 1 - at ≡ 1 = omega arith in ap (λ n. take n (drop at text)) one ∙ ap (take 1) here
@@ -84,7 +84,7 @@ module _ (text : List ℕ) (at b : ℕ) (bytes : List ℕ) (here : drop at text 
       let one : s.end - at ≡ suc (s.end - (at + 1)) = omega (arith, long) in
       ap (λ n. take n (drop at text)) one
       ∙ (ap (take (suc (s.end - (at + 1)))) here
-      ∙ (ap (λ r. b ∷ take (s.end - (at + 1)) r) (sym behind) ∙ ap (λ n. b ∷ take (s.end - n) (drop n text)) (sym starts)))
+      ∙ (ap (λ r. b ∷ take (s.end - (at + 1)) r) (sym bytes_after) ∙ ap (λ n. b ∷ take (s.end - n) (drop n text)) (sym starts)))
 
   words-with : (t : Bool) (spans : List Span) → (t ≡ false → StartsAt (at + 1) spans) → words text (with_byte at t spans) ≡ with_first b t (words text spans)
   words-with true spans starts = ap (λ w. w ∷ words text spans) word-one
@@ -100,7 +100,7 @@ module _ (text : List ℕ) (at b : ℕ) (bytes : List ℕ) (here : drop at text 
 words-runs : (text more : List ℕ) (at : ℕ) (bytes : List ℕ) → drop at text ≡ bytes ++ more → words text (runs_from at bytes) ≡ run_words bytes
 words-runs text more at [] here = refl
 words-runs text more at (b ∷ bytes) here =
-    words-step text at b (bytes ++ more) here (is_white b) refl bytes (words-runs text more (at + 1) bytes (behind text at b (bytes ++ more) here))
+    words-step text at b (bytes ++ more) here (is_white b) refl bytes (words-runs text more (at + 1) bytes (bytes_after text at b (bytes ++ more) here))
 
 -- ---- runs with the same words
 
@@ -214,5 +214,5 @@ module _ (text other : List ℕ) (apart : is_apart text other ≡ true) where
 pub joined_reads : laws.JoinedReads
 joined_reads text other S T reads also apart = record {
   shaped = list_all-append is_shaped S T ∙ and_from (list_all is_shaped S) (list_all is_shaped T) reads.shaped also.shaped;
-  tokens = subst (HasTokens (text ++ other)) (sym (flat_map-append stmt_tokens S T)) (joined_tokens text other apart (spelled S) (spelled T) reads.tokens also.tokens);
+  tokens = subst (HasTokens (text ++ other)) (sym (flat_map-append stmt_tokens S T)) (joined_tokens text other apart (tokens_of S) (tokens_of T) reads.tokens also.tokens);
 }

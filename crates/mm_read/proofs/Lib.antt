@@ -1,7 +1,7 @@
 pub mod Words
 pub mod StatementsLemmas
 pub mod SpacedLemmas
-pub mod OneSpelling
+pub mod OneStatementList
 pub mod Places
 pub mod PlacesOver
 pub mod ShapeFaults

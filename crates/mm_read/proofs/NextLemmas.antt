@@ -1,12 +1,13 @@
--- Statement by statement from place to place: what stands between two places writes a statement, and the statements so far.
-use Rattle.mm_read.proofs.Words.{◌≡◌, ℕ, ◌+◌, ◌<◌, true, List, [], ◌∷◌, ◌++◌, length, codes, Result, Ok, Err, IfOk, IfErr, refl, list_all, sym, ◌∙◌, ap, arith, length-append, append-nil, and_from, Name, is_symbol, is_label, IsClean, HasBetween, AreBehind, CountBehind, between_on, between_as, behind_on, behind_as, behind_unique, Stmt, Float, Ess, Axiom, Prove, Database, are_symbols, is_shaped, stmt_tokens, spelled, Reads, IsNext, IsOneMore, AreBefore}
+-- Statement by statement from place to place: what stands between two places reads as a statement, and what stands before as the
+-- statements so far.
+use Rattle.mm_read.proofs.Words.{◌≡◌, ℕ, ◌+◌, ◌<◌, true, List, [], ◌∷◌, ◌++◌, length, codes, Result, Ok, Err, IfOk, IfErr, refl, list_all, sym, ◌∙◌, ap, arith, length-append, append-nil, and_from, Name, is_symbol, is_label, IsClean, HasBetween, AreAfter, CountAfter, between_on, between_as, after_on, after_as, after_unique, Stmt, Float, Ess, Axiom, Prove, Database, are_symbols, is_shaped, stmt_tokens, tokens_of, Reads, IsNext, IsOneMore, AreBefore}
 use Rattle.mm_read.proofs.StatementsLemmas.{append_middle}
-use Rattle.mm_read.proofs.StatementByStatement.{spelled-append, shaped-append}
+use Rattle.mm_read.proofs.StatementByStatement.{tokens_of-append, shaped-append}
 
 module _ {text : List ℕ} where
   -- tokens before a keyword that is this word
-  pub behind_word : {from at end : ℕ} {before : List Name} {word key : Name} → HasBetween text from at before → word ≡ key → HasBetween text at end (word ∷ []) → HasBetween text from end (before ++ key ∷ [])
-  behind_word {before = before} has e next = between_as (ap (λ w. before ++ w ∷ []) e) (between_on has next)
+  pub after_word : {from at end : ℕ} {before : List Name} {word key : Name} → HasBetween text from at before → word ≡ key → HasBetween text at end (word ∷ []) → HasBetween text from end (before ++ key ∷ [])
+  after_word {before = before} has e next = between_as (ap (λ w. before ++ w ∷ []) e) (between_on has next)
 
   -- a statement that ends with a list
   pub listed_next : {from at next : ℕ} {before ws : List Name} (s : Stmt) → from < at → HasBetween text from at before → HasBetween text at next ws → stmt_tokens s ≡ before ++ ws → is_shaped s ≡ true → IsNext text from s next
@@ -35,8 +36,8 @@ module _ {text : List ℕ} where
         listed_next (Axiom label expr) later has list (ap (λ l. l ∷ codes "$a" ∷ (expr ++ codes "$." ∷ [])) same) (and_from _ _ (ap is_label same ∙ is) symbols)
 
     -- `$f`
-    pub floating_next : {after behind next : ℕ} {constant variable : Name} → HasBetween text from at (old ∷ codes "$f" ∷ []) → HasBetween text at after (constant ∷ [])
-        → HasBetween text after behind (variable ∷ []) → HasBetween text behind next (codes "$." ∷ []) → is_symbol constant ≡ true → is_symbol variable ≡ true
+    pub floating_next : {after_constant after_variable next : ℕ} {constant variable : Name} → HasBetween text from at (old ∷ codes "$f" ∷ []) → HasBetween text at after_constant (constant ∷ [])
+        → HasBetween text after_constant after_variable (variable ∷ []) → HasBetween text after_variable next (codes "$." ∷ []) → is_symbol constant ≡ true → is_symbol variable ≡ true
         → IsNext text from (Float label constant variable) next
     floating_next {constant = constant} {variable = variable} has first second last c v =
         listed_next (Float label constant variable) later has (between_on first (between_on second last))
@@ -63,22 +64,22 @@ module _ {text : List ℕ} where
   pub before_more : {at next : ℕ} {old new : Database} → AreBefore text at old → IsOneMore text at next old new → AreBefore text next new
   before_more {old = old} are more = record {
     shaped = ap (list_all is_shaped) more.whole ∙ shaped-append old (more.statement ∷ []) are.shaped (and_from _ _ more.next_is.shaped refl);
-    between = between_as (ap (λ r. spelled old ++ r) (sym (append-nil (stmt_tokens more.statement))) ∙ (sym (spelled-append old (more.statement ∷ [])) ∙ ap spelled (sym more.whole)))
+    between = between_as (ap (λ r. tokens_of old ++ r) (sym (append-nil (stmt_tokens more.statement))) ∙ (sym (tokens_of-append old (more.statement ∷ [])) ∙ ap tokens_of (sym more.whole)))
         (between_on are.between more.next_is.between);
   }
 
   -- all of them
-  pub reads_all : (at : ℕ) (S : Database) → IsClean text → AreBefore text at S → AreBehind text at [] → Reads text S
+  pub reads_all : (at : ℕ) (S : Database) → IsClean text → AreBefore text at S → AreAfter text at [] → Reads text S
   reads_all at S clean are none =
-      let all : AreBehind text 0 (spelled S) = behind_as 0 (append-nil (spelled S)) (behind_on are.between none) in
+      let all : AreAfter text 0 (tokens_of S) = after_as 0 (append-nil (tokens_of S)) (after_on are.between none) in
       record { shaped = are.shaped; tokens = (all.0, (clean, all.1), all.2) }
 
 -- the tokens of the text are those of the statements and those after them
-pub count_before : (text : List ℕ) (at : ℕ) (S : Database) → AreBefore text at S → (n m : ℕ) → CountBehind text at n → CountBehind text 0 m → m ≡ length (spelled S) + n
+pub count_before : (text : List ℕ) (at : ℕ) (S : Database) → AreBefore text at S → (n m : ℕ) → CountAfter text at n → CountAfter text 0 m → m ≡ length (tokens_of S) + n
 count_before text at S are n m rest all =
-    let whole : AreBehind text 0 (spelled S ++ rest.0) = behind_on are.between rest.1 in
-    let same : spelled S ++ rest.0 ≡ all.0 = behind_unique 0 whole all.1 in
-    omega (arith, ap length same, length-append (spelled S) rest.0, rest.2, all.2)
+    let whole : AreAfter text 0 (tokens_of S ++ rest.0) = after_on are.between rest.1 in
+    let same : tokens_of S ++ rest.0 ≡ all.0 = after_unique 0 whole all.1 in
+    omega (arith, ap length same, length-append (tokens_of S) rest.0, rest.2, all.2)
 
 -- a property of a value that was returned gives the property that is to hold
 pub on_ok : {A E : Type 0} {P Q : A → Type 0} (r : Result A E) → ((x : A) → P x → Q x) → IfOk r P → IfOk r Q

@@ -1,8 +1,8 @@
--- Reading returns the one true answer: a text has tokens or one fault of the tokens, and its tokens write one list of
+-- Reading returns the one true answer: a text has tokens or one fault of the tokens, and its tokens read as one list of
 -- statements or have one misplaced token.
-use Rattle.mm_read.proofs.Words.{◌≡◌, ℕ, ◌⊎◌, List, Result, Ok, Err, MatchResult, IfOk, IfErr, IsErrAnd, sym, ◌∙◌, ap, refl, subst, inl, inr, Name, IsClean, words, IsFirstBadByte, IsCommentFault, AreBehind, IsClean-no_fault, AreTokens-unique, AreTokens-no_comment_fault, IsCommentFault-unique, ReadFault, Text, Shape, Memory, Database, spelled, HasTokens, Reads, IsShapeFault, HasShapeFault, IsReadFault, IsFaultOf}
+use Rattle.mm_read.proofs.Words.{◌≡◌, ℕ, ◌⊎◌, List, Result, Ok, Err, MatchResult, IfOk, IfErr, IsErrAnd, sym, ◌∙◌, ap, refl, subst, inl, inr, Name, IsClean, words, IsFirstBadByte, IsCommentFault, AreAfter, IsClean-no_fault, AreTokens-unique, AreTokens-no_comment_fault, IsCommentFault-unique, ReadFault, Text, Shape, Memory, Database, tokens_of, HasTokens, Reads, IsShapeFault, HasShapeFault, IsReadFault, IsFaultOf}
 use Rattle.mm_lex.specs.declared.fault.LexFault.TheVariants as lex
-use Rattle.mm_read.proofs.OneSpelling.{one_spelling}
+use Rattle.mm_read.proofs.OneStatementList.{one_statement_list}
 use Rattle.mm_read.proofs.ShapeFaults.{one_shape_fault}
 
 -- the tokens of a text are one list
@@ -11,7 +11,7 @@ same_tokens text ts us has also = sym has.2 ∙ (ap (words text) (AreTokens-uniq
 
 module _ (text : List ℕ) (clean : IsClean text) where
   -- the tokens after the first place are the text's
-  all_tokens : (ts : List Name) → AreBehind text 0 ts → HasTokens text ts
+  all_tokens : (ts : List Name) → AreAfter text 0 ts → HasTokens text ts
   all_tokens ts are = (are.0, (clean, are.1), are.2)
 
   -- a text with tokens has no fault of comments
@@ -31,21 +31,21 @@ module _ (text : List ℕ) (clean : IsClean text) where
   no_bad_byte offset is = absurd (IsClean-no_fault text offset clean is)
 
   module _ {V : Type 0} (items : V → Database) where
-    -- the statements are those that the text writes
+    -- the statements are those that the text reads as
     pub the_statements : (r : Result V ReadFault) → IfOk r (λ v. Reads text (items v)) → IfErr r (IsFaultOf text)
         → (S : Database) → Reads text S → MatchResult r (λ v. items v ≡ S) (λ fault. fault ≡ Memory)
-    the_statements (Ok v) found fault S reads = one_spelling (items v) S found.shaped reads.shaped (same_tokens text (spelled (items v)) (spelled S) found.tokens reads.tokens)
+    the_statements (Ok v) found fault S reads = one_statement_list (items v) S found.shaped reads.shaped (same_tokens text (tokens_of (items v)) (tokens_of S) found.tokens reads.tokens)
     the_statements (Err (Text (lex.Text offset))) found fault S reads = absurd fault
-    the_statements (Err (Text (lex.Comment offset))) found fault S reads = absurd (no_comment_fault (spelled S) offset reads.tokens (clean, fault))
+    the_statements (Err (Text (lex.Comment offset))) found fault S reads = absurd (no_comment_fault (tokens_of S) offset reads.tokens (clean, fault))
     the_statements (Err (Text lex.Memory)) found fault S reads = absurd fault
     the_statements (Err (Shape t)) found fault S reads =
-        absurd (fault.2.none S reads.shaped (same_tokens text (spelled S) fault.0 reads.tokens (all_tokens fault.0 fault.1)))
+        absurd (fault.2.none S reads.shaped (same_tokens text (tokens_of S) fault.0 reads.tokens (all_tokens fault.0 fault.1)))
     the_statements (Err Memory) found fault S reads = refl
 
     -- the fault of the comments is the one that the text has
     pub the_comment_fault : (r : Result V ReadFault) → IfOk r (λ v. Reads text (items v)) → IfErr r (IsFaultOf text)
         → (offset : ℕ) → IsCommentFault text offset → r ≡ Err (Text (lex.Comment offset))
-    the_comment_fault (Ok v) found fault offset is = absurd (no_comment_fault (spelled (items v)) offset found.tokens is)
+    the_comment_fault (Ok v) found fault offset is = absurd (no_comment_fault (tokens_of (items v)) offset found.tokens is)
     the_comment_fault (Err (Text (lex.Text o))) found fault offset is = absurd fault
     the_comment_fault (Err (Text (lex.Comment o))) found fault offset is = ap (λ o. Err (Text (lex.Comment o))) (IsCommentFault-unique text o offset (clean, fault) is)
     the_comment_fault (Err (Text lex.Memory)) found fault offset is = absurd fault
@@ -55,7 +55,7 @@ module _ (text : List ℕ) (clean : IsClean text) where
     -- the misplaced token is the one that the text has
     pub the_shape_fault : (r : Result V ReadFault) → IfOk r (λ v. Reads text (items v)) → IfErr r (IsFaultOf text)
         → (token : ℕ) → HasShapeFault text token → IsErrAnd r (λ fault. (fault ≡ Shape token) ⊎ (fault ≡ Memory))
-    the_shape_fault (Ok v) found fault token has = absurd (has.2.none (items v) found.shaped (same_tokens text (spelled (items v)) has.0 found.tokens has.1))
+    the_shape_fault (Ok v) found fault token has = absurd (has.2.none (items v) found.shaped (same_tokens text (tokens_of (items v)) has.0 found.tokens has.1))
     the_shape_fault (Err (Text (lex.Text o))) found fault token has = absurd fault
     the_shape_fault (Err (Text (lex.Comment o))) found fault token has = absurd (no_comment_fault has.0 o has.1 (clean, fault))
     the_shape_fault (Err (Text lex.Memory)) found fault token has = absurd fault
@@ -74,20 +74,20 @@ module _ (text : List ℕ) (offset : ℕ) (bad : IsFirstBadByte text offset) whe
   pub bad_no_comment : {P : Type 0} (at : ℕ) → IsCommentFault text at → P
   bad_no_comment at is = absurd (IsClean-no_fault text offset is.0 bad)
 
--- a text that writes statements writes these alone, and has no fault
+-- a text that reads as statements reads as these alone, and has no fault
 module _ (text : List ℕ) (T : Database) (reads : Reads text T) where
   -- the statements are one list
   pub one_reading : (S : Database) → Reads text S → T ≡ S
-  one_reading S also = one_spelling T S reads.shaped also.shaped (same_tokens text (spelled T) (spelled S) reads.tokens also.tokens)
+  one_reading S also = one_statement_list T S reads.shaped also.shaped (same_tokens text (tokens_of T) (tokens_of S) reads.tokens also.tokens)
 
   -- each byte is allowed
   pub read_no_bad_byte : {P : Type 0} (offset : ℕ) → IsFirstBadByte text offset → P
-  read_no_bad_byte offset is = bad_no_tokens text offset is (spelled T) reads.tokens
+  read_no_bad_byte offset is = bad_no_tokens text offset is (tokens_of T) reads.tokens
 
   -- no comment is at fault
   pub read_no_comment_fault : {P : Type 0} (offset : ℕ) → IsCommentFault text offset → P
-  read_no_comment_fault offset is = absurd (no_comment_fault text reads.tokens.1.0 (spelled T) offset reads.tokens is)
+  read_no_comment_fault offset is = absurd (no_comment_fault text reads.tokens.1.0 (tokens_of T) offset reads.tokens is)
 
   -- no token is misplaced
   pub read_no_shape_fault : {P : Type 0} (token : ℕ) → HasShapeFault text token → P
-  read_no_shape_fault token has = absurd (has.2.none T reads.shaped (same_tokens text (spelled T) has.0 reads.tokens has.1))
+  read_no_shape_fault token has = absurd (has.2.none T reads.shaped (same_tokens text (tokens_of T) has.0 reads.tokens has.1))

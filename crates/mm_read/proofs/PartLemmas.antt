@@ -1,48 +1,48 @@
 -- The parts of a statement after a place: what stands there when a part does not.
-use Rattle.mm_read.proofs.Words.{◌≡◌, ℕ, Bool, ◌+◌, ◌<◌, ◌≤◌, ◌⊎◌, true, false, List, [], ◌∷◌, ◌++◌, length, Option, Some, None, list_all, sym, ◌∙◌, arith, refl, subst, append_assoc, length-append, Span, Name, name_eq, is_symbol, word, AreBehind, IsTokenBehind, EndsSymbols, IsListEnd, behind_rest, behind_unique, between_few, behind_few, IsListStop, StartsOtherwise}
+use Rattle.mm_read.proofs.Words.{◌≡◌, ℕ, Bool, ◌+◌, ◌<◌, ◌≤◌, ◌⊎◌, true, false, List, [], ◌∷◌, ◌++◌, length, Option, Some, None, list_all, sym, ◌∙◌, arith, refl, subst, append_assoc, length-append, Span, Name, name_eq, is_symbol, word, AreAfter, IsTokenAfter, EndsSymbols, IsListEnd, after_rest, after_unique, between_few, after_few, HasBrokenList, StartsOtherwise}
 use Rattle.std.proofs.lemmas.List.{append-nil}
 
 -- no more symbols stand in a list than bytes
 pub list_few : (text : List ℕ) (at : ℕ) (ws : List Name) (stop : Option Span) → at ≤ length text → IsListEnd text at ws stop → length ws + at ≤ length text
 list_few text at ws (Some s) within is = omega (arith, between_few text at s.end (ws ++ word text s ∷ []) is.between, length-append ws (word text s ∷ []), is.token.within)
-list_few text at ws None within all = behind_few text at ws within all
+list_few text at ws None within all = after_few text at ws within all
 
 module _ {text : List ℕ} (at : ℕ) where
   -- ---- one token
 
   -- no token is left
-  pub starts_none : (fits : Name → Bool) → AreBehind text at [] → (tokens : List Name) → AreBehind text at tokens → StartsOtherwise fits tokens
-  starts_none fits none tokens are = subst (StartsOtherwise fits) (behind_unique at none are) tt
+  pub starts_none : (fits : Name → Bool) → AreAfter text at [] → (tokens : List Name) → AreAfter text at tokens → StartsOtherwise fits tokens
+  starts_none fits none tokens are = subst (StartsOtherwise fits) (after_unique at none are) tt
 
   -- the next token is of another kind
-  pub starts_other : (fits : Name → Bool) (s : Span) → IsTokenBehind text at s → fits (word text s) ≡ false → (tokens : List Name) → AreBehind text at tokens → StartsOtherwise fits tokens
+  pub starts_other : (fits : Name → Bool) (s : Span) → IsTokenAfter text at s → fits (word text s) ≡ false → (tokens : List Name) → AreAfter text at tokens → StartsOtherwise fits tokens
   starts_other fits s is other tokens are =
-      let r : (us : List Name) × AreBehind text s.end us × (tokens ≡ word text s ∷ us) = behind_rest is.between are in
+      let r : (us : List Name) × AreAfter text s.end us × (tokens ≡ word text s ∷ us) = after_rest is.between are in
       subst (StartsOtherwise fits) (sym r.2) other
 
   -- ---- a list
 
   module _ (ws : List Name) (symbols : list_all is_symbol ws ≡ true) (number least : ℕ) (end : Name) where
     -- the text ends
-    pub stops_at_end : at ≤ length text → AreBehind text at ws → IsListStop text at number least end (number + length ws)
+    pub stops_at_end : at ≤ length text → AreAfter text at ws → HasBrokenList text at number least end (number + length ws)
     stops_at_end within all = record {
-      few = omega (arith, behind_few text at ws within all);
+      few = omega (arith, after_few text at ws within all);
       stops = λ tokens are. record {
         ws = ws;
         rest = [];
         symbols = symbols;
-        whole = sym (behind_unique at all are) ∙ sym (append-nil ws);
+        whole = sym (after_unique at all are) ∙ sym (append-nil ws);
         place = refl;
         stop = tt;
       };
     }
 
     -- another token
-    pub stops_otherwise : (s : Span) → EndsSymbols text at ws s → (length ws < least) ⊎ (name_eq (word text s) end ≡ false) → IsListStop text at number least end (number + length ws)
+    pub stops_otherwise : (s : Span) → EndsSymbols text at ws s → (length ws < least) ⊎ (name_eq (word text s) end ≡ false) → HasBrokenList text at number least end (number + length ws)
     stops_otherwise s is why = record {
       few = omega (arith, between_few text at s.end (ws ++ word text s ∷ []) is.between, length-append ws (word text s ∷ []), is.token.within);
       stops = λ tokens are.
-          let r : (us : List Name) × AreBehind text s.end us × (tokens ≡ (ws ++ word text s ∷ []) ++ us) = behind_rest is.between are in record {
+          let r : (us : List Name) × AreAfter text s.end us × (tokens ≡ (ws ++ word text s ∷ []) ++ us) = after_rest is.between are in record {
             ws = ws;
             rest = word text s ∷ r.0;
             symbols = symbols;

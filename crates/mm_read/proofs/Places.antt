@@ -1,6 +1,6 @@
 -- How far the tokens of a list of statements have come: a machine that goes over them one by one, and goes on exactly where
 -- some list of statements does.
-use Rattle.mm_read.proofs.Words.{◌≡◌, ℕ, ◌≤◌, zero, suc, Bool, true, false, ◌&&◌, cond, List, [], ◌∷◌, ◌++◌, length, Option, Some, None, codes, list_all, option_and_then, sym, ◌∙◌, ap, arith, refl, subst, and_parts, option_and_then_some, same_Some, Name, name_eq, is_symbol, is_label, Stmt, Open, Close, Const, Var, Disj, Float, Ess, Axiom, Prove, Database, AreShaped, is_shaped, stmt_tokens, spelled, CanGoOn}
+use Rattle.mm_read.proofs.Words.{◌≡◌, ℕ, ◌≤◌, zero, suc, Bool, true, false, ◌&&◌, cond, List, [], ◌∷◌, ◌++◌, length, Option, Some, None, codes, list_all, option_and_then, sym, ◌∙◌, ap, arith, refl, subst, and_parts, option_and_then_some, same_Some, Name, name_eq, is_symbol, is_label, Stmt, Open, Close, Const, Var, Disj, Float, Ess, Axiom, Prove, Database, AreShaped, is_shaped, stmt_tokens, tokens_of, CanGoOn}
 pub use Rattle.mm_lex.proofs.NameLemmas.{same_name as same}
 use Rattle.mm_read.proofs.StatementsLemmas.{append_middle, are_symbols_of, has_two_of}
 
@@ -49,18 +49,18 @@ go-append q (t ∷ xs) ys = by (λ p. go-append p xs ys) (step q t)
 -- ---- the tokens that can follow at a place
 
 abbrev pub CanFollow : Place → List Name → Type 0
-CanFollow between tokens = (S : Database) × AreShaped S × (spelled S ≡ tokens)
-CanFollow labelled tokens = (label : Name) → is_label label ≡ true → (S : Database) × AreShaped S × (spelled S ≡ label ∷ tokens)
+CanFollow between tokens = (S : Database) × AreShaped S × (tokens_of S ≡ tokens)
+CanFollow labelled tokens = (label : Name) → is_label label ≡ true → (S : Database) × AreShaped S × (tokens_of S ≡ label ∷ tokens)
 CanFollow (listing n) tokens =
-    (ws : List Name) × (S : Database) × (list_all is_symbol ws ≡ true) × (n ≤ length ws) × AreShaped S × (ws ++ codes "$." ∷ spelled S ≡ tokens)
+    (ws : List Name) × (S : Database) × (list_all is_symbol ws ≡ true) × (n ≤ length ws) × AreShaped S × (ws ++ codes "$." ∷ tokens_of S ≡ tokens)
 CanFollow (floating n) tokens =
-    (ws : List Name) × (S : Database) × (list_all is_symbol ws ≡ true) × (length ws ≡ n) × AreShaped S × (ws ++ codes "$." ∷ spelled S ≡ tokens)
+    (ws : List Name) × (S : Database) × (list_all is_symbol ws ≡ true) × (length ws ≡ n) × AreShaped S × (ws ++ codes "$." ∷ tokens_of S ≡ tokens)
 CanFollow (proving n) tokens =
     (ws : List Name) × (proof : List Name) × (S : Database) × (list_all is_symbol ws ≡ true) × (list_all is_symbol proof ≡ true) × (n ≤ length ws) × AreShaped S
-    × (ws ++ codes "$=" ∷ (proof ++ codes "$." ∷ spelled S) ≡ tokens)
+    × (ws ++ codes "$=" ∷ (proof ++ codes "$." ∷ tokens_of S) ≡ tokens)
 
 -- one more statement before the others
-add : (s : Stmt) (S : Database) (tokens : List Name) → is_shaped s ≡ true → AreShaped S → stmt_tokens s ++ spelled S ≡ tokens → CanFollow between tokens
+add : (s : Stmt) (S : Database) (tokens : List Name) → is_shaped s ≡ true → AreShaped S → stmt_tokens s ++ tokens_of S ≡ tokens → CanFollow between tokens
 add s S tokens hs hS e = (s ∷ S, rw hs hS, e)
 
 -- a list of a keyword, symbols and `$.`
@@ -68,18 +68,18 @@ list_follows : (make : List Name → Stmt) (k : Name) (n : ℕ) (tokens : List N
     → ((ws : List Name) → list_all is_symbol ws ≡ true → n ≤ length ws → is_shaped (make ws) ≡ true)
     → ((ws : List Name) → stmt_tokens (make ws) ≡ k ∷ (ws ++ codes "$." ∷ []))
     → CanFollow (listing n) tokens → CanFollow between (k ∷ tokens)
-list_follows make k n tokens shaped tokens_of (ws, S, all, many, hS, e) =
+list_follows make k n tokens shaped whole_of (ws, S, all, many, hS, e) =
     add (make ws) S (k ∷ tokens) (shaped ws all many) hS
-    (ap (λ r. r ++ spelled S) (tokens_of ws) ∙ ap (λ r. k ∷ r) (append_middle ws (codes "$.") [] (spelled S) ∙ e))
+    (ap (λ r. r ++ tokens_of S) (whole_of ws) ∙ ap (λ r. k ∷ r) (append_middle ws (codes "$.") [] (tokens_of S) ∙ e))
 
 -- the same after a label
 labelled_follows : (make : List Name → Stmt) (label k : Name) (tokens : List Name)
     → ((ws : List Name) → list_all is_symbol ws ≡ true → 1 ≤ length ws → is_shaped (make ws) ≡ true)
     → ((ws : List Name) → stmt_tokens (make ws) ≡ label ∷ k ∷ (ws ++ codes "$." ∷ []))
     → CanFollow (listing 1) tokens → CanFollow between (label ∷ k ∷ tokens)
-labelled_follows make label k tokens shaped tokens_of (ws, S, all, many, hS, e) =
+labelled_follows make label k tokens shaped whole_of (ws, S, all, many, hS, e) =
     add (make ws) S (label ∷ k ∷ tokens) (shaped ws all many) hS
-    (ap (λ r. r ++ spelled S) (tokens_of ws) ∙ ap (λ r. label ∷ k ∷ r) (append_middle ws (codes "$.") [] (spelled S) ∙ e))
+    (ap (λ r. r ++ tokens_of S) (whole_of ws) ∙ ap (λ r. label ∷ k ∷ r) (append_middle ws (codes "$.") [] (tokens_of S) ∙ e))
 
 -- `$f` after a label, with two symbols
 float_follows : (label : Name) (tokens : List Name) → is_label label ≡ true → CanFollow (floating 2) tokens → CanFollow between (label ∷ codes "$f" ∷ tokens)
@@ -95,7 +95,7 @@ float_follows label tokens h (c ∷ v ∷ u ∷ ws, S, all, two, hS, e) = absurd
 prove_follows : (label : Name) (tokens : List Name) → is_label label ≡ true → CanFollow (proving 1) tokens → CanFollow between (label ∷ codes "$p" ∷ tokens)
 prove_follows label tokens h (ws, proof, S, all, all_proof, many, hS, e) =
     add (Prove label ws proof) S (label ∷ codes "$p" ∷ tokens) (rw (h, are_symbols_of ws all many) all_proof) hS
-    (ap (λ r. label ∷ codes "$p" ∷ r) (append_middle ws (codes "$=") (proof ++ codes "$." ∷ []) (spelled S) ∙ (ap (λ r. ws ++ codes "$=" ∷ r) (append_middle proof (codes "$.") [] (spelled S)) ∙ e)))
+    (ap (λ r. label ∷ codes "$p" ∷ r) (append_middle ws (codes "$=") (proof ++ codes "$." ∷ []) (tokens_of S) ∙ (ap (λ r. ws ++ codes "$=" ∷ r) (append_middle proof (codes "$.") [] (tokens_of S)) ∙ e)))
 
 -- ---- a step back
 

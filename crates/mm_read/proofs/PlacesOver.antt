@@ -1,5 +1,5 @@
 -- The machine of `Places` goes over each list of statements, back to where statements may begin.
-use Rattle.mm_read.proofs.Words.{◌≡◌, ℕ, ◌≤◌, zero, suc, true, false, ◌&&◌, cond, List, [], ◌∷◌, ◌++◌, length, Some, None, codes, list_all, option_and_then, sym, ◌∙◌, ap, arith, refl, true≢false, append_assoc, and_parts, Name, name_eq, is_symbol, is_label, has_byte, Stmt, Open, Close, Const, Var, Disj, Float, Ess, Axiom, Prove, Database, is_shaped, are_symbols, has_two, stmt_tokens, spelled}
+use Rattle.mm_read.proofs.Words.{◌≡◌, ℕ, ◌≤◌, zero, suc, true, false, ◌&&◌, cond, List, [], ◌∷◌, ◌++◌, length, Some, None, codes, list_all, option_and_then, sym, ◌∙◌, ap, arith, refl, true≢false, append_assoc, and_parts, Name, name_eq, is_symbol, is_label, has_byte, Stmt, Open, Close, Const, Var, Disj, Float, Ess, Axiom, Prove, Database, is_shaped, are_symbols, has_two, stmt_tokens, tokens_of}
 use Rattle.mm_read.proofs.StatementsLemmas.{label_plain, symbols_of, append_middle, plain_is_no_key}
 use Rattle.mm_read.proofs.Places.{between, labelled, listing, floating, proving, step, go}
 
@@ -86,8 +86,8 @@ go-statement (Prove label ws proof) tokens h =
     ∙ go-list 0 proof tokens both.1 (omega arith)))
 
 -- statements bring it back to where statements may begin
-pub go-spelled : (S : Database) (tokens : List Name) → list_all is_shaped S ≡ true → go between (spelled S ++ tokens) ≡ go between tokens
-go-spelled [] tokens h = refl
-go-spelled (s ∷ S) tokens h =
+pub go-tokens_of : (S : Database) (tokens : List Name) → list_all is_shaped S ≡ true → go between (tokens_of S ++ tokens) ≡ go between tokens
+go-tokens_of [] tokens h = refl
+go-tokens_of (s ∷ S) tokens h =
     let parts : (is_shaped s ≡ true) × (list_all is_shaped S ≡ true) = and_parts (is_shaped s) (list_all is_shaped S) h in
-    ap (go between) (append_assoc (stmt_tokens s) (spelled S) tokens) ∙ (go-statement s (spelled S ++ tokens) parts.0 ∙ go-spelled S tokens parts.1)
+    ap (go between) (append_assoc (stmt_tokens s) (tokens_of S) tokens) ∙ (go-statement s (tokens_of S ++ tokens) parts.0 ∙ go-tokens_of S tokens parts.1)

@@ -1,4 +1,4 @@
--- Small texts, worked out: the statements that they write, their export form, and the tokens that fit nowhere.
+-- Small texts, worked out: the statements that they read as, their export form, and misplaced tokens.
 use Rattle.mm_read.proofs.Words.{◌≡◌, ℕ, [], ◌∷◌, ◌++◌, false, codes, refl, Span, Const, Float, Axiom, Prove, Database, is_shaped, Reads, IsShapeFault, line_of, export_of, with_proof}
 use Rattle.mm_read.proofs.Places.{between, labelled, listing, floating, proving}
 use Rattle.mm_read.proofs.ShapeFaults.{stops_at, ends_inside}
@@ -15,17 +15,17 @@ comment_between_statements : Reads (codes "$c |- $. $( hi $) p $a |- $. q $p |- 
 unfolding smallest
 comment_between_statements =
     let before = from_to 0 2 ∷ from_to 3 5 ∷ from_to 6 8 ∷ [] in
-    let behind =
+    let after =
     from_to 18 19 ∷ from_to 20 22 ∷ from_to 23 25 ∷ from_to 26 28 ∷ from_to 29 30 ∷ from_to 31 33 ∷ from_to 34 36 ∷ from_to 37 39 ∷ from_to 40 41 ∷ from_to 42 44 ∷ [] in
     record {
       shaped = refl;
       tokens = (
-        before ++ behind,
+        before ++ after,
         (
           refl,
           record {
             first = before;
-            parts = record { begin = from_to 9 11; inside = from_to 12 14 ∷ []; end = from_to 15 17; after = behind } ∷ [];
+            parts = record { begin = from_to 9 11; inside = from_to 12 14 ∷ []; end = from_to 15 17; after = after } ∷ [];
             whole = refl;
             plain = refl;
             comments = (record { begins = refl; inside = refl; ends = refl; after = refl }, tt);
@@ -53,7 +53,7 @@ no_proof = refl
 label_needs_label_bytes : is_shaped (Float (codes "(x)") (codes "wff") (codes "x")) ≡ false
 label_needs_label_bytes = refl
 
--- ---- tokens that fit nowhere
+-- ---- misplaced tokens
 
 -- `$c a` ends inside of a statement
 unfinished : IsShapeFault (codes "$c" ∷ codes "a" ∷ []) 3

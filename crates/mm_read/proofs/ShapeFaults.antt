@@ -1,14 +1,14 @@
 -- Each list of tokens is statements, or has one misplaced token: it is the one at which the machine of `Places` stops.
-use Rattle.mm_read.proofs.Words.{◌≡◌, ℕ, ◌+◌, ◌-◌, ◌<◌, ◌≤◌, zero, suc, Bool, true, false, ◌⊎◌, List, [], ◌∷◌, ◌++◌, length, take, Option, Some, None, list_all, option_and_then, sym, ◌∙◌, ap, arith, refl, subst, inl, inr, append_assoc, ltb-true, ltb-false, nat_lt, append-nil, take_all, take-append_seam, take-append-add, same_Some, Name, Database, AreShaped, is_shaped, spelled, CanGoOn, IsShapeFault}
+use Rattle.mm_read.proofs.Words.{◌≡◌, ℕ, ◌+◌, ◌-◌, ◌<◌, ◌≤◌, zero, suc, Bool, true, false, ◌⊎◌, List, [], ◌∷◌, ◌++◌, length, take, Option, Some, None, list_all, option_and_then, sym, ◌∙◌, ap, arith, refl, subst, inl, inr, append_assoc, ltb-true, ltb-false, nat_lt, append-nil, take_all, take-append_seam, take-append-add, same_Some, Name, Database, AreShaped, is_shaped, tokens_of, CanGoOn, IsShapeFault}
 use Rattle.mm_read.specs.Laws as laws
 use Rattle.mm_read.proofs.Places.{Place, between, labelled, listing, floating, proving, step, go, go-append, go_back, can_go_on}
-use Rattle.mm_read.proofs.PlacesOver.{go-spelled}
+use Rattle.mm_read.proofs.PlacesOver.{go-tokens_of}
 
 -- the machine goes on over the beginning of a list of statements
-module _ (xs rest : List Name) (S : Database) (shaped : list_all is_shaped S ≡ true) (whole : spelled S ≡ xs ++ rest) where
+module _ (xs rest : List Name) (S : Database) (shaped : list_all is_shaped S ≡ true) (whole : tokens_of S ≡ xs ++ rest) where
   -- after what it went over, the rest brings it to where statements may begin
   goes_over : option_and_then (λ p. go p rest) (go between xs) ≡ Some between
-  goes_over = sym (go-append between xs rest) ∙ (ap (go between) (sym whole ∙ sym (append-nil (spelled S))) ∙ go-spelled S [] shaped)
+  goes_over = sym (go-append between xs rest) ∙ (ap (go between) (sym whole ∙ sym (append-nil (tokens_of S))) ∙ go-tokens_of S [] shaped)
 
   -- so it does not stop there
   no_stop : go between xs ≡ None → ⊥
@@ -41,7 +41,7 @@ stops_at done rest t p e stop = record {
 -- the tokens end inside of a statement
 pub ends_inside : (done : List Name) (p : Place) → go between done ≡ Some p → (p ≡ between → ⊥) → IsShapeFault done (length done + 1)
 ends_inside done p e inside = record {
-  none = λ S hS is. inside (same_Some p between (sym e ∙ (ap (go between) (sym is ∙ sym (append-nil (spelled S))) ∙ go-spelled S [] hS)));
+  none = λ S hS is. inside (same_Some p between (sym e ∙ (ap (go between) (sym is ∙ sym (append-nil (tokens_of S))) ∙ go-tokens_of S [] hS)));
   before = subst CanGoOn (sym first) (can_go_on done p e);
   here = inr refl;
 }
@@ -52,7 +52,7 @@ ends_inside done p e inside = record {
 -- ---- statements or a fault
 
 abbrev Answer : List Name → Type 0
-Answer tokens = ((S : Database) × AreShaped S × (spelled S ≡ tokens)) ⊎ ((token : ℕ) × IsShapeFault tokens token)
+Answer tokens = ((S : Database) × AreShaped S × (tokens_of S ≡ tokens)) ⊎ ((token : ℕ) × IsShapeFault tokens token)
 
 -- where the tokens end: statements, or a fault one after the last
 at_end : (done : List Name) (p : Place) → go between done ≡ Some p → Answer done
@@ -74,9 +74,9 @@ walk (t ∷ rest) done p e = by (λ q is. walk rest (done ++ t ∷ []) q is) (st
     by on None is = inr (length done + 1, stops_at done rest t p e is)
     by on (Some q) is = subst Answer (one_more done rest t) (on q (more (Some q) is))
 
--- the law: tokens spell statements or have a shape fault
-pub spelled_or_faulty : laws.SpelledOrFaulty
-spelled_or_faulty tokens = walk tokens [] between refl
+-- the law: tokens read as statements or have a shape fault
+pub statements_or_fault : laws.StatementsOrFault
+statements_or_fault tokens = walk tokens [] between refl
 
 -- ---- one token
 

@@ -1,4 +1,4 @@
--- The export form: the one text in which a list of statements is written.
+-- The export form: the one text as which a list of statements is exported.
 -- Source: this project's choice; each statement is its tokens (Metamath, 4.1).
 -- The code copies the words as they are stored.
 use Rattle.std.specs.Prelude.{ℕ, List, [], ◌∷◌, ◌++◌, flat_map}

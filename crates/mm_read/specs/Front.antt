@@ -1,10 +1,10 @@
--- The front of the text after a place: a keyword, a list of symbols, one token, or something that does not fit there.
+-- The front of the text after a place: a keyword, a list of symbols, one token, or a misplaced token.
 -- Source: Metamath, 4.1 and appendix E.
 -- The calls that read the parts of a statement meet these; `Reads` is the same for a whole text.
 use Rattle.std.specs.Prelude.{◌≡◌, ℕ, Bool, ◌+◌, ◌<◌, ◌≤◌, ◌⊎◌, IsTrue, IsFalse, List, [], ◌∷◌, ◌++◌, length, codes}
 use Rattle.std.specs.List.{list_all}
 use Rattle.mm_lex.specs.Alphabet.{Name, name_eq, has_name, is_symbol}
-use Rattle.mm_lex.specs.Between.{AreBehind, StopsBehind}
+use Rattle.mm_lex.specs.Between.{AreAfter, StopsAfter}
 use Rattle.mm_read.specs.declared.keyword.Keyword.{Keyword}
 use Rattle.mm_read.specs.declared.keyword.Keyword.TheVariants.{Open, Close, Const, Var, Disj, Float, Ess, Axiom, Prove, Other}
 use Rattle.mm_read.specs.declared.fault.ReadFault.{ReadFault}
@@ -27,29 +27,30 @@ IsKeyword Axiom w = w ≡ codes "$a"
 IsKeyword Prove w = w ≡ codes "$p"
 IsKeyword Other w = IsFalse (has_name w keywords)
 
--- what follows the symbols `ws` ends no list of at least `least` symbols with this keyword
-abbrev pub EndsNoList : ℕ → Name → List Name → List Name → Type 0
-EndsNoList least end ws [] = Unit {0}
-EndsNoList least end ws (t ∷ rest) = IsFalse (is_symbol t) × ((length ws < least) ⊎ IsFalse (name_eq t end))
+-- a list of at least `least` symbols with this keyword at its end breaks off after the symbols `ws`: there is no further
+-- token, or one that neither continues the list nor ends it
+abbrev pub BreaksList : ℕ → Name → List Name → List Name → Type 0
+BreaksList least end ws [] = Unit {0}
+BreaksList least end ws (t ∷ rest) = IsFalse (is_symbol t) × ((length ws < least) ⊎ IsFalse (name_eq t end))
 
--- these tokens begin with no such list, and `token` is the first that does not fit, counted from `number`
-pub record StopsList (tokens : List Name) (number least : ℕ) (end : Name) (token : ℕ) : Type 0 where
+-- these tokens begin with such a list up to where it breaks off, at `token`, counted from `number`
+pub record BeginsBrokenList (tokens : List Name) (number least : ℕ) (end : Name) (token : ℕ) : Type 0 where
   pub ws : List Name
   pub rest : List Name
   pub symbols : IsTrue (list_all is_symbol ws)
   pub whole : tokens ≡ ws ++ rest
   pub place : token ≡ number + length ws
-  pub stop : EndsNoList least end ws rest
+  pub stop : BreaksList least end ws rest
 
--- the tokens after a place begin with no such list
-pub record IsListStop (text : List ℕ) (at number least : ℕ) (end : Name) (token : ℕ) : Type 0 where
+-- the tokens after a place begin with such a broken list
+pub record HasBrokenList (text : List ℕ) (at number least : ℕ) (end : Name) (token : ℕ) : Type 0 where
   pub few : token + at ≤ number + length text
-  pub stops : (tokens : List Name) → AreBehind text at tokens → StopsList tokens number least end token
+  pub stops : (tokens : List Name) → AreAfter text at tokens → BeginsBrokenList tokens number least end token
 
--- why no such list stands after a place, or an allocation failed
+-- why the list after a place breaks off, or an allocation failed
 abbrev pub IsListFault : List ℕ → ℕ → ℕ → ℕ → Name → ReadFault → Type 0
-IsListFault text at number least end (Text fault) = StopsBehind text at fault
-IsListFault text at number least end (Shape token) = IsListStop text at number least end token
+IsListFault text at number least end (Text fault) = StopsAfter text at fault
+IsListFault text at number least end (Shape token) = HasBrokenList text at number least end token
 IsListFault text at number least end Memory = Unit {0}
 
 -- there is no token, or the first does not fit
@@ -57,9 +58,9 @@ abbrev pub StartsOtherwise : (Name → Bool) → List Name → Type 0
 StartsOtherwise fits [] = Unit {0}
 StartsOtherwise fits (t ∷ rest) = IsFalse (fits t)
 
--- why no token of a kind stands after a place, or an allocation failed
+-- why no token that fits stands after a place, or an allocation failed
 abbrev pub IsTokenFault : List ℕ → ℕ → ℕ → (Name → Bool) → ReadFault → Type 0
-IsTokenFault text at number fits (Text fault) = StopsBehind text at fault
+IsTokenFault text at number fits (Text fault) = StopsAfter text at fault
 IsTokenFault text at number fits (Shape token) =
-    (token ≡ number) × ((tokens : List Name) → AreBehind text at tokens → StartsOtherwise fits tokens)
+    (token ≡ number) × ((tokens : List Name) → AreAfter text at tokens → StartsOtherwise fits tokens)
 IsTokenFault text at number fits Memory = Unit {0}

@@ -1,4 +1,5 @@
--- The statements that a text writes, and where a text stops being statements.
+-- The statements that a text reads as, and where a text stops being statements. A text or list of tokens reads as statements;
+-- statements are written as tokens (`tokens_of`).
 -- Source: Metamath, 4.1 and appendix E.
 -- The code reads once from the left; here reading is the inverse of writing.
 use Rattle.std.specs.Prelude.{◌≡◌, ◌≢◌, ℕ, ◌+◌, ◌-◌, ◌⊎◌, List, ◌++◌, length, take}
@@ -10,27 +11,27 @@ use Rattle.mm_lex.specs.TextFaults.{IsLexFault}
 use Rattle.mm_lex.specs.Tokens.{AreTokens, words}
 use Rattle.mm_read.specs.declared.fault.ReadFault.{ReadFault}
 use Rattle.mm_read.specs.declared.fault.ReadFault.TheVariants.{Text, Shape, Memory}
-use Rattle.mm_read.specs.Statements.{Database, AreShaped, spelled}
+use Rattle.mm_read.specs.Statements.{Database, AreShaped, tokens_of}
 
 -- the text's tokens are these
 abbrev pub HasTokens : List ℕ → List Name → Type 0
 HasTokens text tokens = (spans : List Span) × AreTokens text spans × (words text spans ≡ tokens)
 
--- the text writes these statements
+-- the text reads as these statements
 pub record Reads (text : List ℕ) (S : Database) : Type 0 where
   pub shaped : AreShaped S
-  pub tokens : HasTokens text (spelled S)
+  pub tokens : HasTokens text (tokens_of S)
 
--- some list of statements begins with these tokens
+-- some list of statements is written as these tokens and perhaps more
 pub record CanGoOn (tokens : List Name) : Type 0 where
   pub statements : Database
   pub rest : List Name
   pub shaped : AreShaped statements
-  pub whole : spelled statements ≡ tokens ++ rest
+  pub whole : tokens_of statements ≡ tokens ++ rest
 
--- these tokens write no list of statements
+-- these tokens read as no list of statements
 abbrev pub IsNoDatabase : List Name → Type 0
-IsNoDatabase tokens = (S : Database) → AreShaped S → spelled S ≡ tokens → ⊥
+IsNoDatabase tokens = (S : Database) → AreShaped S → tokens_of S ≡ tokens → ⊥
 
 -- the first token, from 1, after which no list of statements can go on, or the count of tokens plus 1
 pub record IsShapeFault (tokens : List Name) (token : ℕ) : Type 0 where

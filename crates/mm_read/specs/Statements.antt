@@ -1,4 +1,4 @@
--- Statements: what each of the nine shapes may hold, and the tokens that write it.
+-- Statements: what each of the nine shapes may hold, and the tokens that it is written as.
 -- Source: Metamath, 4.1 and appendix E.
 -- The code walks over the tokens from the left; here a statement is written out as its tokens.
 use Rattle.std.specs.Prelude.{Bool, true, false, not, ◌&&◌, IsTrue, List, [], ◌∷◌, ◌++◌, flat_map, codes}
@@ -42,7 +42,7 @@ IsShaped s = IsTrue (is_shaped s)
 abbrev pub AreShaped : Database → Type 0
 AreShaped S = IsTrue (list_all is_shaped S)
 
--- the tokens that write a statement
+-- the tokens that a statement is written as
 abbrev pub stmt_tokens : Stmt → List Name
 stmt_tokens Open = codes "${" ∷ []
 stmt_tokens Close = codes "$}" ∷ []
@@ -54,6 +54,6 @@ stmt_tokens (Ess label expr) = label ∷ codes "$e" ∷ (expr ++ codes "$." ∷ 
 stmt_tokens (Axiom label expr) = label ∷ codes "$a" ∷ (expr ++ codes "$." ∷ [])
 stmt_tokens (Prove label expr proof) = label ∷ codes "$p" ∷ (expr ++ codes "$=" ∷ (proof ++ codes "$." ∷ []))
 
--- the tokens that write a list of statements
-abbrev pub spelled : Database → List Name
-spelled S = flat_map stmt_tokens S
+-- the tokens that a list of statements is written as
+abbrev pub tokens_of : Database → List Name
+tokens_of S = flat_map stmt_tokens S

@@ -10,7 +10,7 @@ use crate::stmt::Stmt;
 use mm_lex::{Word, Words};
 use std::alloc::{AllocError, Global};
 
-/// Returns the statements as a text: each is its tokens with one space between two, and a line feed.
+/// Returns the export form of the statements: each is written as its tokens with one space between two, and a line feed.
 ///
 /// Errors: an allocation fails. Cost: the text's own size.
 /// Source: Metamath, 4.1; one space and one line feed are this project's choice.

@@ -1,4 +1,4 @@
-//! Why a text writes no statements.
+//! Why a text does not read as statements.
 ghost use Rattle.std.specs.Prelude.{◌≡◌};
 
 use mm_lex::LexFault;

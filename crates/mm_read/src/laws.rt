@@ -1,14 +1,14 @@
 //! The laws of reading and writing, each a call that does nothing.
-ghost use Rattle.mm_read.specs.Laws.{OneSpelling, SpelledOrFaulty, OneShapeFault, ExportReads, JoinedReads};
+ghost use Rattle.mm_read.specs.Laws.{OneStatementList, StatementsOrFault, OneShapeFault, ExportReads, JoinedReads};
 
-/// States that each list of tokens is spelled by at most one list of statements.
-pub fn one_spelling()
-    ensures { OneSpelling }
+/// States that each list of tokens reads as at most one list of statements.
+pub fn one_statement_list()
+    ensures { OneStatementList }
 {}
 
-/// States that each list of tokens is spelled by some list of statements, or has a misplaced token.
-pub fn spelled_or_faulty()
-    ensures { SpelledOrFaulty }
+/// States that each list of tokens reads as some list of statements, or has a misplaced token.
+pub fn statements_or_fault()
+    ensures { StatementsOrFault }
 {}
 
 /// States that each list of tokens has at most one misplaced token.
@@ -21,8 +21,8 @@ pub fn export_reads()
     ensures { ExportReads }
 {}
 
-/// States that two joined texts write the statements of the first and then those of the second, if no word goes on from the
-/// first into the second.
+/// States that two joined texts read as the statements of the first and then those of the second, if no word goes on from
+/// the first into the second.
 pub fn joined_reads()
     ensures { JoinedReads }
 {}

@@ -16,6 +16,8 @@ mod stmt;
 
 pub use export::{push_line, push_line_with_proof, spell};
 pub use fault::ReadFault;
-pub use laws::{export_reads, joined_reads, one_shape_fault, one_spelling, spelled_or_faulty};
+pub use laws::{
+    export_reads, joined_reads, one_shape_fault, one_statement_list, statements_or_fault,
+};
 pub use parse::read;
 pub use stmt::Stmt;

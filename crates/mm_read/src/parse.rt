@@ -2,7 +2,7 @@
 ghost use Rattle.std.specs.Prelude.{◌≡◌, ℕ, ◌≤◌, ◌⊎◌, [], IfOk, IfErr, IsErrAnd, MatchResult, length};
 ghost use Rattle.mm_lex.specs.Tokens.{IsClean};
 ghost use Rattle.mm_lex.specs.TextFaults.{IsFirstBadByte, IsCommentFault};
-ghost use Rattle.mm_lex.specs.Between.{StopsBehind};
+ghost use Rattle.mm_lex.specs.Between.{StopsAfter};
 ghost use Rattle.mm_read.specs.Statements.{Database};
 ghost use Rattle.mm_read.specs.Reads.{Reads, HasShapeFault, IsReadFault};
 ghost use Rattle.mm_read.specs.Next.{IsNextStep, IsFaultAfter, AreBefore, IsFaultOf};
@@ -19,7 +19,7 @@ const STRETCH: usize = 90_000;
 /// How many bytes are allocated at once: more than the statements of a stretch usually take.
 const ROOM: usize = 120_000;
 
-/// Returns the statements that the text writes.
+/// Returns the statements that the text reads as.
 ///
 /// Errors: `Text`, the first bad byte or else the first fault of the comments, even if every allocation fails; else `Shape`,
 /// the first misplaced token; `Memory` in place of that or of the statements. Cost: the size of the text.
@@ -28,7 +28,7 @@ pub fn read(alloc: Global, text: &[u8]) -> Result<Vec<Stmt>, ReadFault>
     ensures found { IfOk result (λ statements. Reads text.now statements.items) }
     ensures fault { IfErr result (IsReadFault text.now) }
 
-    // The statements are those that the text writes, or an allocation failed.
+    // The statements are those that the text reads as, or an allocation failed.
     ensures statements { (S : Database) → Reads text.now S
         → MatchResult result (λ statements. statements.items ≡ S) (λ fault. fault ≡ ReadFault.Memory) }
 
@@ -46,7 +46,7 @@ pub fn read(alloc: Global, text: &[u8]) -> Result<Vec<Stmt>, ReadFault>
     statements(alloc, text)
 }
 
-/// Returns the statements that a text without a bad byte writes.
+/// Returns the statements that a text without a bad byte reads as.
 fn statements(alloc: Global, text: &[u8]) -> Result<Vec<Stmt>, ReadFault>
     requires { IsClean text.now }
     ensures found { IfOk result (λ statements. Reads text.now statements.items) }
@@ -101,7 +101,7 @@ fn first_fault(text: &[u8], at: usize, fault: ReadFault) -> Result<ReadFault, Le
     requires before { (S : Database) × AreBefore text.now at S }
     requires fault { IsFaultAfter text.now [] at fault }
     ensures fault { IfOk result (IsFaultOf text.now) }
-    ensures comment { IfErr result (StopsBehind text.now 0) }
+    ensures comment { IfErr result (StopsAfter text.now 0) }
 {
     match fault {
         ReadFault::Text(lex) => Err(lex),
@@ -110,10 +110,10 @@ fn first_fault(text: &[u8], at: usize, fault: ReadFault) -> Result<ReadFault, Le
             Ok(ReadFault::Memory)
         }
         ReadFault::Shape { token } => {
-            let behind = count_tokens(text, at)?;
-            let all = count_tokens(text, 0)?;
+            let count_after = count_tokens(text, at)?;
+            let count_all = count_tokens(text, 0)?;
             Ok(ReadFault::Shape {
-                token: all - behind + token,
+                token: count_all - count_after + token,
             })
         }
     }

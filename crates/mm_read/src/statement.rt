@@ -82,9 +82,9 @@ fn floating(alloc: Global, text: &[u8], label: &[u8], at: usize) -> Result<(Stmt
     ensures found { IfOk result (λ r. IsNextAfter text.now (label.now ∷ codes "$f" ∷ []) at r.0 r.1) }
     ensures fault { IfErr result (IsFaultAfter text.now (label.now ∷ codes "$f" ∷ []) at) }
 {
-    let (constant, after) = next_symbol(alloc, text, at, 3)?;
-    let (variable, behind) = next_symbol(alloc, text, after, 4)?;
-    let next = pass_token(text, behind, 5, b"$.")?;
+    let (constant, after_constant) = next_symbol(alloc, text, at, 3)?;
+    let (variable, after_variable) = next_symbol(alloc, text, after_constant, 4)?;
+    let next = pass_token(text, after_variable, 5, b"$.")?;
     let label = Word::new(alloc, label)?;
     let statement = Stmt::Float {
         label,

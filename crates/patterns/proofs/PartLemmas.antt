@@ -1,5 +1,5 @@
 -- Words as parts of a text, whatever the case of letters.
-use Rattle.patterns.proofs.Prelude.{◌≡◌, ℕ, ◌+◌, ◌-◌, ◌<◌, ◌≤◌, Bool, true, false, List, [], ◌∷◌, ◌++◌, length, take, drop, map, refl, ap, sym, ◌∙◌, subst, arith, append_assoc, length-append, AllByRecursion, str_to_ascii_lowercase, to_ascii_lowercase, drop-append_seam, take-append_seam, take-append-drop, length-map, length-take, Name, words_behind, HasPart, HasWords}
+use Rattle.patterns.proofs.Prelude.{◌≡◌, ℕ, ◌+◌, ◌-◌, ◌<◌, ◌≤◌, Bool, true, false, List, [], ◌∷◌, ◌++◌, length, take, drop, map, refl, ap, sym, ◌∙◌, subst, arith, append_assoc, length-append, AllByRecursion, str_to_ascii_lowercase, to_ascii_lowercase, drop-append_seam, take-append_seam, take-append-drop, length-map, length-take, Name, words_after, HasPart, HasWords}
 
 -- the text begins with the word at a place
 abbrev pub IsAlikeAt : List ℕ → Name → ℕ → Type 0
@@ -50,13 +50,13 @@ no_part text w none h = let at = place_of_part text w h in none (length h.before
 
 -- the text has all words if it has those after a place, ..
 pub record AreAllIf (text own : List ℕ) (at : ℕ) : Type 0 where
-  pub all : HasWords text (words_behind own at) → HasWords text (words_behind own 0)
-  pub each : HasWords text (words_behind own 0) → HasWords text (words_behind own at)
+  pub all : HasWords text (words_after own at) → HasWords text (words_after own 0)
+  pub each : HasWords text (words_after own 0) → HasWords text (words_after own at)
 
 pub all_none : (text own : List ℕ) → AreAllIf text own 0
 all_none text own = record { all = λ h. h; each = λ h. h }
 
-module _ (text own : List ℕ) (at end : ℕ) (w : Name) (e : words_behind own at ≡ w ∷ words_behind own end) (is : AreAllIf text own at) where
+module _ (text own : List ℕ) (at end : ℕ) (w : Name) (e : words_after own at ≡ w ∷ words_after own end) (is : AreAllIf text own at) where
   -- .. one word more, ..
   pub all_on : HasPart text w → AreAllIf text own end
   all_on has = record {
@@ -65,9 +65,9 @@ module _ (text own : List ℕ) (at end : ℕ) (w : Name) (e : words_behind own a
   }
 
   -- .. or not all of them
-  pub not_all : (HasPart text w → ⊥) → HasWords text (words_behind own 0) → ⊥
+  pub not_all : (HasPart text w → ⊥) → HasWords text (words_after own 0) → ⊥
   not_all lacks all = lacks (subst (HasWords text) e (is.each all)).0
 
 -- at the end it has all
-pub all_end : (text own : List ℕ) (at : ℕ) → AreAllIf text own at → words_behind own at ≡ [] → HasWords text (words_behind own 0)
+pub all_end : (text own : List ℕ) (at : ℕ) → AreAllIf text own at → words_after own at ≡ [] → HasWords text (words_after own 0)
 all_end text own at is none = is.all (subst (HasWords text) (sym none) tt)

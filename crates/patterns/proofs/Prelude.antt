@@ -5,7 +5,7 @@ pub use Rattle.patterns.specs.Described.{HasPart, HasWords}
 pub use Rattle.patterns.specs.Matches.{Matches, StandsFor, many, one, part_of, symbol}
 pub use Rattle.patterns.specs.Parsing.{is_symbol_word, is_unknown}
 pub use Rattle.patterns.specs.Segments.{IsFirstPlace, begins_with, is_many, may_be, part_view, segment_len}
-pub use Rattle.patterns.specs.Words.{words_behind, words_in}
+pub use Rattle.patterns.specs.Words.{words_after, words_in}
 pub use Rattle.patterns.specs.declared.part.Part.{Part}
 pub use Rattle.patterns.specs.declared.part.Part.TheVariants.{Many, One, Symbol}
 pub use Rattle.std.proofs.Common.{Bool, IsTrue, List, None, Option, Some, [], ap, append_assoc, arith, below_more, codes, drop, false, get_or, length, length-append, ltb, map, refl, subst, suc, sym, take, true, ℕ, ◌&&◌, ◌++◌, ◌+◌, ◌-◌, ◌<◌, ◌↔◌, ◌∙◌, ◌∷◌, ◌≡◌, ◌≤◌}

@@ -81,8 +81,8 @@ module _ (p : List Part) (e : List Name) where
     last_here none = (i, first.0, of_cut p (drop i e) first.1 (subst (λ r. Begins r (drop (segment_len p) (drop i e))) (sym none) tt))
 
     -- the symbols go on after the segment
-    pub room_behind : i + segment_len p ≤ length e
-    room_behind =
+    pub room_after : i + segment_len p ≤ length e
+    room_after =
         let few = begins_len (take (segment_len p) p) (drop i e) first.1 in
         let count = length-take-le (segment_len p) p (segment_within p) in
         let rest = length-drop i e in
@@ -149,7 +149,7 @@ module _ (p : List Part) (e : List Name) (from at : ℕ) (goes : GoesOn p (drop 
 
     -- the symbols that it leaves
     pub room_left : at + (place + segment_len (drop from p)) ≤ at + length (drop at e)
-    room_left = let room = room_behind (drop from p) (drop at e) place here in omega (arith, room)
+    room_left = let room = room_after (drop from p) (drop at e) place here in omega (arith, room)
 
     -- a segment before a `$*`
     pub goes_past : segment_len (drop from p) < length (drop from p)

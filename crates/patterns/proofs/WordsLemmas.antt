@@ -1,5 +1,5 @@
 -- The words of an argument, one after another.
-use Rattle.patterns.proofs.Prelude.{◌≡◌, ℕ, Bool, true, false, List, [], ◌∷◌, ◌++◌, Some, refl, map, ap, sym, ◌∙◌, append_assoc, append-nil, map-append, find, list_any, Name, Part, part_of, part_view, words_in, words_behind}
+use Rattle.patterns.proofs.Prelude.{◌≡◌, ℕ, Bool, true, false, List, [], ◌∷◌, ◌++◌, Some, refl, map, ap, sym, ◌∙◌, append_assoc, append-nil, map-append, find, list_any, Name, Part, part_of, part_view, words_in, words_after}
 use Rattle.patterns.specs.Matches as m
 
 module _ (p : Name → Bool) (ws : List Name) (w : Name) (rest : List Name) (e : ws ≡ w ∷ rest) where
@@ -19,22 +19,22 @@ module _ (p : Name → Bool) (ws : List Name) (w : Name) (rest : List Name) (e :
 
 -- the words before a place are these parts
 abbrev pub AreBefore : List ℕ → ℕ → List Part → Type 0
-AreBefore text at parts = map part_view parts ++ map part_of (words_behind text at) ≡ map part_of (words_in text)
+AreBefore text at parts = map part_view parts ++ map part_of (words_after text at) ≡ map part_of (words_in text)
 
 -- at the beginning there are none
 pub before_none : (text : List ℕ) (parts : List Part) → parts ≡ [] → AreBefore text 0 parts
-before_none text parts none = ap (λ p. map part_view p ++ map part_of (words_behind text 0)) none
+before_none text parts none = ap (λ p. map part_view p ++ map part_of (words_after text 0)) none
 
-module _ (text : List ℕ) (at end : ℕ) (w : Name) (e : words_behind text at ≡ w ∷ words_behind text end) where
+module _ (text : List ℕ) (at end : ℕ) (w : Name) (e : words_after text at ≡ w ∷ words_after text end) where
   -- one word more
   pub before_on : (parts new : List Part) (q : Part) → AreBefore text at parts → part_view q ≡ part_of w → new ≡ parts ++ (q ∷ []) → AreBefore text end new
   before_on parts new q is same whole =
-      let rest : List m.Part = map part_of (words_behind text end) in
+      let rest : List m.Part = map part_of (words_after text end) in
       let longer : map part_view new ≡ map part_view parts ++ (part_view q ∷ []) = ap (map part_view) whole ∙ map-append part_view parts (q ∷ []) in
-      let first : part_view q ∷ rest ≡ map part_of (words_behind text at) = ap (λ v. v ∷ rest) same ∙ sym (ap (map part_of) e) in
+      let first : part_view q ∷ rest ≡ map part_of (words_after text at) = ap (λ v. v ∷ rest) same ∙ sym (ap (map part_of) e) in
       ap (λ v. v ++ rest) longer ∙ (append_assoc (map part_view parts) (part_view q ∷ []) rest ∙ (ap (λ v. map part_view parts ++ v) first ∙ is))
 
 -- at the end all are
-pub before_all : (text : List ℕ) (at : ℕ) (parts : List Part) → AreBefore text at parts → words_behind text at ≡ [] → map part_view parts ≡ map part_of (words_in text)
+pub before_all : (text : List ℕ) (at : ℕ) (parts : List Part) → AreBefore text at parts → words_after text at ≡ [] → map part_view parts ≡ map part_of (words_in text)
 before_all text at parts is none =
     sym (append-nil (map part_view parts)) ∙ (ap (λ ws. map part_view parts ++ map part_of ws) (sym none) ∙ is)

@@ -3,11 +3,11 @@
 -- The code goes from one run to the next.
 use Rattle.std.specs.Prelude.{ℕ, List, map}
 use Rattle.mm_lex.specs.Alphabet.{Name, runs, word}
-use Rattle.mm_lex.specs.Comments.{runs_behind}
+use Rattle.mm_lex.specs.Comments.{runs_after}
 
 abbrev pub words_in : List ℕ → List Name
 words_in text = map (word text) (runs text)
 
 -- the words that begin at a place or after it
-abbrev pub words_behind : List ℕ → ℕ → List Name
-words_behind text at = map (word text) (runs_behind text at)
+abbrev pub words_after : List ℕ → ℕ → List Name
+words_after text at = map (word text) (runs_after text at)

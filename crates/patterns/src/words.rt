@@ -2,7 +2,7 @@
 ghost use Rattle.std.specs.Prelude.{◌≡◌, ◌<◌, ◌≤◌, [], ◌∷◌, map, IfOk, IfSome, MatchOption, length, option_map};
 ghost use Rattle.std.specs.List.{find, list_any};
 ghost use Rattle.mm_lex.specs.Alphabet.{has_byte};
-ghost use Rattle.patterns.specs.Words.{words_in, words_behind};
+ghost use Rattle.patterns.specs.Words.{words_in, words_after};
 ghost use Rattle.patterns.specs.Matches.{part_of};
 ghost use Rattle.patterns.specs.Parsing.{is_symbol_word, is_unknown};
 ghost use Rattle.patterns.specs.Segments.{part_view};
@@ -21,8 +21,8 @@ pub(crate) struct PlacedWord<'a> {
 /// Returns the first word that begins at or after `at`.
 pub(crate) fn next_word(text: &[u8], at: usize) -> Option<PlacedWord<'_>>
     requires { at ≤ length text.now }
-    ensures first { MatchOption result (words_behind text.now at ≡ [])
-        (λ w. words_behind text.now at ≡ w.word.now ∷ words_behind text.now w.end) }
+    ensures first { MatchOption result (words_after text.now at ≡ [])
+        (λ w. words_after text.now at ≡ w.word.now ∷ words_after text.now w.end) }
     ensures later { IfSome result (λ w. at < w.end) }
     ensures within { IfSome result (λ w. w.end ≤ length text.now) }
 {

@@ -5,7 +5,7 @@ use Rattle.places.proofs.Words.{◌≡◌, ℕ, ◌+◌, ◌-◌, ◌<◌, ◌�
 pub statement_here : (tokens : List Name) (i : ℕ) → IsTrue (ends (get_or tokens i [])) → BeginsStatement tokens (i + 1) (i + 1)
 statement_here tokens i is = record {
   before = omega arith;
-  behind = λ _. let e : i ≡ i + 1 - 1 = omega arith in
+  after = λ _. let e : i ≡ i + 1 - 1 = omega arith in
       ap (λ k. ends (get_or tokens k [])) (sym e) ∙ is;
   none = λ k a b. absurd (omega (arith, a, b));
 }
@@ -14,7 +14,7 @@ statement_here tokens i is = record {
 pub statement_on : (tokens : List Name) (i start : ℕ) → BeginsStatement tokens i start → IsFalse (ends (get_or tokens i [])) → BeginsStatement tokens (i + 1) start
 statement_on tokens i start b not = record {
   before = let h : start ≤ i = b.before in omega arith;
-  behind = b.behind;
+  after = b.after;
   none = λ k a l. below_more (λ k. start ≤ k → IsFalse (ends (get_or tokens k []))) i (λ k l a. b.none k a l) (λ _. not) k l a;
 }
 

@@ -1,33 +1,33 @@
 -- The walk over the runs of a text finds the description of each statement.
-use Rattle.places.proofs.Words.{◌≡◌, ℕ, suc, ◌<◌, ◌≤◌, Bool, true, false, not, ◌&&◌, ◌||◌, cond, List, [], ◌∷◌, ◌++◌, length, drop, flat_map, Option, Some, None, codes, refl, sym, ◌∙◌, ap, arith, append_assoc, length-append, list_all, and_parts, and_from, both_ways, append-nil, map-append, length-map, length-drop, list_all-append, Span, Name, name_eq, runs, word, is_symbol, is_label, opener, closer, is_plain, AllPlain, Part, part_spans, IsPart, AreParts, Cuts, words, runs_behind, name_same, Stmt, Open, Close, Const, Var, Disj, Float, Ess, Axiom, Prove, Database, is_shaped, AreShaped, are_symbols, has_two, stmt_tokens, spelled, Reads, symbols_of, Walk, Inside, Outside, ends, contents, comments_before, comments_in, comments_of, first_of, at_statements, AreDescriptions, at_start, after_run, begun, walk_over}
+use Rattle.places.proofs.Words.{◌≡◌, ℕ, suc, ◌<◌, ◌≤◌, Bool, true, false, not, ◌&&◌, ◌||◌, cond, List, [], ◌∷◌, ◌++◌, length, drop, flat_map, Option, Some, None, codes, refl, sym, ◌∙◌, ap, arith, append_assoc, length-append, list_all, and_parts, and_from, both_ways, append-nil, map-append, length-map, length-drop, list_all-append, Span, Name, name_eq, runs, word, is_symbol, is_label, opener, closer, is_plain, AllPlain, Part, part_spans, IsPart, AreParts, Cuts, words, runs_after, name_same, Stmt, Open, Close, Const, Var, Disj, Float, Ess, Axiom, Prove, Database, is_shaped, AreShaped, are_symbols, has_two, stmt_tokens, tokens_of, Reads, symbols_of, Walk, Inside, Outside, ends, contents, comments_before, comments_in, comments_of, first_of, at_statements, AreDescriptions, at_start, after_run, begun, walk_over}
 use Rattle.places.proofs.TokenPlaceLemmas.{symbol_goes_on, label_goes_on}
 
 -- ---- the loop
 
 -- what is listed, and what the rest would add, is the whole
 abbrev pub IsListed : List ℕ → ℕ → Walk → List (Option Span) → Type 0
-IsListed text at walk list = list ++ walk_over text walk (runs_behind text at) ≡ walk_over text at_start (runs text)
+IsListed text at walk list = list ++ walk_over text walk (runs_after text at) ≡ walk_over text at_start (runs text)
 
 pub listed_none : (text : List ℕ) (list : List (Option Span)) → list ≡ [] → IsListed text 0 at_start list
-listed_none text list none = ap (λ l. l ++ walk_over text at_start (runs_behind text 0)) none
+listed_none text list none = ap (λ l. l ++ walk_over text at_start (runs_after text 0)) none
 
 pub listed_on : (text : List ℕ) (at : ℕ) (walk next : Walk) (run : Span) (w : Name) (old new : List (Option Span))
-    → IsListed text at walk old → runs_behind text at ≡ run ∷ runs_behind text run.end → w ≡ word text run
+    → IsListed text at walk old → runs_after text at ≡ run ∷ runs_after text run.end → w ≡ word text run
     → new ≡ old ++ begun walk w → next ≡ after_run walk w run → IsListed text run.end next new
 listed_on text at walk next run w old new is runs_are same added step =
-    let rest = runs_behind text run.end in
+    let rest = runs_after text run.end in
     let here : walk_over text walk (run ∷ rest) ≡ begun walk w ++ walk_over text next rest
     = ap (λ v. begun walk v ++ walk_over text (after_run walk v run) rest) (sym same) ∙ ap (λ k. begun walk w ++ walk_over text k rest) (sym step) in
     ap (λ l. l ++ walk_over text next rest) added
     ∙ (append_assoc old (begun walk w) (walk_over text next rest)
     ∙ (ap (λ v. old ++ v) (sym here) ∙ (ap (λ r. old ++ walk_over text walk r) (sym runs_are) ∙ is)))
 
-pub listed_all : (text : List ℕ) (at : ℕ) (walk : Walk) (list : List (Option Span)) → IsListed text at walk list → runs_behind text at ≡ [] → list ≡ walk_over text at_start (runs text)
+pub listed_all : (text : List ℕ) (at : ℕ) (walk : Walk) (list : List (Option Span)) → IsListed text at walk list → runs_after text at ≡ [] → list ≡ walk_over text at_start (runs text)
 listed_all text at walk list is none = sym (append-nil list) ∙ (ap (λ r. list ++ walk_over text walk r) (sym none) ∙ is)
 
 -- the walk goes on from a later place
 pub listed_later : (text : List ℕ) (at later : ℕ) (walk : Walk) (list : List (Option Span)) → IsListed text at walk list
-    → walk_over text walk (runs_behind text at) ≡ walk_over text walk (runs_behind text later) → IsListed text later walk list
+    → walk_over text walk (runs_after text at) ≡ walk_over text walk (runs_after text later) → IsListed text later walk list
 listed_later text at later walk list is same = ap (λ r. list ++ r) (sym same) ∙ is
 
 -- ---- the comments of the tokens that begin statements
@@ -94,11 +94,11 @@ module _ (text : List ℕ) where
       let enter : walk_over text (Outside last begins) (p.begin ∷ ((p.inside ++ p.end ∷ p.after) ++ rest)) ≡ walk_over text (Inside p.begin.end begins) ((p.inside ++ p.end ∷ p.after) ++ rest)
       = ap (λ b. cond b [] (kept begins last) ++ walk_over text (cond b (Inside p.begin.end begins) (Outside None (ends w))) ((p.inside ++ p.end ∷ p.after) ++ rest)) opens in
       let pass = inside_walk p.inside (p.after ++ rest) p.end p.begin.end begins part.inside part.ends in
-      let behind = plain_walk p.after rest (words text (outer ps)) (flat_map comments_in ps) part.after (parts_walk ps are.1) (Some (contents p)) begins in
+      let walk_after = plain_walk p.after rest (words text (outer ps)) (flat_map comments_in ps) part.after (parts_walk ps are.1) (Some (contents p)) begins in
       let joined : words text (p.after ++ outer ps) ≡ words text p.after ++ words text (outer ps) = map-append (word text) p.after (outer ps) in
       enter
       ∙ (ap (walk_over text (Inside p.begin.end begins)) whole
-      ∙ (pass ∙ (behind ∙ ap (λ ws. picked begins ws (flat_map comments_in (p ∷ ps))) (sym joined))))
+      ∙ (pass ∙ (walk_after ∙ ap (λ ws. picked begins ws (flat_map comments_in (p ∷ ps))) (sym joined))))
 
   -- the whole text
   text_walk : (tokens : List Span) (cut : Cuts text (runs text) tokens)
@@ -211,20 +211,20 @@ one_of (Prove label expr proof) h =
     }
 
 -- the descriptions of statements are the comments of their first tokens
-statements_picked : (S : Database) (comments : List (Option Span)) → AreShaped S → length (spelled S) ≤ length comments → picked true (spelled S) comments ≡ at_statements S comments
+statements_picked : (S : Database) (comments : List (Option Span)) → AreShaped S → length (tokens_of S) ≤ length comments → picked true (tokens_of S) comments ≡ at_statements S comments
 statements_picked [] comments h room = refl
 statements_picked (s ∷ S) comments h room =
     let both : (is_shaped s ≡ true) × AreShaped S = and_parts (is_shaped s) (list_all is_shaped S) h in
     let one : IsOne (stmt_tokens s) = one_of s both.0 in
     let count : length (stmt_tokens s) ≡ suc (length one.front) = ap length one.whole ∙ omega (arith, length-append one.front (one.last ∷ [])) in
-    let total = length-append (stmt_tokens s) (spelled S) in
-    let whole : stmt_tokens s ++ spelled S ≡ one.front ++ (one.last ∷ spelled S) = ap (λ r. r ++ spelled S) one.whole ∙ append_assoc one.front (one.last ∷ []) (spelled S) in
-    let here = pick_one one.last (spelled S) one.end one.front comments one.on (omega (arith, count, total, room)) in
+    let total = length-append (stmt_tokens s) (tokens_of S) in
+    let whole : stmt_tokens s ++ tokens_of S ≡ one.front ++ (one.last ∷ tokens_of S) = ap (λ r. r ++ tokens_of S) one.whole ∙ append_assoc one.front (one.last ∷ []) (tokens_of S) in
+    let here = pick_one one.last (tokens_of S) one.end one.front comments one.on (omega (arith, count, total, room)) in
     let cut : drop (suc (length one.front)) comments ≡ drop (length (stmt_tokens s)) comments = ap (λ n. drop n comments) (sym count) in
     let left = length-drop (length (stmt_tokens s)) comments in
     let more = statements_picked S (drop (length (stmt_tokens s)) comments) both.1 (omega (arith, left, total, room)) in
     ap (λ ws. picked true ws comments) whole
-    ∙ (here ∙ (ap (λ l. first_of comments ∷ picked true (spelled S) l) cut ∙ ap (λ l. first_of comments ∷ l) more))
+    ∙ (here ∙ (ap (λ l. first_of comments ∷ picked true (tokens_of S) l) cut ∙ ap (λ l. first_of comments ∷ l) more))
 
 -- what the walk lists is the descriptions
 pub walk_describes : (text : List ℕ) (S : Database) (list : List (Option Span)) → Reads text S → list ≡ walk_over text at_start (runs text) → AreDescriptions text S list
@@ -232,8 +232,8 @@ walk_describes text S list reads e =
     let tokens : List Span = reads.tokens.0 in
     let cut : Cuts text (runs text) tokens = reads.tokens.1.1 in
     let count : length (comments_of cut.first cut.parts) ≡ length tokens = count_of cut.first cut.parts ∙ ap length (sym cut.outside) in
-    let words_are : words text tokens ≡ spelled S = reads.tokens.2 in
-    let as_many : length (spelled S) ≡ length tokens = ap length (sym words_are) ∙ length-map tokens (word text) in
+    let words_are : words text tokens ≡ tokens_of S = reads.tokens.2 in
+    let as_many : length (tokens_of S) ≡ length tokens = ap length (sym words_are) ∙ length-map tokens (word text) in
     let picks = text_walk text tokens cut in
     let named = ap (λ ws. picked true ws (comments_of cut.first cut.parts)) words_are in
     let found = statements_picked S (comments_of cut.first cut.parts) reads.shaped (omega (arith, count, as_many)) in

@@ -1,5 +1,5 @@
 -- A walk that waits for a `$` passes runs that begin with another byte.
-use Rattle.places.proofs.Words.{◌≡◌, ℕ, zero, suc, ◌+◌, ◌-◌, ◌<◌, ◌≤◌, Bool, true, false, cond, List, [], ◌∷◌, ◌++◌, length, take, drop, Some, None, refl, ◌∙◌, ap, arith, eqb, get_or, sym, drop-drop, get_or-drop, get_or-take, length-drop, take-append-drop, Span, Name, is_white, name_eq, runs_from, starts_white, with_byte, word, runs_behind, closer, opener, Walk, Inside, Outside, ends, IsWaiting, PassesDull, walk_over}
+use Rattle.places.proofs.Words.{◌≡◌, ℕ, zero, suc, ◌+◌, ◌-◌, ◌<◌, ◌≤◌, Bool, true, false, cond, List, [], ◌∷◌, ◌++◌, length, take, drop, Some, None, refl, ◌∙◌, ap, arith, eqb, get_or, sym, drop-drop, get_or-drop, get_or-take, length-drop, take-append-drop, Span, Name, is_white, name_eq, runs_from, starts_white, with_byte, word, runs_after, closer, opener, Walk, Inside, Outside, ends, IsWaiting, PassesDull, walk_over}
 use Rattle.std.proofs.lemmas.List.{length-take}
 
 -- ---- words that do not begin with `$`
@@ -124,7 +124,7 @@ module _ (text : List ℕ) (at : ℕ) (start : at ≤ length text) where
   passes_none : PassesDull text at (at + 0)
   passes_none =
       let same : at ≡ at + 0 = omega arith in
-      record { order = omega arith; within = omega (arith, start); same = λ walk waits. ap (λ n. walk_over text walk (runs_behind text n)) same }
+      record { order = omega arith; within = omega (arith, start); same = λ walk waits. ap (λ n. walk_over text walk (runs_after text n)) same }
 
   passes_some : (i : ℕ) → at + suc i ≤ length text → is_white (get_or text (at + i) 0) ≡ true → ((k : ℕ) → at ≤ k → k < at + suc i → get_or text k 0 ≡ 36 → ⊥) → PassesDull text at (at + suc i)
   passes_some i within white none =

@@ -4,18 +4,18 @@ pub use Rattle.memchr.specs.Find.{is_byte}
 pub use Rattle.mm_lex.proofs.NameLemmas.{name_same}
 pub use Rattle.mm_lex.proofs.TokensLemmas.{AreTokens-unique}
 pub use Rattle.mm_lex.specs.Alphabet.{Name, has_byte, is_label, is_symbol, is_white, name_eq, runs, runs_from, starts_white, with_byte, word}
-pub use Rattle.mm_lex.specs.Comments.{runs_behind}
+pub use Rattle.mm_lex.specs.Comments.{runs_after}
 pub use Rattle.mm_lex.specs.Tokens.{AllPlain, AreParts, AreTokens, Cuts, IsPart, Part, closer, is_plain, opener, part_spans, words}
 pub use Rattle.mm_lex.specs.declared.span.Span.{Span}
 pub use Rattle.mm_read.proofs.StatementsLemmas.{label_plain, plain_is_no_key, symbol_plain, symbols_of}
 pub use Rattle.mm_read.specs.Reads.{Reads}
-pub use Rattle.mm_read.specs.Statements.{AreShaped, Database, are_symbols, has_two, is_shaped, spelled, stmt_tokens}
+pub use Rattle.mm_read.specs.Statements.{AreShaped, Database, are_symbols, has_two, is_shaped, tokens_of, stmt_tokens}
 pub use Rattle.mm_read.specs.declared.stmt.Stmt.{Stmt}
 pub use Rattle.mm_read.specs.declared.stmt.Stmt.TheVariants.{Axiom, Close, Const, Disj, Ess, Float, Open, Prove, Var}
 pub use Rattle.places.specs.CommentFaults.{BeginsStatement}
 pub use Rattle.places.specs.Descriptions.{AreDescriptions, at_statements, comments_before, comments_in, comments_of, contents, first_of}
 pub use Rattle.places.specs.Lines.{line_feed}
-pub use Rattle.places.specs.Places.{HasToken, IsPlaceOf, behind_ends, ends, index_of}
+pub use Rattle.places.specs.Places.{HasToken, IsPlaceOf, after_ends, ends, index_of}
 pub use Rattle.places.specs.Walk.{IsWaiting, PassesDull, after_run, at_start, begun, walk_over}
 pub use Rattle.places.specs.declared.description.Walk.{Walk}
 pub use Rattle.places.specs.declared.description.Walk.TheVariants.{Inside, Outside}

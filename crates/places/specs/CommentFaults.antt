@@ -20,5 +20,5 @@ IsCommentCase text offset Unclosed = (tokens : List Span) × AreTokens (take off
 -- none of those between ends one
 pub record BeginsStatement (tokens : List Name) (token start : ℕ) : Type 0 where
   pub before : start ≤ token
-  pub behind : 0 < start → IsTrue (ends (slice_index_or tokens (start - 1) []))
+  pub after : 0 < start → IsTrue (ends (slice_index_or tokens (start - 1) []))
   pub none : (k : ℕ) → start ≤ k → k < token → IsFalse (ends (slice_index_or tokens k []))

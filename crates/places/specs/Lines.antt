@@ -14,7 +14,7 @@ line_of text offset = 1 + count_by (λ b. b == line_feed) (take offset text)
 -- the line of the offset begins here: at the first byte or after a line feed, and no line feed stands between
 pub record BeginsLine (text : List ℕ) (offset start : ℕ) : Type 0 where
   pub before : start ≤ offset
-  pub behind : 0 < start → slice_index text (start - 1) ≡ line_feed
+  pub after : 0 < start → slice_index text (start - 1) ≡ line_feed
   pub none : (k : ℕ) → start ≤ k → k < offset → slice_index text k ≢ line_feed
 
 -- one more than the bytes between the line's beginning and the offset

@@ -6,7 +6,7 @@ use Rattle.mm_lex.specs.declared.span.Span.{Span}
 use Rattle.mm_lex.specs.Alphabet.{Name, name_eq}
 use Rattle.mm_lex.specs.Tokens.{AreTokens, words}
 use Rattle.mm_read.specs.declared.stmt.Stmt.{Stmt}
-use Rattle.mm_read.specs.Statements.{Database, stmt_tokens, spelled}
+use Rattle.mm_read.specs.Statements.{Database, stmt_tokens, tokens_of}
 
 -- the statement has a token of this number, both counted from 1
 pub record HasToken (S : Database) (statement token : ℕ) : Type 0 where
@@ -18,13 +18,13 @@ pub record HasToken (S : Database) (statement token : ℕ) : Type 0 where
 
 -- the index of that token in the text: those of earlier statements stand before it
 abbrev pub index_of : Database → ℕ → ℕ → ℕ
-index_of S statement token = length (spelled (take (statement - 1) S)) + (token - 1)
+index_of S statement token = length (tokens_of (take (statement - 1) S)) + (token - 1)
 
 -- the token of the statement stands here
 pub record IsPlaceOf (text : List ℕ) (S : Database) (statement token : ℕ) (place : Span) : Type 0 where
   pub tokens : List Span
   pub are : AreTokens text tokens
-  pub written : words text tokens ≡ spelled S
+  pub written : words text tokens ≡ tokens_of S
   pub here : slice_get tokens (index_of S statement token) ≡ Some place
 
 -- this token ends a statement
@@ -32,7 +32,7 @@ abbrev pub ends : Name → Bool
 ends w = name_eq w (codes "$.") || name_eq w (codes "${") || name_eq w (codes "$}")
 
 -- the index of the first token after n tokens that end a statement
-abbrev pub behind_ends : ℕ → List Name → ℕ
-behind_ends zero ws = 0
-behind_ends (suc n) [] = 0
-behind_ends (suc n) (w ∷ ws) = suc (behind_ends (if ends w then n else suc n) ws)
+abbrev pub after_ends : ℕ → List Name → ℕ
+after_ends zero ws = 0
+after_ends (suc n) [] = 0
+after_ends (suc n) (w ∷ ws) = suc (after_ends (if ends w then n else suc n) ws)

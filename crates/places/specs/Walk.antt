@@ -3,7 +3,7 @@
 use Rattle.std.specs.Prelude.{◌≡◌, ℕ, ◌≤◌, true, false, if◌then◌else◌, List, [], ◌∷◌, ◌++◌, length, Option, Some, None}
 use Rattle.mm_lex.specs.declared.span.Span.{Span}
 use Rattle.mm_lex.specs.Alphabet.{Name, name_eq, word}
-use Rattle.mm_lex.specs.Comments.{runs_behind}
+use Rattle.mm_lex.specs.Comments.{runs_after}
 use Rattle.mm_lex.specs.Tokens.{opener, closer}
 use Rattle.places.specs.declared.description.Walk.{Walk}
 use Rattle.places.specs.declared.description.Walk.TheVariants.{Inside, Outside}
@@ -38,4 +38,4 @@ IsWaiting (Outside (Some last) begins) = ⊥
 pub record PassesDull (text : List ℕ) (at later : ℕ) : Type 0 where
   pub order : at ≤ later
   pub within : later ≤ length text
-  pub same : (walk : Walk) → IsWaiting walk → walk_over text walk (runs_behind text at) ≡ walk_over text walk (runs_behind text later)
+  pub same : (walk : Walk) → IsWaiting walk → walk_over text walk (runs_after text at) ≡ walk_over text walk (runs_after text later)

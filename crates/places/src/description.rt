@@ -2,7 +2,7 @@
 ghost use Rattle.std.specs.Prelude.{◌≡◌, ◌++◌, ◌-◌, ◌<◌, ◌≤◌, ℕ, length, slice_index, IfOk, IsTrue, OnOk};
 ghost use Rattle.std.specs.Option.{option_to_list};
 ghost use Rattle.mm_lex.specs.Alphabet.{is_white};
-ghost use Rattle.mm_lex.specs.Comments.{runs_behind};
+ghost use Rattle.mm_lex.specs.Comments.{runs_after};
 ghost use Rattle.mm_read.specs.Statements.{Database};
 ghost use Rattle.mm_read.specs.Reads.{Reads};
 ghost use Rattle.places.specs.Descriptions.{AreDescriptions};
@@ -63,8 +63,8 @@ pub fn descriptions(alloc: Global, text: &[u8]) -> Result<Vec<Option<Span>>, All
 fn goes_on_at(text: &[u8], at: usize, walk: Walk) -> usize
     requires { at ≤ length text.now }
     ensures within { (at ≤ result) × (result ≤ length text.now) }
-    ensures same { walk_over text.now walk (runs_behind text.now at)
-        ≡ walk_over text.now walk (runs_behind text.now result) }
+    ensures same { walk_over text.now walk (runs_after text.now at)
+        ≡ walk_over text.now walk (runs_after text.now result) }
 {
     if is_waiting(walk) {
         dull_end(text, at)

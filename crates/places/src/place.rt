@@ -5,7 +5,7 @@ ghost use Rattle.mm_lex.specs.Alphabet.{word};
 ghost use Rattle.mm_lex.specs.Tokens.{AreTokens, IsWordAt, words};
 ghost use Rattle.mm_read.specs.Statements.{Database};
 ghost use Rattle.mm_read.specs.Reads.{Reads};
-ghost use Rattle.places.specs.Places.{HasToken, IsPlaceOf, behind_ends, ends};
+ghost use Rattle.places.specs.Places.{HasToken, IsPlaceOf, after_ends, ends};
 ghost use Rattle.places.specs.CommentFaults.{BeginsStatement};
 
 use mm_lex::{LexFault, Span, tokens};
@@ -38,7 +38,7 @@ pub fn place_of(
 pub fn place_within(text: &[u8], spans: &[Span], statement: usize, token: usize) -> Option<Span>
     requires words { All (IsWordAt text.now) spans.now }
     requires some { (1 ≤ statement) × (1 ≤ token) }
-    ensures { result ≡ slice_get spans.now (behind_ends (statement - 1) (words text.now spans.now) + (token - 1)) }
+    ensures { result ≡ slice_get spans.now (after_ends (statement - 1) (words text.now spans.now) + (token - 1)) }
 {
     let first = first_token(text, spans, statement);
     let rest = &spans[first..];
@@ -52,7 +52,7 @@ pub fn place_within(text: &[u8], spans: &[Span], statement: usize, token: usize)
 pub(crate) fn first_token(text: &[u8], spans: &[Span], statement: usize) -> usize
     requires words { All (IsWordAt text.now) spans.now }
     requires some { 1 ≤ statement }
-    ensures first { result ≡ behind_ends (statement - 1) (words text.now spans.now) }
+    ensures first { result ≡ after_ends (statement - 1) (words text.now spans.now) }
     ensures within { result ≤ length spans.now }
 {
     let mut left = statement - 1;

@@ -14,7 +14,7 @@ use library::{MOST_BYTES, Verdict};
 use memchr::memchr2_iter;
 use mm_read::ReadFault;
 use printed::push_verdict;
-use read_pool::read_by;
+use read_pool::read_in_parts;
 use std::alloc::{AllocError, Global};
 use std::io::Write;
 use std::mem::forget;
@@ -76,7 +76,7 @@ pub fn enter_text<R: AllocGlobal + Threads + Sync>(
     if text.bytes.len() > MOST_BYTES {
         return Ok(None);
     }
-    match read_by(rt, rt.alloc(), text.bytes, Workers::offered(rt).count()) {
+    match read_in_parts(rt, rt.alloc(), text.bytes, Workers::offered(rt).count()) {
         Ok(statements) => Entered::new(rt.alloc(), statements),
         Err(ReadFault::Memory) => Err(AllocError),
         Err(_) => Ok(None),

@@ -1,1 +1,1 @@
-mod HalvesLemmas
+mod PartsLemmas

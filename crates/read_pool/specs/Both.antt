@@ -1,5 +1,5 @@
 -- Two lists of statements as one.
--- Source: none; for a private function of `halves`.
+-- Source: none; for a private function of `parts`.
 -- The code moves the second list after the first.
 use Rattle.std.specs.Prelude.{◌≡◌, ◌++◌, Option, Some, None, Vec}
 use Rattle.std.specs.declared.alloc.Global.{Global}

@@ -1,2 +1,2 @@
-pub mod Place
+pub mod Cut
 pub mod Both

@@ -2,7 +2,7 @@
 ghost use Rattle.std.specs.Prelude.{◌≡◌, ◌≤◌, [], ◌∷◌, not, length, MatchOption, IfSome};
 ghost use Rattle.std.specs.List.{position, position_or_len};
 ghost use Rattle.mm_lex.specs.Alphabet.{is_white, IsRunAt};
-ghost use Rattle.mm_lex.specs.Comments.{runs_behind};
+ghost use Rattle.mm_lex.specs.Comments.{runs_after};
 
 use mm_lex::Span;
 
@@ -12,8 +12,8 @@ use mm_lex::Span;
 /// Does not allocate. Cost: the bytes up to the end of the run.
 pub fn next_run(text: &[u8], at: usize) -> Option<Span>
     requires { at ≤ length text.now }
-    ensures run { MatchOption result (runs_behind text.now at ≡ [])
-        (λ s. runs_behind text.now at ≡ s ∷ runs_behind text.now s.end) }
+    ensures run { MatchOption result (runs_after text.now at ≡ [])
+        (λ s. runs_after text.now at ≡ s ∷ runs_after text.now s.end) }
     ensures place { IfSome result (λ s. IsRunAt text.now s) }
     ensures later { IfSome result (λ s. at ≤ s.start) }
 {

@@ -1,5 +1,5 @@
 -- The counts and the places beside the kinds.
-use Rattle.scope.proofs.Words.{◌≡◌, ℕ, zero, suc, ◌+◌, ◌<◌, ◌≤◌, Bool, true, false, cond, List, [], ◌∷◌, ◌++◌, length, take, Some, slice_get, refl, ◌∙◌, ap, sym, arith, add-zero, length-map, same_Some, Name, name_at, kinds_of, behind, AreCounted, places_that, Declared, names_that, declared_symbols, symbols_before, zip_kinds, is_symbol_kind, is_labelling, CountedKind, NameKind, Label, Constant, Variable}
+use Rattle.scope.proofs.Words.{◌≡◌, ℕ, zero, suc, ◌+◌, ◌<◌, ◌≤◌, Bool, true, false, cond, List, [], ◌∷◌, ◌++◌, length, take, Some, slice_get, refl, ◌∙◌, ap, sym, arith, add-zero, length-map, same_Some, Name, name_at, kinds_of, count_after, AreCounted, places_that, Declared, names_that, declared_symbols, symbols_before, zip_kinds, is_symbol_kind, is_labelling, CountedKind, NameKind, Label, Constant, Variable}
 
 pub kinds-length : (names : List Name) (entries : List CountedKind) → length entries ≡ length names → length (kinds_of entries) ≡ length names
 kinds-length names entries h = length-map entries (λ e. e.kind) ∙ h
@@ -16,7 +16,7 @@ take-same (suc n) (x ∷ xs) (y ∷ ys) h = ap suc (take-same n xs ys (omega (ar
 -- an entry more that has the count of those that are there
 pub counted-push : (n m : ℕ) (entries : List CountedKind) (e : CountedKind) → AreCounted n entries → e.before ≡ n + length (places_that is_symbol_kind m entries) → AreCounted n (entries ++ e ∷ [])
 counted-push n m [] e c h = (h ∙ add-zero n, tt)
-counted-push n m (d ∷ entries) e c h = (c.0, counted-push (behind d) (m + 1) entries e c.1 (by (is_symbol_kind d.kind) h))
+counted-push n m (d ∷ entries) e c h = (c.0, counted-push (count_after d) (m + 1) entries e c.1 (by (is_symbol_kind d.kind) h))
   where
     by : (b : Bool) → e.before ≡ n + length (cond b (m ∷ places_that is_symbol_kind (m + 1) entries) (places_that is_symbol_kind (m + 1) entries))
         → e.before ≡ cond b (d.before + 1) d.before + length (places_that is_symbol_kind (m + 1) entries)
@@ -27,7 +27,7 @@ pub counted-take : (n i : ℕ) (entries : List CountedKind) → AreCounted n ent
 counted-take n zero [] c = tt
 counted-take n (suc i) [] c = tt
 counted-take n zero (e ∷ entries) c = tt
-counted-take n (suc i) (e ∷ entries) c = (c.0, counted-take (behind e) i entries c.1)
+counted-take n (suc i) (e ∷ entries) c = (c.0, counted-take (count_after e) i entries c.1)
 
 -- the count of an entry is that of the symbols before its place
 pub count-at : (names : List Name) (entries : List CountedKind) (n i : ℕ) (e : CountedKind) → length entries ≡ length names → AreCounted n entries → slice_get entries i ≡ Some e
@@ -35,7 +35,7 @@ pub count-at : (names : List Name) (entries : List CountedKind) (n i : ℕ) (e :
 count-at names [] n i e l c h = cc
 count-at [] (d ∷ entries) n i e l c h = absurd (omega (arith, l))
 count-at (x ∷ names) (d ∷ entries) n zero e l c h = ap (λ (z : CountedKind). z.before) (sym (same_Some d e h)) ∙ (c.0 ∙ sym (add-zero n))
-count-at (x ∷ names) (d ∷ entries) n (suc i) e l c h = by (is_symbol_kind d.kind) (count-at names entries (behind d) i e (omega (arith, l)) c.1 h)
+count-at (x ∷ names) (d ∷ entries) n (suc i) e l c h = by (is_symbol_kind d.kind) (count-at names entries (count_after d) i e (omega (arith, l)) c.1 h)
   where
     by : (b : Bool) → e.before ≡ cond b (d.before + 1) d.before + symbols_before (zip_kinds names (kinds_of entries)) i
         → e.before ≡ n + length (cond b (x ∷ declared_symbols (take i (zip_kinds names (kinds_of entries)))) (declared_symbols (take i (zip_kinds names (kinds_of entries)))))

@@ -1,7 +1,7 @@
 -- The words in which this crate is proved, passed on from one place.
 pub use Rattle.mm_lex.specs.Alphabet.{Name, has_name, name_eq}
 pub use Rattle.mm_lex.specs.Words.{words_of}
-pub use Rattle.mm_read.specs.Statements.{AreShaped, Database, Expr, spelled}
+pub use Rattle.mm_read.specs.Statements.{AreShaped, Database, Expr, tokens_of}
 pub use Rattle.mm_read.specs.declared.stmt.Stmt.{Stmt}
 pub use Rattle.mm_read.specs.declared.stmt.Stmt.TheVariants.{Axiom, Close, Const, Disj, Ess, Float, Open, Prove, Var}
 pub use Rattle.names.proofs.AddedNames.{has-more, has-with_names, has_name-append, number_in-same, numbers_in-more, or_cases, with_names-more}
@@ -16,7 +16,7 @@ pub use Rattle.scope.specs.Laws.{NeverCloses, before_open, between, has_open}
 pub use Rattle.scope.specs.Legal.{AllLegal, IsLegal, all_different, are_typed, broken_rule, end_rule, first_broken, starts_with_constant}
 pub use Rattle.scope.specs.Sorts.{IsSort, is_constant_sort, is_symbol_sort, is_untyped_sort, sort_by, sorts_rule}
 pub use Rattle.scope.specs.Standing.{standing_of, stands_at}
-pub use Rattle.scope.specs.Stored.KindCounts.{AreCounted, behind, kinds_of, places_that}
+pub use Rattle.scope.specs.Stored.KindCounts.{AreCounted, count_after, kinds_of, places_that}
 pub use Rattle.scope.specs.Stored.Ordered.{DifferNext, IsTwice}
 pub use Rattle.scope.specs.Stored.Stacks.{IsKept, IsMarked, IsPlain, IsScope, blocks_from, blocks_of, can_push, sizes_of}
 pub use Rattle.scope.specs.Stored.SymbolNumbers.{AreRecorded, IsAppended, are_numbers_distinct}

@@ -211,7 +211,7 @@ fn take_in(
     ensures numbering { OnOk result (IsNumberingOf (rules.old.statements ++ bare stmt.now ∷ []) names.new) }
     ensures names { (more : Declared) × (names.new ≡ names.old ++ more) }
     ensures standing { OnOk result (standing.new.items ≡ standing_of (rules.old.statements ++ bare stmt.now ∷ [])) }
-    ensures behind { OnErr result ((more : List Standings) × (standing.new.items ≡ standing.old.items ++ more)) }
+    ensures grows { OnErr result ((more : List Standings) × (standing.new.items ≡ standing.old.items ++ more)) }
 {
     push_standing(standing, alloc, at, stmt)?;
     declare_names(names, alloc, stmt, recorded)?;

@@ -1,7 +1,7 @@
 -- The words in which this crate is proved, passed on from one place.
 pub use Rattle.frame.specs.FrameOf.{HasAssertion, hypotheses, mandatory_groups}
 pub use Rattle.mm_lex.specs.Alphabet.{Name, runs, word}
-pub use Rattle.mm_lex.specs.Comments.{runs_behind}
+pub use Rattle.mm_lex.specs.Comments.{runs_after}
 pub use Rattle.mm_lex.specs.declared.span.Span.{Span}
 pub use Rattle.mm_read.specs.Statements.{Database}
 pub use Rattle.mm_read.specs.declared.stmt.Stmt.{Stmt}

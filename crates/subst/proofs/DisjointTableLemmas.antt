@@ -5,7 +5,7 @@ use Rattle.subst.proofs.PlaceSetLemmas.{among-left, among-right, symbols-again}
 use Rattle.subst.proofs.WrittenImages.{apply-take}
 use Rattle.subst.proofs.DisjointRowLemmas.{facts-grown}
 use Rattle.subst.proofs.ImagePairLemmas.{pairs-over}
-use Rattle.subst.proofs.ImageVariableLemmas.{recorded-over, recorded-begin, recorded-most, recorded-long, rest-most, seen-behind}
+use Rattle.subst.proofs.ImageVariableLemmas.{recorded-over, recorded-begin, recorded-most, recorded-long, rest-most, seen-without_first}
 
 pub tables-over : (v w : Numbered) (over more symbols : List ℕ) (t : DisjointTables) → v ≡ w → symbols ≡ over ++ more → AreTables v over t → AreTables w symbols t
 tables-over v w over more symbols t same e h =
@@ -54,15 +54,15 @@ module _ (v : Numbered) (symbols : List ℕ) (t : DisjointTables) (g : Places) (
   pub tables-listed : AreTables v symbols (record { variables = g; images = listed; rows = t.rows; before = t.before; found = t.found })
   tables-listed = record { placed = placed; recorded = listed-recorded; facts = facts-grown v t.variables g t.rows grows tables.facts; found = tables.found }
 
--- the list is recorded as that of what stands behind the first symbol of a range
+-- the list is recorded as that of what stands after the first symbol of a range
 pub tables-recorded : (v : Numbered) (symbols : List ℕ) (t : DisjointTables) (new : RecordedImages) (range image : SymbolRange) (x : ℕ) (rest : List ℕ) → AreTables v symbols t
     → AddsSymbols v t.variables (HasPlace []) (HasPlace t.images.list) (length rest) rest → RecordsImage t.images new image → range.start ≤ range.end → range.end ≤ length symbols → image.start ≡ range.start + 1 → image.end ≡ range.end → seen_at symbols range ≡ x ∷ rest
     → AreTables v symbols (record { variables = t.variables; images = new; rows = t.rows; before = t.before; found = t.found })
 tables-recorded v symbols t new range image x rest tables adds records start end low_is high_is seen =
     let some = some-range symbols rest range x start end seen in
-    let behind = seen-behind symbols rest range image x some low_is high_is seen in record {
+    let without_first = seen-without_first symbols rest range image x some low_is high_is seen in record {
       placed = tables.placed;
-      recorded = recorded-long v t.variables symbols t.images new image records (omega (arith, low_is, high_is, some)) (omega (arith, high_is, end)) (rw behind adds) tables.recorded;
+      recorded = recorded-long v t.variables symbols t.images new image records (omega (arith, low_is, high_is, some)) (omega (arith, high_is, end)) (rw without_first adds) tables.recorded;
       facts = tables.facts;
       found = tables.found;
     }

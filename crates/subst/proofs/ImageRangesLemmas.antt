@@ -17,7 +17,7 @@ image-some symbols ps x p h = image-by_place symbols ps x ∙ ap (by_place symbo
 pub image-none : (symbols : List ℕ) (ps : List (ℕ × SymbolRange)) (x : ℕ) → lookup (nat_eq x) ps ≡ None → code_image (images_at symbols ps) x ≡ x ∷ []
 image-none symbols ps x h = image-by_place symbols ps x ∙ ap (by_place symbols x) h
 
--- behind the images the buffer may grow
+-- after the images the buffer may grow
 pub image-more : (xs ys : List ℕ) (ps : List (ℕ × SymbolRange)) (x : ℕ) → AreInside (length xs) ps → code_image (images_at (xs ++ ys) ps) x ≡ code_image (images_at xs ps) x
 image-more xs ys ps x w = image-by_place (xs ++ ys) ps x ∙ (by (lookup (nat_eq x) ps) refl ∙ sym (image-by_place xs ps x))
   where

@@ -141,13 +141,13 @@ range-symbols v f words old new r image range adds = record {
   only = λ j b. elim (adds.only j b) [ inl before ↦ inl before | inr own ↦ inr (range.are.only j (listed-in words r j range.low range.high own)) ];
 }
 
--- the list behind the words
+-- the list after the words
 module _ (words list : List PlaceWord) where
-  abbrev pub behind : WordRange
-  behind = record { start = length words; end = length (words ++ list) }
+  abbrev pub after_words : WordRange
+  after_words = record { start = length words; end = length (words ++ list) }
 
-  list-behind : (j : ℕ) → HasPlace list j → IsIn (words ++ list) behind j
-  list-behind j h = let there = h.there in record {
+  list-after : (j : ℕ) → HasPlace list j → IsIn (words ++ list) after_words j
+  list-after j h = let there = h.there in record {
     spot = length words + h.word;
     from = omega arith;
     to = omega (arith, there, length-append words list);
@@ -155,8 +155,8 @@ module _ (words list : List PlaceWord) where
     has = subst (λ u. HasBit u j) (sym (get_or-append-add words list h.word no_word)) h.has;
   }
 
-  behind-list : (j : ℕ) → IsIn (words ++ list) behind j → HasPlace list j
-  behind-list j i = let from = i.from in let to = i.to in record {
+  after-list : (j : ℕ) → IsIn (words ++ list) after_words j → HasPlace list j
+  after-list j i = let from = i.from in let to = i.to in record {
     word = i.spot - length words;
     there = omega (arith, from, to, length-append words list);
     has = subst (λ u. HasBit u j) (get_or-append_right words list (length words) i.spot no_word refl from) i.has;
@@ -167,8 +167,8 @@ module _ (words list : List PlaceWord) where
     low = omega (arith, length-append words list);
     high = omega arith;
     are = record {
-      each = λ x p. has-more v f f (HasPlace list) (IsIn (words ++ list) behind) x (grows-own f) list-behind (adds.added x p);
-      only = λ j i. elim (adds.only j (behind-list j i)) [ inl none ↦ absurd (place-none j none) | inr own ↦ own ];
+      each = λ x p. has-more v f f (HasPlace list) (IsIn (words ++ list) after_words) x (grows-own f) list-after (adds.added x p);
+      only = λ j i. elim (adds.only j (after-list j i)) [ inl none ↦ absurd (place-none j none) | inr own ↦ own ];
     };
   }
 
@@ -243,9 +243,9 @@ recorded-long v f symbols old new image (inr e) low high own h =
           (record { low = low; high = high; within = omega arith; range = list-range old.words old.list v f (seen_at symbols image) own });
     })
 
--- what stands behind the first symbol
-pub seen-behind : (xs rest : List ℕ) (p q : SymbolRange) (x : ℕ) → p.start < p.end → q.start ≡ p.start + 1 → q.end ≡ p.end → seen_at xs p ≡ x ∷ rest → seen_at xs q ≡ rest
-seen-behind xs rest p q x some low high e =
+-- what stands after the first symbol
+pub seen-without_first : (xs rest : List ℕ) (p q : SymbolRange) (x : ℕ) → p.start < p.end → q.start ≡ p.start + 1 → q.end ≡ p.end → seen_at xs p ≡ x ∷ rest → seen_at xs q ≡ rest
+seen-without_first xs rest p q x some low high e =
     let size : p.end - p.start ≡ 1 + (p.end - (p.start + 1)) = omega (arith, some) in
     let next : p.start + 1 ≡ p.start + 1 = refl in
     ap (λ n. take (q.end - n) (drop n xs)) low

@@ -189,7 +189,7 @@ pub symbols-near_end : (v : Numbered) (f : Places) (bits n : ℕ) (image : List 
 symbols-near_end v f bits n image end h =
     subst (λ m. AddsSymbols v f (HasPlace []) (HasPlace (near_word bits ∷ [])) m image) end (symbols-end v f (HasPlace []) [] (near_word bits ∷ []) (near_word bits) n image (adds-pushed [] (near_word bits)) h)
 
--- ---- images one behind another
+-- ---- images one after another
 
 pub among-left : (xs ys : List ℕ) (x : ℕ) → IsAmong (length xs) xs x → IsAmong (length (xs ++ ys)) (xs ++ ys) x
 among-left xs ys x p = (p.0, omega (arith, p.1, length-append xs ys), get_or_append_left xs ys 0 p.0 p.1 ∙ p.2)

@@ -1,4 +1,4 @@
--- How images are kept by number, and symbols behind others in a buffer. Public clauses cite `Appends` of it alone.
+-- How images are kept by number, and symbols after others in a buffer. Public clauses cite `Appends` of it alone.
 pub mod Slots
 pub mod Written
 pub mod VariablePlaces

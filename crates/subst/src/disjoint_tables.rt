@@ -327,7 +327,7 @@ impl DisjointTables {
             self.images
                 .add_image(pairs, variables, symbols, images, *symbol)?;
         }
-        self.images.record_image(behind_first(result_range))
+        self.images.record_image(without_first(result_range))
     }
 
     /// Notes the variables of a long result that is a hypothesis.
@@ -350,7 +350,7 @@ impl DisjointTables {
         self.images.begin();
         self.images
             .add_symbols(pairs, &mut self.variables, &expr[1..])?;
-        self.images.record_image(behind_first(result_range))
+        self.images.record_image(without_first(result_range))
     }
 }
 
@@ -373,8 +373,8 @@ fn is_repeated(groups: &Groups<'_>, index: usize) -> bool
     index > 0 && groups.get(index) == groups.get(index - 1)
 }
 
-/// Where the symbols of a range stand without the first.
-fn behind_first(range: SymbolRange) -> SymbolRange
+/// Returns where the symbols of a range stand without the first.
+fn without_first(range: SymbolRange) -> SymbolRange
     requires { range.start < range.end }
     ensures { (result.start ≡ range.start + 1) × (result.end ≡ range.end) }
 {

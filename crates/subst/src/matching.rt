@@ -42,7 +42,7 @@ fn begin_alike(left: &[u32], right: &[u32], len: usize) -> bool
 
 /// Returns where the image in a range ends, if the symbols from `at` up to `end` begin with it.
 #[inline(always)]
-fn behind_image(symbols: &[u32], place: SymbolRange, at: usize, end: usize) -> Option<usize>
+fn pass_range(symbols: &[u32], place: SymbolRange, at: usize, end: usize) -> Option<usize>
     requires image { (place.start ≤ place.end) × (place.end ≤ length symbols.now) }
     requires rest { (at ≤ end) × (end ≤ length symbols.now) }
     ensures some { IfSome result (λ next. (next ≤ end) × (slice_range symbols.now at end ≡ seen_at symbols.now place ++ slice_range symbols.now next end)) }
@@ -61,7 +61,7 @@ fn behind_image(symbols: &[u32], place: SymbolRange, at: usize, end: usize) -> O
 
 /// Returns where the image of a symbol ends, if the symbols from `at` up to `end` begin with it.
 #[inline(always)]
-fn behind(
+fn pass_image(
     symbols: &[u32],
     images: &ImageTable<'_>,
     symbol: u32,
@@ -74,7 +74,7 @@ fn behind(
     ensures none { IfNone result ((more : List ℕ) → slice_range symbols.now at end ≡ code_image (images_at symbols.now images.now) symbol ++ more → ⊥) }
 {
     match images.get(symbol) {
-        Some(place) => behind_image(symbols, place, at, end),
+        Some(place) => pass_range(symbols, place, at, end),
         None if at < end && symbols[at] == symbol => Some(at + 1),
         None => None,
     }
@@ -96,7 +96,7 @@ pub(crate) fn matches(
     let end = whole.end as usize;
     let mut at = whole.start as usize;
     for symbol in expr {
-        match behind(symbols, &table, *symbol, at, end) {
+        match pass_image(symbols, &table, *symbol, at, end) {
             Some(next) => at = next,
             None => return false,
         }

@@ -1,6 +1,6 @@
 //! A text that is cut is read as by one thread, also where a `$.` stands in a comment.
 use mm_read::ReadFault;
-use read_pool::read_by;
+use read_pool::read_in_parts;
 use std::alloc::{AllocError, Global};
 use std::thread::Threads;
 
@@ -22,7 +22,7 @@ fn reads<R: Threads + Sync>(rt: &R, alloc: Global, workers: usize) -> bool {
     let Ok(text) = lines(alloc) else {
         return false;
     };
-    match read_by(rt, alloc, &text, workers) {
+    match read_in_parts(rt, alloc, &text, workers) {
         Ok(statements) => statements.len() == LINES,
         Err(_) => false,
     }
@@ -36,7 +36,7 @@ fn is_refused<R: Threads + Sync>(rt: &R, alloc: Global, workers: usize) -> bool 
     if text.extend_from_slice(b"$c").is_err() {
         return false;
     }
-    match read_by(rt, alloc, &text, workers) {
+    match read_in_parts(rt, alloc, &text, workers) {
         Ok(_) => false,
         Err(fault) => {
             fault

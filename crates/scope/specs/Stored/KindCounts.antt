@@ -10,13 +10,13 @@ abbrev pub kinds_of : List CountedKind → List NameKind
 kinds_of entries = map (λ e. e.kind) entries
 
 -- the count after an entry
-abbrev pub behind : CountedKind → ℕ
-behind e = if is_symbol_kind e.kind then e.before + 1 else e.before
+abbrev pub count_after : CountedKind → ℕ
+count_after e = if is_symbol_kind e.kind then e.before + 1 else e.before
 
 -- each has the count of the symbols before it; there are n before the first
 abbrev pub AreCounted : ℕ → List CountedKind → Type 0
 AreCounted n [] = Unit {0}
-AreCounted n (e ∷ entries) = (e.before ≡ n) × AreCounted (behind e) entries
+AreCounted n (e ∷ entries) = (e.before ≡ n) × AreCounted (count_after e) entries
 
 -- the places of the entries of some kinds, if the first entry has the place n
 abbrev pub places_that : (NameKind → Bool) → ℕ → List CountedKind → List ℕ

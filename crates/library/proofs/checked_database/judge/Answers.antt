@@ -1,5 +1,5 @@
 use Rattle.library.proofs.Words.{ap, sym, subst, is_unfinished, proof_of, IsLeastUnproved, ◌∙◌}
-use Rattle.library.proofs.CheckedDatabaseLemmas.{all-proved, first-fault, known-front, legal-behind}
+use Rattle.library.proofs.CheckedDatabaseLemmas.{all-proved, first-fault, known-front, legal-after}
 use Rattle.library.proofs.UnprovedLemmas.{known-least}
 use Rattle.library.proofs.checked_database.judge.Goals as goal
 
@@ -7,14 +7,14 @@ pub returns-in_default-2-clause-judged : goal.returns-in_default-2-clause-judged
 returns-in_default-2-clause-judged g c =
     let S = c.args.statements.now in
     let least = subst (IsLeastUnproved S c.args.front) c.in_default-2.is (known-least S c.args.front c.args.added.known _ c.requires.known c.in_ok-at.ensures) in
-    (legal-behind S c.args.front _ _ c.requires.broken c.in_ok-statement.was c.in_default.is, all-proved S c.args.front (known-front S _ _ c.requires.known) least)
+    (legal-after S c.args.front _ _ c.requires.broken c.in_ok-statement.was c.in_default.is, all-proved S c.args.front (known-front S _ _ c.requires.known) least)
 
 pub returns-then-is_unfinished-clause-judged : goal.returns-then-is_unfinished-clause-judged
 returns-then-is_unfinished-clause-judged g c =
     let S = c.args.statements.now in
     let least = subst (IsLeastUnproved S c.args.front) c.in-Some-2.is (known-least S c.args.front c.args.added.known _ c.requires.known c.in_ok-at.ensures) in (
       c.index-statements-at.result,
-      legal-behind S c.args.front _ _ c.requires.broken c.in_ok-statement.was c.in_default.is,
+      legal-after S c.args.front _ _ c.requires.broken c.in_ok-statement.was c.in_default.is,
       first-fault S c.args.front (known-front S _ _ c.requires.known) c.in-Some-2.at c.index-statements-at.result least c.index-statements-at.is,
       ap (λ s. is_unfinished (proof_of s)) c.in-Prove.is ∙ (sym c.is_unfinished.ensures ∙ c.if-is_unfinished.true),
     )
@@ -24,7 +24,7 @@ returns-else-is_unfinished-clause-judged g c =
     let S = c.args.statements.now in
     let least = subst (IsLeastUnproved S c.args.front) c.in-Some-2.is (known-least S c.args.front c.args.added.known _ c.requires.known c.in_ok-at.ensures) in (
       c.index-statements-at.result,
-      legal-behind S c.args.front _ _ c.requires.broken c.in_ok-statement.was c.in_default.is,
+      legal-after S c.args.front _ _ c.requires.broken c.in_ok-statement.was c.in_default.is,
       first-fault S c.args.front (known-front S _ _ c.requires.known) c.in-Some-2.at c.index-statements-at.result least c.index-statements-at.is,
       ap (λ s. is_unfinished (proof_of s)) c.in-Prove.is ∙ (sym c.is_unfinished.ensures ∙ c.if-is_unfinished.false),
     )

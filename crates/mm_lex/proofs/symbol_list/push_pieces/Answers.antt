@@ -15,7 +15,7 @@ push_text-requires c =
     let some : 0 < n = omega (arith, c.if-start-end.false) in
     let within : start + n ≤ length text = omega (arith, c.count_spaced.ensures.within, ap length rest, length-drop start text, c.pass_white-start.ensures.within) in
     let shown : starts_white (drop start text) ≡ false = c.pass_white-start.ensures.shown (omega (arith, some, within)) in
-    stretch_words text start (start + n) n c.requires.clean shown is some refl within (sym c.if-not-is_behind_word.ensures)
+    stretch_words text start (start + n) n c.requires.clean shown is some refl within (sym c.if-not-is_after_word.ensures)
 
 pub loop-at-preserved : goal.loop-at-preserved
 loop-at-preserved c =
@@ -29,4 +29,4 @@ loop-at-preserved c =
     let shown : starts_white (drop start text) ≡ false = c.pass_white-start.ensures.shown (omega (arith, some, within)) in
     let white = c.pass_white-start.ensures in
     adds_on c.loop-at.invariant (adds_on (adds_white c.loop-at.at start c.loop-at.words white.later white.within white.runs)
-    (stretch_adds text start (start + n) n c.requires.clean shown is some refl within (sym c.if-not-is_behind_word.ensures) _ _ c.in_ok-push_text.ensures.ok))
+    (stretch_adds text start (start + n) n c.requires.clean shown is some refl within (sym c.if-not-is_after_word.ensures) _ _ c.in_ok-push_text.ensures.ok))

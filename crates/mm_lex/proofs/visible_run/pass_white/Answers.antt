@@ -1,5 +1,5 @@
 use Rattle.mm_lex.proofs.Prelude.{◌∙◌, ap, length, drop, ◌-◌, position_or_len, take_rest}
-use Rattle.mm_lex.proofs.RunsLemmas.{is_shown, pass_white, shown_behind}
+use Rattle.mm_lex.proofs.RunsLemmas.{is_shown, pass_white, shown_after}
 use Rattle.mm_lex.proofs.LanesLemmas.{clean-drop, clean-take}
 use Rattle.mm_lex.proofs.visible_run.pass_white.Goals as goal
 
@@ -14,4 +14,4 @@ returns-clause-runs c =
 pub returns-clause-shown : goal.returns-clause-shown
 returns-clause-shown c = λ inside.
     let blanks = c.count_white.ensures.count ∙ ap (position_or_len is_shown) (take_rest c.args.text.now c.args.at) in
-    shown_behind c.args.text.now c.args.at c.count_white.result c.requires.place blanks inside
+    shown_after c.args.text.now c.args.at c.count_white.result c.requires.place blanks inside

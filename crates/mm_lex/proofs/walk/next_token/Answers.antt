@@ -1,6 +1,6 @@
 use Rattle.mm_lex.proofs.Prelude.{sym, bytes_eq-Decides}
 use Rattle.mm_lex.proofs.CuttingMeans.{plain}
-use Rattle.mm_lex.proofs.BetweenLemmas.{between_none, between_on, between_comment, behind_on, none_behind}
+use Rattle.mm_lex.proofs.BetweenLemmas.{between_none, between_on, between_comment, after_on, none_after}
 use Rattle.mm_lex.proofs.NextRunLemmas.{next_is, stops_stray, stops_nested, stops_unclosed}
 use Rattle.mm_lex.proofs.walk.next_token.Goals as goal
 
@@ -31,4 +31,4 @@ returns-in-Unclosed-clause-fault c =
     stops_unclosed c.loop-run.invariant c.in-Some.run' c.in-Some.ensures.run ((bytes_eq-Decides _ _).0 (sym c.if-not-is_opener.ensures)) c.in-Unclosed.ensures
 
 pub returns-clause-next : goal.returns-clause-next
-returns-clause-next c = behind_on c.loop-run.invariant (none_behind c.loop-run.from c.in_default.ensures.run)
+returns-clause-next c = after_on c.loop-run.invariant (none_after c.loop-run.from c.in_default.ensures.run)

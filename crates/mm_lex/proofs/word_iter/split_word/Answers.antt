@@ -1,5 +1,5 @@
 use Rattle.mm_lex.proofs.Prelude.{◌∙◌, ap, sym, ◌+◌, ◌∷◌, take, take_rest, words_of}
-use Rattle.mm_lex.proofs.WordsLemmas.{at_position, no_position, AreWords-behind}
+use Rattle.mm_lex.proofs.WordsLemmas.{at_position, no_position, AreWords-after}
 use Rattle.mm_lex.proofs.word_iter.split_word.Goals as goal
 
 pub returns-in-Some-clause-first : goal.returns-in-Some-clause-first
@@ -10,7 +10,7 @@ returns-in-Some-clause-first c =
 
 pub returns-in-Some-clause-rest : goal.returns-in-Some-clause-rest
 returns-in-Some-clause-rest c =
-    AreWords-behind (words_of c.args.text.now) _ (take c.in-Some.end c.args.text.now) (returns-in-Some-clause-first c) c.requires.words
+    AreWords-after (words_of c.args.text.now) _ (take c.in-Some.end c.args.text.now) (returns-in-Some-clause-first c) c.requires.words
 
 pub returns-in-None-clause-first : goal.returns-in-None-clause-first
 returns-in-None-clause-first c =

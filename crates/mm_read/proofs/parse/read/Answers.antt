@@ -1,4 +1,4 @@
-use Rattle.mm_read.proofs.Words.{ap, Err, IsFirstBadByte-found, IsFirstBadByte-unique, IsClean-none, Text, spelled}
+use Rattle.mm_read.proofs.Words.{ap, Err, IsFirstBadByte-found, IsFirstBadByte-unique, IsClean-none, Text, tokens_of}
 use Rattle.mm_lex.specs.declared.fault.LexFault.TheVariants as lex
 use Rattle.mm_read.proofs.OneReading.{bad_no_tokens, bad_no_comment, fault_is, no_bad_byte, the_statements, the_comment_fault, the_shape_fault}
 use Rattle.mm_read.proofs.NextLemmas.{on_err}
@@ -10,7 +10,7 @@ returns-in-Some-clause-fault c = (IsFirstBadByte-found c.args.text.now c.in-Some
 pub returns-in-Some-clause-statements : goal.returns-in-Some-clause-statements
 returns-in-Some-clause-statements c = λ S reads.
     let bad = IsFirstBadByte-found c.args.text.now c.in-Some.offset c.in-Some.ensures in
-    bad_no_tokens c.args.text.now c.in-Some.offset bad (spelled S) reads.tokens
+    bad_no_tokens c.args.text.now c.in-Some.offset bad (tokens_of S) reads.tokens
 
 pub returns-in-Some-clause-text_fault : goal.returns-in-Some-clause-text_fault
 returns-in-Some-clause-text_fault c = λ offset is.

@@ -1,4 +1,4 @@
-use Rattle.mm_read.proofs.Words.{◌∙◌, ap, sym, refl, subst, [], is_symbol, AreBehind, IsTokenBehind, IsNextToken}
+use Rattle.mm_read.proofs.Words.{◌∙◌, ap, sym, refl, subst, [], is_symbol, AreAfter, IsTokenAfter, IsNextToken}
 use Rattle.mm_read.proofs.PartLemmas.{starts_none, starts_other}
 use Rattle.mm_read.proofs.part.next_symbol.Goals as goal
 use Rattle.mm_read.proofs.part.next_symbol.Goals.{in-Some+else-is_symbol, in_default}
@@ -10,12 +10,12 @@ returns-clause-fault c =
     elim c.match-branch-2.branch [
       | in-Some+else-is_symbol w ↦ (
         refl,
-        let next : IsTokenBehind text at w.in-Some.span = subst (IsNextToken text at) w.in-Some.is c.in_ok-span.ensures.next in
+        let next : IsTokenAfter text at w.in-Some.span = subst (IsNextToken text at) w.in-Some.is c.in_ok-span.ensures.next in
             starts_other at is_symbol w.in-Some.span next (ap is_symbol (sym w.token-word.ensures) ∙ sym w.if-is_symbol.ensures),
       )
       | in_default w ↦ (
         refl,
-        let none : AreBehind text at [] = subst (IsNextToken text at) w.in_default.is c.in_ok-span.ensures.next in
+        let none : AreAfter text at [] = subst (IsNextToken text at) w.in_default.is c.in_ok-span.ensures.next in
             starts_none at is_symbol none,
       )
     ]

@@ -1,4 +1,4 @@
-use Rattle.mm_read.proofs.Words.{◌≡◌, ◌∙◌, ap, sym, arith, subst, inl, inr, ◌+◌, ◌≤◌, length, leb-false, name_eq, AreBehind, EndsSymbols, IsListEnd, IsListStop}
+use Rattle.mm_read.proofs.Words.{◌≡◌, ◌∙◌, ap, sym, arith, subst, inl, inr, ◌+◌, ◌≤◌, length, leb-false, name_eq, AreAfter, EndsSymbols, IsListEnd, HasBrokenList}
 use Rattle.mm_read.proofs.PartLemmas.{stops_at_end, stops_otherwise, list_few}
 use Rattle.mm_read.proofs.part.symbols_until.Goals as goal
 use Rattle.mm_read.proofs.part.symbols_until.Goals.{in-Some+else-eq, else-eq-via-then-eq+else-has_least, else-eq-via-else-eq, in_default}
@@ -11,7 +11,7 @@ returns-clause-fault c =
     let end = c.args.end.now in
     let number = c.args.number in
     let least = c.args.least in
-    subst (λ n. IsListStop text at number least end (number + n)) (sym c.len.ensures)
+    subst (λ n. HasBrokenList text at number least end (number + n)) (sym c.len.ensures)
     (elim c.match-stop.branch [
       | in-Some+else-eq w ↦
           let s = w.in-Some.span in
@@ -21,7 +21,7 @@ returns-clause-fault c =
             | else-eq-via-else-eq v ↦ stops_otherwise at ws c.in_ok-words.ensures.symbols number least end s ends (inr (ap (λ w. name_eq w end) (sym w.token.ensures) ∙ sym v.if-eq.ensures))
           ]
       | in_default w ↦
-          let none : AreBehind text at ws = subst (IsListEnd text at ws) w.in_default.is c.in_ok-words.ensures.end in
+          let none : AreAfter text at ws = subst (IsListEnd text at ws) w.in_default.is c.in_ok-words.ensures.end in
           stops_at_end at ws c.in_ok-words.ensures.symbols number least end c.requires.place none
     ])
 

@@ -1,4 +1,4 @@
-use Rattle.mm_read.proofs.Words.{◌≤◌, ◌+◌, ◌∷◌, ◌++◌, [], length, codes, subst, arith, length-append, err_from_is_err_and, between_few, StopsBehind, stops_behind, IsListFault, IsListStop}
+use Rattle.mm_read.proofs.Words.{◌≤◌, ◌+◌, ◌∷◌, ◌++◌, [], length, codes, subst, arith, length-append, err_from_is_err_and, between_few, StopsAfter, stops_after, IsListFault, HasBrokenList}
 use Rattle.mm_read.proofs.StatementsLemmas.{are_symbols_of}
 use Rattle.mm_read.proofs.AfterFaults.{expr_fault, proof_fault}
 use Rattle.mm_read.proofs.NextLemmas.{provable_next}
@@ -29,7 +29,7 @@ overflow_add-result-in-Err-Shape c =
     let expr = c.in_ok-expr.expr in
     let has = c.in_ok-expr.ensures.between in
     let few : length (expr ++ codes "$=" ∷ []) + c.args.at ≤ c.in_ok-expr.after = between_few text c.args.at c.in_ok-expr.after (expr ++ codes "$=" ∷ []) has in
-    let is : IsListStop text c.in_ok-expr.after 1 0 (codes "$.") c.in-Err-Shape.token =
+    let is : HasBrokenList text c.in_ok-expr.after 1 0 (codes "$.") c.in-Err-Shape.token =
     subst (λ f. IsListFault text c.in_ok-expr.after 1 0 (codes "$.") f) c.in-Err-Shape.field-0-is c.in-Err-Shape.ensures.fault in
     rw c.in-Err-Shape.field-0-is (omega (arith, few, is.few, length-append expr (codes "$=" ∷ []), has.within, c.len.ensures))
 
@@ -37,7 +37,7 @@ pub returns-in-Err-Shape-clause-fault : goal.returns-in-Err-Shape-clause-fault
 returns-in-Err-Shape-clause-fault c =
     let text = c.args.text.now in
     let expr = c.in_ok-expr.ensures in
-    let is : IsListStop text c.in_ok-expr.after 1 0 (codes "$.") c.in-Err-Shape.token =
+    let is : HasBrokenList text c.in_ok-expr.after 1 0 (codes "$.") c.in-Err-Shape.token =
     subst (λ f. IsListFault text c.in_ok-expr.after 1 0 (codes "$.") f) c.in-Err-Shape.field-0-is c.in-Err-Shape.ensures.fault in
     rw (c.in-Err-Shape.field-0-is, c.len.ensures)
     (proof_fault text c.args.at c.args.label.now c.requires.label c.in_ok-expr.expr expr.symbols expr.many expr.between c.in-Err-Shape.token is)
@@ -46,6 +46,6 @@ pub returns-in-Err-Text-clause-fault : goal.returns-in-Err-Text-clause-fault
 returns-in-Err-Text-clause-fault c =
     let text = c.args.text.now in
     let expr = c.in_ok-expr.ensures in
-    let is : StopsBehind text c.in_ok-expr.after c.in-Err-Text.fault =
+    let is : StopsAfter text c.in_ok-expr.after c.in-Err-Text.fault =
     subst (λ f. IsListFault text c.in_ok-expr.after 1 0 (codes "$.") f) c.in-Err-Text.field-0-is c.in-Err-Text.ensures.fault in
-    rw c.in-Err-Text.field-0-is (stops_behind expr.between c.in-Err-Text.fault is)
+    rw c.in-Err-Text.field-0-is (stops_after expr.between c.in-Err-Text.fault is)

@@ -12,6 +12,6 @@ returns c =
     let listed = c.add_symbols.new.self in
     let keeps = rw c.begin.ensures at c.add_symbols.ensures.rest in
     let e = c.args.expr.now in
-    tables-recorded v c.args.symbols.now _ c.record_image.new.self c.args.result_range c.behind_first.result (get_or e 0 0) (rest_of e)
+    tables-recorded v c.args.symbols.now _ c.record_image.new.self c.args.result_range c.without_first.result (get_or e 0 0) (rest_of e)
     (tables-listed v c.args.symbols.now c.args.self.now c.add_symbols.new.variables c.requires.tables c.add_symbols.ensures.placed c.add_symbols.ensures.grows listed keeps)
-    (rw c.begin.ensures at c.in_ok-add_symbols.ensures.added) c.record_image.ensures c.requires.range.0 c.requires.range.1 c.behind_first.ensures.0 c.behind_first.ensures.1 (c.requires.whole ∙ whole-rest e (sym c.is_empty.ensures ∙ c.if-is_empty.false))
+    (rw c.begin.ensures at c.in_ok-add_symbols.ensures.added) c.record_image.ensures c.requires.range.0 c.requires.range.1 c.without_first.ensures.0 c.without_first.ensures.1 (c.requires.whole ∙ whole-rest e (sym c.is_empty.ensures ∙ c.if-is_empty.false))

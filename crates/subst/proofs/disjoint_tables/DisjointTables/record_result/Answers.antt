@@ -82,8 +82,8 @@ loop-index-preserved-then-branch c =
     let stands = c.in_ok-stands_before.ensures.stands c.if-branch.true in
     rw c.stands_before.ensures.same (l.invariant.0, l.invariant.1, symbol-again v l.self.variables (HasPlace c.begin.new.self.list) (HasPlace l.self.images.list) σ rest stands.0 n stands.1 c.loop-index-test.true stands.2 l.invariant.2)
 
-pub behind_first-requires : goal.behind_first-requires
-behind_first-requires c =
+pub without_first-requires : goal.without_first-requires
+without_first-requires c =
     let e = c.args.expr.now in
     let x = get_or e 0 0 in
     let own = image-none c.args.symbols.now c.args.images.now x (sym c.get.ensures ∙ not-some c.get.result (sym c.is_some.ensures ∙ c.if-is_some.false)) in
@@ -102,5 +102,5 @@ returns c =
     let own = image-none c.args.symbols.now c.args.images.now x (sym c.get.ensures ∙ not-some c.get.result (sym c.is_some.ensures ∙ c.if-is_some.false)) in
     let all = take_all l.index rest c.loop-index-test.false in
     let adds = subst (λ r. AddsImage v l.self.variables old l.self.images (code_apply σ r)) all l.invariant.2 in
-    tables-recorded v c.args.symbols.now l.self c.record_image.new.self c.args.result_range c.behind_first.result x (code_apply σ rest) l.invariant.0 (rw c.begin.ensures at adds) c.record_image.ensures c.requires.range.0 c.requires.range.1 c.behind_first.ensures.0 c.behind_first.ensures.1
+    tables-recorded v c.args.symbols.now l.self c.record_image.new.self c.args.result_range c.without_first.result x (code_apply σ rest) l.invariant.0 (rw c.begin.ensures at adds) c.record_image.ensures c.requires.range.0 c.requires.range.1 c.without_first.ensures.0 c.without_first.ensures.1
     (seen-first c.args.symbols.now c.args.images.now e c.args.result_range x rest c.requires.whole (whole-rest e (sym c.is_empty.ensures ∙ c.if-is_empty.false)) own)

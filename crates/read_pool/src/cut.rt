@@ -1,15 +1,15 @@
-//! Finds places where a text may be cut.
+//! Finds cuts of a text: places where it may be cut in two.
 ghost use Rattle.std.specs.Prelude.{◌+◌, ◌<◌, ◌≤◌, drop, length, IfSome, IsTrue};
 ghost use Rattle.mm_lex.specs.Alphabet.{starts_white};
-ghost use Rattle.read_pool.specs.Place.{IsPlace};
+ghost use Rattle.read_pool.specs.Cut.{IsCut};
 
-/// How many bytes are searched for a place, and the least that make a part.
+/// How many bytes are searched for a cut, and the least that make a part.
 pub(crate) const STRETCH: usize = 1 << 20;
 
-/// Returns a place at or after `near` that no word crosses: the end of a `$.` that seems to stand outside of comments, since
-/// no `$)` follows it before a `$(`. If no such place is found, it is the end of the text.
-pub(crate) fn place_near(text: &[u8], near: usize) -> usize
-    ensures { IsPlace text.now result }
+/// Returns a cut at or after `near`, a place that no word crosses: the end of a `$.` that seems to stand outside of
+/// comments, since no `$)` follows it before a `$(`. If none is found, it is the end of the text.
+pub(crate) fn cut_near(text: &[u8], near: usize) -> usize
+    ensures { IsCut text.now result }
 {
     let end = text
         .len()
@@ -21,8 +21,8 @@ pub(crate) fn place_near(text: &[u8], near: usize) -> usize
             b"$." if found.is_none() => found = end_at(text, at + 2),
             b"$)" => found = None,
             b"$(" => {
-                if let Some(place) = found {
-                    return place;
+                if let Some(cut) = found {
+                    return cut;
                 }
             }
             _ => {}
@@ -31,10 +31,10 @@ pub(crate) fn place_near(text: &[u8], near: usize) -> usize
     found.unwrap_or(text.len())
 }
 
-/// Returns this place, if a white byte stands there.
+/// Returns this place as a cut, if a white byte stands there.
 fn end_at(text: &[u8], at: usize) -> Option<usize>
     requires { at < length text.now }
-    ensures { IfSome result (IsPlace text.now) }
+    ensures { IfSome result (IsCut text.now) }
 {
     if text[at].is_ascii_whitespace() {
         Some(at)

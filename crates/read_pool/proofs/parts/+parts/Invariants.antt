@@ -1,5 +1,5 @@
 use Rattle.std.proofs.Common.{◌+◌, ◌*◌}
-use Rattle.read_pool.proofs.halves.+halves.Given as goal
+use Rattle.read_pool.proofs.parts.+parts.Given as goal
 
 abbrev pub decreases-read_parts : goal.decreases-read_parts
 decreases-read_parts g l = 2 * l.parts

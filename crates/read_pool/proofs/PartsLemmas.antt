@@ -1,4 +1,4 @@
--- Two parts of a text that is cut at a place write the statements of the whole.
+-- Two parts of a text that is cut at a place read as the statements of the whole.
 use Rattle.std.specs.Prelude.{◌≡◌, ℕ, true, ◌||◌, List, [], ◌∷◌, ◌++◌, take, drop, Option, Some, None, IfSome, Vec}
 use Rattle.std.specs.declared.alloc.Global.{Global}
 use Rattle.std.proofs.Common.{refl, sym, ◌∙◌, ap, subst}
@@ -10,7 +10,7 @@ use Rattle.mm_read.specs.Statements.{Database}
 use Rattle.mm_read.specs.Reads.{Reads}
 use Rattle.mm_read.specs.Laws.{is_apart}
 use Rattle.mm_read.proofs.JoinedReads.{joined_reads}
-use Rattle.read_pool.specs.Place.{IsPlace}
+use Rattle.read_pool.specs.Cut.{IsCut}
 use Rattle.read_pool.specs.Both.{AreBoth}
 
 -- no word goes on into a text that starts white
@@ -19,14 +19,14 @@ white_apart [] other white = refl
 white_apart (b ∷ []) other white = ap (λ t. is_white b || t) white ∙ or-true (is_white b)
 white_apart (b ∷ c ∷ text) other white = white_apart (c ∷ text) other white
 
-module _ (text front back : List ℕ) (at : ℕ) (place : IsPlace text at) (begins : front ≡ take at text) (ends : back ≡ drop at text) where
+module _ (text front back : List ℕ) (at : ℕ) (cut : IsCut text at) (begins : front ≡ take at text) (ends : back ≡ drop at text) where
   -- the two parts are the text
   whole : front ++ back ≡ text
   whole = ap (λ r. r ++ back) begins ∙ (ap (λ r. take at text ++ r) ends ∙ take-append-drop at text)
 
   -- no word goes on from the one into the other
   apart : is_apart front back ≡ true
-  apart = white_apart front back (ap starts_white ends ∙ place.1)
+  apart = white_apart front back (ap starts_white ends ∙ cut.1)
 
   module _ (first second : Option (Vec Stmt Global)) (one : IfSome first (λ S. Reads front S.items)) (other : IfSome second (λ S. Reads back S.items)) where
     -- where both parts read, the text reads as the statements of both
@@ -39,6 +39,6 @@ module _ (text front back : List ℕ) (at : ℕ) (place : IsPlace text at) (begi
         by None second one other are = absurd are
 
     -- .. and so does what is answered, where there is an answer
-    pub halves_read : (r : Option (Vec Stmt Global)) → IfSome r (λ S. AreBoth first second S.items) → IfSome r (λ S. Reads text S.items)
-    halves_read (Some v) are = both_read v.items are
-    halves_read None are = tt
+    pub parts_read : (r : Option (Vec Stmt Global)) → IfSome r (λ S. AreBoth first second S.items) → IfSome r (λ S. Reads text S.items)
+    parts_read (Some v) are = both_read v.items are
+    parts_read None are = tt

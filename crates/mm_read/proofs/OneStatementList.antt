@@ -1,6 +1,6 @@
--- Each list of tokens is spelled by at most one list of statements: the statement at the front of the tokens is found from
+-- Each list of tokens reads as at most one list of statements: the statement at the front of the tokens is found from
 -- the left, and it is the one that was written there.
-use Rattle.mm_read.proofs.Words.{◌≡◌, true, ◌&&◌, cond, List, [], ◌∷◌, ◌++◌, Option, Some, None, codes, refl, list_all, sym, ◌∙◌, ap, and_parts, some_pair_parts, Name, name_eq, is_symbol, is_label, has_byte, Stmt, Open, Close, Const, Var, Disj, Float, Ess, Axiom, Prove, is_shaped, are_symbols, has_two, stmt_tokens, spelled, Database}
+use Rattle.mm_read.proofs.Words.{◌≡◌, true, ◌&&◌, cond, List, [], ◌∷◌, ◌++◌, Option, Some, None, codes, refl, list_all, sym, ◌∙◌, ap, and_parts, some_pair_parts, Name, name_eq, is_symbol, is_label, has_byte, Stmt, Open, Close, Const, Var, Disj, Float, Ess, Axiom, Prove, is_shaped, are_symbols, has_two, stmt_tokens, tokens_of, Database}
 use Rattle.mm_read.specs.Laws as laws
 use Rattle.mm_read.proofs.StatementsLemmas.{symbol_plain, label_plain, symbols_of, append_middle}
 
@@ -95,10 +95,10 @@ front-written (Prove label expr proof) rest h =
 -- ---- one list of statements
 
 -- a statement has a token
-pub none_spelled : (s : Stmt) (S : Database) → is_shaped s ≡ true → spelled (s ∷ S) ≡ [] → ⊥
-none_spelled s S h e = none (sym (front-written s (spelled S) h) ∙ ap front e)
+pub no_tokens : (s : Stmt) (S : Database) → is_shaped s ≡ true → tokens_of (s ∷ S) ≡ [] → ⊥
+no_tokens s S h e = none (sym (front-written s (tokens_of S) h) ∙ ap front e)
   where
-    none : ◌≡◌ {A = Option (Stmt × List Name)} (Some (s, spelled S)) None → ⊥
+    none : ◌≡◌ {A = Option (Stmt × List Name)} (Some (s, tokens_of S)) None → ⊥
     none bad = cc
 
 -- two statements at the front of the same tokens are one, and so are the rests
@@ -107,14 +107,14 @@ same_front s t rest more hs ht e =
     let both : ◌≡◌ {A = Option (Stmt × List Name)} (Some (s, rest)) (Some (t, more)) = sym (front-written s rest hs) ∙ (ap front e ∙ front-written t more ht) in
     some_pair_parts s t rest more both
 
--- the law: what spells the same tokens is one list of statements
-pub one_spelling : laws.OneSpelling
-one_spelling [] [] hs ht e = refl
-one_spelling [] (t ∷ T) hs ht e = absurd (none_spelled t T (and_parts (is_shaped t) (list_all is_shaped T) ht).0 (sym e))
-one_spelling (s ∷ S) [] hs ht e = absurd (none_spelled s S (and_parts (is_shaped s) (list_all is_shaped S) hs).0 e)
-one_spelling (s ∷ S) (t ∷ T) hs ht e =
+-- the law: lists of statements that are written as the same tokens are one
+pub one_statement_list : laws.OneStatementList
+one_statement_list [] [] hs ht e = refl
+one_statement_list [] (t ∷ T) hs ht e = absurd (no_tokens t T (and_parts (is_shaped t) (list_all is_shaped T) ht).0 (sym e))
+one_statement_list (s ∷ S) [] hs ht e = absurd (no_tokens s S (and_parts (is_shaped s) (list_all is_shaped S) hs).0 e)
+one_statement_list (s ∷ S) (t ∷ T) hs ht e =
     let of_s : (is_shaped s ≡ true) × (list_all is_shaped S ≡ true) = and_parts (is_shaped s) (list_all is_shaped S) hs in
     let of_t : (is_shaped t ≡ true) × (list_all is_shaped T ≡ true) = and_parts (is_shaped t) (list_all is_shaped T) ht in
-    let parts : (s ≡ t) × (spelled S ≡ spelled T) = same_front s t (spelled S) (spelled T) of_s.0 of_t.0 e in
-    let rest : S ≡ T = one_spelling S T of_s.1 of_t.1 parts.1 in
+    let parts : (s ≡ t) × (tokens_of S ≡ tokens_of T) = same_front s t (tokens_of S) (tokens_of T) of_s.0 of_t.0 e in
+    let rest : S ≡ T = one_statement_list S T of_s.1 of_t.1 parts.1 in
     ap (λ r. r ∷ S) parts.0 ∙ ap (λ r. t ∷ r) rest

@@ -1,5 +1,5 @@
 use Rattle.mm_read.proofs.OneReading.{one_reading, read_no_comment_fault, read_no_shape_fault}
-use Rattle.read_pool.proofs.halves.read_by.Goals as goal
+use Rattle.read_pool.proofs.parts.read_in_parts.Goals as goal
 
 pub returns-in-Some-clause-statements : goal.returns-in-Some-clause-statements
 returns-in-Some-clause-statements g c = λ S reads. one_reading c.args.text.now c.in-Some.statements.items c.in-Some.ensures S reads

@@ -6,7 +6,7 @@ ghost use Rattle.mm_read.specs.Statements.{Database};
 ghost use Rattle.mm_read.specs.Reads.{Reads, HasShapeFault, IsReadFault};
 ghost use Rattle.read_pool.specs.Both.{AreBoth};
 
-use crate::cut_place::{STRETCH, place_near};
+use crate::cut::{STRETCH, cut_near};
 use mm_lex::LexFault;
 use mm_read::{ReadFault, Stmt, read};
 use std::alloc::Global;
@@ -16,10 +16,10 @@ use std::thread::{Threads, join};
 ///
 /// A large text is cut into at most as many parts as there are workers, of a MiB or more on average, each cut moved to the
 /// right to where a statement seems to end. If a part does not read, or an allocation fails, the calling thread reads the
-/// whole text; so no answer depends on the workers or on the places.
+/// whole text; so no answer depends on the workers or on the cuts.
 /// Errors: those of `read`. Cost: the size of the text, over the workers; if a part does not read (the text is refused, or a
 /// cut stands in a comment), that of `read` as well.
-pub fn read_by<R: Threads + Sync>(
+pub fn read_in_parts<R: Threads + Sync>(
     rt: &R,
     alloc: Global,
     text: &[u8],
@@ -28,7 +28,7 @@ pub fn read_by<R: Threads + Sync>(
     ensures found { IfOk result (λ statements. Reads text.now statements.items) }
     ensures fault { IfErr result (IsReadFault text.now) }
 
-    // The statements are those that the text writes, or an allocation failed.
+    // The statements are those that the text reads as, or an allocation failed.
     ensures statements { (S : Database) → Reads text.now S
         → MatchResult result (λ statements. statements.items ≡ S) (λ fault. fault ≡ ReadFault.Memory) }
 
@@ -49,8 +49,8 @@ pub fn read_by<R: Threads + Sync>(
     read(alloc, text)
 }
 
-/// Returns the statements that the text writes, read in so many parts; none if a part does not read or an allocation failed.
-#[cycle(halves)]
+/// Returns the statements that the text reads as, read in so many parts; none if a part does not read or an allocation failed.
+#[cycle(parts)]
 fn read_parts<R: Threads + Sync>(
     rt: &R,
     alloc: Global,
@@ -64,7 +64,7 @@ fn read_parts<R: Threads + Sync>(
     }
     let fewer = parts / 2;
     let others = parts - fewer;
-    let (front, back) = text.split_at(place_near(text, text.len() / parts * fewer));
+    let (front, back) = text.split_at(cut_near(text, text.len() / parts * fewer));
     let first = move || -> Option<Vec<Stmt>>
         requires { IsSync R.row }
         ensures { IfSome result (λ statements. Reads front.entry.now statements.items) }
