@@ -1,37 +1,37 @@
 -- Versions of a stack: one more, the first ones alone, and the one that was valid at a position.
-use Rattle.entries.proofs.Words.{◌≡◌, ℕ, zero, suc, ◌+◌, ◌-◌, ◌<◌, ◌≤◌, true, false, nat_eq, nat_lt, cond, List, [], ◌∷◌, ◌++◌, length, map, take, get_or, slice_get, Option, Some, None, SomeIff, refl, ◌∙◌, ap, sym, arith, subst, add-one, append-nil, append_assoc, ⊎_elim, take_all, cases_lt, length-append, length-take, get_or-take, map-append, take-map, get_or_past, take_more, IsNonDecreasingBy-take, IsNonDecreasingBy-push, get_or_from_slice_get, slice_get-get_or, slice_get_within, IsPartitionPoint, Version, StackVersion, changed, stack_from, stack_at, is_changed, IsUntil, no_version, stacked, stack_of, version_of, versions_behind, versions_of, AreVersions, IsReadable, IsFound}
+use Rattle.entries.proofs.Words.{◌≡◌, ℕ, zero, suc, ◌+◌, ◌-◌, ◌<◌, ◌≤◌, true, false, nat_eq, nat_lt, cond, List, [], ◌∷◌, ◌++◌, length, map, take, get_or, slice_get, Option, Some, None, SomeIff, refl, ◌∙◌, ap, sym, arith, subst, add-one, append-nil, append_assoc, ⊎_elim, take_all, cases_lt, length-append, length-take, get_or-take, map-append, take-map, get_or_past, take_more, IsNonDecreasingBy-take, IsNonDecreasingBy-push, get_or_from_slice_get, slice_get-get_or, slice_get_within, IsPartitionPoint, Version, StackVersion, changed, stack_from, stack_at, is_changed, IsUntil, no_version, stacked, stack_of, version_of, versions_after, versions_of, AreVersions, IsReadable, IsFound}
 use Rattle.std.proofs.Common.{lt-ltb}
 
 -- ---- as they are decoded
 
-behind-take : (n : ℕ) (done : List StackVersion) (vs : List Version) → versions_behind done (take n vs) ≡ take n (versions_behind done vs)
-behind-take zero done vs = refl
-behind-take (suc n) done [] = refl
-behind-take (suc n) done (v ∷ vs) = ap (λ r. version_of done v ∷ r) (behind-take n (done ++ version_of done v ∷ []) vs)
+after-take : (n : ℕ) (done : List StackVersion) (vs : List Version) → versions_after done (take n vs) ≡ take n (versions_after done vs)
+after-take zero done vs = refl
+after-take (suc n) done [] = refl
+after-take (suc n) done (v ∷ vs) = ap (λ r. version_of done v ∷ r) (after-take n (done ++ version_of done v ∷ []) vs)
 
-behind-length : (done : List StackVersion) (vs : List Version) → length (versions_behind done vs) ≡ length vs
-behind-length done [] = refl
-behind-length done (v ∷ vs) = ap suc (behind-length (done ++ version_of done v ∷ []) vs)
+after-length : (done : List StackVersion) (vs : List Version) → length (versions_after done vs) ≡ length vs
+after-length done [] = refl
+after-length done (v ∷ vs) = ap suc (after-length (done ++ version_of done v ∷ []) vs)
 
-behind-push : (done : List StackVersion) (vs : List Version) (v : Version) → versions_behind done (vs ++ v ∷ []) ≡ versions_behind done vs ++ version_of (done ++ versions_behind done vs) v ∷ []
-behind-push done [] v = ap (λ d. version_of d v ∷ []) (sym (append-nil done))
-behind-push done (u ∷ vs) v =
+after-push : (done : List StackVersion) (vs : List Version) (v : Version) → versions_after done (vs ++ v ∷ []) ≡ versions_after done vs ++ version_of (done ++ versions_after done vs) v ∷ []
+after-push done [] v = ap (λ d. version_of d v ∷ []) (sym (append-nil done))
+after-push done (u ∷ vs) v =
     let x = version_of done u in
-    ap (λ r. x ∷ r) (behind-push (done ++ x ∷ []) vs v ∙ ap (λ d. versions_behind (done ++ x ∷ []) vs ++ version_of d v ∷ []) (append_assoc done (x ∷ []) (versions_behind (done ++ x ∷ []) vs)))
+    ap (λ r. x ∷ r) (after-push (done ++ x ∷ []) vs v ∙ ap (λ d. versions_after (done ++ x ∷ []) vs ++ version_of d v ∷ []) (append_assoc done (x ∷ []) (versions_after (done ++ x ∷ []) vs)))
 
-behind-get : (done : List StackVersion) (vs : List Version) (i : ℕ) (w : Version) → i < length vs → get_or (versions_behind done vs) i no_version ≡ version_of (done ++ take i (versions_behind done vs)) (get_or vs i w)
-behind-get done [] i w lt = absurd (omega arith)
-behind-get done (v ∷ vs) zero w lt = ap (λ d. version_of d v) (sym (append-nil done))
-behind-get done (v ∷ vs) (suc i) w lt =
+after-get : (done : List StackVersion) (vs : List Version) (i : ℕ) (w : Version) → i < length vs → get_or (versions_after done vs) i no_version ≡ version_of (done ++ take i (versions_after done vs)) (get_or vs i w)
+after-get done [] i w lt = absurd (omega arith)
+after-get done (v ∷ vs) zero w lt = ap (λ d. version_of d v) (sym (append-nil done))
+after-get done (v ∷ vs) (suc i) w lt =
     let x = version_of done v in
-    behind-get (done ++ x ∷ []) vs i w (omega (arith, lt))
-    ∙ ap (λ d. version_of d (get_or vs i w)) (append_assoc done (x ∷ []) (take i (versions_behind (done ++ x ∷ []) vs)))
+    after-get (done ++ x ∷ []) vs i w (omega (arith, lt))
+    ∙ ap (λ d. version_of d (get_or vs i w)) (append_assoc done (x ∷ []) (take i (versions_after (done ++ x ∷ []) vs)))
 
 pub versions-push : (vs : List Version) (v : Version) → versions_of (vs ++ v ∷ []) ≡ versions_of vs ++ version_of (versions_of vs) v ∷ []
-versions-push vs v = behind-push [] vs v
+versions-push vs v = after-push [] vs v
 
 -- none of them is so since after `at`
-until-at : (done : List StackVersion) (vs : List Version) (i : ℕ) (w : Version) (at : ℕ) → IsUntil at (versions_behind done vs) → i < length vs → (get_or vs i w).since ≤ at
+until-at : (done : List StackVersion) (vs : List Version) (i : ℕ) (w : Version) (at : ℕ) → IsUntil at (versions_after done vs) → i < length vs → (get_or vs i w).since ≤ at
 until-at done [] i w at until lt = absurd (omega arith)
 until-at done (v ∷ vs) zero w at until lt = until.0
 until-at done (v ∷ vs) (suc i) w at until lt = until-at (done ++ version_of done v ∷ []) vs i w at until.1 (omega (arith, lt))
@@ -57,7 +57,7 @@ stacked-above (suc h) top (x ∷ below) e = rw add-one refl
 
 pub fewer-versions : (vs : List Version) (n : ℕ) → AreVersions vs → AreVersions (take n vs)
 fewer-versions vs n are = record {
-  heights = sym (take-map (λ v. v.height) n vs) ∙ (ap (take n) are.heights ∙ (take-map (λ v. length v.stack) n (versions_of vs) ∙ ap (map (λ v. length v.stack)) (sym (behind-take n [] vs))));
+  heights = sym (take-map (λ v. v.height) n vs) ∙ (ap (take n) are.heights ∙ (take-map (λ v. length v.stack) n (versions_of vs) ∙ ap (map (λ v. length v.stack)) (sym (after-take n [] vs))));
   ordered = IsNonDecreasingBy-take (λ v. v.since) n vs are.ordered;
 }
 
@@ -69,8 +69,8 @@ pub record IsVersionAt (vs : List Version) (i : ℕ) (v : Version) : Type 0 wher
 pub version-at : (vs : List Version) (i : ℕ) (w : Version) → AreVersions vs → i < length vs → IsVersionAt vs i (get_or vs i w)
 version-at vs i w are lt =
     let V = versions_of vs in
-    let front = behind-take i [] vs in
-    let decoded : get_or V i no_version ≡ version_of (versions_of (take i vs)) (get_or vs i w) = behind-get [] vs i w lt ∙ ap (λ d. version_of d (get_or vs i w)) (sym front) in
+    let front = after-take i [] vs in
+    let decoded : get_or V i no_version ≡ version_of (versions_of (take i vs)) (get_or vs i w) = after-get [] vs i w lt ∙ ap (λ d. version_of d (get_or vs i w)) (sym front) in
     record {
       readable = record {
         versions = fewer-versions vs i are;
@@ -85,7 +85,7 @@ below-within vs v n readable tall = ⊎_elim (λ lt. lt) (λ ge. absurd (past-al
   where
     past-all : length vs ≤ v.below → ⊥
     past-all ge =
-        let past : get_or (versions_of vs) v.below no_version ≡ no_version = get_or_past (versions_of vs) v.below no_version (omega (arith, behind-length [] vs, ge)) in
+        let past : get_or (versions_of vs) v.below no_version ≡ no_version = get_or_past (versions_of vs) v.below no_version (omega (arith, after-length [] vs, ge)) in
         let short : suc (suc n) ≡ 1 = sym tall ∙ (readable ∙ (ap (λ h. length (stacked h v.top (get_or (versions_of vs) v.below no_version).stack)) tall ∙ ap (λ x. suc (length x.stack)) past)) in
         omega (arith, short)
 
@@ -105,7 +105,7 @@ stack-again vs i w are lt = by (get_or vs i w).height refl
     by (suc (suc n)) e =
         let low = below-within (take i vs) v n at.readable.height e in
         let same : get_or (versions_of vs) v.below no_version ≡ get_or (versions_of (take i vs)) v.below no_version =
-        sym (ap (λ d. get_or d v.below no_version) (behind-take i [] vs) ∙ get_or-take i (versions_of vs) v.below no_version (omega (arith, low, length-take i vs))) in
+        sym (ap (λ d. get_or d v.below no_version) (after-take i [] vs) ∙ get_or-take i (versions_of vs) v.below no_version (omega (arith, low, length-take i vs))) in
         ap (λ x. stacked v.height v.top x.stack) same ∙ sym (ap (λ x. x.stack) at.decoded)
 
 -- one more
@@ -123,10 +123,10 @@ versions-more vs v are high until = record {
 -- ---- since when
 
 pub since-at : (vs : List Version) (i : ℕ) (w : Version) → i < length vs → (get_or (versions_of vs) i no_version).since ≡ (get_or vs i w).since
-since-at vs i w lt = ap (λ x. x.since) (behind-get [] vs i w lt)
+since-at vs i w lt = ap (λ x. x.since) (after-get [] vs i w lt)
 
 -- the last version tells whether there is a change
-pub changed-last : (done : List StackVersion) (at : ℕ) (vs : List Version) (i : ℕ) (w : Version) → length vs ≡ suc i → is_changed at (versions_behind done vs) ≡ nat_eq (get_or vs i w).since at
+pub changed-last : (done : List StackVersion) (at : ℕ) (vs : List Version) (i : ℕ) (w : Version) → length vs ≡ suc i → is_changed at (versions_after done vs) ≡ nat_eq (get_or vs i w).since at
 changed-last done at [] i w n = cc
 changed-last done at (v ∷ []) zero w n = refl
 changed-last done at (v ∷ []) (suc i) w n = absurd (omega (arith, n))
@@ -153,7 +153,7 @@ found-from found (v ∷ V) at (suc (suc n)) le low high =
 -- after the versions that are so since before `at` stands the one sought
 pub found-before : (vs : List Version) (at n : ℕ) → n ≤ length vs → IsPartitionPoint (λ v. nat_lt v.since at ≡ true) (λ v. nat_lt v.since at ≡ false) vs n → stack_at (versions_of vs) at ≡ last_of [] n (versions_of vs)
 found-before vs at n le point =
-    let size = behind-length [] vs in
+    let size = after-length [] vs in
     found-from [] (versions_of vs) at n (omega (arith, size, le))
     (λ k lt. ap (λ s. nat_lt s at) (since-at vs k none (omega (arith, lt, le))) ∙ point.0 k none (omega arith) lt)
     (λ k ge lt. ap (λ s. nat_lt s at) (since-at vs k none (omega (arith, lt, size))) ∙ point.1 k none ge (omega (arith, lt, size)))
@@ -209,7 +209,7 @@ pub record IsLastVersion (vs : List Version) (front : List StackVersion) (v : St
 
 pub is-last : (vs : List Version) (front : List StackVersion) (v : StackVersion) (w : Version) → versions_of vs ≡ front ++ v ∷ [] → IsLastVersion vs front v w
 is-last vs front v w e =
-    let size : length vs ≡ suc (length front) = omega (arith, behind-length [] vs, ap length e, length-append front (v ∷ [])) in
+    let size : length vs ≡ suc (length front) = omega (arith, after-length [] vs, ap length e, length-append front (v ∷ [])) in
     let i = length vs - 1 in
     let n : length vs ≡ i + 1 = omega (arith, size) in
     let u = get_or vs i w in

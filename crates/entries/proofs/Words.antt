@@ -6,7 +6,7 @@ pub use Rattle.entries.specs.Stored.Keys.{AreKeys, AreKeysOf, AreRuns, IsRun, in
 pub use Rattle.entries.specs.Stored.PositionSets.{AreNodes, AreSets, IsNode, IsTop, joined, set_of, sets_from, sets_of}
 pub use Rattle.entries.specs.Stored.Records.{AreKept, ArePacked, Body, IsKept, IsOrdered, IsStored, bodies_of, body_of, counts_of, end_by, groups_by, has_parts, layout_in, record_by, run_by, run_of, spans_by, with_state_before, with_states_before}
 pub use Rattle.entries.specs.Stored.Spans.{AreSpansIn, Extends, cut}
-pub use Rattle.entries.specs.Stored.Versions.{AreLogged, AreVersions, Change, IsFound, IsReadable, no_version, sinces_of, stack_of, stacked, version_of, versions_behind, versions_of}
+pub use Rattle.entries.specs.Stored.Versions.{AreLogged, AreVersions, Change, IsFound, IsReadable, no_version, sinces_of, stack_of, stacked, version_of, versions_after, versions_of}
 pub use Rattle.entries.specs.SymbolPlaces.{AreGroupsFrom, ArePlacesOf, IsGroupOf, IsGrouped, SymbolGroups}
 pub use Rattle.entries.specs.declared.buffer_part.BufferPart.{BufferPart}
 pub use Rattle.entries.specs.declared.entry_header.StateBefore.{StateBefore}

@@ -45,22 +45,22 @@ numbers_of_last d a (suc n) low high =
     rw (first, last) (ap (λ r. Some (20 * d + (a - 64)) ∷ r) (numbers_of_last d (a + 1) n (omega arith) (omega arith) ∙ ap (λ b. row b n) next))
 
 -- a letter more before the words counts five times as much
-numbers_behind : (d e letter : ℕ) (words : List Name) → is_first letter ≡ true → 5 * d + (letter - 84) ≡ e → map (number_from d) (map (λ word. letter ∷ word) words) ≡ map (number_from e) words
-numbers_behind d e letter [] first is = refl
-numbers_behind d e letter (word ∷ words) first is = rw (first, is) (ap (λ r. number_from e word ∷ r) (numbers_behind d e letter words first is))
+numbers_after : (d e letter : ℕ) (words : List Name) → is_first letter ≡ true → 5 * d + (letter - 84) ≡ e → map (number_from d) (map (λ word. letter ∷ word) words) ≡ map (number_from e) words
+numbers_after d e letter [] first is = refl
+numbers_after d e letter (word ∷ words) first is = rw (first, is) (ap (λ r. number_from e word ∷ r) (numbers_after d e letter words first is))
 
-abbrev behind : ℕ → List Name → List Name
-behind letter words = map (λ word. letter ∷ word) words
+abbrev after_letter : ℕ → List Name → List Name
+after_letter letter words = map (λ word. letter ∷ word) words
 
 pub is_first-true : (c : ℕ) → 85 ≤ c → c ≤ 89 → is_first c ≡ true
 is_first-true c low high = grind (arith, nat_tests)
 
 -- words of one size after some letters in a row, where they count a row of `size` numbers wherever they stand
 numbers_of_first : (words : List Name) (size below d e a k : ℕ) → e ≡ 5 * d + (a - 84) → 85 ≤ a → a + k ≤ 90 → ((e : ℕ) → map (number_from e) words ≡ row (suc (e * size + below)) size)
-    → map (number_from d) (flat_map (λ letter. behind letter words) (range_with_len a k)) ≡ row (suc (e * size + below)) (k * size)
+    → map (number_from d) (flat_map (λ letter. after_letter letter words) (range_with_len a k)) ≡ row (suc (e * size + below)) (k * size)
 numbers_of_first words size below d e a zero is low high counted = let none : 0 ≡ 0 * size = omega arith in ap (row (suc (e * size + below))) none
 numbers_of_first words size below d e a (suc k) is low high counted =
-    rw (map-append, numbers_behind d e a words (is_first-true a low (omega arith)) (sym is), counted e, numbers_of_first words size below d (e + 1) (a + 1) k (omega arith) (omega arith) (omega arith) counted)
+    rw (map-append, numbers_after d e a words (is_first-true a low (omega arith)) (sym is), counted e, numbers_of_first words size below d (e + 1) (a + 1) k (omega arith) (omega arith) (omega arith) counted)
     (row-append (suc (e * size + below)) size (k * size) (suc ((e + 1) * size + below)) (suc k * size) (omega arith) (omega arith))
 
 -- the numbers of the words of one size, in order
@@ -87,16 +87,16 @@ number_of-placed word (suc n) h =
 
 -- ---- a word with a number stands in the order
 
-Contains-behind : (letter : ℕ) (words : List Name) (word : Name) → Contains words word → Contains (behind letter words) (letter ∷ word)
-Contains-behind letter words word h =
+Contains-after : (letter : ℕ) (words : List Name) (word : Name) → Contains words word → Contains (after_letter letter words) (letter ∷ word)
+Contains-after letter words word h =
     (h.0, omega (arith, length-map words (λ (word : Name). letter ∷ word), h.1), get_or-map (λ (word : Name). letter ∷ word) words h.0 word (letter ∷ word) h.1 ∙ ap (λ (word : Name). letter ∷ word) h.2)
 
-Contains-behind_one : (letters : List ℕ) (words : List Name) (c j : ℕ) (word : Name) → j < length letters → get_or letters j 0 ≡ c → Contains words word → Contains (flat_map (λ letter. behind letter words) letters) (c ∷ word)
-Contains-behind_one [] words c j word within at h = absurd (omega arith)
-Contains-behind_one (letter ∷ letters) words c zero word within at h =
-    rw (← at) (Contains-append_left (behind letter words) (flat_map (λ letter. behind letter words) letters) (letter ∷ word) (Contains-behind letter words word h))
-Contains-behind_one (letter ∷ letters) words c (suc j) word within at h =
-    Contains-append_right (behind letter words) (flat_map (λ letter. behind letter words) letters) (c ∷ word) (Contains-behind_one letters words c j word (omega arith) at h)
+Contains-after_one : (letters : List ℕ) (words : List Name) (c j : ℕ) (word : Name) → j < length letters → get_or letters j 0 ≡ c → Contains words word → Contains (flat_map (λ letter. after_letter letter words) letters) (c ∷ word)
+Contains-after_one [] words c j word within at h = absurd (omega arith)
+Contains-after_one (letter ∷ letters) words c zero word within at h =
+    rw (← at) (Contains-append_left (after_letter letter words) (flat_map (λ letter. after_letter letter words) letters) (letter ∷ word) (Contains-after letter words word h))
+Contains-after_one (letter ∷ letters) words c (suc j) word within at h =
+    Contains-append_right (after_letter letter words) (flat_map (λ letter. after_letter letter words) letters) (c ∷ word) (Contains-after_one letters words c j word (omega arith) at h)
 
 -- a letter that stands before the end of a word lies between U and Y
 pub first_bounds : (c : ℕ) → is_first c ≡ true → (85 ≤ c) × (c ≤ 89)
@@ -121,7 +121,7 @@ Contains-word c (x ∷ word) d m h = elim (cases_Bool (is_first c)) [
   | inl e ↦
       let bounds : (85 ≤ c) × (c ≤ 89) = first_bounds c e in
       let rest : Contains (words_of_size (length word)) (x ∷ word) = Contains-word x word (5 * d + (c - 84)) m (rw e at h) in
-      Contains-behind_one first_letters (words_of_size (length word)) c (c - 85) (x ∷ word) (omega (arith, bounds)) (get_or-range_with_len 85 5 (c - 85) 0 (omega (arith, bounds)) ∙ omega (arith, bounds)) rest
+      Contains-after_one first_letters (words_of_size (length word)) c (c - 85) (x ∷ word) (omega (arith, bounds)) (get_or-range_with_len 85 5 (c - 85) 0 (omega (arith, bounds)) ∙ omega (arith, bounds)) rest
   | inr e ↦ absurd (none-some m (rw (e, and-false (is_last c)) at h))
 ]
 

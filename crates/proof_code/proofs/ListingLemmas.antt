@@ -1,5 +1,5 @@
 -- The labels counted are those that the header lists, whether byte by byte or sixteen bytes at a time.
-use Rattle.proof_code.proofs.Words.{◌≡◌, ℕ, zero, suc, ◌+◌, ◌-◌, ◌<◌, ◌≤◌, Bool, true, false, cond, ◌==◌, List, [], ◌∷◌, ◌++◌, length, drop, slice_index_or, Option, Some, None, refl, list_all, option_map, sym, ◌∙◌, ap, arith, true≢false, inl, inr, append-nil, drop_more, same_Some, bytes_eq-Decides, and_parts, cases_Bool, eqb-true, false_from_ne_true, and-false, Name, name_eq, is_visible, is_label, is_label_byte, spaced, is_word, class_of, is_listed, are_listed, count_by, take, take-append-drop, drop-drop, get_or-drop, letters_from, more_labels, behind_none, counted, Header, with_label, header_of, finish, get_or, length-drop, is_count_by}
+use Rattle.proof_code.proofs.Words.{◌≡◌, ℕ, zero, suc, ◌+◌, ◌-◌, ◌<◌, ◌≤◌, Bool, true, false, cond, ◌==◌, List, [], ◌∷◌, ◌++◌, length, drop, slice_index_or, Option, Some, None, refl, list_all, option_map, sym, ◌∙◌, ap, arith, true≢false, inl, inr, append-nil, drop_more, same_Some, bytes_eq-Decides, and_parts, cases_Bool, eqb-true, false_from_ne_true, and-false, Name, name_eq, is_visible, is_label, is_label_byte, spaced, is_word, class_of, is_listed, are_listed, count_by, take, take-append-drop, drop-drop, get_or-drop, letters_from, more_labels, after_none, counted, Header, with_label, header_of, finish, get_or, length-drop, is_count_by}
 use Rattle.proof_code.proofs.TextLemmas.{not_space}
 
 -- ---- the classes of bytes
@@ -18,16 +18,16 @@ label-no_space b h = false_from_ne_true (b == 32) (λ e. true≢false (sym (rw (
 
 -- the effect of a byte of a class
 counted-at : (fresh : Bool) (b : ℕ) (text : List ℕ) (class : ℕ) → class_of b ≡ class
-    → counted fresh (b ∷ text) ≡ cond (class == 0) (counted false text) (cond (class == 1) (more_labels 1 (counted true text)) (behind_none fresh (letters_from (b ∷ text))))
-counted-at fresh b text class h = ap (λ c. cond (c == 0) (counted false text) (cond (c == 1) (more_labels 1 (counted true text)) (behind_none fresh (letters_from (b ∷ text))))) h
+    → counted fresh (b ∷ text) ≡ cond (class == 0) (counted false text) (cond (class == 1) (more_labels 1 (counted true text)) (after_none fresh (letters_from (b ∷ text))))
+counted-at fresh b text class h = ap (λ c. cond (c == 0) (counted false text) (cond (c == 1) (more_labels 1 (counted true text)) (after_none fresh (letters_from (b ∷ text))))) h
 
 -- ---- a word, and what stands after it
 
-abbrev behind : List Name → List ℕ
-behind [] = []
-behind (word ∷ words) = 32 ∷ spaced (word ∷ words)
+abbrev after_word : List Name → List ℕ
+after_word [] = []
+after_word (word ∷ words) = 32 ∷ spaced (word ∷ words)
 
-spaced-first : (word : Name) (words : List Name) → spaced (word ∷ words) ≡ word ++ behind words
+spaced-first : (word : Name) (words : List Name) → spaced (word ∷ words) ≡ word ++ after_word words
 spaced-first word [] = sym (append-nil word)
 spaced-first word (next ∷ words) = refl
 
@@ -43,41 +43,41 @@ counted-word (b ∷ word) text h =
     let parts : (is_label_byte b ≡ true) × (list_all is_label_byte word ≡ true) = and_parts (is_label_byte b) (list_all is_label_byte word) h in
     counted-at true b (word ++ text) 0 (class-label b parts.0) ∙ counted-bytes word text parts.1
 
-counted-behind : (words : List Name) → counted false (behind words) ≡ more_labels 1 (counted true (spaced words))
-counted-behind [] = refl
-counted-behind (word ∷ words) = refl
+counted-after : (words : List Name) → counted false (after_word words) ≡ more_labels 1 (counted true (spaced words))
+counted-after [] = refl
+counted-after (word ∷ words) = refl
 
 -- a byte alone that is not `)`
 not_finish : (b : ℕ) → name_eq (b ∷ []) finish ≡ false → (b == 41) ≡ false
 not_finish b other = false_from_ne_true (b == 41) (λ e. true≢false (rw (eqb-true b 41 e) at other))
 
 -- a word that is neither a label nor `)`
-letters-none : (b : ℕ) (word : Name) (words : List Name) → list_all is_visible word ≡ true → name_eq (b ∷ word) finish ≡ false → letters_from ((b ∷ word) ++ behind words) ≡ None
+letters-none : (b : ℕ) (word : Name) (words : List Name) → list_all is_visible word ≡ true → name_eq (b ∷ word) finish ≡ false → letters_from ((b ∷ word) ++ after_word words) ≡ None
 letters-none b [] [] seen other = rw (not_finish b other) refl
 letters-none b [] (next ∷ words) seen other = rw (not_finish b other) refl
 letters-none b (c ∷ word) words seen other =
     let parts : (is_visible c ≡ true) × (list_all is_visible word ≡ true) = and_parts (is_visible c) (list_all is_visible word) seen in
     rw (not_space c parts.0, and-false (b == 41)) refl
 
-counted-inside : (word : Name) (words : List Name) → list_all is_visible word ≡ true → list_all is_label_byte word ≡ false → counted false (word ++ behind words) ≡ None
+counted-inside : (word : Name) (words : List Name) → list_all is_visible word ≡ true → list_all is_label_byte word ≡ false → counted false (word ++ after_word words) ≡ None
 counted-inside [] words seen h = absurd (true≢false h)
 counted-inside (b ∷ word) words seen h =
     let parts : (is_visible b ≡ true) × (list_all is_visible word ≡ true) = and_parts (is_visible b) (list_all is_visible word) seen in
     elim (cases_Bool (is_label_byte b)) [
-      | inl e ↦ counted-at false b (word ++ behind words) 0 (class-label b e) ∙ counted-inside word words parts.1 (rw e at h)
-      | inr e ↦ counted-at false b (word ++ behind words) 2 (class-other b e (not_space b parts.0))
+      | inl e ↦ counted-at false b (word ++ after_word words) 0 (class-label b e) ∙ counted-inside word words parts.1 (rw e at h)
+      | inr e ↦ counted-at false b (word ++ after_word words) 2 (class-other b e (not_space b parts.0))
     ]
 
-counted-none : (word : Name) (words : List Name) → is_word word ≡ true → is_label word ≡ false → name_eq word finish ≡ false → counted true (word ++ behind words) ≡ None
+counted-none : (word : Name) (words : List Name) → is_word word ≡ true → is_label word ≡ false → name_eq word finish ≡ false → counted true (word ++ after_word words) ≡ None
 counted-none [] words seen h other = absurd (true≢false (sym seen))
 counted-none (b ∷ word) words seen h other =
     let parts : (is_visible b ≡ true) × (list_all is_visible word ≡ true) = and_parts (is_visible b) (list_all is_visible word) seen in
     elim (cases_Bool (is_label_byte b)) [
-      | inl e ↦ counted-at true b (word ++ behind words) 0 (class-label b e) ∙ counted-inside word words parts.1 (rw e at h)
-      | inr e ↦ counted-at true b (word ++ behind words) 2 (class-other b e (not_space b parts.0)) ∙ ap (behind_none true) (letters-none b word words parts.1 other)
+      | inl e ↦ counted-at true b (word ++ after_word words) 0 (class-label b e) ∙ counted-inside word words parts.1 (rw e at h)
+      | inr e ↦ counted-at true b (word ++ after_word words) 2 (class-other b e (not_space b parts.0)) ∙ ap (after_none true) (letters-none b word words parts.1 other)
     ]
 
-counted-finish : (words : List Name) → counted true (finish ++ behind words) ≡ Some (0, spaced words)
+counted-finish : (words : List Name) → counted true (finish ++ after_word words) ≡ Some (0, spaced words)
 counted-finish [] = refl
 counted-finish (word ∷ words) = refl
 
@@ -97,7 +97,7 @@ counted-header (word ∷ words) h =
     rw (spaced-first word words) (elim (cases_Bool (name_eq word finish)) [
       | inl e ↦ rw ((bytes_eq-Decides word finish).0 e) (counted-finish words)
       | inr e ↦ elim (cases_Bool (is_label word)) [
-        | inl f ↦ rw (e, f) (counted-word word (behind words) f ∙ (counted-behind words ∙ (ap (more_labels 1) (counted-header words parts.1) ∙ told-more word (header_of words))))
+        | inl f ↦ rw (e, f) (counted-word word (after_word words) f ∙ (counted-after words ∙ (ap (more_labels 1) (counted-header words parts.1) ∙ told-more word (header_of words))))
         | inr f ↦ rw (e, f) (counted-none word words parts.0 f e)
       ]
     ])

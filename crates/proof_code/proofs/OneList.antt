@@ -2,7 +2,7 @@
 use Rattle.proof_code.proofs.Words.{◌≡◌, ℕ, ◌⊎◌, Bool, true, false, List, [], ◌∷◌, ◌++◌, map, length, Option, Some, None, refl, list_all, sym, ◌∙◌, ap, true≢false, inl, inr, none-some, same_Some, bytes_eq-Decides, both_ways, cases_Bool, Name, is_label, Item, Cite, items_of, share_label, Header, header_of, numbers_from, starts_with_mark, begin, is_unfinished, is_compressed, WritesRow, WritesCompressed, WritesNormal, Writes, IsMalformed, WritesPacked, OneAnswer}
 use Rattle.proof_code.proofs.LetterItemLemmas.{RowIsRead, WritesRow-read, read-WritesRow}
 use Rattle.proof_code.proofs.RowOfNumbers.{joined}
-use Rattle.proof_code.proofs.WritesLemmas.{without_header, row_behind, written_behind}
+use Rattle.proof_code.proofs.WritesLemmas.{without_header, row_after, written_after}
 
 -- ---- one list, or none
 
@@ -38,28 +38,28 @@ row_or_not labels letters = by (starts_with_mark letters) refl (numbers_from (le
     )
 
 -- the tokens after the first one of a compressed proof
-abbrev behind_first : List Name → List Name
-behind_first [] = []
-behind_first (token ∷ tokens) = tokens
+abbrev without_first : List Name → List Name
+without_first [] = []
+without_first (token ∷ tokens) = tokens
 
 -- a compressed proof begins with `(`
-begins_so : (tokens : List Name) → is_compressed tokens ≡ true → tokens ≡ begin ∷ behind_first tokens
+begins_so : (tokens : List Name) → is_compressed tokens ≡ true → tokens ≡ begin ∷ without_first tokens
 begins_so [] h = cc
 begins_so (token ∷ tokens) h = ap (λ t. t ∷ tokens) ((bytes_eq-Decides token begin).0 h)
 
 -- a compressed proof does by its header and its row
 compressed_or_not : (tokens mandatory : List Name) → is_compressed tokens ≡ true → Written (WritesCompressed tokens mandatory)
-compressed_or_not tokens mandatory compressed = by (header_of (behind_first tokens)) refl
+compressed_or_not tokens mandatory compressed = by (header_of (without_first tokens)) refl
   where
-    starts : tokens ≡ begin ∷ behind_first tokens
+    starts : tokens ≡ begin ∷ without_first tokens
     starts = begins_so tokens compressed
 
-    by : (o : Option Header) → header_of (behind_first tokens) ≡ o → Written (WritesCompressed tokens mandatory)
-    by None none = inr (without_header tokens (behind_first tokens) starts none mandatory)
+    by : (o : Option Header) → header_of (without_first tokens) ≡ o → Written (WritesCompressed tokens mandatory)
+    by None none = inr (without_header tokens (without_first tokens) starts none mandatory)
     by (Some header) read = elim (cases_Bool (share_label mandatory header.listed)) [
-      | inl e ↦ inr (λ items w. true≢false (sym e ∙ (row_behind tokens (behind_first tokens) starts header read mandatory items w).0))
-      | inr e ↦ carried (λ items. written_behind tokens (behind_first tokens) starts header read mandatory items e)
-          (λ items w. (row_behind tokens (behind_first tokens) starts header read mandatory items w).1) (row_or_not (mandatory ++ header.listed) (joined header.rest))
+      | inl e ↦ inr (λ items w. true≢false (sym e ∙ (row_after tokens (without_first tokens) starts header read mandatory items w).0))
+      | inr e ↦ carried (λ items. written_after tokens (without_first tokens) starts header read mandatory items e)
+          (λ items w. (row_after tokens (without_first tokens) starts header read mandatory items w).1) (row_or_not (mandatory ++ header.listed) (joined header.rest))
     ]
 
 -- tokens that write items have no `?`

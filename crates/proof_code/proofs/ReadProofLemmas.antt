@@ -5,7 +5,7 @@ use Rattle.proof_code.proofs.LetterItemLemmas.{numbers_from-over, RowIsRead, Wri
 use Rattle.proof_code.proofs.ListingLemmas.{Counted}
 use Rattle.proof_code.proofs.RowOfNumbers.{joined, by_letter}
 use Rattle.proof_code.proofs.TextLemmas.{letters_of-spaced}
-use Rattle.proof_code.proofs.WritesLemmas.{IsHeader, header-read, row_behind, written_behind, starts_with_mark-spaced}
+use Rattle.proof_code.proofs.WritesLemmas.{IsHeader, header-read, row_after, written_after, starts_with_mark-spaced}
 
 -- ---- the letters
 
@@ -87,7 +87,7 @@ module _ (tokens before : List Name) (letters : List ℕ) (count : ℕ) (starts 
 
     -- whatever is written after the header is read as a row
     is_row : (labels : List Name) (items : List Item) → WritesCompressed tokens labels items → RowIsRead (labels ++ header.listed) (joined header.rest) items
-    is_row labels items w = read-WritesRow (labels ++ header.listed) (joined header.rest) items (row_behind tokens before starts header found.1 labels items w).1
+    is_row labels items w = read-WritesRow (labels ++ header.listed) (joined header.rest) items (row_after tokens before starts header found.1 labels items w).1
 
     -- letters that begin with a mark write nothing
     pub marked_first : starts_with_mark letters ≡ true → (labels : List Name) (items : List Item) → WritesCompressed tokens labels items → ⊥
@@ -107,10 +107,10 @@ module _ (tokens before : List Name) (letters : List ℕ) (count : ℕ) (starts 
       whole = is.whole;
       many = found.3;
       apart = λ labels long apart.
-          written_behind tokens before starts header found.1 labels (items_of (labels ++ header.listed) numbers) apart
+          written_after tokens before starts header found.1 labels (items_of (labels ++ header.listed) numbers) apart
           (WritesRow-read (labels ++ header.listed) (joined header.rest) numbers (sym first_is ∙ first)
           (ap (λ l. numbers_from l 0 (joined header.rest)) (numbered labels long) ∙ (ap (numbers_from limit 0) (sym letters_are) ∙ read)));
-      shared = λ labels shared items w. true≢false (sym shared ∙ (row_behind tokens before starts header found.1 labels items w).0);
+      shared = λ labels shared items w. true≢false (sym shared ∙ (row_after tokens before starts header found.1 labels items w).0);
     }
 
 -- ---- with the mandatory labels

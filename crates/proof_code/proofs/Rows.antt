@@ -16,12 +16,12 @@ first_of_two_letters : IsNumber (codes "UA") 21
 first_of_two_letters = refl
 
 -- after U stand the next twenty words
-last_behind_u : IsNumber (codes "UT") 40
-last_behind_u = refl
+last_after_u : IsNumber (codes "UT") 40
+last_after_u = refl
 
 -- VA follows UT
-first_behind_v : IsNumber (codes "VA") 41
-first_behind_v = refl
+first_after_v : IsNumber (codes "VA") 41
+first_after_v = refl
 
 -- there are a hundred words of two letters
 last_of_two_letters : IsNumber (codes "YT") 120

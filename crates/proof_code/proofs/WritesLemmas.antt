@@ -65,13 +65,13 @@ module _ (tokens before : List Name) (starts : tokens ≡ begin ∷ before) wher
 
   module _ (header : Header) (read : header_of before ≡ Some header) where
     -- after the header that is read a row is written, and it lists no mandatory label
-    pub row_behind : (labels : List Name) (items : List Item) → WritesCompressed tokens labels items → (share_label labels header.listed ≡ false) × WritesRow (labels ++ header.listed) (joined header.rest) items
-    row_behind labels items w =
+    pub row_after : (labels : List Name) (items : List Item) → WritesCompressed tokens labels items → (share_label labels header.listed ≡ false) × WritesRow (labels ++ header.listed) (joined header.rest) items
+    row_after labels items w =
         rw (← same_Some (record { listed = w.listed; rest = w.rest }) header (sym (header-is labels items w) ∙ read)) (w.apart, w.letters)
 
     -- and such a row is written by the whole proof
-    pub written_behind : (labels : List Name) (items : List Item) → share_label labels header.listed ≡ false → WritesRow (labels ++ header.listed) (joined header.rest) items → WritesCompressed tokens labels items
-    written_behind labels items apart row =
+    pub written_after : (labels : List Name) (items : List Item) → share_label labels header.listed ≡ false → WritesRow (labels ++ header.listed) (joined header.rest) items → WritesCompressed tokens labels items
+    written_after labels items apart row =
         let is : IsHeader before header = header-read before header read in
         record {
           listed = header.listed;

@@ -27,12 +27,12 @@ abbrev pub more_labels : ℕ → Option (ℕ × List ℕ) → Option (ℕ × Lis
 more_labels n found = option_map (λ f. (n + f.0, f.1)) found
 
 -- no labels before the letters
-abbrev pub behind_none : Bool → Option (List ℕ) → Option (ℕ × List ℕ)
-behind_none fresh letters = if fresh then option_map (λ l. (0, l)) letters else None
+abbrev pub after_none : Bool → Option (List ℕ) → Option (ℕ × List ℕ)
+after_none fresh letters = if fresh then option_map (λ l. (0, l)) letters else None
 
 -- how many labels there are, and the letters after them; `fresh`: whether a word begins here
 abbrev pub counted : Bool → List ℕ → Option (ℕ × List ℕ)
 counted fresh [] = None
 counted fresh (b ∷ text) =
     if class_of b == 0 then counted false text
-    else (if class_of b == 1 then more_labels 1 (counted true text) else behind_none fresh (letters_from (b ∷ text)))
+    else (if class_of b == 1 then more_labels 1 (counted true text) else after_none fresh (letters_from (b ∷ text)))

@@ -31,7 +31,7 @@ const ALL: usize = usize::MAX;
 
 /// Returns the effect of a letter A to Z on the digits before it.
 #[inline(always)]
-fn letter_behind(byte: u8, digits: usize) -> Letter
+fn letter_after(byte: u8, digits: usize) -> Letter
     requires first { 65 ≤ byte }
     requires last { byte ≤ 90 }
     requires small { 20 * digits + 26 < 2 ^ 64 }
@@ -77,7 +77,7 @@ impl Word {
         if byte < b'A' || byte > b'Z' {
             return if byte == b' ' { Some(None) } else { None };
         }
-        let letter = letter_behind(byte, self.digits);
+        let letter = letter_after(byte, self.digits);
         let bound = if letter.ends == 1 { self.limit } else { most };
         if letter.value > bound {
             return None;

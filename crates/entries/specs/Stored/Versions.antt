@@ -22,12 +22,12 @@ abbrev pub version_of : List StackVersion → Version → StackVersion
 version_of done v = record { since = v.since; stack = stack_of done v }
 
 -- the versions after these
-abbrev pub versions_behind : List StackVersion → List Version → List StackVersion
-versions_behind done [] = []
-versions_behind done (v ∷ vs) = version_of done v ∷ versions_behind (done ++ version_of done v ∷ []) vs
+abbrev pub versions_after : List StackVersion → List Version → List StackVersion
+versions_after done [] = []
+versions_after done (v ∷ vs) = version_of done v ∷ versions_after (done ++ version_of done v ∷ []) vs
 
 abbrev pub versions_of : List Version → List StackVersion
-versions_of vs = versions_behind [] vs
+versions_of vs = versions_after [] vs
 
 -- each has the height of its stack, and they stand in the order in which they were made
 pub record AreVersions (vs : List Version) : Type 0 where

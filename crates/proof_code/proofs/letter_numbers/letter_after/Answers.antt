@@ -1,6 +1,6 @@
 use Rattle.std.proofs.Common.{arith}
 use Rattle.proof_code.proofs.StepLemmas.{makes}
-use Rattle.proof_code.proofs.letter_numbers.letter_behind.Goals as goal
+use Rattle.proof_code.proofs.letter_numbers.letter_after.Goals as goal
 
 pub overflow_add-value-2 : goal.overflow_add-value-2
 overflow_add-value-2 c = let fits = (makes c.args.byte c.args.digits c.requires.first c.requires.last c.requires.small c.from.result c.from.ensures).0 in omega (arith, fits)

@@ -6,7 +6,7 @@ use Rattle.proof_code.proofs.letter_numbers.Word.read.Goals as goal
 pub returns-then-letter-bound-clause-none : goal.returns-then-letter-bound-clause-none
 returns-then-letter-bound-clause-none c =
     let old = c.args.self.now in
-    let letter = c.letter_behind-letter in
+    let letter = c.letter_after-letter in
     let over : cond (letter.result.ends == 1) old.limit c.args.most < letter.result.value = elim c.if-letter-eq1.branch [
       | then-letter-eq1 w ↦ rw w.if-letter-eq1.true (omega arith)
       | else-letter-eq1 w ↦ let other : (letter.result.ends == 1) ≡ false = grind (arith, nat_tests, w.if-letter-eq1.false) in rw other (omega arith)
