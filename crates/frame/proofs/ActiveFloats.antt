@@ -3,8 +3,8 @@ use Rattle.frame.proofs.Words.{sym, ◌∙◌, ap, subst, arith, inl, inr, lengt
 use Rattle.frame.proofs.LastActiveLemmas.{drop-front}
 use Rattle.mm_read.specs.declared.stmt.Stmt.TheVariants as stmt
 use Rattle.frame.proofs.LegalLabels.{AllKept}
-use Rattle.frame.proofs.ActiveBehind.{stands-active}
-use Rattle.frame.proofs.LegalBehind.{legal-keeps, stands-at}
+use Rattle.frame.proofs.ActiveAfter.{stands-active}
+use Rattle.frame.proofs.LegalAfter.{legal-keeps, stands-at}
 use Rattle.frame.proofs.OpenLemmas.{stays_open-front}
 use Rattle.frame.proofs.BlockWalkLemmas.{active-end}
 
@@ -45,9 +45,9 @@ float-of-kind x (stmt.Float m l y) h = (m, l, ap (stmt.Float m l) (sym ((bytes_e
 float-of-kind x s h = cc
 
 -- a `$e` closes no block
-pub stays-behind : (t : Stmt) (B : Database) → is_essential t ≡ true → stays_open 0 B ≡ true → stays_open 0 (t ∷ B) ≡ true
-stays-behind (stmt.Ess m w) B h k = k
-stays-behind s B h k = cc
+pub stays-after : (t : Stmt) (B : Database) → is_essential t ≡ true → stays_open 0 B ≡ true → stays_open 0 (t ∷ B) ≡ true
+stays-after (stmt.Ess m w) B h k = k
+stays-after s B h k = cc
 
 -- the active `$f` of a variable is one
 pub one-place : (S A : Database) (m l x : Name) (B A' : Database) (m' l' : Name) (B' : Database) → AllKept S → S ≡ A ++ stmt.Float m l x ∷ B → stays_open 0 B ≡ true

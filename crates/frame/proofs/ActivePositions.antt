@@ -18,19 +18,19 @@ pub last-is : (test : Entry → Bool) (found at : ℕ) (es : List Entry) → (No
 last-is test found at [] = inl (record { fails = λ j x h. cc }, refl)
 last-is test found at (e ∷ es) = by (test e) refl (last-is test at (at + 1) es) (last-is test found (at + 1) es)
   where
-    behind : (n : ℕ) → ((j : ℕ) (x : Entry) → n < suc j → slice_get es j ≡ Some x → test x ≡ false) → (j : ℕ) (x : Entry) → n < j → slice_get (e ∷ es) j ≡ Some x → test x ≡ false
-    behind n fails zero x h g = absurd (omega (arith, h))
-    behind n fails (suc j) x h g = fails j x h g
+    after : (n : ℕ) → ((j : ℕ) (x : Entry) → n < suc j → slice_get es j ≡ Some x → test x ≡ false) → (j : ℕ) (x : Entry) → n < j → slice_get (e ∷ es) j ≡ Some x → test x ≡ false
+    after n fails zero x h g = absurd (omega (arith, h))
+    after n fails (suc j) x h g = fails j x h g
 
     later : (r : ℕ) → LastAt test (at + 1) es r → LastAt test at (e ∷ es) r
     later r l =
-        record { place = suc l.place; entry = l.entry; found = l.found; passes = l.passes; is = (let q = l.is in omega (arith, q)); last = behind (suc l.place) (λ j x h g. l.last j x (omega (arith, h)) g) }
+        record { place = suc l.place; entry = l.entry; found = l.found; passes = l.passes; is = (let q = l.is in omega (arith, q)); last = after (suc l.place) (λ j x h g. l.last j x (omega (arith, h)) g) }
 
     by : (b : Bool) → test e ≡ b → ((NoneOf test es × (last_from test at (at + 1) es ≡ at)) ⊎ LastAt test (at + 1) es (last_from test at (at + 1) es))
         → ((NoneOf test es × (last_from test found (at + 1) es ≡ found)) ⊎ LastAt test (at + 1) es (last_from test found (at + 1) es))
         → (NoneOf test (e ∷ es) × (last_from test (cond b at found) (at + 1) es ≡ found)) ⊎ LastAt test at (e ∷ es) (last_from test (cond b at found) (at + 1) es)
     by true t (inr l) other = inr (later (last_from test at (at + 1) es) l)
-    by true t (inl n) other = inr (record { place = 0; entry = e; found = refl; passes = t; is = n.1 ∙ (let z : at ≡ at + 0 = omega arith in z); last = behind 0 (λ j x h g. n.0.fails j x g) })
+    by true t (inl n) other = inr (record { place = 0; entry = e; found = refl; passes = t; is = n.1 ∙ (let z : at ≡ at + 0 = omega arith in z); last = after 0 (λ j x h g. n.0.fails j x g) })
     by false t other (inr l) = inr (later (last_from test found (at + 1) es) l)
     by false t other (inl n) = inl (record { fails = λ j x g. none j x g }, n.1)
       where

@@ -38,9 +38,9 @@ module _ (kind : Stmt → Bool) (no_open : kind stmt.Open ≡ false) (S : Databa
           let A = q.0 in
           let at : block ≡ suc (length A) = omega (arith, is, last-position is_open S A q.1 q.2 refl q.3) in
           let opens : q.1 ≡ stmt.Open = is-open q.1 q.3.of_kind in
-          let behind : actives_from kind (1 + length A) (q.1 ∷ q.2) ≡ actives_from kind (1 + length A + 1) q.2 = rw (opens, q.3.stays, no_open) refl in
+          let after : actives_from kind (1 + length A) (q.1 ∷ q.2) ≡ actives_from kind (1 + length A + 1) q.2 = rw (opens, q.3.stays, no_open) refl in
           let whole : actives kind S ≡ actives kind A ++ actives_from kind (1 + length A + 1) q.2 =
-          ap (actives kind) q.3.cut ∙ (actives-append kind 1 A (q.1 ∷ q.2) (stays-from q.1 q.2 (ap is_close opens) q.3.stays) ∙ ap (λ r. actives kind A ++ r) behind) in
+          ap (actives kind) q.3.cut ∙ (actives-append kind 1 A (q.1 ∷ q.2) (stays-from q.1 q.2 (ap is_close opens) q.3.stays) ∙ ap (λ r. actives kind A ++ r) after) in
           let top = high + length S + 2 in
           let front : A ≡ take (block - 1) S = sym (ap (λ n. take n S) (omega (arith, at)) ∙ (ap (take (length A)) q.3.cut ∙ take-append_seam A (q.1 ∷ q.2))) in
           let size = ap length q.3.cut ∙ length-append A (q.1 ∷ q.2) in
@@ -212,8 +212,8 @@ latest-var-other Var x hs c d e = absurd (d refl)
 latest-var-other Close x hs c d e = absurd (e refl)
 latest-var-other q x hs c d e = refl
 
-pub next-other : (at : ℕ) (old : List (List StackVersion)) (behind : ℕ → List ℕ) → 1 ≤ at → AreUntil (at - 1) old → ((c : ℕ) → behind c ≡ stack_at (history old c) at) → IsNext at behind old old
-next-other at old behind one until is = let n = next-same at one old until in record { latest = λ c. n.latest c ∙ sym (is c); until = n.until; kept = n.kept }
+pub next-other : (at : ℕ) (old : List (List StackVersion)) (after : ℕ → List ℕ) → 1 ≤ at → AreUntil (at - 1) old → ((c : ℕ) → after c ≡ stack_at (history old c) at) → IsNext at after old old
+next-other at old after one until is = let n = next-same at one old until in record { latest = λ c. n.latest c ∙ sym (is c); until = n.until; kept = n.kept }
 
 -- until the last entry
 pub walked-until : (of : Kind) (es : List Entry) (last_active : LastActive) (hs : List (List StackVersion)) (at : ℕ) → IsWalked of es last_active hs → at ≡ length es + 1 → AreUntil (at - 1) hs

@@ -1,6 +1,6 @@
 -- The active statements at a position, and walking back from one active statement of a kind to the one before it.
 use Rattle.frame.proofs.Words.{sym, ◌∙◌, ap, arith, inl, inr, length-append, le-leb, lt-ltb, ◌≡◌, ℕ, zero, suc, ◌+◌, ◌-◌, ◌<◌, ◌≤◌, Bool, true, ◌&&◌, nat_lt, List, [], ◌∷◌, ◌++◌, length, take, drop, slice_get, Some, refl, take-append_seam, take-take, take_all, drop-take, Stmt, Database, stays_open, is_active, take-get, actives, last_position, last_active_of_kind}
-use Rattle.frame.proofs.LegalBehind.{stands-at}
+use Rattle.frame.proofs.LegalAfter.{stands-at}
 use Rattle.frame.proofs.LastActiveLemmas.{actives-push, length-cut}
 use Rattle.frame.proofs.OpenLemmas.{HasLast, IsNoClose, no_close, split_last, last-actives, last-position}
 

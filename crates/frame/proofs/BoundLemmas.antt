@@ -1,6 +1,6 @@
 -- The symbols of a legal assertion: each variable is that of one mandatory `$f`. So the results that it takes determine the one that it gives.
 use Rattle.frame.proofs.Words.{list_all, All, All-filter, All-map, All-get_or, All-from_get_or, slice_get_within, get_or_from_slice_get, sym, ◌∙◌, ap, append-nil, subst, get_or, ◌≡◌, ℕ, suc, ◌-◌, Bool, true, false, cond, List, [], ◌∷◌, ◌++◌, length, map, filter, slice_get, Some, refl, bytes_eq-Decides, and_parts, and_from, or_left, or_right, Name, name_eq, has_name, Stmt, Expr, Database, stays_open, stmt_at, before, expr_of, is_variable, HasAssertion, is_used, is_mandatory, is_hypothesis, hypotheses, groups, separates, mandatory_groups, OfVariables, premises, expr_at, HasFloat, IsBound, IsSingle, take-get}
-use Rattle.frame.proofs.LegalBehind.{stands-at}
+use Rattle.frame.proofs.LegalAfter.{stands-at}
 use Rattle.mm_read.specs.declared.stmt.Stmt.TheVariants.{Float, Ess}
 use Rattle.frame.specs.Substitution.{Images, image, apply as applied}
 use Rattle.frame.proofs.LegalLabels.{AllKept}

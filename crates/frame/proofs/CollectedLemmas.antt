@@ -3,7 +3,7 @@ use Rattle.frame.proofs.Words.{take_all, take-take, sym, ◌∙◌, ap, subst, a
 use Rattle.frame.proofs.LastActiveLemmas.{cut-here, length-cut}
 use Rattle.mm_read.specs.declared.stmt.Stmt.TheVariants as stmt
 use Rattle.frame.proofs.LegalLabels.{AllKept}
-use Rattle.frame.proofs.ActiveBehind.{active-stands, open_both}
+use Rattle.frame.proofs.ActiveAfter.{active-stands, open_both}
 use Rattle.frame.proofs.VariablePlaceLemmas.{float-kinds, is_ess, typed-before}
 use Rattle.frame.proofs.BlockWalkLemmas.{active-end}
 use Rattle.frame.proofs.FoundByNumber.{map-back, map-at, numbered-at, kept-front}
@@ -12,8 +12,8 @@ use Rattle.frame.proofs.CollectLemmas.{those-by}
 use Rattle.frame.proofs.ActivePositions.{LastAt, NoneOf, last-is, last-some, IsActiveAt, active-members, ascends-active}
 use Rattle.frame.proofs.PlacedHypotheses.{members, used-in, used-cases}
 use Rattle.frame.proofs.NamedCodes.{coded, has-code, code-low, floats-is, is-floats}
-use Rattle.frame.proofs.ActiveFloats.{rest-active, one-float, hyp-kind, ess-hyp, float-in-kind, float-of-kind, stays-behind, one-place}
-use Rattle.frame.proofs.LegalBehind.{stands-at}
+use Rattle.frame.proofs.ActiveFloats.{rest-active, one-float, hyp-kind, ess-hyp, float-in-kind, float-of-kind, stays-after, one-place}
+use Rattle.frame.proofs.LegalAfter.{stands-at}
 
 -- ---- the mandatory hypotheses after the first i statements
 
@@ -49,7 +49,7 @@ module _ (es : List Entry) (names labels : List Name) (i : ℕ) (all : AllKept (
       let g = active-members h.front (is_float_in (expr_of h.stmt)) p [] h.front 1 refl refl (subst (In p) (ess-kept r h) i) in
       let f = float-in-kind (expr_of h.stmt) g.stmt g.passes in
       let cut = h.whole ∙ (ap (λ w. w ++ h.stmt ∷ h.rest) (g.whole ∙ ap (λ t. g.front ++ t ∷ g.rest) f.3) ∙ append_assoc g.front (stmt.Float f.0 f.1 f.2 ∷ g.rest) (h.stmt ∷ h.rest)) in
-      let stays = open_both 0 g.rest (h.stmt ∷ h.rest) g.stays (stays-behind h.stmt h.rest h.passes h.stays) in
+      let stays = open_both 0 g.rest (h.stmt ∷ h.rest) g.stays (stays-after h.stmt h.rest h.passes h.stays) in
       float-hyp p g.front f.0 f.1 f.2 (g.rest ++ h.stmt ∷ h.rest) cut g.at stays (used-in S s f.2 h.front h.stmt h.rest h.whole h.stays h.passes f.4)
 
   given-hyp : (p : ℕ) → In p (floats_in S (expr_of s)) ⊎ IsGiven es S p → In p (hypotheses S s)
@@ -69,12 +69,12 @@ module _ (es : List Entry) (names labels : List Name) (i : ℕ) (all : AllKept (
       let typed = typed-before S h.front e.0 e.1 h.rest x legal (h.whole ∙ ap (λ t. h.front ++ t ∷ h.rest) e.2) e.3 var in
       let v = active-stands (is_float_of x) 1 h.front typed in
       let f = float-of-kind x v.stmt v.passes in
-      let behind = v.rest ++ h.stmt ∷ h.rest in
+      let after = v.rest ++ h.stmt ∷ h.rest in
       let there : h.front ≡ v.front ++ stmt.Float f.0 f.1 x ∷ v.rest = v.whole ∙ ap (λ t. v.front ++ t ∷ v.rest) f.2 in
-      let cut' : S ≡ v.front ++ stmt.Float f.0 f.1 x ∷ behind
+      let cut' : S ≡ v.front ++ stmt.Float f.0 f.1 x ∷ after
       = h.whole ∙ (ap (λ w. w ++ h.stmt ∷ h.rest) there ∙ append_assoc v.front (stmt.Float f.0 f.1 x ∷ v.rest) (h.stmt ∷ h.rest)) in
-      let stays' = open_both 0 v.rest (h.stmt ∷ h.rest) v.stays (stays-behind h.stmt h.rest h.passes h.stays) in
-      let place : p ≡ suc (length v.front) = (let o = one-place S A u l x B v.front f.0 f.1 behind legal cut stays cut' stays' in omega (arith, at_p, o)) in
+      let stays' = open_both 0 v.rest (h.stmt ∷ h.rest) v.stays (stays-after h.stmt h.rest h.passes h.stays) in
+      let place : p ≡ suc (length v.front) = (let o = one-place S A u l x B v.front f.0 f.1 after legal cut stays cut' stays' in omega (arith, at_p, o)) in
       subst (In p) (sym (ess-kept r h)) (members h.front (is_float_in (expr_of h.stmt)) p v.front (stmt.Float f.0 f.1 x) v.rest there place v.stays has)
 
   hyp-given : (p : ℕ) → In p (hypotheses S s) → In p (floats_in S (expr_of s)) ⊎ IsGiven es S p

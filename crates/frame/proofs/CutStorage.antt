@@ -1,5 +1,5 @@
 -- The storage with its first statements alone, and as before when all that was added is taken back.
-use Rattle.frame.proofs.Words.{sym, ◌∙◌, ap, subst, arith, take-take, ◌≡◌, ℕ, ◌+◌, ◌<◌, ◌≤◌, true, List, length, map, take, drop, slice_get, Some, refl, suc, [], ◌∷◌, Option, None, length-take-le, take-map, take-append-drop, take_at, length-map, Name, Database, IsNumberingOf, Declared, declared_symbols, declared_labels, stays_open, label_of, symbols_of, labels_of, option_list, LastActive, Entry, Symbol, is_disj, is_var, last_active_of, stmt_of, statements_of, positions_from, AreAllLegal, ReadsAs, replaced_of, symbol_of, names_in, labels_in, option_position, AreNumbered, KeepsCounts, IsBehind, Storage, naming_of, AreKept, AreStored, Extends, has_parts, IsKeptAs, extends-length, extends-take, take-get, labels_of-append, AreKeptUntil}
+use Rattle.frame.proofs.Words.{sym, ◌∙◌, ap, subst, arith, take-take, ◌≡◌, ℕ, ◌+◌, ◌<◌, ◌≤◌, true, List, length, map, take, drop, slice_get, Some, refl, suc, [], ◌∷◌, Option, None, length-take-le, take-map, take-append-drop, take_at, length-map, Name, Database, IsNumberingOf, Declared, declared_symbols, declared_labels, stays_open, label_of, symbols_of, labels_of, option_list, LastActive, Entry, Symbol, is_disj, is_var, last_active_of, stmt_of, statements_of, positions_from, AreAllLegal, ReadsAs, replaced_of, symbol_of, names_in, labels_in, option_position, AreNumbered, KeepsCounts, IsAfter, Storage, naming_of, AreKept, AreStored, Extends, has_parts, IsKeptAs, extends-length, extends-take, take-get, labels_of-append, AreKeptUntil}
 use Rattle.frame.proofs.StackLemmas.{stacks-back}
 use Rattle.frame.proofs.BlockWalkLemmas.{get-take}
 use Rattle.frame.proofs.DeclaredSymbolLemmas.{symbols_of-front}
@@ -160,7 +160,7 @@ module _ (k : Storage) (n : ℕ) (e : Entry) (stored : AreStored k) (at : slice_
 
 -- the contents that remained, and those after truncation
 pub record IsTakenBack (old mid new : Storage) : Type 0 where
-  pub behind : IsBehind old mid
+  pub after : IsAfter old mid
   pub numbering_cut : new.numbering ≡ take (length old.numbering) mid.numbering
   pub symbols_cut : new.symbols.items ≡ take (length (names_in new)) mid.symbols.items
   pub positions_cut : new.positions.items ≡ take (length (labels_in new)) mid.positions.items
@@ -176,7 +176,7 @@ module _ (old mid new : Storage) (stored : AreStored old) (t : IsTakenBack old m
   k = stored.kept
 
   back-numbering : new.numbering ≡ old.numbering
-  back-numbering = t.numbering_cut ∙ take-extends old.numbering mid.numbering t.behind.numbering
+  back-numbering = t.numbering_cut ∙ take-extends old.numbering mid.numbering t.after.numbering
 
   back-names : names_in new ≡ names_in old
   back-names = ap declared_symbols back-numbering
@@ -185,7 +185,7 @@ module _ (old mid new : Storage) (stored : AreStored old) (t : IsTakenBack old m
   back-labels = ap declared_labels back-numbering
 
   back-entries : new.entries ≡ old.entries
-  back-entries = t.entries_cut ∙ t.behind.entries
+  back-entries = t.entries_cut ∙ t.after.entries
 
   back-statements : statements_of new ≡ statements_of old
   back-statements =
@@ -194,21 +194,21 @@ module _ (old mid new : Storage) (stored : AreStored old) (t : IsTakenBack old m
 
   pub back-stored : AreStored new
   back-stored =
-      let z = t.behind.symbols in
+      let z = t.after.symbols in
       let many : length (names_in new) ≡ length old.symbols.items = ap length back-names ∙ sym k.count in
       let labels : length (labels_in new) ≡ length old.positions.items =
       ap length (back-labels ∙ k.labels_kept) ∙ (sym (length-positions 1 (statements_of old)) ∙ ap length (sym k.positions_kept)) in
-      let all : length mid.entries ≡ length old.ends.items = ap length t.behind.entries ∙ (sym (length-map old.entries (stmt_of (names_in old) (labels_in old))) ∙ sym stored.ended.count) in
-      let ends : new.ends.items ≡ old.ends.items = t.ends_cut ∙ (ap (λ m. take m mid.ends.items) all ∙ take-extends old.ends.items mid.ends.items t.behind.ends) in
+      let all : length mid.entries ≡ length old.ends.items = ap length t.after.entries ∙ (sym (length-map old.entries (stmt_of (names_in old) (labels_in old))) ∙ sym stored.ended.count) in
+      let ends : new.ends.items ≡ old.ends.items = t.ends_cut ∙ (ap (λ m. take m mid.ends.items) all ∙ take-extends old.ends.items mid.ends.items t.after.ends) in
       let positions : new.positions.items ≡ old.positions.items =
-      t.positions_cut ∙ (ap (λ m. take m mid.positions.items) labels ∙ take-extends old.positions.items mid.positions.items t.behind.positions) in
+      t.positions_cut ∙ (ap (λ m. take m mid.positions.items) labels ∙ take-extends old.positions.items mid.positions.items t.after.positions) in
       let symbols : new.symbols.items ≡ old.symbols.items = t.symbols_cut ∙ (ap (λ m. take m mid.symbols.items) many ∙ take-extends old.symbols.items mid.symbols.items (z.0, z.1)) in
-      let long : length mid.entries ≡ length old.entries = ap length t.behind.entries in
-      let replaced : new.replaced.items ≡ old.replaced.items = t.replaced_cut ∙ take-extends old.replaced.items mid.replaced.items t.behind.replaced in
+      let long : length mid.entries ≡ length old.entries = ap length t.after.entries in
+      let replaced : new.replaced.items ≡ old.replaced.items = t.replaced_cut ∙ take-extends old.replaced.items mid.replaced.items t.after.replaced in
       record {
-        kept = rw (back-names, back-labels, positions, symbols, replaced, back-entries, t.last_active_cut, t.behind.last_active) k;
+        kept = rw (back-names, back-labels, positions, symbols, replaced, back-entries, t.last_active_cut, t.after.last_active) k;
         numbered = back-numbering ∙ (stored.numbered ∙ ap naming_of (sym back-statements));
         ended = rw (back-statements, ends) stored.ended;
-        disjoints = rw (back-statements, back-entries) (stacks-back is_disj old.disjoints mid.disjoints new.disjoints old.entries (statements_of old) stored.disjoints t.behind.disjoints (subst (λ m. AreKeptUntil m mid.disjoints new.disjoints) long t.disjoints_cut));
-        variables = rw (back-statements, back-entries) (stacks-back is_var old.variables mid.variables new.variables old.entries (statements_of old) stored.variables t.behind.variables (subst (λ m. AreKeptUntil m mid.variables new.variables) long t.variables_cut));
+        disjoints = rw (back-statements, back-entries) (stacks-back is_disj old.disjoints mid.disjoints new.disjoints old.entries (statements_of old) stored.disjoints t.after.disjoints (subst (λ m. AreKeptUntil m mid.disjoints new.disjoints) long t.disjoints_cut));
+        variables = rw (back-statements, back-entries) (stacks-back is_var old.variables mid.variables new.variables old.entries (statements_of old) stored.variables t.after.variables (subst (λ m. AreKeptUntil m mid.variables new.variables) long t.variables_cut));
       }

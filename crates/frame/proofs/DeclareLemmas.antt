@@ -1,7 +1,7 @@
 -- The last declarations of symbols, and what they replace: one statement more and one less.
-use Rattle.frame.proofs.Words.{sym, ◌∙◌, ap, arith, add-zero, append-nil, append_assoc, length-append, ◌≡◌, ℕ, zero, suc, ◌+◌, Bool, true, false, cond, ◌||◌, nat_eq, List, [], ◌∷◌, ◌++◌, length, get_or, slice_get, slice_set, Option, Some, refl, ◌-◌, ◌<◌, map, take, drop, or-false, get_or_from_slice_get, list_any, take_all, take_more, map_push, drop-append_seam, Float, last_of, with_last, is_float_kind, is_var_kind, second_is, ◌&&◌, Entry, Symbol, floats, declares, last_from, symbol_of, ReadsAs, replaced_by, replaced_behind, replaced_of, with_entry, with_declared, place, Kind, Var, Extends}
+use Rattle.frame.proofs.Words.{sym, ◌∙◌, ap, arith, add-zero, append-nil, append_assoc, length-append, ◌≡◌, ℕ, zero, suc, ◌+◌, Bool, true, false, cond, ◌||◌, nat_eq, List, [], ◌∷◌, ◌++◌, length, get_or, slice_get, slice_set, Option, Some, refl, ◌-◌, ◌<◌, map, take, drop, or-false, get_or_from_slice_get, list_any, take_all, take_more, map_push, drop-append_seam, Float, last_of, with_last, is_float_kind, is_var_kind, second_is, ◌&&◌, Entry, Symbol, floats, declares, last_from, symbol_of, ReadsAs, replaced_by, replaced_after, replaced_of, with_entry, with_declared, place, Kind, Var, Extends}
 use Rattle.frame.proofs.BlockWalkLemmas.{take-one}
-use Rattle.frame.proofs.LegalBehind.{stands-at}
+use Rattle.frame.proofs.LegalAfter.{stands-at}
 
 abbrev pub recorded : Kind → Symbol → ℕ → Bool → Symbol
 recorded kind x at any = cond any (with_last kind at x) x
@@ -60,15 +60,15 @@ symbol_of-push es e c = rw (last_from-push (floats c) 0 1 es e, last_from-push (
 
 -- ---- one entry more
 
-replaced-push : (before es : List Entry) (e : Entry) → replaced_behind before (es ++ e ∷ []) ≡ replaced_behind before es ++ replaced_by (symbol_of (before ++ es)) e.kind e.symbols
+replaced-push : (before es : List Entry) (e : Entry) → replaced_after before (es ++ e ∷ []) ≡ replaced_after before es ++ replaced_by (symbol_of (before ++ es)) e.kind e.symbols
 replaced-push before [] e =
     append-nil (replaced_by (symbol_of before) e.kind e.symbols)
     ∙ ap (λ es. replaced_by (symbol_of es) e.kind e.symbols) (sym (append-nil before))
 replaced-push before (d ∷ es) e =
     ap (λ r. replaced_by (symbol_of before) d.kind d.symbols ++ r)
     (replaced-push (before ++ d ∷ []) es e
-    ∙ ap (λ r. replaced_behind (before ++ d ∷ []) es ++ replaced_by (symbol_of r) e.kind e.symbols) (append_assoc before (d ∷ []) es))
-    ∙ sym (append_assoc (replaced_by (symbol_of before) d.kind d.symbols) (replaced_behind (before ++ d ∷ []) es) (replaced_by (symbol_of (before ++ d ∷ es)) e.kind e.symbols))
+    ∙ ap (λ r. replaced_after (before ++ d ∷ []) es ++ replaced_by (symbol_of r) e.kind e.symbols) (append_assoc before (d ∷ []) es))
+    ∙ sym (append_assoc (replaced_by (symbol_of before) d.kind d.symbols) (replaced_after (before ++ d ∷ []) es) (replaced_by (symbol_of (before ++ d ∷ es)) e.kind e.symbols))
 
 pub replaced_of-push : (es : List Entry) (e : Entry) → replaced_of (es ++ e ∷ []) ≡ replaced_of es ++ replaced_by (symbol_of es) e.kind e.symbols
 replaced_of-push es e = replaced-push [] es e

@@ -195,12 +195,12 @@ module _ (S : Database) (i at : ℕ) (s : Stmt) (one : 1 ≤ i) (lt : i < at) (l
       let low : suc b ≤ length X = omega (arith, is, last-within is_open X refl) in
       let short : length X ≡ i - 1 = length-take-le (i - 1) S (omega (arith, lt, le)) in
       let k = at - 1 - suc b in
-      let behind : drop (suc b) E ≡ B ++ s ∷ T = ap (drop (suc b)) cut ∙ drop-append-le (suc b) X (s ∷ T) low in
+      let after : drop (suc b) E ≡ B ++ s ∷ T = ap (drop (suc b)) cut ∙ drop-append-le (suc b) X (s ∷ T) low in
       let rest : drop (suc b) E ≡ take k (drop (suc b) S) = let up : at - 1 ≡ suc b + k = omega (arith, low, short, lt) in ap (λ m. drop (suc b) (take m S)) up ∙ drop-take (suc b) k S in
       let place : b + 2 + k ≡ at = omega (arith, low, short, lt) in
       active-stays S i at one lt
       ∙ (sym (stays_open-same (B ++ s ∷ T) T (omega (arith, deficit-join B (s ∷ T), no_deficit B last.0, last.1, plain-deficit s T o c)))
-      ∙ (ap (stays_open 0) (sym behind ∙ rest)
+      ∙ (ap (stays_open 0) (sym after ∙ rest)
       ∙ (end-tells 0 (b + 2) k (drop (suc b) S) (omega arith) ∙ ap (λ n. end_of b S == 0 || nat_le n (end_of b S)) place)))
 
 -- the block of a statement before `at` that is neither `${` nor `$}` tells whether it is active there

@@ -156,7 +156,7 @@ sets-moved g h es fs S T are sets kept low same = record {
       rw (sets, kept) (record { some = k.some; before = k.before; within = k.within; earlier = k.earlier; given = rw (← fronts.0, ← fronts.1) k.given });
 }
 
--- behind one statement more
+-- after one statement more
 pub sets-more : (g : GivenSets) (es fs : List Entry) (S T : Database) → AreGivenSets g es S → length S ≡ length es → Extends es fs → Extends S T → AreGivenSets g fs T
 sets-more g es fs S T are long entries statements =
     let low = are.within in

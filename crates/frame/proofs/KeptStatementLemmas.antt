@@ -1,6 +1,6 @@
 -- A statement that is kept by numbers says what the statement says.
 use Rattle.frame.proofs.Words.{In, floats, is_typed_by, list_any, list_any-map, sym, ◌∙◌, ap, subst, arith, append_assoc, length-append, ◌≡◌, ℕ, suc, ◌+◌, ◌-◌, ◌<◌, ◌≤◌, Bool, true, false, cond, List, [], ◌∷◌, ◌++◌, length, map, filter, slice_get, Option, Some, None, refl, Name, Stmt, Database, stmt_at, before, stays_open, active_from, expr_of, separated, is_assertion, IsLegal, name_at, decode, AreDistinct, is_mandatory, is_hypothesis, hypotheses, separates, AreBelow, AllBelow, typecode_of, IsTypecode, IsOf, IsRequired, AreRequired, AreListsOf, IsViewOf, AssertionView, Kind, Disj, Entry, Assertion, actives, actives_from, is_disj, stmt_by, stmt_of, AreAllLegal, AreNumbered, HasTwo, is_typed, typed, symbols_at, option_symbols, has_two, groups_by, typecode_at, required_by, option_required, required_at, kept_with, IsKeptAs, take-get, Hypothesis}
-use Rattle.frame.proofs.LegalBehind.{stands-at}
+use Rattle.frame.proofs.LegalAfter.{stands-at}
 use Rattle.frame.proofs.LegalLabels.{AllKept}
 use Rattle.frame.proofs.VariablePlaceLemmas.{any-in, in-any, mandatory-float}
 use Rattle.frame.proofs.ActivePositions.{active-members}

@@ -23,8 +23,8 @@ pub mod GroupsLemmas
 pub mod BlockWalkLemmas
 pub mod EndLemmas
 pub mod LegalLabels
-pub mod ActiveBehind
-pub mod LegalBehind
+pub mod ActiveAfter
+pub mod LegalAfter
 pub mod VariablePlaceLemmas
 pub mod FoundByNumber
 pub mod PlacedHypotheses

@@ -38,7 +38,7 @@ get-own own xs j k p m at is =
     let below : count_below p (with_each own xs) ≡ k = (let all = count-each p own xs m in let before = count-get p own j m.own_ascends at in omega arith) in
     ap (slice_get (with_each own xs)) (sym below) ∙ get-count p (with_each own xs) (ascends-each own xs m.ascends) has
 
--- so many of its own are below p, where the one before is below and the one behind is not
+-- so many of its own are below p, where the one before is below and the one after is not
 count-split : (p : ℕ) (own : List ℕ) (j : ℕ) → Ascends own → j ≤ length own → ((i x : ℕ) → suc i ≡ j → slice_get own i ≡ Some x → x < p) → ((x : ℕ) → slice_get own j ≡ Some x → p ≤ x) → count_below p own ≡ j
 count-split p [] zero ascends within low high = refl
 count-split p [] (suc j) ascends within low high = absurd (omega arith)
@@ -53,7 +53,7 @@ count-split p (y ∷ ys) (suc (suc j)) ascends within low high =
       | inl found ↦
           let last = low (suc j) found.0 refl found.2 in
           let above = first-below y ys j found.0 ascends.0 found.2 in grind (arith, nat_tests)
-      | inr behind ↦ absurd (let far = behind.0 in omega arith)
+      | inr after ↦ absurd (let far = after.0 in omega arith)
     ]
   where
     first-below : (q : ℕ) (zs : List ℕ) (k z : ℕ) → AreAbove q zs → slice_get zs k ≡ Some z → q < z
@@ -61,7 +61,7 @@ count-split p (y ∷ ys) (suc (suc j)) ascends within low high =
     first-below q (w ∷ zs) zero z above at = let first = above.0 in let same : w ≡ z = cc in omega arith
     first-below q (w ∷ zs) (suc k) z above at = first-below q zs k z above.1 at
 
--- what stands at the index i of the set stands behind j of its own, where the one before belongs before it and the one behind not
+-- what stands at the index i of the set stands after j of its own, where the one before belongs before it and the one after not
 pub get-set : (own xs : List ℕ) (i j k p : ℕ) → AreMissing xs own → slice_get xs i ≡ Some p → i + j ≡ k → j ≤ length own
     → ((m x : ℕ) → suc m ≡ j → slice_get own m ≡ Some x → count_below x xs + m < k) → ((x : ℕ) → slice_get own j ≡ Some x → k < count_below x xs + j) → slice_get (with_each own xs) k ≡ Some p
 get-set own xs i j k p m at is within low high =

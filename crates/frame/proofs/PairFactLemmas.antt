@@ -32,7 +32,7 @@ pub record IsTop (k : Storage) (x p : ℕ) (rest : List ℕ) : Type 0 where
   pub within : p ≤ length (statements_of k)
   pub of_kind : IsOfKind is_disj (statements_of k) p
   pub before_it : rest ≡ row k x (p - 1)
-  pub behind_it : p ∷ rest ≡ row k x p
+  pub after_it : p ∷ rest ≡ row k x p
 
 row-top : (k : Storage) (x p : ℕ) (rest : List ℕ) (fuel n : ℕ) → n ≤ fuel → n ≤ length (statements_of k) → p ∷ rest ≡ row k x n → IsTop k x p rest
 row-top k x p rest zero n le high is =
@@ -60,12 +60,12 @@ row-top k x p rest (suc fuel) n le high is = step (last_active_of_kind is_disj (
             let e : p ∷ rest ≡ suc i ∷ row k x (suc i - 1) = whole ∙ ap (λ t. cond t (suc i ∷ row k x (suc i - 1)) (row k x (suc i - 1))) has in
             let same : p ≡ suc i = cc in
             let others : rest ≡ row k x (suc i - 1) = cc in
-            let behind : row k x (suc i) ≡ suc i ∷ row k x (suc i - 1) = own ∙ ap (λ t. cond t (suc i ∷ row k x (suc i - 1)) (row k x (suc i - 1))) has in
+            let after : row k x (suc i) ≡ suc i ∷ row k x (suc i - 1) = own ∙ ap (λ t. cond t (suc i ∷ row k x (suc i - 1)) (row k x (suc i - 1))) has in
             let made : IsTop k x (suc i) rest = record {
               within = omega (arith, low, high);
               of_kind = record { one = above; statement = s; stands = stands; of_kind = of_kind };
               before_it = others;
-              behind_it = ap (λ r. suc i ∷ r) others ∙ sym behind;
+              after_it = ap (λ r. suc i ∷ r) others ∙ sym after;
             } in
             subst (λ q. IsTop k x q rest) (sym same) made
         by false has s above low stands of_kind whole own =
@@ -172,7 +172,7 @@ module _ (k : Storage) (x y : ℕ) (start xs : List ℕ) (steps p : ℕ) (rest :
       let t = top-of s in
       let up : p + 1 - 1 ≡ p = omega arith in
       ap (λ n. is_pair (take n (statements_of k)) (name_at (names_in k) x) (name_at (names_in k) y)) up
-      ∙ row-pair k x y p xs s.stored s.distinct s.first s.second s.differ t.within (is ∙ t.behind_it)
+      ∙ row-pair k x y p xs s.stored s.distinct s.first s.second s.differ t.within (is ∙ t.after_it)
 
   pub walk-known : (w : Walked) (f : PairFact) → IsWalk k x y start xs steps → IsFact (numbered k) f → (f.position ≡ p) × (f.x ≡ x) × (f.y ≡ y) → w.steps ≡ steps → w.found ≡ f.found → AreAnswered k y start w
   walk-known w f walk fact asked count found = λ i le.

@@ -1,7 +1,7 @@
 -- Two variables that stand together in an active `$d`, and the variables that are active, by the stacks.
-use Rattle.frame.proofs.Words.{◌≡◌, ◌∙◌, ap, sym, subst, arith, refl, ℕ, suc, ◌+◌, ◌-◌, ◌<◌, ◌≤◌, Bool, true, false, cond, not, ◌||◌, ◌&&◌, ◌==◌, nat_eq, List, [], ◌∷◌, ◌++◌, length, map, filter, take, slice_get, slice_get_within, Option, Some, None, length-take, same_Some, list_any, or-false, append_assoc, length-append, take-get, and_comm, list_any-map, AllBelow, AreBelow, Name, name_eq, has_name, name_at, decode, AreDistinct, Stmt, Database, Entry, Storage, stays_open, active_from, actives, actives_from, is_disj, is_var, is_variable, separated, variables, is_pair, groups, names_in, labels_in, statements_of, stmt_of, AreStored, history, stack_at, symbols_at, option_symbols, has_code, having_behind, having, IsOfKind, AreOfKind, AreTogether, have_both}
+use Rattle.frame.proofs.Words.{◌≡◌, ◌∙◌, ap, sym, subst, arith, refl, ℕ, suc, ◌+◌, ◌-◌, ◌<◌, ◌≤◌, Bool, true, false, cond, not, ◌||◌, ◌&&◌, ◌==◌, nat_eq, List, [], ◌∷◌, ◌++◌, length, map, filter, take, slice_get, slice_get_within, Option, Some, None, length-take, same_Some, list_any, or-false, append_assoc, length-append, take-get, and_comm, list_any-map, AllBelow, AreBelow, Name, name_eq, has_name, name_at, decode, AreDistinct, Stmt, Database, Entry, Storage, stays_open, active_from, actives, actives_from, is_disj, is_var, is_variable, separated, variables, is_pair, groups, names_in, labels_in, statements_of, stmt_of, AreStored, history, stack_at, symbols_at, option_symbols, has_code, having_after, having, IsOfKind, AreOfKind, AreTogether, have_both}
 use Rattle.frame.proofs.FoundByNumber.{map-back}
-use Rattle.frame.proofs.LegalBehind.{stands-at}
+use Rattle.frame.proofs.LegalAfter.{stands-at}
 use Rattle.frame.proofs.StoredOneMore.{numbered-at}
 use Rattle.frame.proofs.KindWalk.{AreLists, any-active, has-decode, same-number, disjoint_lists, variable_lists, as-many}
 use Rattle.frame.proofs.StackLemmas.{AreIn, actives-in, having-push}
@@ -17,21 +17,21 @@ swapped true true z = refl
 swapped true false z = refl
 swapped false y z = refl
 
-having-any-behind : (q : ℕ → Bool) (found : List ℕ) (es : List Entry) (c : ℕ) (ps : List (ℕ × Stmt)) → list_any q (having_behind found es c ps) ≡ (list_any q found || list_any (λ p. has_code es c p.0 && q p.0) ps)
-having-any-behind q found es c [] = sym (or-false (list_any q found))
-having-any-behind q found es c (p ∷ ps) = by (has_code es c p.0) (having-any-behind q (cond (has_code es c p.0) (p.0 ∷ found) found) es c ps)
+having-any-after : (q : ℕ → Bool) (found : List ℕ) (es : List Entry) (c : ℕ) (ps : List (ℕ × Stmt)) → list_any q (having_after found es c ps) ≡ (list_any q found || list_any (λ p. has_code es c p.0 && q p.0) ps)
+having-any-after q found es c [] = sym (or-false (list_any q found))
+having-any-after q found es c (p ∷ ps) = by (has_code es c p.0) (having-any-after q (cond (has_code es c p.0) (p.0 ∷ found) found) es c ps)
   where
     rest : Bool
     rest = list_any (λ r. has_code es c r.0 && q r.0) ps
 
-    by : (b : Bool) → list_any q (having_behind (cond (has_code es c p.0) (p.0 ∷ found) found) es c ps) ≡ (list_any q (cond b (p.0 ∷ found) found) || rest)
-        → list_any q (having_behind (cond (has_code es c p.0) (p.0 ∷ found) found) es c ps) ≡ (list_any q found || ((b && q p.0) || rest))
+    by : (b : Bool) → list_any q (having_after (cond (has_code es c p.0) (p.0 ∷ found) found) es c ps) ≡ (list_any q (cond b (p.0 ∷ found) found) || rest)
+        → list_any q (having_after (cond (has_code es c p.0) (p.0 ∷ found) found) es c ps) ≡ (list_any q found || ((b && q p.0) || rest))
     by true e = e ∙ swapped (q p.0) (list_any q found) rest
     by false e = e
 
 -- one of those that have a symbol passes the test
 pub having-any : (q : ℕ → Bool) (es : List Entry) (c : ℕ) (ps : List (ℕ × Stmt)) → list_any q (having es c ps) ≡ list_any (λ p. has_code es c p.0 && q p.0) ps
-having-any q es c ps = having-any-behind q [] es c ps
+having-any q es c ps = having-any-after q [] es c ps
 
 pub some-any : (xs : List ℕ) → not (nat_eq (length xs) 0) ≡ list_any (λ x. true) xs
 some-any [] = refl
@@ -139,16 +139,16 @@ module _ (k : Storage) (stored : AreStored k) (d : AreDistinct (names_in k)) (m 
       nat-turn = grind arith
 
   pub having-of-kind : (kind : Stmt → Bool) (es : List Entry) (c : ℕ) → AreOfKind kind (statements_of k) (having es c (actives kind T))
-  having-of-kind kind es c = behind [] (actives kind T) tt (there kind) (actives-in kind 1 1 (length T) T (omega arith) (omega arith))
+  having-of-kind kind es c = after [] (actives kind T) tt (there kind) (actives-in kind 1 1 (length T) T (omega arith) (omega arith))
     where
-      behind : (found : List ℕ) (ps : List (ℕ × Stmt)) → AreOfKind kind (statements_of k) found → AreThere T kind ps → AreIn 1 (length T) ps → AreOfKind kind (statements_of k) (having_behind found es c ps)
-      behind found [] are stand within = are
-      behind found (p ∷ ps) are stand within =
+      after : (found : List ℕ) (ps : List (ℕ × Stmt)) → AreOfKind kind (statements_of k) found → AreThere T kind ps → AreIn 1 (length T) ps → AreOfKind kind (statements_of k) (having_after found es c ps)
+      after found [] are stand within = are
+      after found (p ∷ ps) are stand within =
           let one : IsOfKind kind (statements_of k) p.0 = record { one = within.0.0; statement = p.1; stands = (take-get m (p.0 - 1) (statements_of k) p.1 stand.0.0).1; of_kind = stand.0.1 } in
-          by found p ps (has_code es c p.0) (behind (p.0 ∷ found) ps (one, are) stand.1 within.1) (behind found ps are stand.1 within.1)
+          by found p ps (has_code es c p.0) (after (p.0 ∷ found) ps (one, are) stand.1 within.1) (after found ps are stand.1 within.1)
         where
-          by : (found : List ℕ) (p : ℕ × Stmt) (ps : List (ℕ × Stmt)) (b : Bool) → AreOfKind kind (statements_of k) (having_behind (p.0 ∷ found) es c ps) → AreOfKind kind (statements_of k) (having_behind found es c ps)
-              → AreOfKind kind (statements_of k) (having_behind (cond b (p.0 ∷ found) found) es c ps)
+          by : (found : List ℕ) (p : ℕ × Stmt) (ps : List (ℕ × Stmt)) (b : Bool) → AreOfKind kind (statements_of k) (having_after (p.0 ∷ found) es c ps) → AreOfKind kind (statements_of k) (having_after found es c ps)
+              → AreOfKind kind (statements_of k) (having_after (cond b (p.0 ∷ found) found) es c ps)
           by found p ps true with without = with
           by found p ps false with without = without
 
@@ -195,12 +195,12 @@ abbrev AllLess : ℕ → List ℕ → Type 0
 AllLess n [] = Unit {0}
 AllLess n (x ∷ xs) = (x < n) × AllLess n xs
 
-having-less : (n m : ℕ) (found : List ℕ) (es : List Entry) (c : ℕ) (ps : List (ℕ × Stmt)) → m < n → AllLess n found → AreIn 1 m ps → AllLess n (having_behind found es c ps)
+having-less : (n m : ℕ) (found : List ℕ) (es : List Entry) (c : ℕ) (ps : List (ℕ × Stmt)) → m < n → AllLess n found → AreIn 1 m ps → AllLess n (having_after found es c ps)
 having-less n m found es c [] lt all within = all
 having-less n m found es c (p ∷ ps) lt all within =
     by (has_code es c p.0) (having-less n m (p.0 ∷ found) es c ps lt (let w = within.0.1 in omega (arith, w, lt), all) within.1) (having-less n m found es c ps lt all within.1)
   where
-    by : (b : Bool) → AllLess n (having_behind (p.0 ∷ found) es c ps) → AllLess n (having_behind found es c ps) → AllLess n (having_behind (cond b (p.0 ∷ found) found) es c ps)
+    by : (b : Bool) → AllLess n (having_after (p.0 ∷ found) es c ps) → AllLess n (having_after found es c ps) → AllLess n (having_after (cond b (p.0 ∷ found) found) es c ps)
     by true with without = with
     by false with without = without
 

@@ -1,8 +1,8 @@
 -- Names that no `$v` declares, and the last active `$d`.
 use Rattle.frame.proofs.Words.{list_any, sym, ◌∙◌, ap, ◌≡◌, ℕ, ◌-◌, ◌<◌, Bool, true, false, cond, ◌&&◌, ◌==◌, List, [], ◌∷◌, length, map, take, slice_get, Some, refl, or_from, both_ways, false_from_ne_true, Name, name_eq, has_name, active, variables, name_at, decode, AreDistinct, AreBelow, take-get, Kind, Var, Entry, stmt_by, stmt_of, is_var_kind, AreNumbered, ◌||◌, not, and_right, same_Some, Stmt, separated, names_in, labels_in, statements_of, Storage, AreStored, list_any-map, list_any-append, or-false, is_pair, groups, actives, last_active_of, LastActive, Database, is_disj, and-or_distrib_left, or_comm}
 use Rattle.frame.proofs.BlockWalkLemmas.{walk-over, IsBack, walk-back}
-use Rattle.frame.proofs.ActiveBehind.{active-stands}
-use Rattle.frame.proofs.LegalBehind.{stands-at}
+use Rattle.frame.proofs.ActiveAfter.{active-stands}
+use Rattle.frame.proofs.LegalAfter.{stands-at}
 use Rattle.frame.proofs.StoredReading.{get-stmt}
 use Rattle.frame.proofs.StoredOneMore.{numbered-at}
 use Rattle.frame.proofs.FoundByNumber.{map-back}

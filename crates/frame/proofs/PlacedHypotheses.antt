@@ -1,6 +1,6 @@
 -- Where the active statements that pass a test stand, and with them the mandatory hypotheses of a statement.
 use Rattle.frame.proofs.Words.{list_any, sym, ◌∙◌, ap, subst, arith, inl, inr, ◌≡◌, ℕ, suc, ◌+◌, ◌&&◌, Bool, true, ◌⊎◌, List, [], ◌∷◌, ◌++◌, length, map, filter, refl, ⊎_map, or_right, or_cases, Name, has_name, Stmt, Database, stays_open, active, expr_of, is_essential, is_used, is_hypothesis, hypotheses, In}
-use Rattle.frame.proofs.ActiveBehind.{Stands, active-stands, stands-active}
+use Rattle.frame.proofs.ActiveAfter.{Stands, active-stands, stands-active}
 use Rattle.frame.proofs.ActivePositions.{IsActiveAt, active-members, members-active}
 
 -- an active statement that passes the test is among the positions of those that do

@@ -1,5 +1,5 @@
 -- The stacks by number: what one more statement changes, the first statements alone, and a `$}`.
-use Rattle.frame.proofs.Words.{◌≡◌, ◌∙◌, ap, sym, subst, arith, refl, inl, inr, ℕ, zero, suc, ◌+◌, ◌-◌, ◌<◌, ◌≤◌, ◌⊎◌, Bool, true, false, cond, ◌||◌, nat_eq, List, [], ◌∷◌, ◌++◌, length, filter, take, take_all, take-take, take-append-le, take-append_seam, length-append, length-take, length-take-le, get_or, slice_get, cases_lt, nat_le, list_any, list_any_more, append-nil, get-last, Stmt, Database, Entry, stays_open, active_from, is_open, is_close, actives, actives_from, is_disj, is_var, last_active_of_kind, kind_of, Storage, AreStored, names_in, labels_in, statements_of, stmt_of, length-map, Disj, Var, StackVersion, IsUntil, AreUntil, AreSame, AreKeptUntil, history, kept_until, pushed, gone_back, stack_at, until-later, until-kept, stack-later, stack-kept, stack-changed, changed-twice, until-changed, kept-changed, NextStatement, option_symbols, has_code, having_behind, having, AreStacks, opening, with_top, latest_of, KeepsUntil, AreChangedBy, IsNext, leb-true}
+use Rattle.frame.proofs.Words.{◌≡◌, ◌∙◌, ap, sym, subst, arith, refl, inl, inr, ℕ, zero, suc, ◌+◌, ◌-◌, ◌<◌, ◌≤◌, ◌⊎◌, Bool, true, false, cond, ◌||◌, nat_eq, List, [], ◌∷◌, ◌++◌, length, filter, take, take_all, take-take, take-append-le, take-append_seam, length-append, length-take, length-take-le, get_or, slice_get, cases_lt, nat_le, list_any, list_any_more, append-nil, get-last, Stmt, Database, Entry, stays_open, active_from, is_open, is_close, actives, actives_from, is_disj, is_var, last_active_of_kind, kind_of, Storage, AreStored, names_in, labels_in, statements_of, stmt_of, length-map, Disj, Var, StackVersion, IsUntil, AreUntil, AreSame, AreKeptUntil, history, kept_until, pushed, gone_back, stack_at, until-later, until-kept, stack-later, stack-kept, stack-changed, changed-twice, until-changed, kept-changed, NextStatement, option_symbols, has_code, having_after, having, AreStacks, opening, with_top, latest_of, KeepsUntil, AreChangedBy, IsNext, leb-true}
 use Rattle.mm_read.specs.declared.stmt.Stmt.TheVariants as stmt
 use Rattle.entries.specs.Histories.{AreWith}
 use Rattle.frame.proofs.OpenLemmas.{IsNoClose}
@@ -85,7 +85,7 @@ module _ (at : ℕ) (one : 1 ≤ at) (old : List (List StackVersion)) (until : A
 
 -- ---- the positions of those that have a symbol
 
-having-append : (found : List ℕ) (es : List Entry) (c : ℕ) (ps qs : List (ℕ × Stmt)) → having_behind found es c (ps ++ qs) ≡ having_behind (having_behind found es c ps) es c qs
+having-append : (found : List ℕ) (es : List Entry) (c : ℕ) (ps qs : List (ℕ × Stmt)) → having_after found es c (ps ++ qs) ≡ having_after (having_after found es c ps) es c qs
 having-append found es c [] qs = refl
 having-append found es c (p ∷ ps) qs = having-append (cond (has_code es c p.0) (p.0 ∷ found) found) es c ps qs
 
@@ -105,10 +105,10 @@ actives-in kind low at high (s ∷ S) le h = by (stays_open 0 S) (kind s) refl (
     by true false e r = rw e r
     by false x e r = r
 
-having-same : (found : List ℕ) (es fs : List Entry) (c n : ℕ) (ps : List (ℕ × Stmt)) → AreIn 1 n ps → ((p : ℕ) → 1 ≤ p → p ≤ n → has_code es c p ≡ has_code fs c p) → having_behind found es c ps ≡ having_behind found fs c ps
+having-same : (found : List ℕ) (es fs : List Entry) (c n : ℕ) (ps : List (ℕ × Stmt)) → AreIn 1 n ps → ((p : ℕ) → 1 ≤ p → p ≤ n → has_code es c p ≡ has_code fs c p) → having_after found es c ps ≡ having_after found fs c ps
 having-same found es fs c n [] are same = refl
 having-same found es fs c n (p ∷ ps) are same =
-    ap (λ b. having_behind (cond b (p.0 ∷ found) found) es c ps) (same p.0 are.0.0 are.0.1) ∙ having-same (cond (has_code fs c p.0) (p.0 ∷ found) found) es fs c n ps are.1 same
+    ap (λ b. having_after (cond b (p.0 ∷ found) found) es c ps) (same p.0 are.0.0 are.0.1) ∙ having-same (cond (has_code fs c p.0) (p.0 ∷ found) found) es fs c n ps are.1 same
 
 code-front : (es : List Entry) (c n p : ℕ) → 1 ≤ p → p ≤ n → has_code (take n es) c p ≡ has_code es c p
 code-front es c n p one le = ap (λ o. list_any (λ x. nat_eq c x) (option_symbols o)) (get-take (p - 1) n es (omega (arith, one, le)))

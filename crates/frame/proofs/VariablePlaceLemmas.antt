@@ -2,8 +2,8 @@
 use Rattle.frame.proofs.Words.{list_any, ◌∙◌, ap, inl, inr, append_assoc, ◌≡◌, ℕ, suc, Bool, true, false, ◌||◌, List, [], ◌∷◌, ◌++◌, length, refl, not, ◌&&◌, or_left, or_cases, and_parts, not_both, list_any-append, list_any-from_Any, Any-from_list_any, Name, has_name, Stmt, Database, Expr, is_assertion, is_variable, is_float_of, stays_open, active, constants, variables, expr_of, is_essential, is_constant, has_float, IsLegal, starts_with_constant, is_used, is_mandatory, is_hypothesis, hypotheses, In, all-has, IsFirstFixed}
 use Rattle.mm_read.specs.declared.stmt.Stmt.TheVariants.{Float, Ess, Axiom, Prove}
 use Rattle.frame.proofs.LegalLabels.{AllKept}
-use Rattle.frame.proofs.LegalBehind.{legal-keeps, kept-legal, constant-no_variable}
-use Rattle.frame.proofs.ActiveBehind.{active-stands, stands-active, open_both, implied}
+use Rattle.frame.proofs.LegalAfter.{legal-keeps, kept-legal, constant-no_variable}
+use Rattle.frame.proofs.ActiveAfter.{active-stands, stands-active, open_both, implied}
 use Rattle.frame.proofs.CollectLemmas.{in-contains, contains-in}
 use Rattle.frame.proofs.ActiveFloats.{float-of-kind}
 use Rattle.frame.proofs.PlacedHypotheses.{members, used-cases}

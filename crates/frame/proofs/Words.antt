@@ -5,7 +5,7 @@ pub use Rattle.entries.proofs.HistoryLemmas.{changed-twice, kept-changed, stack-
 pub use Rattle.entries.proofs.LogLemmas.{until-kept, until-later}
 pub use Rattle.entries.proofs.PositionSetLemmas.{above-all, ascends-with, count-above, count-all, count-get, count-grows, count-less, count-with, get-count, has-above, has-get, has-with, length-with}
 pub use Rattle.entries.proofs.SetNodeLemmas.{cut-back, set_at-extends}
-pub use Rattle.entries.proofs.SpanLemmas.{cut-more, cut-push, extends-length, extends-refl, extends-take, extends-trans, range-behind, spans-push, spans-reverse}
+pub use Rattle.entries.proofs.SpanLemmas.{cut-more, cut-push, extends-length, extends-refl, extends-take, extends-trans, range-after, spans-push, spans-reverse}
 pub use Rattle.entries.proofs.StatementRecordLemmas.{get-last, get-more}
 pub use Rattle.entries.specs.Entries.{AreWhole, Assertion, Entry, assertion_of, made, partless, seen}
 pub use Rattle.entries.specs.Histories.{AreKeptUntil, AreSame, AreUntil, IsUntil, StackVersion, gone_back, history, kept_until, pushed, stack_at}
@@ -33,9 +33,9 @@ pub use Rattle.frame.specs.Laws.{GroupsArePairs}
 pub use Rattle.frame.specs.PairRows.{AreTogether, have_both}
 pub use Rattle.frame.specs.Parts.{FrameParts, Numbered}
 pub use Rattle.frame.specs.Stored.AssertionParts.{IsKeptAs, floats_in, groups_by, has_parts, has_two, is_float_in, is_typed, is_typed_by, kept_with, option_required, option_symbols, recorded_in, required_at, required_by, symbols_at, typecode_at, typed}
-pub use Rattle.frame.specs.Stored.Counts.{AreNumbered, AreZero, AreZeroBehind, Grown, HasRoom, HasTwo, IsBehind, IsLabelBelow, IsPlain, KeepsCounts, kind_of, next_last_active, with_declared, with_entry, zero_symbol}
+pub use Rattle.frame.specs.Stored.Counts.{AreNumbered, AreZero, AreZeroAfter, Grown, HasRoom, HasTwo, IsAfter, IsLabelBelow, IsPlain, KeepsCounts, kind_of, next_last_active, with_declared, with_entry, zero_symbol}
 pub use Rattle.frame.specs.Stored.Ends.{AreBlocks, AreEnds, TellEnds, end_from, end_of, with_end}
-pub use Rattle.frame.specs.Stored.EntryMeanings.{AreAllLegal, ReadsAs, declared_by, declares, floats, is_float_kind, is_var_kind, labels_in, last_from, last_of, last_where, names_in, option_position, positions_from, replaced_behind, replaced_by, replaced_of, second_is, statements_of, stmt_by, stmt_of, symbol_of, with_last}
+pub use Rattle.frame.specs.Stored.EntryMeanings.{AreAllLegal, ReadsAs, declared_by, declares, floats, is_float_kind, is_var_kind, labels_in, last_from, last_of, last_where, names_in, option_position, positions_from, replaced_after, replaced_by, replaced_of, second_is, statements_of, stmt_by, stmt_of, symbol_of, with_last}
 pub use Rattle.frame.specs.Stored.GivenSets.{AreFrames, AreGivenSets, IsGivenBy, IsKeptSet, kept_set, option_set}
 pub use Rattle.frame.specs.Stored.Hypotheses.{AreCollected, AreDescribed, AreFloats, AreHypotheses, AreLooked, AreThose, AreWith, HasMore, In, IsFilledFrom, IsFloatOf, IsGiven, IsWith, OfSome, SomeFloat, is_hypothesis_entry, kept_at, option_kept}
 pub use Rattle.frame.specs.Stored.Labels.{is_label_kind}
@@ -44,7 +44,7 @@ pub use Rattle.frame.specs.Stored.Merged.{AreMerged, AreMissing, with_each}
 pub use Rattle.frame.specs.Stored.Naming.{is_declared, naming_from, naming_of}
 pub use Rattle.frame.specs.Stored.OneFrame.{AreMandatory, among, asks, groups_among, is_in_essential, required}
 pub use Rattle.frame.specs.Stored.PairSearch.{AreSought, IsLeft, are_pair}
-pub use Rattle.frame.specs.Stored.Stacks.{AreChangedBy, AreOfKind, AreStacks, IsNext, IsOfKind, KeepsUntil, has_code, having, having_behind, kind_test, last_by_kind, latest_of, opening, with_top}
+pub use Rattle.frame.specs.Stored.Stacks.{AreChangedBy, AreOfKind, AreStacks, IsNext, IsOfKind, KeepsUntil, has_code, having, having_after, kind_test, last_by_kind, latest_of, opening, with_top}
 pub use Rattle.frame.specs.Stored.Whole.{AreKept, ArePartsFor, AreStored, IsEntryHeader, IsKeptOf, IsWalked}
 pub use Rattle.frame.specs.declared.given_sets.GivenSets.{GivenSets}
 pub use Rattle.frame.specs.declared.given_sets.KeptSet.{KeptSet}

@@ -116,7 +116,7 @@ pub fn record_replaced(
 ) -> Result<(), AllocError>
     requires { AreBelow (length symbols.now) declared.now }
     ensures recorded { OnOk result ((x : ℕ → Declared) → ReadsAs symbols.now x → replaced.new.items ≡ replaced.old.items ++ map (λ c. last_of kind (x c)) declared.now) }
-    ensures behind { Extends replaced.old.items replaced.new.items }
+    ensures after { Extends replaced.old.items replaced.new.items }
 {
     for code in declared {
         replaced.push(last(symbols[*code as usize], kind))?;

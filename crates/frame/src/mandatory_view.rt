@@ -82,7 +82,7 @@ fn place(sets: &PositionSets, set: u32, own: &[u32], at: usize) -> usize
 fn own_before(sets: &PositionSets, set: u32, own: &[u32], index: usize) -> usize
     ensures within { result ≤ length own.now }
     ensures before { (k : ℕ) → suc k ≡ result → count_below (get_or own.now k 0) (set_at sets.now set) + k < index }
-    ensures behind { result < length own.now → index ≤ count_below (get_or own.now result 0) (set_at sets.now set) + result }
+    ensures after { result < length own.now → index ≤ count_below (get_or own.now result 0) (set_at sets.now set) + result }
 {
     let mut low = 0;
     let mut high = own.len();

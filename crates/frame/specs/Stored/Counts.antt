@@ -44,8 +44,8 @@ AreZero [] = Unit {0}
 AreZero (x ∷ xs) = (x ≡ zero_symbol) × AreZero xs
 
 -- the list with symbols after it that nothing declares
-abbrev pub AreZeroBehind : List Symbol → List Symbol → Type 0
-AreZeroBehind old new = (more : List Symbol) × (new ≡ old ++ more) × AreZero more
+abbrev pub AreZeroAfter : List Symbol → List Symbol → Type 0
+AreZeroAfter old new = (more : List Symbol) × (new ≡ old ++ more) × AreZero more
 
 abbrev pub kind_of : Stmt → Kind
 kind_of stmt.Open = Open
@@ -82,7 +82,7 @@ pub record HasRoom (k : Storage) : Type 0 where
 -- more names and positions at the end; the entries and the `LastActive` stay
 pub record Grown (old new : Storage) : Type 0 where
   pub numbering : Extends old.numbering new.numbering
-  pub symbols : AreZeroBehind old.symbols.items new.symbols.items
+  pub symbols : AreZeroAfter old.symbols.items new.symbols.items
   pub positions : Extends old.positions.items new.positions.items
   pub replaced : new.replaced ≡ old.replaced
   pub ends : new.ends ≡ old.ends
@@ -92,9 +92,9 @@ pub record Grown (old new : Storage) : Type 0 where
   pub last_active : new.last_active ≡ old.last_active
 
 -- the storage with more names and positions at the end: cut back it is as before
-pub record IsBehind (old new : Storage) : Type 0 where
+pub record IsAfter (old new : Storage) : Type 0 where
   pub numbering : Extends old.numbering new.numbering
-  pub symbols : AreZeroBehind old.symbols.items new.symbols.items
+  pub symbols : AreZeroAfter old.symbols.items new.symbols.items
   pub positions : Extends old.positions.items new.positions.items
   pub replaced : Extends old.replaced.items new.replaced.items
   pub ends : Extends old.ends.items new.ends.items

@@ -106,9 +106,9 @@ abbrev pub replaced_by : (ℕ → Symbol) → Kind → List ℕ → List ℕ
 replaced_by x kind codes = map (λ c. last_of kind (x c)) (declared_by kind codes)
 
 -- the same for each entry of a list, after others
-abbrev pub replaced_behind : List Entry → List Entry → List ℕ
-replaced_behind before [] = []
-replaced_behind before (e ∷ es) = replaced_by (symbol_of before) e.kind e.symbols ++ replaced_behind (before ++ e ∷ []) es
+abbrev pub replaced_after : List Entry → List Entry → List ℕ
+replaced_after before [] = []
+replaced_after before (e ∷ es) = replaced_by (symbol_of before) e.kind e.symbols ++ replaced_after (before ++ e ∷ []) es
 
 abbrev pub replaced_of : List Entry → List ℕ
-replaced_of es = replaced_behind [] es
+replaced_of es = replaced_after [] es

@@ -18,7 +18,7 @@ abbrev pub kept_set : List KeptSet → ℕ → ℕ
 kept_set kept zero = 0
 kept_set kept (suc i) = option_set (slice_get kept i)
 
--- the set, if one is kept, has the hypotheses that the active `$e` behind the statements bring along
+-- the set, if one is kept, has the hypotheses that the active `$e` after the statements bring along
 abbrev pub IsGivenBy : List Entry → Database → List (List ℕ) → ℕ → Type 0
 IsGivenBy es S sets set = (set ≡ 0 → ⊥) → AreThose (IsGiven es S) (set_at sets set)
 

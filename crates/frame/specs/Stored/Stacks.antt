@@ -10,13 +10,13 @@ use Rattle.frame.specs.Stored.AssertionParts.{symbols_at}
 abbrev pub has_code : List Entry → ℕ → ℕ → Bool
 has_code es c p = list_any (λ x. c == x) (symbols_at es p)
 
-abbrev pub having_behind : List ℕ → List Entry → ℕ → List (ℕ × Stmt) → List ℕ
-having_behind found es c [] = found
-having_behind found es c (p ∷ ps) = having_behind (if has_code es c p.0 then p.0 ∷ found else found) es c ps
+abbrev pub having_after : List ℕ → List Entry → ℕ → List (ℕ × Stmt) → List ℕ
+having_after found es c [] = found
+having_after found es c (p ∷ ps) = having_after (if has_code es c p.0 then p.0 ∷ found else found) es c ps
 
 -- the positions of those that have the symbol c, from the last one back
 abbrev pub having : List Entry → ℕ → List (ℕ × Stmt) → List ℕ
-having es c ps = having_behind [] es c ps
+having es c ps = having_after [] es c ps
 
 -- the stack of each symbol, at each position, are the active statements of the kind that have it
 pub record AreStacks (kind : Stmt → Bool) (hs : List (List StackVersion)) (es : List Entry) (S : Database) : Type 0 where
@@ -69,7 +69,7 @@ abbrev pub AreChangedBy : (List StackVersion → List StackVersion) → List ℕ
 AreChangedBy f codes old new = (d : ℕ) → history new d ≡ (if list_any (λ x. d == x) codes then f (history old d) else history old d)
 
 -- the stacks after the statement at `at` are these, and the earlier ones are as they were
-pub record IsNext (at : ℕ) (behind : ℕ → List ℕ) (old new : List (List StackVersion)) : Type 0 where
-  pub latest : (c : ℕ) → stack_at (history new c) (at + 1) ≡ behind c
+pub record IsNext (at : ℕ) (after : ℕ → List ℕ) (old new : List (List StackVersion)) : Type 0 where
+  pub latest : (c : ℕ) → stack_at (history new c) (at + 1) ≡ after c
   pub until : AreUntil at new
   pub kept : KeepsUntil (at - 1) old new

@@ -14,11 +14,11 @@ loop-code-preserved c =
     let none : Symbol = record { float = 0; variable = 0 } in
     let v = last_of c.args.kind (get_or symbols (get_or codes i 0) none) in
     let pushed = c.in_ok-push.ensures.items ∙ ap (λ n. c.loop-code.replaced.items ++ n ∷ []) c.last.ensures in
-    let more = c.loop-code.invariant.behind in
+    let more = c.loop-code.invariant.after in
     record {
       recorded = λ x reads. record-more c.args.kind symbols codes x i v none c.args.replaced.now.items c.loop-code.replaced.items c.push.new.self.items (omega arith)
           (below-at (length symbols) codes i 0 c.requires (omega arith)) reads (c.loop-code.invariant.recorded x reads) refl pushed;
-      behind = (more.0 ++ v ∷ [], pushed ∙ (ap (λ r. r ++ v ∷ []) more.1 ∙ append_assoc c.args.replaced.now.items more.0 (v ∷ [])));
+      after = (more.0 ++ v ∷ [], pushed ∙ (ap (λ r. r ++ v ∷ []) more.1 ∙ append_assoc c.args.replaced.now.items more.0 (v ∷ [])));
     }
 
 pub returns-clause-recorded : goal.returns-clause-recorded

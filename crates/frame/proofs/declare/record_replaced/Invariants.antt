@@ -4,5 +4,5 @@ use Rattle.frame.proofs.declare.record_replaced.Given as goal
 abbrev pub invariant-loop-code : goal.invariant-loop-code
 invariant-loop-code l = record {
   recorded : (x : ℕ → Symbol) → ReadsAs l.symbols x → l.replaced.items ≡ l.fn.replaced.items ++ map (λ c. last_of l.kind (x c)) (take l.code-index l.declared);
-  behind : Extends l.fn.replaced.items l.replaced.items;
+  after : Extends l.fn.replaced.items l.replaced.items;
 }

@@ -21,15 +21,15 @@ declared-declared-requires c =
     two-of (length (names_in k)) (length (labels_in k)) k.entries c.requires.stored.kept.coded (length (front w)) (last w) (gone w).here
 
 -- the declarations that the last entry replaced, after those that the entries before it replaced
-abbrev behind : After-entry-entry → List ℕ → List ℕ
-behind w declared = map (λ k. last_of (last w).kind (symbol_of (front w) k)) declared
+abbrev after : After-entry-entry → List ℕ → List ℕ
+after w declared = map (λ k. last_of (last w).kind (symbol_of (front w) k)) declared
 
-joined : (w : After-entry-entry) (declared : List ℕ) → declared ≡ declared_by (last w).kind (last w).symbols → w.loop-storage.storage.replaced.items ≡ replaced_of (front w) ++ behind w declared
+joined : (w : After-entry-entry) (declared : List ℕ) → declared ≡ declared_by (last w).kind (last w).symbols → w.loop-storage.storage.replaced.items ≡ replaced_of (front w) ++ after w declared
 joined w declared is =
-    w.loop-storage.invariant.recorded ∙ (ap replaced_of (gone w).is ∙ (replaced_of-push (front w) (last w) ∙ ap (λ d. replaced_of (front w) ++ behind w d) (sym is)))
+    w.loop-storage.invariant.recorded ∙ (ap replaced_of (gone w).is ∙ (replaced_of-push (front w) (last w) ∙ ap (λ d. replaced_of (front w) ++ after w d) (sym is)))
 
 from : (w : After-entry-entry) (declared : List ℕ) → declared ≡ declared_by (last w).kind (last w).symbols → length w.loop-storage.storage.replaced.items ≡ length (replaced_of (front w)) + length declared
-from w declared is = ap length (joined w declared is) ∙ (length-append (replaced_of (front w)) (behind w declared) ∙ ap (λ n. length (replaced_of (front w)) + n) (length-map declared _))
+from w declared is = ap length (joined w declared is) ∙ (length-append (replaced_of (front w)) (after w declared) ∙ ap (λ n. length (replaced_of (front w)) + n) (length-map declared _))
 
 pub overflow_sub-from : goal.overflow_sub-from
 overflow_sub-from c =
@@ -44,7 +44,7 @@ restore-requires-clause-below c =
 pub restore-requires-clause-count : goal.restore-requires-clause-count
 restore-requires-clause-count c =
     let w = (goal.at.restore-requires-clause-count c).After-entry-entry in let d = c.declared-declared in
-    ap length (recorded-last c.loop-storage.storage.replaced.items (replaced_of (front w)) (behind w d.result.now) c.deref.result.now c.len-in-loop-storage.result (length d.result.now)
+    ap length (recorded-last c.loop-storage.storage.replaced.items (replaced_of (front w)) (after w d.result.now) c.deref.result.now c.len-in-loop-storage.result (length d.result.now)
     c.deref.ensures.value (joined w d.result.now d.ensures.declared) (omega (arith, c.len-in-loop-storage.ensures, c.loop-storage.storage.replaced.ok.0)) (length-map d.result.now _)) ∙ length-map d.result.now _
 
 pub record_end-requires : goal.record_end-requires
@@ -60,7 +60,7 @@ loop-storage-preserved c =
     let here = c.loop-storage.storage in
     let declared = c.declared-declared.result.now in
     let are = joined w declared c.declared-declared.ensures.declared in let size : c.len-in-loop-storage.result ≡ length here.replaced.items = omega (arith, c.len-in-loop-storage.ensures, here.replaced.ok.0) in
-    let whole = recorded-last here.replaced.items (replaced_of (front w)) (behind w declared) c.deref.result.now c.len-in-loop-storage.result (length declared) c.deref.ensures.value are size (length-map declared _) in
+    let whole = recorded-last here.replaced.items (replaced_of (front w)) (after w declared) c.deref.result.now c.len-in-loop-storage.result (length declared) c.deref.ensures.value are size (length-map declared _) in
     let start : c.len-in-loop-storage.result - length declared ≡ length (replaced_of (front w)) = omega (arith, size, from w declared c.declared-declared.ensures.declared) in
     let cut : c.truncate-in-loop-storage.new.self ≡ front w = c.truncate-in-loop-storage.ensures in
     rw cut (record {
@@ -68,7 +68,7 @@ loop-storage-preserved c =
       enough = omega (arith, c.loop-storage-test.true, c.len.ensures.len, ap length l.is, length-append (front w) (e ∷ []));
       declared = restored here.symbols.items c.restore.new.symbols.items e.kind declared _ (symbol_of (front w)) (1 + length (front w)) whole c.restore.ensures.each c.restore.ensures.count
           (λ m lt. i.declared m lt ∙ ap Some (ap (λ es. symbol_of es m) l.is ∙ (symbol_of-push (front w) e m ∙ rw c.declared-declared.ensures.declared refl)));
-      recorded = c.truncate.ensures.items ∙ (ap (λ n. take n here.replaced.items) start ∙ (ap (take (length (replaced_of (front w)))) are ∙ take-append_seam (replaced_of (front w)) (behind w declared)));
+      recorded = c.truncate.ensures.items ∙ (ap (λ n. take n here.replaced.items) start ∙ (ap (take (length (replaced_of (front w)))) are ∙ take-append_seam (replaced_of (front w)) (after w declared)));
       ended = ends-taken k.entries (front w) here.entries (statements_of k) e here.ends.items c.record_end.new.ends.items (stored-blocks k c.requires.stored) l.is l.here (sym (i.ends_count ∙ c.requires.stored.ended.count)) i.ended c.record_end.ensures;
       ends_count = ap length c.record_end.ensures ∙ (length-with e.kind e.last_active.block 0 here.ends.items ∙ i.ends_count);
       count = c.restore.ensures.count ∙ i.count;

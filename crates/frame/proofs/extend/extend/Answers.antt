@@ -1,4 +1,4 @@
-use Rattle.frame.proofs.Words.{Extends, IsBehind, Result, Ok, Err, OnErr, append-nil, ◌≡◌, ◌∙◌, ap, sym, subst, arith, refl, length, ◌+◌, ◌++◌, ◌∷◌, [], true, bare, made, may-declare, AreBelow, has_parts, statements_of, ReadsAs, IsKeptOf, NextStatement, history, kept_until, EntryHeader}
+use Rattle.frame.proofs.Words.{Extends, IsAfter, Result, Ok, Err, OnErr, append-nil, ◌≡◌, ◌∙◌, ap, sym, subst, arith, refl, length, ◌+◌, ◌++◌, ◌∷◌, [], true, bare, made, may-declare, AreBelow, has_parts, statements_of, ReadsAs, IsKeptOf, NextStatement, history, kept_until, EntryHeader}
 use Rattle.frame.proofs.EndLemmas.{block-within, ends-next}
 use Rattle.frame.proofs.EnterLemmas.{IsEntered, IsExtended, added-numbers, entered-below, kept-pushed, numbered-pushed, pushed-statements}
 use Rattle.frame.proofs.NamingLemmas.{stored-naming}
@@ -58,14 +58,14 @@ any-err : {T E P : Type 0} (r : Result T E) → P → OnErr r P
 any-err (Ok x) p = tt
 any-err (Err e) p = p
 
-pub returns-in_err-push-clause-behind : goal.returns-in_err-push-clause-behind
-returns-in_err-push-clause-behind c =
+pub returns-in_err-push-clause-after : goal.returns-in_err-push-clause-after
+returns-in_err-push-clause-after c =
     let g = c.in_ok-declare_next.ensures.grown in
-    any-err {P = IsBehind c.args.storage.now _} c.from_residual-in_err-push.result (record {
+    any-err {P = IsAfter c.args.storage.now _} c.from_residual-in_err-push.result (record {
       numbering = g.numbering;
       symbols = g.symbols;
       positions = g.positions;
-      replaced = subst (λ v. Extends v.items c.record_replaced.new.replaced.items) g.replaced c.record_replaced.ensures.behind;
+      replaced = subst (λ v. Extends v.items c.record_replaced.new.replaced.items) g.replaced c.record_replaced.ensures.after;
       ends = ([], c.in_err-push.ensures.items ∙ (ap (λ v. v.items) g.ends ∙ sym (append-nil _)));
       entries = g.entries;
       disjoints = λ d. ap (λ hs. kept_until (length c.args.storage.now.entries) (history hs d)) g.disjoints;
@@ -113,5 +113,5 @@ returns c =
       added = statements;
       numbers = added-numbers e c.in-Some.ensures.numbers extended;
       more = (made h codes a ∷ [], entries);
-      behind = tt;
+      after = tt;
     }

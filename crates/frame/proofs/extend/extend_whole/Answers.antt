@@ -1,4 +1,4 @@
-use Rattle.frame.proofs.Words.{◌∙◌, ap, sym, take, arith, IsBehind, on-err, Result, Ok, Err, OnErr}
+use Rattle.frame.proofs.Words.{◌∙◌, ap, sym, take, arith, IsAfter, on-err, Result, Ok, Err, OnErr}
 use Rattle.frame.proofs.CutStorage.{back-stored}
 use Rattle.frame.proofs.extend.extend_whole.Goals as goal
 
@@ -10,10 +10,10 @@ pub returns-then-is_err-clause-stored : goal.returns-then-is_err-clause-stored
 returns-then-is_err-clause-stored c =
     let old = c.args.storage.now in
     let mid = c.extend-result.new.storage in
-    let behind = on-err c.extend-result.result (IsBehind old mid) (sym c.is_err.ensures.value ∙ c.if-is_err.true) c.extend-result.ensures.behind in
+    let after = on-err c.extend-result.result (IsAfter old mid) (sym c.is_err.ensures.value ∙ c.if-is_err.true) c.extend-result.ensures.after in
     let cut = c.roll_back.ensures in
     back-stored old mid c.roll_back.new.storage c.requires.stored (record {
-      behind = behind;
+      after = after;
       numbering_cut = cut.names ∙ ap (λ n. take n mid.numbering) c.len-names.ensures;
       symbols_cut = cut.symbols;
       positions_cut = cut.positions;
@@ -29,5 +29,5 @@ pub returns-then-is_err-clause-same_entries : goal.returns-then-is_err-clause-sa
 returns-then-is_err-clause-same_entries c =
     let old = c.args.storage.now in
     let mid = c.extend-result.new.storage in
-    let behind = on-err c.extend-result.result (IsBehind old mid) (sym c.is_err.ensures.value ∙ c.if-is_err.true) c.extend-result.ensures.behind in
-    any-err c.extend-result.result (c.roll_back.ensures.entries ∙ behind.entries)
+    let after = on-err c.extend-result.result (IsAfter old mid) (sym c.is_err.ensures.value ∙ c.if-is_err.true) c.extend-result.ensures.after in
+    any-err c.extend-result.result (c.roll_back.ensures.entries ∙ after.entries)

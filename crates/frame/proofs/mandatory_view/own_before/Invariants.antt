@@ -6,7 +6,7 @@ invariant-loop-low l = record {
   ordered : l.low ≤ l.high;
   within : l.high ≤ length l.own;
   before : (k : ℕ) → suc k ≡ l.low → count_below (get_or l.own k 0) (set_at l.sets l.set) + k < l.index;
-  behind : l.high < length l.own → l.index ≤ count_below (get_or l.own l.high 0) (set_at l.sets l.set) + l.high;
+  after : l.high < length l.own → l.index ≤ count_below (get_or l.own l.high 0) (set_at l.sets l.set) + l.high;
 }
 
 abbrev pub decreases-loop-low : goal.decreases-loop-low

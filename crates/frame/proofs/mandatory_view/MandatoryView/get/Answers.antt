@@ -31,12 +31,12 @@ module _ (c : After-get) where
   within : low ≤ length own
   within = let le = c.own_before-low.ensures.within in let same = ap length c.deref.ensures.value in omega arith
 
-  behind : (x : ℕ) → slice_get own low ≡ Some x → c.args.index < count_below x xs + low
-  behind x at =
+  after : (x : ℕ) → slice_get own low ≡ Some x → c.args.index < count_below x xs + low
+  after x at =
       let there = slice_get_within own low x at in
       let n = c.len.ensures in let all = c.self.inside.own.ok.0 in
       let same = ap length c.deref.ensures.value in
-      let le : c.args.index ≤ count_below x xs + low = subst (λ q. c.args.index ≤ count_below q xs + low) (ap (λ l. get_or l low 0) c.deref.ensures.value ∙ get_or_from_slice_get own low x 0 at) (c.own_before-low.ensures.behind (omega arith)) in
+      let le : c.args.index ≤ count_below x xs + low = subst (λ q. c.args.index ≤ count_below q xs + low) (ap (λ l. get_or l low 0) c.deref.ensures.value ∙ get_or_from_slice_get own low x 0 at) (c.own_before-low.ensures.after (omega arith)) in
       elim c.else-low-len.branch [
         | else-low-len-via-then-low-len+else-place-index w ↦
             let is : w.place.result ≡ count_below x xs + low = w.place.ensures ∙ ap (λ q. count_below q xs + low) (ap (λ l. get_or l low 0) w.deref-then-low-len.ensures.value ∙ get_or_from_slice_get own low x 0 at) in
@@ -51,7 +51,7 @@ module _ (c : After-get) where
   left =
       let less = rw (← c.self.view_is) at c.requires in
       let all = length-each own xs c.self.invariant.parts in
-      left-within own xs low c.args.index within under (omega arith) behind
+      left-within own xs low c.args.index within under (omega arith) after
 
 pub unreachable-requires : goal.unreachable-requires
 unreachable-requires c =
@@ -64,4 +64,4 @@ returns c =
     let w = (goal.at.returns c).After-get in
     let under = under w in
     rw (← c.self.view_is)
-    (get-set (own w) (xs w) (c.args.index - c.own_before-low.result) c.own_before-low.result c.args.index c.in-Some.position c.self.invariant.parts (sym c.get.ensures ∙ c.in-Some.is) (omega arith) (within w) (before w) (behind w))
+    (get-set (own w) (xs w) (c.args.index - c.own_before-low.result) c.own_before-low.result c.args.index c.in-Some.position c.self.invariant.parts (sym c.get.ensures ∙ c.in-Some.is) (omega arith) (within w) (before w) (after w))
