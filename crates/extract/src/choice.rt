@@ -65,16 +65,10 @@ pub(crate) fn choose(
     library: &Library,
     labels: &[&str],
 ) -> Result<Vec<bool>, AllocError> {
-    let marks = named(alloc, library, labels)?;
-    walk(alloc, library, marks)
-}
-
-/// Marks all that the assertions which are marked need.
-fn walk(alloc: Global, library: &Library, marks: Vec<bool>) -> Result<Vec<bool>, AllocError> {
     let mut choice = Choice {
         alloc,
         library,
-        marks,
+        marks: named(alloc, library, labels)?,
         symbols: NameTable::new(alloc),
         records: Vec::new(alloc),
         active: Vec::new(alloc),
@@ -84,39 +78,26 @@ fn walk(alloc: Global, library: &Library, marks: Vec<bool>) -> Result<Vec<bool>,
         due: Vec::new(alloc),
         blocks: Vec::new(alloc),
     };
-    match choice.visit_all(library.statements()) {
-        Ok(()) => Ok(choice.marks),
-        Err(fault) => Err(fault),
+    for (index, statement) in library.statements().iter().enumerate() {
+        choice.visit(index + 1, statement)?;
     }
+    Ok(choice.marks)
 }
 
 impl<'a> Choice<'a> {
-    /// Advances past all statements.
-    fn visit_all(&mut self, statements: &[Stmt]) -> Result<(), AllocError> {
-        for (index, statement) in statements.iter().enumerate() {
-            self.visit(index + 1, statement)?;
-        }
-        Ok(())
-    }
-
     /// Advances past the statement at a position.
     fn visit(&mut self, at: usize, statement: &Stmt) -> Result<(), AllocError> {
         match statement {
-            Stmt::Open => self.open(at),
+            Stmt::Open => self.open(at)?,
             Stmt::Close => self.close(at),
-            Stmt::Const(names) => self.declare_all(at, names),
-            Stmt::Var(names) => self.declare_all(at, names),
-            Stmt::Disj(names) => self.separate(at, names),
-            Stmt::Float { variable, .. } => self.give_type(at, variable.as_bytes()),
-            Stmt::Ess { .. } => self.activate(at),
-            Stmt::Axiom { expr, .. } => self.assertion(at, expr, None),
-            Stmt::Prove { expr, proof, .. } => self.assertion(at, expr, Some(proof)),
+            Stmt::Const(names) => self.declare(at, names)?,
+            Stmt::Var(names) => self.declare(at, names)?,
+            Stmt::Disj(names) => self.separate(at, names)?,
+            Stmt::Float { variable, .. } => self.give_type(at, variable.as_bytes())?,
+            Stmt::Ess { .. } => self.active.push(at)?,
+            Stmt::Axiom { expr, .. } => self.assertion(at, expr, None)?,
+            Stmt::Prove { expr, proof, .. } => self.assertion(at, expr, Some(proof))?,
         }
-    }
-
-    /// Records that the statement at a position is active.
-    fn activate(&mut self, at: usize) -> Result<(), AllocError> {
-        self.active.push(at)?;
         Ok(())
     }
 
@@ -131,30 +112,20 @@ impl<'a> Choice<'a> {
         Ok(())
     }
 
-    /// Closes the last block, and takes it if it is used. Does not allocate.
-    fn close(&mut self, at: usize) -> Result<(), AllocError> {
-        if let Some(block) = self.blocks.pop() {
-            self.end_from(block.active);
-            self.passed = self.passed.min(self.active.len());
-            self.take_block(block, at);
-        }
-        Ok(())
-    }
-
-    /// Removes the records of the active statements but the first `count`.
-    fn end_from(&mut self, count: usize) {
-        for _ in count..self.active.len() {
+    /// Closes the last block, and takes it if it is used.
+    fn close(&mut self, at: usize) {
+        let Some(block) = self.blocks.pop() else {
+            return;
+        };
+        for _ in block.active..self.active.len() {
             if let Some(position) = self.active.pop() {
                 self.end(position);
             }
         }
-    }
-
-    /// Takes a block that ends at a position, if it is used.
-    fn take_block(&mut self, block: Block, end: usize) {
+        self.passed = self.passed.min(self.active.len());
         if block.used {
             mark(&mut self.marks, Some(block.open));
-            mark(&mut self.marks, Some(end));
+            mark(&mut self.marks, Some(at));
             self.use_block();
         }
     }
@@ -162,34 +133,25 @@ impl<'a> Choice<'a> {
     /// Removes the records of a statement that is no longer active.
     fn end(&mut self, position: usize) {
         match statement_at(self.library.statements(), position) {
-            Some(Stmt::Disj(names)) => self.end_disjoint(names),
-            Some(Stmt::Float { variable, .. }) => self.set_float(variable.as_bytes(), 0),
-            Some(Stmt::Ess { expr, .. }) => self.take_back_all(position, expr),
-            _ => {}
-        }
-    }
-
-    /// Removes the last `$d`, which has these variables.
-    fn end_disjoint(&mut self, names: &Words) {
-        for name in names.iter() {
-            if let Some(code) = self.symbols.find(name) {
-                self.disjoint.remove(code);
+            Some(Stmt::Disj(names)) => {
+                for name in names.iter() {
+                    if let Some(code) = self.symbols.find(name) {
+                        self.disjoint.remove(code);
+                    }
+                }
+                self.disjoint.pop();
             }
-        }
-        self.disjoint.pop();
-    }
-
-    /// Records the active `$f` of a variable, 0 for none.
-    fn set_float(&mut self, variable: &[u8], at: usize) {
-        if let Some(record) = self.record(variable) {
-            record.float = at;
-        }
-    }
-
-    /// Removes the records that the `$e` at a position has its symbols.
-    fn take_back_all(&mut self, position: usize, expr: &Words) {
-        for name in expr.iter() {
-            self.take_back(position, name);
+            Some(Stmt::Float { variable, .. }) => {
+                if let Some(record) = self.record(variable.as_bytes()) {
+                    record.float = 0;
+                }
+            }
+            Some(Stmt::Ess { expr, .. }) => {
+                for name in expr.iter() {
+                    self.take_back(position, name);
+                }
+            }
+            _ => {}
         }
     }
 
@@ -221,34 +183,23 @@ impl<'a> Choice<'a> {
     }
 
     /// Records where these symbols are declared.
-    fn declare_all(&mut self, at: usize, names: &Words) -> Result<(), AllocError> {
+    fn declare(&mut self, at: usize, names: &Words) -> Result<(), AllocError> {
         for name in names.iter() {
-            self.declare(at, name)?;
+            let code = self.symbols.code(self.alloc, name)?;
+            match self.records.get_mut(code) {
+                Some(record) => record.declared = at,
+                None => {
+                    self.records.push(SymbolRecord {
+                        declared: at,
+                        float: 0,
+                        given_by: 0,
+                        variable_of: 0,
+                    })?;
+                    self.disjoint.add_symbol(self.alloc)?;
+                }
+            }
         }
         Ok(())
-    }
-
-    /// Records where a symbol is declared.
-    fn declare(&mut self, at: usize, name: &[u8]) -> Result<(), AllocError> {
-        let code = self.symbols.code(self.alloc, name)?;
-        match self.records.get_mut(code) {
-            Some(record) => {
-                record.declared = at;
-                Ok(())
-            }
-            None => self.add_symbol(at),
-        }
-    }
-
-    /// Begins the record of a symbol that is declared at a position.
-    fn add_symbol(&mut self, at: usize) -> Result<(), AllocError> {
-        self.records.push(SymbolRecord {
-            declared: at,
-            float: 0,
-            given_by: 0,
-            variable_of: 0,
-        })?;
-        self.disjoint.add_symbol(self.alloc)
     }
 
     /// Records a `$d`.
@@ -266,7 +217,9 @@ impl<'a> Choice<'a> {
     /// Records a `$f`.
     fn give_type(&mut self, at: usize, variable: &[u8]) -> Result<(), AllocError> {
         self.active.push(at)?;
-        self.set_float(variable, at);
+        if let Some(record) = self.record(variable) {
+            record.float = at;
+        }
         Ok(())
     }
 
@@ -277,15 +230,9 @@ impl<'a> Choice<'a> {
         expr: &Words,
         proof: Option<&Words>,
     ) -> Result<(), AllocError> {
-        if is_marked(&self.marks, at) {
-            self.needs(at, expr, proof)
-        } else {
-            Ok(())
+        if !is_marked(&self.marks, at) {
+            return Ok(());
         }
-    }
-
-    /// Takes the statements that an assertion needs.
-    fn needs(&mut self, at: usize, expr: &Words, proof: Option<&Words>) -> Result<(), AllocError> {
         self.own.clear();
         self.symbols_of(at, expr)?;
         self.essentials()?;
@@ -303,49 +250,35 @@ impl<'a> Choice<'a> {
     /// Takes the declarations of the symbols of an assertion and the `$f` of its variables, and records these variables.
     fn symbols_of(&mut self, at: usize, expr: &Words) -> Result<(), AllocError> {
         for name in expr.iter() {
-            self.symbol_of(at, name)?;
-        }
-        Ok(())
-    }
-
-    /// Takes the declaration of a symbol of an assertion and its `$f`, and records a variable.
-    fn symbol_of(&mut self, at: usize, name: &[u8]) -> Result<(), AllocError> {
-        self.declaration(name);
-        let float = match self.record(name) {
-            Some(record) => record.float,
-            None => 0,
-        };
-        if float == 0 {
-            return Ok(());
-        }
-        self.float(float);
-        self.note_variable(at, name)
-    }
-
-    /// Takes the active `$e` that were not passed yet, and records their variables.
-    fn essentials(&mut self) -> Result<(), AllocError> {
-        for index in self.passed..self.active.len() {
-            if let Some(position) = self.active.get(index).copied() {
-                self.essential(position)?;
+            self.declaration(name);
+            let float = match self.record(name) {
+                Some(record) => record.float,
+                None => 0,
+            };
+            if float != 0 {
+                self.float(float);
+                self.note_variable(at, name)?;
             }
         }
         Ok(())
     }
 
-    /// Takes the statement at a position and records its variables, if it is a `$e`.
-    fn essential(&mut self, position: usize) -> Result<(), AllocError> {
-        match statement_at(self.library.statements(), position) {
-            Some(Stmt::Ess { expr, .. }) => self.give_all(position, expr),
-            _ => Ok(()),
-        }
-    }
-
-    /// Takes the `$e` at a position, and records its variables.
-    fn give_all(&mut self, position: usize, expr: &Words) -> Result<(), AllocError> {
-        mark(&mut self.marks, Some(position));
-        for name in expr.iter() {
-            self.declaration(name);
-            self.give(position, name)?;
+    /// Takes the active `$e` that were not passed yet, and records their variables.
+    fn essentials(&mut self) -> Result<(), AllocError> {
+        for index in self.passed..self.active.len() {
+            let Some(position) = self.active.get(index).copied() else {
+                return Ok(());
+            };
+            if let Some(Stmt::Ess { expr, .. }) = statement_at(
+                self.library.statements(),
+                position,
+            ) {
+                mark(&mut self.marks, Some(position));
+                for name in expr.iter() {
+                    self.declaration(name);
+                    self.give(position, name)?;
+                }
+            }
         }
         Ok(())
     }
@@ -402,22 +335,15 @@ impl<'a> Choice<'a> {
         match statement_at(self.library.statements(), position) {
             Some(Stmt::Float { variable, .. }) => {
                 self.float(position);
-                self.note_variable(at, variable.as_bytes())
+                self.note_variable(at, variable.as_bytes())?;
             }
             Some(Stmt::Ess { expr, .. }) => {
-                self.take(position, expr);
-                Ok(())
+                mark(&mut self.marks, Some(position));
+                self.declarations(expr);
             }
-            _ => Ok(()),
+            _ => {}
         }
-    }
-
-    /// Takes the statement at a position, and the declarations of its symbols.
-    fn take(&mut self, position: usize, symbols: &Words) {
-        mark(&mut self.marks, Some(position));
-        for name in symbols.iter() {
-            self.declaration(name);
-        }
+        Ok(())
     }
 
     /// Records a variable of the assertion at a position, once, unless an active `$e` that is taken has it.
@@ -450,7 +376,15 @@ impl<'a> Choice<'a> {
             return;
         }
         if let Some(Stmt::Disj(names)) = statement_at(self.library.statements(), position) {
-            self.take(position, names);
+            mark(&mut self.marks, Some(position));
+            self.declarations(names);
+        }
+    }
+
+    /// Takes the declarations of these symbols.
+    fn declarations(&mut self, names: &Words) {
+        for name in names.iter() {
+            self.declaration(name);
         }
     }
 
