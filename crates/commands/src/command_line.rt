@@ -56,57 +56,37 @@ fn request<'a>(alloc: Global, matches: &ArgMatches<'a>) -> Result<Request<'a>, W
         Some(("outline", options)) => Ok(Request::Outline {
             name: options.get_str("name"),
         }),
-        Some(("pages", options)) => Ok(Request::Pages(site_question(options))),
-        Some(("play", options)) => play_request(alloc, options),
-        Some(("serve", options)) => serve_request(alloc, options),
-        Some((command, options)) => database_request(alloc, command, options),
+        Some(("pages", options)) => Ok(Request::Pages(SiteQuestion {
+            folder: options.get_str("folder").unwrap_or(""),
+            name: options.get_str("name"),
+            assumes: options.get_flag("assume"),
+        })),
+        Some(("play", options)) => {
+            let nodes = node_count(alloc, options)?;
+            let weights = weights(alloc, options, nodes)?;
+            match pictured_steps(alloc, options)? {
+                Some(steps) => Ok(Request::Picture { weights, steps }),
+                None => Ok(Request::Play { weights }),
+            }
+        }
+        Some(("serve", options)) => {
+            let nodes = node_count(alloc, options)?;
+            let workers = worker_count(alloc, options)?;
+            let weather = weather_seed(alloc, options)?;
+            Ok(Request::Serve(Serving {
+                weights: weights(alloc, options, nodes)?,
+                workers,
+                weather,
+                is_live: options.get_flag("live"),
+            }))
+        }
+        Some((command, options)) => Ok(Request::Ask(Asked {
+            question: question(alloc, command, options)?,
+            name: options.get_str("name"),
+            assumes: options.get_flag("assume"),
+        })),
         None => Err(no_command(alloc)),
     }
-}
-
-/// Returns the question that the options of `pages` give.
-fn site_question<'a>(options: &ArgMatches<'a>) -> SiteQuestion<'a> {
-    SiteQuestion {
-        folder: options.get_str("folder").unwrap_or(""),
-        name: options.get_str("name"),
-        assumes: options.get_flag("assume"),
-    }
-}
-
-/// Returns the request of `play` with its options.
-fn play_request<'a>(alloc: Global, options: &ArgMatches<'a>) -> Result<Request<'a>, WordsFault> {
-    let nodes = node_count(alloc, options)?;
-    let weights = weights(alloc, options, nodes)?;
-    match pictured_steps(alloc, options)? {
-        Some(steps) => Ok(Request::Picture { weights, steps }),
-        None => Ok(Request::Play { weights }),
-    }
-}
-
-/// Returns the request of `serve` with its options.
-fn serve_request<'a>(alloc: Global, options: &ArgMatches<'a>) -> Result<Request<'a>, WordsFault> {
-    let nodes = node_count(alloc, options)?;
-    let workers = worker_count(alloc, options)?;
-    let weather = weather_seed(alloc, options)?;
-    Ok(Request::Serve(Serving {
-        weights: weights(alloc, options, nodes)?,
-        workers,
-        weather,
-        is_live: options.get_flag("live"),
-    }))
-}
-
-/// Returns the request of a command that asks about a database.
-fn database_request<'a>(
-    alloc: Global,
-    command: &str,
-    options: &ArgMatches<'a>,
-) -> Result<Request<'a>, WordsFault> {
-    Ok(Request::Ask(Asked {
-        question: question(alloc, command, options)?,
-        name: options.get_str("name"),
-        assumes: options.get_flag("assume"),
-    }))
 }
 
 /// Returns the question of a command and its options.
@@ -115,47 +95,28 @@ fn question<'a>(
     name: &str,
     options: &ArgMatches<'a>,
 ) -> Result<Question<'a>, WordsFault> {
-    match name {
-        "check" => Ok(check_question(options)),
-        "list" => Ok(Question::List),
-        "export" => Ok(Question::Export),
-        "extract" => Ok(Question::Extract(labels(alloc, options)?)),
-        "show" => Ok(Question::Show(labels(alloc, options)?)),
-        "find" => Ok(Question::Find(sought(alloc, options)?)),
-        _ => match label_question(name, options) {
-            Some(question) => Ok(question),
-            None => Err(no_command(alloc)),
-        },
-    }
-}
-
-/// Returns the question of `check` and its option.
-fn check_question<'a>(options: &ArgMatches<'a>) -> Question<'a> {
-    if options.get_flag("all") {
-        Question::CheckEach
-    } else {
-        Question::Check
-    }
-}
-
-/// Returns the question of a command about one label and its options; `None` if there is no such
-/// command.
-fn label_question<'a>(name: &str, options: &ArgMatches<'a>) -> Option<Question<'a>> {
     let label = options.get_str("label").unwrap_or("").as_bytes();
-    match name {
-        "tree" => Some(Question::Tree(label)),
-        "trace" => Some(Question::Trace(label)),
-        "usage" => Some(Question::Usage {
+    Ok(match name {
+        "check" if options.get_flag("all") => Question::CheckEach,
+        "check" => Question::Check,
+        "list" => Question::List,
+        "export" => Question::Export,
+        "tree" => Question::Tree(label),
+        "trace" => Question::Trace(label),
+        "usage" => Question::Usage {
             label,
             all: options.get_flag("all"),
-        }),
-        "proof" => Some(Question::Proof(ProofQuestion {
+        },
+        "proof" => Question::Proof(ProofQuestion {
             label,
             is_essential: options.get_flag("essential"),
             form: proof_form(options),
-        })),
-        _ => None,
-    }
+        }),
+        "extract" => Question::Extract(labels(alloc, options)?),
+        "show" => Question::Show(labels(alloc, options)?),
+        "find" => Question::Find(sought(alloc, options)?),
+        _ => return Err(no_command(alloc)),
+    })
 }
 
 /// Returns the labels that are given.
