@@ -32,28 +32,36 @@ pub fn write_answer<O: Write>(
     output: &mut O,
 ) -> Result<(), Fault> {
     match question {
-        Question::Check => print_made(output, proved(alloc, library.statements())),
-        Question::CheckEach => print_made(output, all_proved(alloc, library.statements())),
-        Question::List => print_made(output, list(alloc, library)),
-        Question::Export => print_made(output, library.export()),
-        Question::Tree(label) => print_made(output, tree(alloc, library, label)),
-        Question::Trace(label) => print_made(output, trace(alloc, library, label)),
-        Question::Usage { label, all } => print_made(output, usage(alloc, library, label, *all)),
+        Question::Check => print(output, proved(alloc, library.statements())?.as_slice()),
+        Question::CheckEach => {
+            print(output, all_proved(alloc, library.statements())?.as_slice())
+        }
+        Question::List => print(output, list(alloc, library)?.as_slice()),
+        Question::Export => print(output, library.export()?.as_slice()),
+        Question::Tree(label) => print(output, tree(alloc, library, label)?.as_slice()),
+        Question::Trace(label) => print_labels(alloc, library.trace(label)?.as_slice(), output),
+        Question::Usage { label, all } => {
+            print_labels(alloc, library.usage(label, *all)?.as_slice(), output)
+        }
         Question::Proof(asked) => write_proof(alloc, library, asked, output),
-        Question::Extract(labels) => print_made(output, extract(alloc, library, labels.as_slice())),
-        Question::Show(labels) => print_made(output, blocks(alloc, library, text, labels)),
-        Question::Find(sought) => print_made(output, found(alloc, library, text.bytes, sought)),
-    }
-}
-
-/// Prints an answer, if it was made.
-fn print_made<O: Write, E: Into<Fault>>(
-    output: &mut O,
-    made: Result<Vec<u8>, E>,
-) -> Result<(), Fault> {
-    match made {
-        Ok(answer) => print(output, answer.as_slice()),
-        Err(fault) => Err(fault.into()),
+        Question::Extract(labels) => {
+            print(
+                output,
+                extract(alloc, library, labels.as_slice())?.as_slice(),
+            )
+        }
+        Question::Show(labels) => {
+            print(
+                output,
+                blocks(alloc, library, text, labels.as_slice())?.as_slice(),
+            )
+        }
+        Question::Find(sought) => {
+            print(
+                output,
+                found(alloc, library, text.bytes, sought)?.as_slice(),
+            )
+        }
     }
 }
 
@@ -117,21 +125,9 @@ pub fn tree(alloc: Global, library: &Library, label: &[u8]) -> Result<Vec<u8>, F
     Ok(lines)
 }
 
-/// Returns a line for each label of the trace of a `$p`.
-fn trace(alloc: Global, library: &Library, label: &[u8]) -> Result<Vec<u8>, Fault> {
-    let labels = library.trace(label)?;
-    Ok(label_lines(alloc, labels.as_slice())?)
-}
-
-/// Returns a line for each label of the `$p` that cite a statement, if `all` also indirectly.
-fn usage(alloc: Global, library: &Library, label: &[u8], all: bool) -> Result<Vec<u8>, Fault> {
-    let labels = library.usage(label, all)?;
-    Ok(label_lines(alloc, labels.as_slice())?)
-}
-
-/// Returns a line for each label.
-fn label_lines(alloc: Global, labels: &[Word]) -> Result<Vec<u8>, AllocError> {
+/// Prints a line for each label.
+fn print_labels<O: Write>(alloc: Global, labels: &[Word], output: &mut O) -> Result<(), Fault> {
     let mut lines = Vec::new(alloc);
     push_labels(&mut lines, labels)?;
-    Ok(lines)
+    print(output, lines.as_slice())
 }

@@ -6,7 +6,7 @@ use crate::fault::Fault;
 use crate::node_answers::{ahead_line, ahead_of, label_answer};
 use crate::scripts::{Answers, answer_lines, read_script};
 use crate::why::{decided, push_why};
-use commands::{EntryAt, NodeLine, NodePair, NodeQuestion, PlayLine};
+use commands::{EntryAt, NodeLine, PlayLine};
 use event_lines::push_events;
 use library::Entry;
 use net::Event;
@@ -36,22 +36,13 @@ impl Answers<PlayLine> for World {
         match line {
             PlayLine::Node(line) => answer_node_line(self, line, text),
             PlayLine::Deliver { packet } => push_step(self, Event::Deliver(packet), text),
-            PlayLine::Apply { node } => push_applied(self, node, text),
-            PlayLine::Show { packet } => push_shown(self, packet, text),
+            PlayLine::Apply { node } => Ok(push_decided(text, self.apply_next(node)?, b"none")?),
+            PlayLine::Show { packet } => {
+                push_packet(text, self.packet(packet)?)?;
+                Ok(text.extend_from_slice(b"\n")?)
+            }
         }
     }
-}
-
-/// Applies the next entry of the node's log, and appends the verdict.
-fn push_applied(world: &mut World, node: u8, text: &mut Vec<u8>) -> Result<(), Fault> {
-    let verdict = world.apply_next(node)?;
-    Ok(push_decided(text, verdict, b"none")?)
-}
-
-/// Appends a packet.
-fn push_shown(world: &World, packet: u64, text: &mut Vec<u8>) -> Result<(), Fault> {
-    push_packet(text, world.packet(packet)?)?;
-    Ok(text.extend_from_slice(b"\n")?)
 }
 
 /// Carries out a line that `serve` has too, and appends its answer.
@@ -62,59 +53,29 @@ fn answer_node_line(world: &mut World, line: NodeLine, text: &mut Vec<u8>) -> Re
         }
         NodeLine::Begin { node } => push_step(world, Event::Begin(node), text),
         NodeLine::Restart { node } => push_step(world, Event::Restart(node), text),
-        NodeLine::List { node } => push_node_list(world, node, text),
-        NodeLine::Status(at) => push_status(world, at, text),
-        NodeLine::Export { node } => push_node_export(world, node, text),
-        NodeLine::Log { node } => push_node_log(world, node, text),
+        NodeLine::List { node } => Ok(push_library(text, world.library(node)?)?),
+        NodeLine::Status(at) => {
+            let verdict = world.library(at.node)?.status(at.author, at.serial);
+            Ok(push_decided(text, verdict, b"unknown")?)
+        }
+        NodeLine::Export { node } => Ok(push_export(text, world.library(node)?)?),
+        NodeLine::Log { node } => Ok(push_log(text, world.log(node)?.as_slice())?),
         NodeLine::Why(at) => push_decision(world, at, text),
-        NodeLine::State { node } => push_node_state(world, node, text),
-        NodeLine::Ask(asked) => push_label_answer(world, &asked, text),
-        NodeLine::Compare(pair) => push_compared(world, pair, text),
+        NodeLine::State { node } => {
+            let (state, applied) = (world.state(node)?, world.applied(node)?);
+            Ok(push_state(text, &state, applied, false)?)
+        }
+        NodeLine::Ask(asked) => {
+            let alloc = *text.allocator();
+            let answer = label_answer(alloc, world.library(asked.node)?, &asked)?;
+            Ok(text.extend_from_slice(answer.as_slice())?)
+        }
+        NodeLine::Compare(pair) => {
+            let ahead = ahead_of(world.library(pair.first)?, world.library(pair.second)?);
+            Ok(text.extend_from_slice(ahead_line(ahead))?)
+        }
         NodeLine::Events => Ok(push_history(world, text)?),
     }
-}
-
-/// Appends the assertions of the node's library.
-fn push_node_list(world: &World, node: u8, text: &mut Vec<u8>) -> Result<(), Fault> {
-    let library = world.library(node)?;
-    Ok(push_library(text, library)?)
-}
-
-/// Appends what the node's library decided on an entry.
-fn push_status(world: &World, at: EntryAt, text: &mut Vec<u8>) -> Result<(), Fault> {
-    let verdict = world.library(at.node)?.status(at.author, at.serial);
-    Ok(push_decided(text, verdict, b"unknown")?)
-}
-
-/// Appends the statements of the node's library.
-fn push_node_export(world: &World, node: u8, text: &mut Vec<u8>) -> Result<(), Fault> {
-    let library = world.library(node)?;
-    Ok(push_export(text, library)?)
-}
-
-/// Appends the entries that the node learned.
-fn push_node_log(world: &World, node: u8, text: &mut Vec<u8>) -> Result<(), Fault> {
-    let log = world.log(node)?;
-    Ok(push_log(text, log.as_slice())?)
-}
-
-/// Appends the state of the node.
-fn push_node_state(world: &World, node: u8, text: &mut Vec<u8>) -> Result<(), Fault> {
-    let state = world.state(node)?;
-    let applied = world.applied(node)?;
-    Ok(push_state(text, &state, applied, false)?)
-}
-
-/// Appends the answer to a question about a label of the node's library.
-fn push_label_answer(world: &World, asked: &NodeQuestion, text: &mut Vec<u8>) -> Result<(), Fault> {
-    let answer = label_answer(*text.allocator(), world.library(asked.node)?, asked)?;
-    Ok(text.extend_from_slice(answer.as_slice())?)
-}
-
-/// Appends which of two nodes has the library with more statements.
-fn push_compared(world: &World, pair: NodePair, text: &mut Vec<u8>) -> Result<(), Fault> {
-    let ahead = ahead_of(world.library(pair.first)?, world.library(pair.second)?);
-    Ok(text.extend_from_slice(ahead_line(ahead))?)
 }
 
 /// Appends why the node refused an entry.

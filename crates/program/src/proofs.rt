@@ -103,46 +103,24 @@ fn write_theorem<O: Write>(
         proof.now.frames.now.names proof.now.steps.now }
 {
     let essential = essential_table(alloc, proof.frames, proof.at, proof.steps)?;
-    write_with_essential(alloc, proof, &essential, asked, output)
-}
-
-/// Writes the page of the `$p`, given its essential steps.
-fn write_with_essential<O: Write>(
-    alloc: Global,
-    proof: &Proof<'_>,
-    essential: &ProofTable,
-    asked: &ProofQuestion<'_>,
-    output: &mut O,
-) -> Result<(), Fault>
-    requires provable { (s : Statement)
-        × IsProvable proof.now.frames.now.statements proof.now.at s }
-{
-    let axioms = axioms_of(alloc, proof, asked.label)?;
-    let users = users_of(alloc, proof, asked.label)?;
+    let axioms = positions_of(alloc, proof.frames, &proof.library.trace(asked.label)?)?;
+    let users = positions_of(
+        alloc,
+        proof.frames,
+        &proof.library.usage(asked.label, false)?,
+    )?;
     let contents = PageContents {
         statements: proof.library.statements(),
         frames: proof.frames,
         at: proof.at,
         proof: Some(ProofSteps {
             steps: proof.steps,
-            essential,
+            essential: &essential,
         }),
         neighbours: neighbours_of(&axioms, &users),
     };
     write_page(alloc, output, &contents, !asked.is_essential)?;
     Ok(())
-}
-
-/// Returns the positions of the axioms that the `$p` of a label rests on.
-fn axioms_of(alloc: Global, proof: &Proof<'_>, label: &[u8]) -> Result<Vec<u32>, Fault> {
-    let labels = proof.library.trace(label)?;
-    Ok(positions_of(alloc, proof.frames, &labels)?)
-}
-
-/// Returns the positions of the `$p` that cite the statement of a label.
-fn users_of(alloc: Global, proof: &Proof<'_>, label: &[u8]) -> Result<Vec<u32>, Fault> {
-    let labels = proof.library.usage(label, false)?;
-    Ok(positions_of(alloc, proof.frames, &labels)?)
 }
 
 /// Returns the neighbours of a theorem, without its description.

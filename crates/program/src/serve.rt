@@ -59,18 +59,8 @@ fn serve_lines<
         serving.workers,
         serving.weather,
     )?;
-    answer_and_stop(rt, &mut nodes, lines, output)
-}
-
-/// Prints the answers to the lines, and stops the nodes; returns the exit status.
-fn answer_and_stop<R: AllocGlobal + Threads + Wait, S: Source<ServedLine>, O: Write>(
-    rt: &R,
-    nodes: &mut Nodes,
-    lines: &mut S,
-    output: &mut O,
-) -> Result<u8, Fault> {
-    let answered = answer_at_desk(rt, nodes, lines, output);
-    let stopped = stop_nodes(rt, nodes);
+    let answered = answer_at_desk(rt, &nodes, lines, output);
+    let stopped = stop_nodes(rt, &mut nodes);
     let status = answered?;
     stopped?;
     print(output, b"stopped\n")?;
@@ -122,9 +112,12 @@ fn answer_serve_line<R: Wait>(
 ) -> Result<(), Fault> {
     match line {
         ServeLine::Node(line) => answer_node_line(answering, line, text),
-        ServeLine::Settle(at) => push_verdict(settled(answering.rt, answering.desk, at), text),
+        ServeLine::Settle(at) => {
+            Ok(push_decided(text, settled(answering.rt, answering.desk, at)?, b"unknown")?)
+        }
         ServeLine::Add(offered) => {
-            push_verdict(added(answering.rt, answering.desk, &offered), text)
+            let outcome = added(answering.rt, answering.desk, &offered)?;
+            Ok(push_decided(text, outcome, b"unknown")?)
         }
     }
 }
@@ -146,33 +139,22 @@ fn answer_node_line<R: Wait>(
 ) -> Result<(), Fault> {
     let AnsweringDesk { rt, desk, .. } = *answering;
     match line {
-        NodeLine::Offer(offered) => push_done(desk.submit(rt, offered.node, offered.entry), text),
-        NodeLine::Begin { node } => push_done(desk.begin(rt, node), text),
-        NodeLine::Restart { node } => push_done(desk.restart(rt, node), text),
-        NodeLine::List { node } => Ok(push_node_list(rt, desk, node, text)?),
-        NodeLine::Status(at) => push_verdict(status(rt, desk, at), text),
-        NodeLine::Export { node } => answering.push_export(node, text),
-        NodeLine::Log { node } => answering.push_log(node, text),
-        NodeLine::Why(at) => answering.push_why(at, text),
-        NodeLine::State { node } => answering.push_state(node, text),
-        NodeLine::Ask(question) => answering.push_label_answer(&question, text),
-        NodeLine::Compare(pair) => answering.push_compared(pair, text),
-        NodeLine::Events => answering.push_events(text),
+        NodeLine::Offer(offered) => desk.submit(rt, offered.node, offered.entry)?,
+        NodeLine::Begin { node } => desk.begin(rt, node)?,
+        NodeLine::Restart { node } => desk.restart(rt, node)?,
+        NodeLine::List { node } => return Ok(push_node_list(rt, desk, node, text)?),
+        NodeLine::Status(at) => {
+            return Ok(push_decided(text, status(rt, desk, at)?, b"unknown")?);
+        }
+        NodeLine::Export { node } => return answering.push_export(node, text),
+        NodeLine::Log { node } => return answering.push_log(node, text),
+        NodeLine::Why(at) => return answering.push_why(at, text),
+        NodeLine::State { node } => return answering.push_state(node, text),
+        NodeLine::Ask(question) => return answering.push_label_answer(&question, text),
+        NodeLine::Compare(pair) => return answering.push_compared(pair, text),
+        NodeLine::Events => return answering.push_events(text),
     }
-}
-
-/// Appends `ok`, if an event was taken.
-fn push_done(done: Result<(), StepFault>, text: &mut Vec<u8>) -> Result<(), Fault> {
-    done?;
     Ok(text.extend_from_slice(b"ok\n")?)
-}
-
-/// Appends a verdict, or `unknown` if there is none yet.
-fn push_verdict(
-    verdict: Result<Option<Verdict>, StepFault>,
-    text: &mut Vec<u8>,
-) -> Result<(), Fault> {
-    Ok(push_decided(text, verdict?, b"unknown")?)
 }
 
 /// Appends the assertions of the node's library.

@@ -44,68 +44,31 @@ pub fn decided(
     entries: &[Option<Entry>],
     at: EntryAt,
 ) -> Result<Decision, AllocError> {
-    match library.status(at.author, at.serial) {
-        None => Ok(Decision::Unknown),
-        Some(Verdict::Refused(cause)) => refused_at(alloc, library, entries, at, cause),
-        Some(_) => Ok(Decision::Added),
-    }
-}
-
-/// Returns the decision on the entry that a library refused for a cause.
-fn refused_at(
-    alloc: Global,
-    library: &Library,
-    entries: &[Option<Entry>],
-    at: EntryAt,
-    cause: Cause,
-) -> Result<Decision, AllocError> {
-    for (index, entry) in entries.iter().enumerate() {
-        if let Some(entry) = entry
-            && entry.author() == at.author
-            && entry.serial() == at.serial
-        {
-            let refused = refused_entry(alloc, library, &entries[..index], entry, cause)?;
-            return Ok(Decision::Refused(refused));
-        }
-    }
-    Ok(Decision::Unknown)
-}
-
-/// Returns an entry that a library refused, after these others.
-fn refused_entry(
-    alloc: Global,
-    library: &Library,
-    earlier: &[Option<Entry>],
-    entry: &Entry,
-    cause: Cause,
-) -> Result<RefusedEntry, AllocError> {
-    let added = added_texts(alloc, library, earlier)?;
-    let export = library.export()?;
-    Ok(RefusedEntry {
-        cause,
-        entry: entry.copy()?,
-        added,
-        export,
-    })
-}
-
-/// Returns the texts of the entries that a library added, in order.
-fn added_texts(
-    alloc: Global,
-    library: &Library,
-    entries: &[Option<Entry>],
-) -> Result<Vec<Bytes>, AllocError> {
+    let cause = match library.status(at.author, at.serial) {
+        None => return Ok(Decision::Unknown),
+        Some(Verdict::Refused(cause)) => cause,
+        Some(_) => return Ok(Decision::Added),
+    };
     let mut earlier = BTreeSet::new(alloc);
     let mut added = Vec::new(alloc);
     for entry in entries {
+        let Some(entry) = entry else {
+            continue;
+        };
+        if entry.author() == at.author && entry.serial() == at.serial {
+            return Ok(Decision::Refused(RefusedEntry {
+                cause,
+                entry: entry.copy()?,
+                added,
+                export: library.export()?,
+            }));
+        }
         // A later entry under the same number is a repeat, which adds nothing.
-        if let Some(entry) = entry
-            && earlier.insert((entry.author(), entry.serial()))?
-        {
+        if earlier.insert((entry.author(), entry.serial()))? {
             push_added(&mut added, library, entry)?;
         }
     }
-    Ok(added)
+    Ok(Decision::Unknown)
 }
 
 /// Appends the text of an entry, if the library added it.
