@@ -3,18 +3,11 @@
 
 use anyhow::Result;
 use bytes::Bytes;
-use cluster::{
-    MemoryKeep, NodeCell, Switch, apply_on, begin_on, belongs, cells, compare_on, deliver_on,
-    offer_on, take_on,
-};
+use cluster::{MemoryKeep, apply_on, begin_on, cells, compare_on, deliver_on, offer_on, take_on};
 use explanation::{DatabaseFault, explain_behind};
 use library::{Cause, Entry, Library, Submission, Verdict};
 use std::alloc::Global;
 use synod::Weights;
-use world::Carried;
-
-/// Nodes whose keeps are in memory.
-type Nodes = Switch<Carried, MemoryKeep<Carried>>;
 
 /// A text that is added: modus ponens, and a theorem by it.
 const GOOD: &[u8] = b"$c wff |- ( ) -> $. $v p q $. wp $f wff p $. wq $f wff q $.
@@ -39,35 +32,20 @@ fn entry(alloc: Global, serial: u64, text: &[u8]) -> Result<Entry> {
 
 /// Applies two submissions; prints their verdicts, why one is refused, and a theorem's axioms.
 fn apply_two(rt: &HostRuntime) -> Result<()> {
-    apply_texts(rt, &mut Library::new(rt.alloc()))
-}
-
-/// Applies the two submissions to a library, and prints what became of them.
-fn apply_texts(rt: &HostRuntime, library: &mut Library) -> Result<()> {
+    let mut library = Library::new(rt.alloc());
     for (serial, text) in [(1, GOOD), (2, WRONG)] {
         let verdict = library.apply(Some(&entry(rt.alloc(), serial, text)?))?;
         println!(rt; "submission {serial}: {verdict:?}")?;
         if let Verdict::Refused(Cause::Proof { statement }) = verdict {
-            explain(rt, library, text, statement)?;
+            let mut whole = library.export()?;
+            let before = whole.len();
+            whole.extend_from_slice(text)?;
+            let statement = library.statements().len().saturating_add(statement);
+            let fault = DatabaseFault::Proof { statement };
+            let lines = explain_behind(rt.alloc(), whole.as_slice(), before, fault)?;
+            print!(rt; "{}", str::from_utf8(lines.as_slice())?)?;
         }
     }
-    print_axioms(rt, library)
-}
-
-/// Prints why the proof of a statement of a text is refused behind a library.
-fn explain(rt: &HostRuntime, library: &Library, text: &[u8], statement: usize) -> Result<()> {
-    let mut whole = library.export()?;
-    let before = whole.len();
-    whole.extend_from_slice(text)?;
-    let statement = library.statements().len().saturating_add(statement);
-    let fault = DatabaseFault::Proof { statement };
-    let lines = explain_behind(rt.alloc(), whole.as_slice(), before, fault)?;
-    print!(rt; "{}", str::from_utf8(lines.as_slice())?)?;
-    Ok(())
-}
-
-/// Prints the axioms that the theorem rests on.
-fn print_axioms(rt: &HostRuntime, library: &Library) -> Result<()> {
     if let Ok(labels) = library.trace(b"th") {
         for label in labels.iter() {
             println!(rt; "th rests on {}", str::from_utf8(label.as_bytes())?)?;
@@ -78,46 +56,25 @@ fn print_axioms(rt: &HostRuntime, library: &Library) -> Result<()> {
 
 /// Has three nodes agree on one entry and apply it; compares the libraries of the first and last.
 fn agree_on_one(rt: &HostRuntime) -> Result<()> {
-    let (mut nodes, mut cells) = three_nodes(rt.alloc())?;
-    agree(rt, &mut nodes, cells.as_mut_slice())
-}
-
-/// Makes three nodes, and the cell of each.
-fn three_nodes(alloc: Global) -> Result<(Nodes, Vec<NodeCell>)> {
+    let alloc = rt.alloc();
     let (one, two) = (MemoryKeep::new(alloc), MemoryKeep::new(alloc));
     let keeps = vec![in alloc; one, two, MemoryKeep::new(alloc)]?;
-    Ok(cells(alloc, Weights::equal(3), keeps)?)
-}
-
-/// Has the nodes agree on an entry; prints what became of it, and which library is ahead.
-fn agree(rt: &HostRuntime, nodes: &mut Nodes, cells: &mut [NodeCell]) -> Result<()> {
-    offer_on(nodes, 0, entry(rt.alloc(), 1, GOOD)?)?;
-    deliver_all(nodes)?;
-    for cell in cells.iter_mut() {
-        take_on(cell, nodes)?;
-        println!(rt; "node {}: {:?}", cell.at(), apply_on(cell)?)?;
-    }
-    if let [first, _, last] = cells {
-        print_ahead(rt, nodes, first, last)?;
-    }
-    Ok(())
-}
-
-/// Lets node 0 begin a ballot, and delivers the packets, the first hundred at most.
-fn deliver_all(nodes: &mut Nodes) -> Result<()> {
-    let mut posted = begin_on(nodes, 0)?;
+    let (mut switch, mut cells) = cells(alloc, Weights::equal(3), keeps)?;
+    offer_on(&mut switch, 0, entry(alloc, 1, GOOD)?)?;
+    let mut posted = begin_on(&mut switch, 0)?;
     for packet in 0..100 {
         if packet < posted {
-            posted = deliver_on(nodes, packet)?;
+            posted = deliver_on(&mut switch, packet)?;
         }
     }
-    Ok(())
-}
-
-/// Prints which of the libraries of two nodes is ahead.
-fn print_ahead(rt: &HostRuntime, nodes: &Nodes, one: &NodeCell, other: &NodeCell) -> Result<()> {
-    if belongs(one, nodes) && belongs(other, nodes) {
-        println!(rt; "nodes 0 and 2: {:?}", compare_on(one, other, nodes))?;
+    for cell in cells.iter_mut() {
+        take_on(cell, &switch)?;
+        println!(rt; "node {}: {:?}", cell.at(), apply_on(cell)?)?;
+    }
+    if let [first, _, last] = cells.as_slice() {
+        if cluster::belongs(first, &switch) && cluster::belongs(last, &switch) {
+            println!(rt; "nodes 0 and 2: {:?}", compare_on(first, last, &switch))?;
+        }
     }
     Ok(())
 }
