@@ -4,7 +4,7 @@ use cluster::{MemoryKeep, NodeCell, Switch, begin_on};
 use net::{Event, StepFault};
 use slots::SLOTS;
 use std::alloc::Global;
-use synod::{Ballot, Body, Change, Failed, AcceptedEntry, Keep};
+use synod::{AcceptedEntry, Ballot, Body, Change, Failed, Keep, Record};
 use world::Carried;
 
 #[test]
@@ -18,7 +18,11 @@ fn a_store_fails(rt: HostRuntime) {
 /// restarts.
 fn store_fails(alloc: Global, new: bool) -> Result<bool, StepFault> {
     let (mut switch, mut cells) = three(alloc, Fuse::new(alloc, Some(0), new))?;
-    goes_down(&mut switch, &mut cells)
+    let down = goes_down(&mut switch, &mut cells);
+    // Drops by a call are proved once for each type, and not laid out here.
+    drop(cells);
+    drop(switch);
+    down
 }
 
 fn goes_down(
@@ -68,7 +72,10 @@ fn a_load_fails(rt: HostRuntime) {
 
 fn load_fails(alloc: Global) -> Result<bool, StepFault> {
     let (mut switch, mut cells) = three(alloc, Fuse::new(alloc, Some(0), false))?;
-    Ok(restarts_twice(&mut switch, &mut cells))
+    let restarted = restarts_twice(&mut switch, &mut cells);
+    drop(cells);
+    drop(switch);
+    Ok(restarted)
 }
 
 fn restarts_twice(switch: &mut Switch<Carried, Fuse>, cells: &mut Vec<NodeCell>) -> bool {
@@ -89,20 +96,37 @@ fn each_slot_is_kept(rt: HostRuntime) {
 
 fn keeps(alloc: Global, slot: u32) -> Result<bool, Failed> {
     let mut keep: MemoryKeep<Carried> = MemoryKeep::new(alloc);
-    is_kept(&mut keep, slot)
+    let kept = is_kept(&mut keep, slot);
+    drop(keep);
+    kept
 }
 
 /// Returns whether a no-operation that is stored at the slot is loaded.
 fn is_kept<K: Keep<Carried>>(keep: &mut K, slot: u32) -> Result<bool, Failed> {
     let ballot = Ballot { round: 1, node: 0 };
+    store(keep, slot, ballot)?;
+    let record = keep.load()?;
+    let kept = has(&record, slot, ballot);
+    drop(record);
+    Ok(kept)
+}
+
+/// Stores a no-operation at the slot.
+fn store<K: Keep<Carried>>(keep: &mut K, slot: u32, ballot: Ballot) -> Result<(), Failed> {
     let held = AcceptedEntry {
         ballot,
         value: None,
     };
-    keep.store(&Change::Entry { slot, held })?;
-    let record = keep.load()?;
-    Ok(match record.get(slot) {
+    let change = Change::Entry { slot, held };
+    let stored = keep.store(&change);
+    drop(change);
+    stored
+}
+
+/// Returns whether the record has an entry of that ballot at the slot.
+fn has(record: &Record<Carried>, slot: u32, ballot: Ballot) -> bool {
+    match record.get(slot) {
         Some(held) => held.ballot.is_same(ballot),
         None => false,
-    })
+    }
 }

@@ -46,7 +46,20 @@ fn each_cell_fills_the_gap(rt: HostRuntime) {
 
 fn is_filled(alloc: Global) -> Result<bool, StepFault> {
     let (mut switch, mut cells) = three(alloc, Fuse::new(alloc, None, false))?;
-    Ok(makes_all(alloc, &mut switch) && fills(&switch, &mut cells)?)
+    let filled = makes_and_fills(alloc, &mut switch, &mut cells);
+    // Drops by a call are proved once for each type, and not laid out here.
+    drop(cells);
+    drop(switch);
+    filled
+}
+
+/// Returns whether each step of the row is made, and the cells fill the gap.
+fn makes_and_fills(
+    alloc: Global,
+    switch: &mut Switch<Carried, Fuse>,
+    cells: &mut Vec<NodeCell>,
+) -> Result<bool, StepFault> {
+    Ok(makes_all(alloc, switch) && fills(switch, cells)?)
 }
 
 /// Returns whether each step of the row is made, and no other packet and no other node is there.
@@ -62,12 +75,21 @@ fn makes_all(alloc: Global, switch: &mut Switch<Carried, Fuse>) -> bool {
 
 /// Returns whether the cells add so many statements each, and agree.
 fn fills(switch: &Switch<Carried, Fuse>, cells: &mut Vec<NodeCell>) -> Result<bool, StepFault> {
-    for (cell, added) in cells.iter_mut().zip([1, 0, 2]) {
-        if !adds(cell, switch, added)? {
+    for cell in cells.iter_mut() {
+        if !adds(cell, switch, added_at(cell.at()))? {
             return Ok(false);
         }
     }
     Ok(all_agree(switch, cells))
+}
+
+/// Returns how many statements a node adds.
+fn added_at(node: u8) -> usize {
+    match node {
+        0 => 1,
+        1 => 0,
+        _ => 2,
+    }
 }
 
 /// Returns whether the cell takes over and applies what its log has, so many statements without a label.
@@ -156,7 +178,10 @@ fn stop_at_each(rt: HostRuntime) {
 /// refused is passed over. Each cell takes over and applies what it can after each step.
 fn agrees(alloc: Global, left: Option<u32>, new: bool, stop: usize) -> Result<bool, StepFault> {
     let (mut switch, mut cells) = three(alloc, Fuse::new(alloc, left, new))?;
-    go_on(alloc, &mut switch, &mut cells, stop)
+    let agreed = go_on(alloc, &mut switch, &mut cells, stop);
+    drop(cells);
+    drop(switch);
+    agreed
 }
 
 fn go_on(
