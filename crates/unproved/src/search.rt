@@ -15,7 +15,7 @@ use verify_pool::{Checkers, OpenGate, Workers, judge_all, judge_here};
 /// The largest number of statements in a stretch, whose proofs are judged in parallel.
 const STRETCH: usize = 2_048;
 
-/// A stretch of fewer statements is judged on the calling thread: starting threads would cost more.
+/// Fewer statements than this are judged on the calling thread: starting threads would cost more.
 const FEW: usize = 32;
 
 /// Statements with their frames, and the workers that judge them.
