@@ -1,6 +1,6 @@
 -- The state of the pass over the statements.
 -- Source: none; for the private functions.
--- The code has a list in a vector for each statement.
+-- The code has a vector for the list of each statement.
 use Rattle.std.specs.Prelude.{◌≡◌, ◌⊎◌, ℕ, suc, ◌-◌, ◌<◌, ◌≤◌, IsTrue, List, [], ◌∷◌, ◌++◌, length, map, get_or, Option, Some, None}
 use Rattle.std.specs.Global.{Vec}
 use Rattle.mm_read.specs.Statements.{Database}
@@ -15,13 +15,13 @@ abbrev pub listed_place : Option ℕ → List ℕ
 listed_place None = []
 listed_place (Some position) = position ∷ []
 
--- each position was last added in this round, in an earlier one or never, and those added in this round are in the list
+-- each position was last added in this round, in an earlier one or never; those added in this round are in the list
 pub record AreRounds (list rounds : List ℕ) (round : ℕ) : Type 0 where
   pub some : 0 < round
   pub past : (k : ℕ) → get_or rounds k 0 ≤ round
   pub among : (k : ℕ) → get_or rounds k 0 ≡ round → In k list
 
--- a is the position c of a `$a`, or stands in the list of c
+-- a is c and the statement at c is a `$a`, or a is in the list of c
 abbrev pub Gives : Database → List (List ℕ) → ℕ → ℕ → Type 0
 Gives S lists c a = (IsAxiomAt S c × (a ≡ c)) ⊎ In a (get_or lists (c - 1) [])
 
@@ -29,13 +29,13 @@ Gives S lists c a = (IsAxiomAt S c × (a ≡ c)) ⊎ In a (get_or lists (c - 1) 
 abbrev pub AreWithin : ℕ → List ℕ → Type 0
 AreWithin count positions = (p : ℕ) → In p positions → (0 < p) × (p ≤ count)
 
--- the user was added to the lists of these positions
+-- the user at `at` was added to the lists of exactly these positions
 pub record HaveUser (at : ℕ) (positions : List ℕ) (old new : List (List ℕ)) : Type 0 where
   pub count : length new ≡ length old
   pub those : (k : ℕ) → In (suc k) positions → get_or new k [] ≡ get_or old k [] ++ at ∷ []
   pub others : (k : ℕ) → (In (suc k) positions → ⊥) → get_or new k [] ≡ get_or old k []
 
--- the first n statements are done: the `$a` that they rest on, and which of them cite each statement
+-- the first n statements are done: the lists have the `$a` that each of them rests on, and which of them cite each statement
 pub record AreDone (S : Database) (n : ℕ) (axioms users : List (List ℕ)) : Type 0 where
   pub within : n ≤ length S
   pub axioms_count : length axioms ≡ n

@@ -1,6 +1,6 @@
 -- The cross references of a list of statements: for each statement, related positions.
 -- Source: Metamath, 4.2.6 and appendix B.
--- The code goes over the statements once; here the list of each statement is stated by itself.
+-- The code goes over the statements once; here the list of each statement is defined by itself.
 use Rattle.std.specs.Prelude.{◌≡◌, ◌↔◌, ℕ, suc, ◌<◌, false, List, [], length, get_or}
 use Rattle.mm_read.specs.Statements.{Database}
 use Rattle.library.specs.Uses.{Uses, IsUser, Rises, IsIn}
@@ -10,7 +10,7 @@ pub record AreThosePassing (Passes : ℕ → Type 0) (positions : List ℕ) : Ty
   pub rising : Rises 0 positions
   pub passing : (a : ℕ) → IsIn a positions ↔ Passes a
 
--- a list for each statement, the first for position 1: the positions that are related to its own
+-- a list for each statement, the first for position 1: the positions that the statement's own relates to
 pub record AreListsOf (S : Database) (Relates : ℕ → ℕ → Type 0) (lists : List (List ℕ)) : Type 0 where
   pub count : length lists ≡ length S
   pub each : (k : ℕ) → k < length S → AreThosePassing (Relates (suc k)) (get_or lists k [])

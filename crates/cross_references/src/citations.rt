@@ -12,10 +12,10 @@ use mm_read::Stmt;
 use proof_code::Items;
 use std::alloc::{AllocError, Global};
 
-/// Returns the positions of the statements that the proof of the statement at an index cites, in ascending order, each once;
-/// none if the statement is no `$p`.
+/// Returns the positions of the statements that the proof of the statement at an index cites, in ascending order, each once,
+/// or an empty list if the statement is not a `$p`.
 ///
-/// Errors: an allocation fails. Cost: the size of the proof, and the sorting of its citations.
+/// Errors: an allocation fails. Cost: the size of the proof, and that of sorting its citations.
 pub fn cited_at(alloc: Global, library: &Library, index: usize) -> Result<Vec<usize>, AllocError>
     requires { index < length library.now.replica.statements }
     ensures { IfOk result (λ list. AreThose (Cites library.now.replica.statements (suc index)) list.items) }
@@ -66,7 +66,7 @@ fn push_place(cited: &mut Vec<usize>, place: Option<usize>) -> Result<(), AllocE
     Ok(())
 }
 
-/// Returns the position that an item cites, by its number.
+/// Returns the position that the item with a number cites, if it cites one.
 fn place_of(places: &[Option<usize>], number: u32) -> Option<usize>
     ensures { result ≡ place_of places.now number }
 {
@@ -74,7 +74,7 @@ fn place_of(places: &[Option<usize>], number: u32) -> Option<usize>
     *places.get(index)?
 }
 
-/// Sorts positions in ascending order, and keeps each once.
+/// Sorts positions in ascending order and removes repetitions.
 pub fn order(list: &mut Vec<usize>)
     ensures { AreThose (λ p. In p list.old.items) list.new.items }
 {

@@ -1,4 +1,4 @@
-//! Positions that are collected, each once.
+//! Collects positions, each once.
 ghost use Rattle.std.specs.Prelude.{◌≡◌, [], true, get_or, slice_set, IfOk, OnOk};
 ghost use Rattle.frame.specs.Stored.Hypotheses.{In, AreThose, HasMore};
 
@@ -6,14 +6,14 @@ use crate::citations::order;
 use std::alloc::{AllocError, Global};
 use std::marker::Model;
 
-/// The positions that were collected in a round. Contracts see their list.
+/// The positions collected in the current round, each once. Contracts see their list.
 #[derive(Drop)]
 pub struct Collector {
     alloc: Global,
     list: Vec<usize>,
     /// The round in which each position was last added.
     rounds: Vec<usize>,
-    /// The number of this round, from 1.
+    /// The number of the current round, from 1.
     round: usize,
 }
 
@@ -42,7 +42,7 @@ impl Collector {
         })
     }
 
-    /// Begins a round, in which no position is collected yet.
+    /// Begins a new round, in which no position is collected yet.
     pub fn begin(&mut self) -> Result<(), AllocError>
         ensures { OnOk result (self.new ≡ []) }
     {
@@ -64,7 +64,7 @@ impl Collector {
         Ok(())
     }
 
-    /// Adds those of the positions that were not added in this round.
+    /// Adds each of the positions, unless it was added in this round.
     pub fn add_all(&mut self, positions: &[usize]) -> Result<(), AllocError>
         ensures { OnOk result (HasMore (λ p. In p positions.now) self.old self.new) }
     {
@@ -91,7 +91,7 @@ fn is_noted(rounds: &Vec<usize>, position: usize, round: usize) -> bool
     position < rounds.len() && rounds[position] == round
 }
 
-/// Records the round in which a position was added, if the table has a place for it.
+/// Records the round in which a position was added, if the table has an entry for the position.
 fn note(rounds: &mut Vec<usize>, position: usize, round: usize)
     ensures { rounds.new.items ≡ slice_set rounds.old.items position round }
 {

@@ -13,10 +13,11 @@ use library::Library;
 use mm_read::Stmt;
 use std::alloc::{AllocError, Global};
 
-/// For each statement of a library, at an index from 0, positions of others from 1, in ascending order.
+/// Two lists of positions for each statement of a library. Statements are indexed from 0; the positions in a list count from
+/// 1 and ascend.
 #[derive(Drop)]
 pub struct CrossReferences {
-    /// The positions of the `$a` that a `$p` rests on; none for another statement.
+    /// The positions of the `$a` that a `$p` rests on; empty for another statement.
     pub axioms: Vec<Vec<usize>>,
     /// The positions of the `$p` whose proofs cite the statement.
     pub users: Vec<Vec<usize>>,
@@ -26,7 +27,7 @@ pub struct CrossReferences {
 /// statement, by position.
 ///
 /// Errors: an allocation fails. Cost: the size of the proofs, each read once, and for each statement that a proof cites the
-/// list of the axioms that this statement rests on. Source: Metamath, 4.2.6 and appendix B.
+/// length of the cited statement's list of axioms. Source: Metamath, 4.2.6 and appendix B.
 pub fn cross_references(alloc: Global, library: &Library) -> Result<CrossReferences, AllocError>
     ensures { IfOk result (λ found. AreReferences library.now.replica.statements
         (lists_of found.axioms.items) (lists_of found.users.items)) }
@@ -60,7 +61,7 @@ fn empty_lists(alloc: Global, count: usize) -> Result<Vec<Vec<usize>>, AllocErro
     Ok(lists)
 }
 
-/// Adds a user to the list of each of these positions.
+/// Appends the user at `at` to the list of each of the cited positions.
 fn add_user(users: &mut [Vec<usize>], cited: &[usize], at: usize) -> Result<(), AllocError>
     requires ascends { Ascends cited.now }
     requires within { AreWithin (length users.old) cited.now }
@@ -72,7 +73,7 @@ fn add_user(users: &mut [Vec<usize>], cited: &[usize], at: usize) -> Result<(), 
     Ok(())
 }
 
-/// Adds a user to the list of a position.
+/// Appends the user at `at` to the list of a position.
 fn push_user(users: &mut [Vec<usize>], position: usize, at: usize) -> Result<(), AllocError>
     requires { (0 < position) × (position ≤ length users.old) }
     ensures { OnOk result (lists_of users.new ≡ slice_set (lists_of users.old) (position - 1)
@@ -83,8 +84,8 @@ fn push_user(users: &mut [Vec<usize>], position: usize, at: usize) -> Result<(),
     Ok(())
 }
 
-/// Returns the positions of the `$a` at these positions and of the `$a` that the statements there rest on, in ascending order,
-/// each once.
+/// Returns the positions of the `$a` among the cited statements and of the `$a` that these statements rest on, in
+/// ascending order, each once.
 fn axioms_at(
     statements: &[Stmt],
     axioms: &[Vec<usize>],
@@ -102,7 +103,7 @@ fn axioms_at(
     collector.ordered()
 }
 
-/// Collects the position if a `$a` stands there, and the positions of the `$a` that the statement there rests on.
+/// Collects the position if the statement there is a `$a`, and the positions of the `$a` that the statement rests on.
 fn add_given(
     statements: &[Stmt],
     axioms: &[Vec<usize>],

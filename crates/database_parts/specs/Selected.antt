@@ -1,5 +1,5 @@
--- A part of a database, and an assertion that stands in the part as in the whole.
--- Source: Metamath, 4.2.7: an assertion is its frame, that is its hypotheses, its pairs and its expression.
+-- A part of a database, and an assertion that is the same in the part and in the whole.
+-- Source: Metamath, 4.2.7: the frame of an assertion is its mandatory hypotheses, its disjoint variables and its expression.
 -- The code goes through both databases once, in parallel.
 use Rattle.std.specs.Prelude.{◌≡◌, ℕ, IsTrue, List, [], ◌∷◌, map, Option}
 use Rattle.mm_lex.specs.Alphabet.{Name}
@@ -9,7 +9,7 @@ use Rattle.scope.specs.Active.{bares, before, stmt_at, is_assertion}
 use Rattle.frame.specs.Citations.{Carries}
 use Rattle.frame.specs.FrameOf.{hypotheses, is_mandatory_pair}
 
--- the first database has some of the statements of the second, in their order, and nothing else
+-- the first database is some of the statements of the second, in the same order
 pub data IsPart : Database → Database → Type 0 where
   nothing : IsPart [] []
   takes : {s : Stmt} {T S : Database} → IsPart T S → IsPart (s ∷ T) (s ∷ S)
@@ -19,7 +19,7 @@ pub data IsPart : Database → Database → Type 0 where
 abbrev pub hypotheses_at : Database → ℕ → Stmt → List (Option Stmt)
 hypotheses_at S at s = map (stmt_at S) (hypotheses (before (bares S) at) s)
 
--- the assertion of the label stands in S and in T with the same expression, proof, mandatory hypotheses and mandatory pairs
+-- S and T have an assertion with the label, with the same expression, proof, mandatory hypotheses and mandatory pairs
 pub record IsKept (S T : Database) (label : Name) : Type 0 where
   pub stmt : Stmt
   pub there : ℕ

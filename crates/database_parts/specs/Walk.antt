@@ -1,6 +1,6 @@
 -- The state of a walk over a database and a part of it, in parallel.
--- Source: none; for the private functions of `comparison`. `AreKept` is also cited by the clause of `is_extract`.
--- The code keeps for each the scope after the statements that were passed.
+-- Source: none; for the private functions of `comparison`. The clause of `is_extract` cites `AreKept` too.
+-- The code keeps for each the scope after the statements passed so far.
 use Rattle.std.specs.Prelude.{◌≡◌, ℕ, ◌≤◌, Bool, true, false, List, map, take, Some}
 use Rattle.mm_lex.specs.Alphabet.{Name, has_name}
 use Rattle.mm_read.specs.declared.stmt.Stmt.{Stmt}
@@ -17,16 +17,16 @@ wanted labels (Axiom label expr) = has_name label labels
 wanted labels (Prove label expr proof) = has_name label labels
 wanted labels s = false
 
--- the assertions of these labels among the first n statements of S are kept in T
+-- T has the assertions with these labels among the first n statements of S, with the same frames
 abbrev pub AreKept : Database → Database → List Name → ℕ → Type 0
 AreKept S T labels n = (i : ℕ) (s : Stmt) → i ≤ n → stmt_at S i ≡ Some s → wanted labels s ≡ true → (label : Name) → Carries S i s label → IsKept S T label
 
--- an assertion after the statements A of S and B of T has the same hypotheses and pairs
+-- an assertion has the same hypotheses and groups after the statements A of S as after the statements B of T
 pub record IsSameFrame (S T A B : Database) (s : Stmt) : Type 0 where
   pub hypotheses : map (stmt_at S) (hypotheses A s) ≡ map (stmt_at T) (hypotheses B s)
   pub groups : mandatory_groups A s ≡ mandatory_groups B s
 
--- n statements of S were passed and k of T met, and the scopes have just these
+-- n statements of S were passed and k of T found among them, and the scopes have exactly these
 pub record IsWalked (S T : Database) (labels : List Name) (n k : ℕ) (whole part : Database) : Type 0 where
   pub whole_is : whole ≡ bares (take n S)
   pub part_is : part ≡ bares (take k T)

@@ -12,22 +12,22 @@ use mm_read::Stmt;
 use scope::{Rule, Scope, Steps};
 use std::alloc::{AllocError, Global};
 
-/// The state of a walk over both lists in parallel.
+/// The state of a walk over both lists of statements in parallel.
 #[derive(Drop)]
 struct Walk {
-    /// The scope after the statements of the whole that were passed.
+    /// The scope after the statements of the whole passed so far.
     whole: Scope,
-    /// The scope after the statements of the part that were met.
+    /// The scope after the statements of the part found so far.
     part: Scope,
-    /// The number of statements of the part that were met.
+    /// The number of statements of the part found so far.
     next: usize,
 }
 
 /// Returns true only if the statements of `part` are some of those of `whole`, in order, and have each assertion of `whole`
-/// that has one of the labels, with its proof, hypotheses and pairs.
+/// that has one of the labels, with the same proof, mandatory hypotheses and mandatory pairs of disjoint variables.
 ///
-/// Errors: an allocation fails. Cost: a pass over the rules of both, a comparison of each assertion with each label, and the
-/// frames of the assertions that have one.
+/// Errors: an allocation fails. Cost: applying the rules to both, a comparison of each assertion with each label, and the
+/// frames of the assertions that have one of the labels.
 pub fn is_extract(
     alloc: Global,
     whole: &[Stmt],
@@ -46,7 +46,7 @@ pub fn is_extract(
     is_walk(alloc, whole, part, labels, &mut walk)
 }
 
-/// Walks both lists from the start; returns whether no difference is found up to the end of both.
+/// Walks over both lists from the start. Returns whether no difference is found up to the end of both.
 fn is_walk(
     alloc: Global,
     whole: &[Stmt],
@@ -67,7 +67,7 @@ fn is_walk(
     Ok(walk.next == part.len())
 }
 
-/// Advances past the next statement of the whole; returns whether no difference is found.
+/// Advances past the statement of the whole at an index. Returns whether no difference is found.
 fn advance(
     alloc: Global,
     whole: &[Stmt],
@@ -97,7 +97,7 @@ fn advance(
     pass_both(walk, statement, walk.next + 1)
 }
 
-/// Passes a statement that comes next in both; returns whether the scopes accept it.
+/// Advances past a statement that is next in both lists. Returns whether both scopes accept it.
 fn pass_both(walk: &mut Walk, statement: &Stmt, next: usize) -> Result<bool, AllocError>
     requires { IsShaped statement.now }
     ensures next { walk.new.next ≡ next }
@@ -111,7 +111,7 @@ fn pass_both(walk: &mut Walk, statement: &Stmt, next: usize) -> Result<bool, All
     accepts(&mut walk.whole, statement)
 }
 
-/// Adds the statement to the scope; returns whether it is legal there.
+/// Adds the statement to the scope. Returns whether it is legal there.
 fn accepts(scope: &mut Scope, statement: &Stmt) -> Result<bool, AllocError>
     requires { IsShaped statement.now }
     ensures { IfOk result (λ yes. yes ≡ true → scope.new.statements ≡ scope.old.statements ++ bare statement.now ∷ []) }
@@ -134,7 +134,7 @@ fn is_wanted(statement: &Stmt, labels: &[&str]) -> bool
     }
 }
 
-/// Returns whether the statement stands at an index.
+/// Returns whether the statement at an index is equal to this one.
 fn is_at(statements: &[Stmt], index: usize, statement: &Stmt) -> bool
     ensures stands { result ≡ true → slice_get statements.now index ≡ Some statement.now }
     ensures within { result ≡ true → index < length statements.now }
@@ -145,7 +145,7 @@ fn is_at(statements: &[Stmt], index: usize, statement: &Stmt) -> bool
     }
 }
 
-/// Returns whether a statement that comes next in both has the same hypotheses and pairs, if it is a wanted assertion.
+/// Returns whether a statement that is next in both lists has the same frame in both, if it is a wanted assertion.
 fn agrees(
     alloc: Global,
     whole: &[Stmt],
@@ -165,7 +165,7 @@ fn agrees(
     Ok(same_frame(whole, part, &one, &other))
 }
 
-/// Returns whether two frames have the same statements as hypotheses, and the same lists of variables.
+/// Returns whether two frames have equal statements as hypotheses, and the same groups of disjoint variables.
 fn same_frame(whole: &[Stmt], part: &[Stmt], one: &Frame, other: &Frame) -> bool
     ensures positions { result ≡ true → map (stmt_at whole.now) one.now.hypotheses ≡ map (stmt_at part.now) other.now.hypotheses }
     ensures groups { result ≡ true → one.now.groups ≡ other.now.groups }
@@ -189,7 +189,7 @@ fn same_positions(whole: &[Stmt], part: &[Stmt], one: &[usize], other: &[usize])
     true
 }
 
-/// Returns whether a statement stands at the first position, and an equal one at the second.
+/// Returns whether there are statements at both positions and they are equal.
 fn same_place(whole: &[Stmt], part: &[Stmt], one: usize, other: usize) -> bool
     ensures { result ≡ true → stmt_at whole.now one ≡ stmt_at part.now other }
 {
@@ -202,7 +202,7 @@ fn same_place(whole: &[Stmt], part: &[Stmt], one: usize, other: usize) -> bool
     }
 }
 
-/// Returns whether the lists of variables are equal.
+/// Returns whether the groups of disjoint variables are equal.
 fn same_groups(one: &[Words], other: &[Words]) -> bool
     ensures { result ≡ true → one.now ≡ other.now }
 {

@@ -1,4 +1,4 @@
-//! A label among others.
+//! Finds a label in a list.
 ghost use Rattle.std.specs.Prelude.{◌≡◌, map};
 ghost use Rattle.mm_lex.specs.Alphabet.{name_eq, has_name};
 
@@ -16,7 +16,7 @@ pub fn is_among(label: &[u8], labels: &[&str]) -> bool
     false
 }
 
-/// Returns whether the bytes of the text are these.
+/// Returns whether these are the bytes of the text.
 fn is_text(text: &str, bytes: &[u8]) -> bool
     ensures { result ≡ name_eq bytes.now text.now }
 {

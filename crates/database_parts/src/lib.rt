@@ -1,10 +1,10 @@
 //! Checks that a database is a part of another and keeps given assertions of it.
 //!
-//! The crate above calls `is_extract`, which returns true only if the statements of the part are some of the whole, in their
-//! order, and have each assertion of the labels with its hypotheses and its mandatory pairs. It judges no proof: it uses the
-//! rules to know what is active.
+//! The crate above calls `is_extract`, which returns true only if the statements of the part are some of those of the whole,
+//! in the same order, and have each assertion with one of the labels, with the same proof, hypotheses and mandatory pairs
+//! of disjoint variables. It judges no proof: it uses the rules only to find out which statements are active.
 //!
-//! Reading order: `labels` (a label among others), `comparison`.
+//! Reading order: `labels` (finds a label in a list), `comparison` (walks over both databases).
 #![tactic(auto)]
 
 mod comparison;

@@ -1,6 +1,6 @@
--- The `$e` with a pattern that a search keeps from statement to statement.
+-- The list of the `$e` with a pattern, which a search carries from statement to statement.
 -- Source: none; for the private functions of `hypotheses` and `found`.
--- The code keeps the positions of those that may still be active, and drops the last ones that no longer are.
+-- The code keeps the positions of those that may still be active, and removes from the end those that no longer are.
 use Rattle.std.specs.Prelude.{◌≡◌, ℕ, suc, ◌+◌, ◌<◌, ◌≤◌, true, List, length, get_or}
 use Rattle.mm_read.specs.Statements.{Database}
 use Rattle.mm_read.specs.declared.stmt.Stmt.{Stmt}
@@ -16,7 +16,7 @@ pub record AreKept (p : List Part) (S : Database) (n : ℕ) (list : List ℕ) : 
   pub each : (k : ℕ) → k < length list → (get_or list k 0 ≤ n) × HasIn p (essential_at S (get_or list k 0))
   pub all : (i : ℕ) → i ≤ n → HasIn p (essential_at S i) → is_active (bares S) i (n + 1) ≡ true → (k : ℕ) × (k < length list) × (get_or list k 0 ≡ i)
 
--- the list is such if a pattern is sought in hypotheses, and any list otherwise
+-- the list is such a list if hypotheses are searched for a pattern, and any list otherwise
 abbrev pub AreNoted : Sought → Database → ℕ → List ℕ → Type 0
 AreNoted (WithHypotheses p) S n list = AreKept p S n list
 AreNoted sought S n list = Unit {0}
@@ -25,7 +25,7 @@ AreNoted sought S n list = Unit {0}
 abbrev pub IsSomeHypothesis : Database → ℕ → ℕ → Type 0
 IsSomeHypothesis F at i = (s : Stmt) × IsHypothesis F at i s
 
--- the count that is left of a list after removing from its end what is no hypothesis active at `at`
+-- how many of a list are left once those at its end that are no hypotheses active at `at` are removed
 pub record IsLeft (F : Database) (at : ℕ) (list : List ℕ) (left : ℕ) : Type 0 where
   pub within : left ≤ length list
   pub gone : (k : ℕ) → left ≤ k → k < length list → IsSomeHypothesis F at (get_or list k 0) → ⊥

@@ -1,6 +1,6 @@
 -- The assertions that a search finds.
 -- Source: this project's command `find`, after `search` of the program metamath.
--- The code keeps the `$e` with the pattern from statement to statement; here each assertion is judged by its frame.
+-- The code carries the `$e` with the pattern from statement to statement; here each assertion is judged by its frame.
 use Rattle.std.specs.Prelude.{ℕ, ◌+◌, ◌⊎◌, List, [], ◌∷◌, Option, Some, None, IsTrue, option_and_then, slice_get}
 use Rattle.mm_lex.specs.declared.span.Span.{Span}
 use Rattle.mm_lex.specs.Alphabet.{word}
@@ -47,12 +47,12 @@ described text (Some (Some s)) = word text s
 abbrev pub description_at : List ℕ → List (Option Span) → ℕ → List ℕ
 description_at text descriptions index = described text (slice_get descriptions index)
 
--- the assertion at an index has what is sought
+-- the assertion at an index matches
 abbrev pub Has : List ℕ → Database → List (Option Span) → Sought → ℕ → Stmt → Type 0
 Has text S descriptions (Pattern p) index s = HasIn p (assertion_expr s)
 Has text S descriptions (WithHypotheses p) index s = HasIn p (assertion_expr s) ⊎ SomeEssentialHas p S (hypotheses (before (bares S) (index + 1)) s)
 Has text S descriptions (Words ws) index s = HasWords (description_at text descriptions index) ws
 
--- the statement at an index is an assertion and has what is sought
+-- the statement at an index is an assertion that matches
 abbrev pub Counts : List ℕ → Database → List (Option Span) → Sought → ℕ → Stmt → Type 0
 Counts text S descriptions sought index s = IsTrue (is_assertion s) × Has text S descriptions sought index s

@@ -16,11 +16,11 @@ found_line s = []
 abbrev pub line_if : Bool → Stmt → List ℕ
 line_if is s = if is then found_line s else []
 
--- the line of a statement if it counts, else nothing
+-- the line of a statement if it matches (`counts`), else nothing
 abbrev pub IsLineIf : Type 0 → Stmt → List ℕ → Type 0
 IsLineIf counts s line = (counts × (line ≡ found_line s)) ⊎ ((counts → ⊥) × (line ≡ []))
 
--- the lines of exactly the statements that count, in order; the first statement has this index
+-- the lines of exactly the statements that match (`counts`), in order; `index` is that of the first statement
 abbrev pub AreFoundLines : (ℕ → Stmt → Type 0) → ℕ → Database → List ℕ → Type 0
 AreFoundLines counts index [] lines = lines ≡ []
 AreFoundLines counts index (s ∷ S) lines =

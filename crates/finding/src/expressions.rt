@@ -1,4 +1,4 @@
-//! A pattern in an expression.
+//! Searches an expression for a pattern.
 ghost use Rattle.std.specs.Prelude.{◌≡◌, ◌↔◌, IfOk, IsTrue, map, option_map};
 ghost use Rattle.finding.specs.Found.{HasIn, assertion_expr, essential_expr};
 

@@ -15,12 +15,11 @@ use mm_lex::Span;
 use mm_read::Stmt;
 use std::alloc::{AllocError, Global};
 
-/// Returns a line for each assertion that has what is sought, in order: its label and its
-/// expression.
+/// Returns a line for each assertion that matches, in order: its label and its expression.
 ///
 /// Errors: an allocation fails. Cost: at most the size of the statements, or of the descriptions,
-/// times the size of what is sought; an `$e` is looked at once, however many assertions it is a
-/// hypothesis of.
+/// times the size of the pattern or of the words; each `$e` is searched once, however many
+/// assertions it is a hypothesis of.
 #[tactic(auto, using(crate::proofs::HypothesesLemmas::noted_none))]
 pub fn found_lines(
     alloc: Global,
@@ -42,8 +41,8 @@ pub fn found_lines(
     Ok(lines)
 }
 
-/// Appends the position of a statement to those of the `$e` that have what is sought, if hypotheses
-/// are searched and the statement is such an `$e`.
+/// Appends the position of a statement to those of the matching `$e`, if hypotheses are searched
+/// and the statement is an `$e` that has the pattern.
 fn note(
     alloc: Global,
     sought: &Sought<'_>,
@@ -64,7 +63,7 @@ fn note(
     }
 }
 
-/// Returns whether the statement at an index is an assertion that has what is sought.
+/// Returns whether the statement at an index is an assertion that matches.
 fn counts(
     alloc: Global,
     searched: &Searched<'_>,
@@ -87,7 +86,7 @@ fn counts(
     has(alloc, searched, sought, essentials, index, statement)
 }
 
-/// Returns whether the assertion at an index has what is sought.
+/// Returns whether the assertion at an index matches.
 fn has(
     alloc: Global,
     searched: &Searched<'_>,
@@ -122,7 +121,7 @@ fn has(
     }
 }
 
-/// Returns the description of the statement at an index, empty if it has none.
+/// Returns the description of the statement at an index, or an empty slice if it has none.
 fn description_at<'a>(text: &'a [u8], descriptions: &[Option<Span>], index: usize) -> &'a [u8]
     ensures { result.now ≡ description_at text.now descriptions.now index }
 {
@@ -150,7 +149,7 @@ fn contents(text: &[u8], span: Span) -> &[u8]
     rest.split_at(len).0
 }
 
-/// Appends the line of an assertion, if it is found.
+/// Appends the line of an assertion if `is_found` is true.
 fn push_if(lines: &mut Vec<u8>, is_found: bool, statement: &Stmt) -> Result<(), AllocError>
     ensures { OnOk result (lines.new.items ≡ lines.old.items ++ line_if is_found statement.now) }
 {
@@ -161,7 +160,7 @@ fn push_if(lines: &mut Vec<u8>, is_found: bool, statement: &Stmt) -> Result<(), 
     }
 }
 
-/// Appends the line of an assertion; nothing for another statement.
+/// Appends the line of an assertion, or nothing for another statement.
 fn push_found(lines: &mut Vec<u8>, statement: &Stmt) -> Result<(), AllocError>
     ensures { OnOk result (lines.new.items ≡ lines.old.items ++ found_line statement.now) }
 {

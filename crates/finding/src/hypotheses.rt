@@ -1,4 +1,4 @@
-//! The `$e` with a pattern that are active.
+//! Keeps track of the active `$e` that have a pattern.
 ghost use Rattle.std.specs.Prelude.{◌≡◌, ◌↔◌, ◌+◌, ◌++◌, ◌∷◌, [], ◌<◌, ◌≤◌, ℕ, length, take, IsFalse, IsTrue, OnOk, Some};
 ghost use Rattle.mm_read.specs.Statements.{Database};
 ghost use Rattle.scope.specs.Active.{stmt_at};
@@ -10,8 +10,8 @@ use mm_read::Stmt;
 use patterns::Pattern;
 use std::alloc::{AllocError, Global};
 
-/// Appends the position of a statement to those of the `$e` that have the pattern, if it is such an
-/// `$e`.
+/// Appends the position of a statement to those of the `$e` that have the pattern, if the statement
+/// is such an `$e`.
 ///
 /// Errors: an allocation fails. Cost: that of `has_in`.
 pub(crate) fn note_essential(
@@ -41,9 +41,9 @@ fn push_if(positions: &mut Vec<usize>, is: bool, at: usize) -> Result<(), AllocE
 }
 
 /// Removes positions from the end until the last one is that of a hypothesis active at `at`. Returns
-/// whether one is left.
+/// whether any are left.
 ///
-/// Cost: the positions removed, and a constant.
+/// Cost: the number of positions removed, and a constant.
 pub(crate) fn has_active(frames: &Frames, at: usize, positions: &mut Vec<usize>) -> bool
     requires place { (1 ≤ at) × (at ≤ length frames.now.statements) }
     ensures left { IsLeft frames.now.statements at positions.old.items
@@ -57,8 +57,8 @@ pub(crate) fn has_active(frames: &Frames, at: usize, positions: &mut Vec<usize>)
     left > 0
 }
 
-/// Returns how many positions are left after removing from the end those that are not of hypotheses
-/// active at `at`.
+/// Returns how many positions are left once those at the end that are not of hypotheses active at
+/// `at` are removed.
 fn count_left(frames: &Frames, at: usize, positions: &[usize]) -> usize
     requires place { (1 ≤ at) × (at ≤ length frames.now.statements) }
     ensures { IsLeft frames.now.statements at positions.now result }

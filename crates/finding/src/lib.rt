@@ -1,9 +1,9 @@
-//! The assertions that a search finds, as lines.
+//! Finds assertions by a pattern or by words, and writes each as a line.
 //!
-//! The crate above calls `found_lines`, which returns exactly the assertions that have what is sought, in order.
+//! The crate above calls `found_lines`, which returns a line for exactly the assertions that match, in order.
 //!
-//! Reading order: `sought` (what is sought, and where), `expressions` (a pattern in an expression),
-//! `hypotheses` (in an `$e` of an assertion), `found` (the lines).
+//! Reading order: `sought` (the pattern or words, and where they are searched for), `expressions` (a pattern in an
+//! expression), `hypotheses` (a pattern in a mandatory `$e`), `found` (the lines).
 #![tactic(auto)]
 
 mod expressions;

@@ -1,28 +1,28 @@
-//! The pattern or the words that are sought, and where.
+//! The pattern or words of a search, and the database that is searched.
 use frame::Frames;
 use mm_lex::Span;
 use mm_read::Stmt;
 use patterns::{Pattern, SearchWords};
 
-/// A pattern or words, and the part of an assertion in which they are sought.
+/// A pattern or words, and the part of an assertion in which they are searched for.
 #[derive(Drop)]
 pub enum Sought<'a> {
     /// A pattern in the expression.
     Pattern(Pattern<'a>),
-    /// A pattern in the expression, or in that of an `$e` among the mandatory hypotheses.
+    /// A pattern in the expression, or in that of a mandatory `$e`.
     WithHypotheses(Pattern<'a>),
-    /// Words in the description.
+    /// Words that each occur in the description.
     Words(SearchWords<'a>),
 }
 
 /// A database that is searched.
 #[derive(Drop)]
 pub struct Searched<'a> {
-    /// The text that writes the statements.
+    /// The text from which the statements were read.
     pub text: &'a [u8],
     pub statements: &'a [Stmt],
-    /// Their frames.
+    /// The frames of the statements.
     pub frames: &'a Frames,
-    /// The places of their descriptions in the text, in order.
+    /// For each statement, in order, the span of its description in the text.
     pub descriptions: &'a [Option<Span>],
 }

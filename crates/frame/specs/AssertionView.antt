@@ -1,6 +1,6 @@
 -- The parts of an assertion by numbers: each mandatory hypothesis has its typecode and one number.
 -- Metamath, 4.2.6: a citation of an assertion needs results for its mandatory hypotheses.
--- The code keeps these parts by the assertion; the expression of a `$e` is read where the `$e` stands.
+-- The code keeps these parts with the assertion; the expression of a `$e` is read from the `$e`.
 use Rattle.std.specs.Prelude.{◌≡◌, ℕ, ◌<◌, ◌==◌, Bool, false, ◌&&◌, List, [], ◌∷◌, length, map, Some}
 use Rattle.frame.specs.Words.{list_any, Name, Stmt, Expr, Database, stmt_at, before, expr_of, name_at, decode, Hypothesis, Assertion, Essential, AssertionView, NO_TYPECODE}
 use Rattle.mm_read.specs.declared.stmt.Stmt.TheVariants as stmt
@@ -8,12 +8,12 @@ use Rattle.entries.specs.declared.assertion_view.Hypothesis.TheVariants.{Float}
 use Rattle.frame.specs.FrameOf.{hypotheses, is_mandatory_pair, mandatory_groups}
 use Rattle.frame.specs.Below.{AreBelow, AllBelow}
 
--- the first of the numbers
+-- the first number of an expression, or `NO_TYPECODE` if it is empty
 abbrev pub typecode_of : List ℕ → ℕ
 typecode_of [] = NO_TYPECODE
 typecode_of (c ∷ codes) = c
 
--- the number stands for the typecode
+-- the number stands for the first symbol of the expression, its typecode
 abbrev pub IsTypecode : List Name → ℕ → Expr → Type 0
 IsTypecode names h [] = h ≡ NO_TYPECODE
 IsTypecode names h (x ∷ e) = (h < length names) × (name_at names h ≡ x)
@@ -36,7 +36,7 @@ AreRequired S names [] [] [] = Unit {0}
 AreRequired S names (p ∷ ps) (typecode ∷ typecodes) (h ∷ hs) = IsRequired S names p typecode h × AreRequired S names ps typecodes hs
 AreRequired S names ps typecodes hs = ⊥
 
--- these lists are made of the assertion s at a
+-- these lists describe the assertion s at a
 pub record AreListsOf (S : Database) (names : List Name) (a : ℕ) (g : Assertion) (s : Stmt) : Type 0 where
   pub required : AreRequired S names (hypotheses (before S a) s) g.typecodes g.required
   pub groups : map (decode names) g.groups ≡ mandatory_groups (before S a) s
@@ -45,7 +45,7 @@ pub record AreListsOf (S : Database) (names : List Name) (a : ℕ) (g : Assertio
 abbrev pub AreBuffersOf : Database → List Name → ℕ → Assertion → Type 0
 AreBuffersOf S names a g = (s : Stmt) → stmt_at S a ≡ Some s → AreListsOf S names a g s
 
--- the parts of the assertion s at a
+-- these are the parts of the assertion s at a
 pub record IsViewOf (S : Database) (names : List Name) (a : ℕ) (s : Stmt) (c : AssertionView) : Type 0 where
   pub required : AreRequired S names (hypotheses (before S a) s) c.typecodes.now c.hypotheses
   pub conclusion : decode names c.conclusion.now ≡ expr_of s
@@ -53,19 +53,19 @@ pub record IsViewOf (S : Database) (names : List Name) (a : ℕ) (s : Stmt) (c :
   pub groups : map (decode names) c.groups ≡ mandatory_groups (before S a) s
   pub groups_below : AllBelow (length names) c.groups
 
--- ---- the parts that a citation needs: any lists that have the mandatory pairs serve as groups
+-- ---- the parts that a citation needs: the groups may be any lists that have exactly the mandatory pairs
 
--- both numbers stand in the list
+-- both numbers are in the list
 abbrev pub has_both : ℕ → ℕ → List ℕ → Bool
 has_both x y g = list_any (λ c. c == x) g && list_any (λ c. c == y) g
 
--- two different variables stand together in one of the lists just where they are a mandatory pair of the assertion s at a
+-- two different variables are both in one of the lists exactly if they are a mandatory pair of the assertion s at a
 abbrev pub AreMandatoryPairs : Database → List Name → ℕ → Stmt → List (List ℕ) → Type 0
 AreMandatoryPairs S names a s groups =
     (x y : ℕ) → x < length names → y < length names → (x == y) ≡ false
     → list_any (has_both x y) groups ≡ is_mandatory_pair (before S a) s (name_at names x) (name_at names y)
 
--- by these lists the assertion s at a can be cited
+-- the assertion s at a can be cited by these lists
 pub record AreCitingListsOf (S : Database) (names : List Name) (a : ℕ) (g : Assertion) (s : Stmt) : Type 0 where
   pub required : AreRequired S names (hypotheses (before S a) s) g.typecodes g.required
   pub pairs : AreMandatoryPairs S names a s g.groups
@@ -74,7 +74,7 @@ pub record AreCitingListsOf (S : Database) (names : List Name) (a : ℕ) (g : As
 abbrev pub AreCitingLists : Database → List Name → ℕ → Assertion → Type 0
 AreCitingLists S names a g = (s : Stmt) → stmt_at S a ≡ Some s → AreCitingListsOf S names a g s
 
--- the parts by which the assertion s at a can be cited
+-- the assertion s at a can be cited by these parts
 pub record IsCited (S : Database) (names : List Name) (a : ℕ) (s : Stmt) (c : AssertionView) : Type 0 where
   pub required : AreRequired S names (hypotheses (before S a) s) c.typecodes.now c.hypotheses
   pub conclusion : decode names c.conclusion.now ≡ expr_of s

@@ -1,6 +1,6 @@
 -- Consequences of legality for the symbols of an assertion and of its mandatory hypotheses.
--- Metamath, 4.2.4 and 4.2.7: a variable that is used has an active `$f`, and just one; an expression begins with a constant.
--- The code tests none of this where an assertion is cited.
+-- Metamath, 4.2.4 and 4.2.7: a variable that is used has exactly one active `$f`; an expression begins with a constant.
+-- The code tests none of this when an assertion is cited.
 use Rattle.std.specs.Prelude.{◌≡◌, ℕ, true, false, List, [], ◌∷◌, slice_get, Some}
 use Rattle.frame.specs.Words.{Name, has_name, Stmt, Expr, Database, stmt_at, before, expr_of, is_variable}
 use Rattle.mm_read.specs.declared.stmt.Stmt.TheVariants.{Float, Ess}
@@ -15,12 +15,12 @@ pub record HasFloat (S : Database) (ps : List ℕ) (x : Name) : Type 0 where
   pub listed : slice_get ps place ≡ Some position
   pub stands : stmt_at S position ≡ Some (Float label constant x)
 
--- the first symbol is no variable
+-- the first symbol is not a variable
 abbrev pub IsFirstFixed : Database → Expr → Type 0
 IsFirstFixed S [] = Unit {0}
 IsFirstFixed S (x ∷ e) = is_variable S x ≡ false
 
--- the assertion s at a: each variable of its expression, of its mandatory `$e` and of its groups is that of a mandatory `$f`, and of one alone
+-- each variable of the expression, of the mandatory `$e` and of the groups of the assertion s at a is that of exactly one mandatory `$f`
 pub record IsBound (S : Database) (a : ℕ) (s : Stmt) : Type 0 where
   pub own : (x : Name) → has_name x (expr_of s) ≡ true → is_variable (before S a) x ≡ true → HasFloat S (hypotheses (before S a) s) x
   pub essential : (k p : ℕ) (label : Name) (e : Expr) (x : Name) → slice_get (hypotheses (before S a) s) k ≡ Some p → stmt_at S p ≡ Some (Ess label e) → has_name x e ≡ true → is_variable (before S a) x ≡ true → HasFloat S (hypotheses (before S a) s) x

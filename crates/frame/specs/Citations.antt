@@ -1,5 +1,5 @@
--- Citing a statement: a hypothesis that is active, or an earlier assertion with images for its variables.
--- Metamath, 4.2.6: the hypotheses of a cited assertion, with the images put in, are the results that it takes.
+-- A citation of a statement: of an active hypothesis, or of an earlier assertion with images for its variables.
+-- Metamath, 4.2.6: the substituted mandatory hypotheses of a cited assertion are the results that it takes.
 -- The code knows no images: it reads them off the results.
 use Rattle.std.specs.Prelude.{◌≡◌, ℕ, ◌<◌, Bool, true, false, IsTrue, List, [], map, Option, Some, None}
 use Rattle.frame.specs.Words.{list_all, Name, Stmt, Expr, Database, stmt_at, before, is_active, is_variable, is_assertion, expr_of, label_of}
@@ -8,7 +8,7 @@ use Rattle.frame.specs.FrameOf.{hypotheses, mandatory_groups}
 use Rattle.frame.specs.Substitution.{Images, apply as applied}
 use Rattle.frame.specs.Disjoint.{are_groups_disjoint}
 
--- the statement at i carries the label
+-- the statement at i is s and has the label
 pub record Carries (S : Database) (i : ℕ) (s : Stmt) (label : Name) : Type 0 where
   pub stands : stmt_at S i ≡ Some s
   pub carried : label_of s ≡ Some label
@@ -25,7 +25,7 @@ pub record IsHypothesis (S : Database) (at i : ℕ) (s : Stmt) : Type 0 where
   pub kind : IsTrue (is_hypothesis_kind s)
   pub active : IsTrue (is_active S i at)
 
--- the images are images of variables
+-- the images are all of variables
 abbrev pub OfVariables : Database → ℕ → Images → Type 0
 OfVariables S a σ = IsTrue (list_all (λ p. is_variable (before S a) p.0) σ)
 
@@ -45,6 +45,6 @@ option_expr (Some s) = expr_of s
 abbrev pub expr_at : Database → ℕ → Expr
 expr_at S i = option_expr (stmt_at S i)
 
--- the images of the mandatory hypotheses, in order
+-- the substituted mandatory hypotheses, in order
 abbrev pub premises : Database → ℕ → Stmt → Images → List Expr
 premises S a s σ = map (λ i. applied σ (expr_at S i)) (hypotheses (before S a) s)

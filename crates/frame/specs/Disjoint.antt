@@ -4,12 +4,12 @@ use Rattle.frame.specs.Words.{list_all, Name, name_eq, Expr, Database, is_variab
 use Rattle.frame.specs.FrameOf.{is_pair}
 use Rattle.frame.specs.Substitution.{Images, image}
 
--- each variable of e and each of f are a pair of an active `$d`; so none stands in both
+-- every variable of e and every variable of f are a pair of an active `$d`; so no variable is in both
 abbrev pub are_disjoint : Database → Expr → Expr → Bool
 are_disjoint S e f =
     list_all (λ u. list_all (λ v. not (is_variable S u) || not (is_variable S v) || is_pair S u v) f) e
 
--- the images of each two variables in a list of disjoint variables are disjoint
+-- the images of every two different variables in a list of disjoint variables are disjoint
 abbrev pub is_group_disjoint : Database → Images → List Name → Bool
 is_group_disjoint S σ names =
     list_all (λ x. list_all (λ y. name_eq x y || are_disjoint S (image σ x) (image σ y)) names) names
@@ -17,16 +17,16 @@ is_group_disjoint S σ names =
 abbrev pub are_groups_disjoint : Database → Images → List (List Name) → Bool
 are_groups_disjoint S σ groups = list_all (is_group_disjoint S σ) groups
 
--- ---- by variables; no public clause cites these words
+-- ---- by variables; no public clause cites these definitions
 
--- the variable u and v, where this is a variable, are a pair
+-- v is not a variable, or u and v are a pair
 abbrev pub is_pair_disjoint : Database → Name → Name → Bool
 is_pair_disjoint S u v = not (is_variable S v) || is_pair S u v
 
--- the variable u and each variable of f are a pair
+-- u and every variable of f are a pair
 abbrev pub is_variable_disjoint : Database → Name → Expr → Bool
 is_variable_disjoint S u f = list_all (is_pair_disjoint S u) f
 
--- the symbol u, where it is a variable, and each variable of f are a pair
+-- u is not a variable, or u and every variable of f are a pair
 abbrev pub is_symbol_disjoint : Database → Expr → Name → Bool
 is_symbol_disjoint S f u = list_all (λ v. not (is_variable S u) || not (is_variable S v) || is_pair S u v) f

@@ -1,6 +1,6 @@
 -- Where each symbol of an expression stands, by numbers.
--- Metamath, 4.2.6: an image is put in for a variable wherever it stands.
--- The code keeps this for long expressions alone.
+-- Metamath, 4.2.6: an image is substituted for every occurrence of a variable.
+-- The code keeps this only for long expressions.
 use Rattle.std.specs.Prelude.{◌≡◌, ℕ, List, length}
 use Rattle.frame.specs.Words.{Name, Expr, decode, ArePlacesOf, SymbolGroups}
 use Rattle.frame.specs.Below.{AreBelow}

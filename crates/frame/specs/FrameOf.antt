@@ -4,7 +4,7 @@ use Rattle.frame.specs.Words.{list_any, Name, name_eq, has_name, Stmt, Database,
 use Rattle.mm_read.specs.declared.stmt.Stmt.TheVariants.{Float, Ess}
 use Rattle.frame.specs.Parts.{FrameParts}
 
--- the symbol stands in the assertion or in an active `$e`
+-- the symbol occurs in the expression of the assertion or of an active `$e`
 abbrev pub is_used : Database → Stmt → Name → Bool
 is_used S s x = has_name x (expr_of s) || list_any (λ p. is_essential p.1 && has_name x (expr_of p.1)) (active S)
 
@@ -21,7 +21,7 @@ is_hypothesis S s other = false
 abbrev pub hypotheses : Database → Stmt → List ℕ
 hypotheses S s = map (λ p. p.0) (filter (λ p. is_hypothesis S s p.1) (active S))
 
--- the two are different, and stand together in one of the lists
+-- the two are different, and both are in one of the lists
 abbrev pub together : List (List Name) → Name → Name → Bool
 together groups x y = not (name_eq x y) && list_any (λ names. has_name x names && has_name y names) groups
 
@@ -29,20 +29,20 @@ together groups x y = not (name_eq x y) && list_any (λ names. has_name x names 
 abbrev pub groups : Database → List (List Name)
 groups S = map (λ p. separated p.1) (active S)
 
--- x and y stand together in an active `$d`
+-- x and y are different and stand together in an active `$d`
 abbrev pub is_pair : Database → Name → Name → Bool
 is_pair S x y = together (groups S) x y
 
 abbrev pub is_mandatory_pair : Database → Stmt → Name → Name → Bool
 is_mandatory_pair S s x y = is_pair S x y && is_mandatory S s x && is_mandatory S s y
 
--- a list that says something, namely one of two or more
+-- the list has two or more variables, and so makes a condition
 abbrev pub separates : List Name → Bool
 separates [] = false
 separates (x ∷ []) = false
 separates (x ∷ y ∷ names) = true
 
--- the lists of the active `$d`, of each its mandatory variables
+-- for each active `$d` the list of its mandatory variables, if these are two or more
 abbrev pub mandatory_groups : Database → Stmt → List (List Name)
 mandatory_groups S s = filter separates (map (filter (is_mandatory S s)) (groups S))
 

@@ -1,4 +1,4 @@
--- The view of a frame and of the frames of a database in contracts.
+-- A frame, and the frames of a database, as contracts see them.
 use Rattle.std.specs.Prelude.{ℕ, List}
 use Rattle.frame.specs.Words.{Name, Expr, Database}
 
@@ -8,7 +8,7 @@ pub record FrameParts : Type 0 where
   pub groups : List (List Name)
   pub conclusion : Expr
 
--- the statements without their proofs, and the name that each code stands for
+-- the statements without their proofs, and the name that each number stands for
 pub record Numbered : Type 0 where
   pub statements : Database
   pub names : List Name

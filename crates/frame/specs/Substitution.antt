@@ -1,8 +1,8 @@
--- Images of symbols put into an expression, all at once. A symbol is a name, or a number that stands for one.
+-- Simultaneous substitution of images for the symbols of an expression. A symbol is a name, or a number that stands for one.
 use Rattle.std.specs.Prelude.{ℕ, suc, Bool, nat_eq, if◌then◌else◌, List, [], ◌∷◌, flat_map}
 use Rattle.frame.specs.Words.{Name, name_eq, Expr, decode}
 
--- the image of a symbol, by the first entry for it; a symbol with none is its own
+-- the image of a symbol, by its first entry; a symbol without an entry is its own image
 abbrev pub image_by : {A : Type 0} → (A → A → Bool) → List (A × List A) → A → List A
 image_by same [] x = x ∷ []
 image_by same (p ∷ σ) x = if same x p.0 then p.1 else image_by same σ x
@@ -20,7 +20,7 @@ image σ x = image_by name_eq σ x
 abbrev pub apply : Images → Expr → Expr
 apply σ e = apply_by name_eq σ e
 
--- over codes
+-- over numbers
 abbrev pub CodeImages : Type 0
 CodeImages = List (ℕ × List ℕ)
 
@@ -30,7 +30,7 @@ code_image σ x = image_by nat_eq σ x
 abbrev pub code_apply : CodeImages → List ℕ → List ℕ
 code_apply σ e = apply_by nat_eq σ e
 
--- the images of names: of each the image of its number
+-- the images of names: for each the image of its number
 abbrev pub images_from : List Name → CodeImages → ℕ → List Name → Images
 images_from names σ n [] = []
 images_from names σ n (x ∷ xs) = (x, decode names (code_image σ n)) ∷ images_from names σ (suc n) xs

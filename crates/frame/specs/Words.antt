@@ -1,4 +1,4 @@
--- The words of the layers below in which this crate is specified, passed on from one place.
+-- The definitions of the layers below that this crate's definitions use, re-exported from one place.
 pub use Rattle.entries.specs.Entries.{Assertion, Entry, partless}
 pub use Rattle.entries.specs.Histories.{AreUntil, StackVersion, history, kept_until, stack_at}
 pub use Rattle.entries.specs.PositionSets.{Ascends, set_at}

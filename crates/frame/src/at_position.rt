@@ -1,11 +1,11 @@
-//! Reads off the storage what is active at a position.
+//! Finds what is active at a position.
 ghost use Rattle.std.specs.Prelude.{◌≡◌, ◌+◌, ◌-◌, ◌<◌, ◌≤◌, length, take, slice_get};
 ghost use Rattle.{scope.specs.Active.is_active, frame.specs.LastActive.last_active_of, frame.specs.Stored.Whole.AreStored, frame.specs.Stored.EntryMeanings.statements_of, frame.specs.Stored.Counts.IsPlain};
 
 use crate::storage::Storage;
 use entries::LastActive;
 
-/// Returns what is active before the statement at `at`, or at the end.
+/// Returns the last active statements before the statement at `at`, or at the end.
 pub fn last_active_at(storage: &Storage, at: usize) -> LastActive
     requires stored { AreStored storage.now }
     requires place { (1 ≤ at) × (at ≤ length (statements_of storage.now) + 1) }
@@ -18,7 +18,7 @@ pub fn last_active_at(storage: &Storage, at: usize) -> LastActive
     }
 }
 
-/// Returns whether the statement at i, which is neither `${` nor `$}`, is active at `at`.
+/// Returns whether the statement at `i`, which is neither `${` nor `$}`, is active at `at`.
 ///
 /// Cost: two look-ups.
 pub fn is_active_at(storage: &Storage, i: usize, at: usize) -> bool

@@ -1,4 +1,4 @@
-//! The lists by which an assertion is cited, where the active `$d` are many.
+//! The lists by which an assertion is cited if the active `$d` are many.
 ghost use Rattle.std.specs.Prelude.{◌≡◌, ◌==◌, ◌≤◌, ◌<◌, ◌||◌, ◌∷◌, ℕ, [], length, map, OnOk, IfOk};
 ghost use Rattle.std.specs.List.{list_any};
 ghost use Rattle.frame.specs.Below.{AreBelow};
@@ -17,14 +17,14 @@ use crate::storage::Storage;
 use entries::Hypothesis;
 use std::alloc::{AllocError, Global};
 
-/// The symbols of `$d` that are gone through in about the time in which a pair is asked for, of which facts are known.
+/// The number of symbols of `$d` that take about as long to go through as a search for a pair with known facts.
 const PAIR_COST: usize = 256;
 
-/// The most tries to ask for all pairs, each four times as long as the one before it.
+/// The largest number of attempts to search for all pairs, each up to four times as long as the one before it.
 const MOST_TRIES: usize = 16;
 
 /// Appends the hypotheses of an assertion at `at`, each as one number, and groups that have its pairs of disjoint variables:
-/// one for each two of these where that costs less, else one for each `$d`.
+/// one for each pair if that costs less, else one for each `$d`.
 ///
 /// Errors: an allocation fails.
 pub fn fill_for_citation(
@@ -65,7 +65,7 @@ fn variables(alloc: Global, storage: &Storage, hypotheses: &[u32]) -> Result<Vec
     Ok(list)
 }
 
-/// Appends the variable of a `$f`.
+/// Appends the variable of a hypothesis, if it is a `$f`.
 fn add_variable(hypothesis: Hypothesis, list: &mut Vec<u32>) -> Result<(), AllocError>
     ensures { OnOk result ((c : ℕ) → list_any (λ n. n == c) list.new.items ≡ (list_any (λ n. n == c) list.old.items || is_typed_by c hypothesis)) }
 {
@@ -75,9 +75,9 @@ fn add_variable(hypothesis: Hypothesis, list: &mut Vec<u32>) -> Result<(), Alloc
     Ok(())
 }
 
-/// Asks for each two of the variables, and returns whether that took no longer than going through the active `$d`.
+/// Searches for each pair of the variables, and returns whether that took no longer than going through the active `$d`.
 ///
-/// Cost: at most a constant times that of either.
+/// Cost: at most a constant times that of the cheaper one.
 fn learn_pairs(storage: &Storage, at: usize, facts: &mut PairFacts, variables: &[u32]) -> bool
     requires place { IsPlace storage.now at }
     requires facts { AreFacts (numbered storage.now) facts.old }
@@ -119,7 +119,8 @@ fn has_more_symbols(storage: &Storage, at: usize, most: usize) -> bool
     symbols > most
 }
 
-/// Asks for each two of the variables, until the searches passed `most` `$d`. Returns whether all were asked for.
+/// Searches for each pair of the variables, until the searches have passed `most` `$d`. Returns whether all were
+/// searched for.
 fn ask_pairs(
     storage: &Storage,
     at: usize,
@@ -141,8 +142,8 @@ fn ask_pairs(
     true
 }
 
-/// Asks for a variable and each of some others, until the searches passed as many `$d` as they may. Returns whether all were
-/// asked for.
+/// Searches for the pairs of a variable and each of some others, until the searches have passed as many `$d` as they may.
+/// Returns whether all were searched for.
 fn ask_pairs_of(storage: &Storage, at: usize, facts: &mut PairFacts, x: u32, others: &[u32]) -> bool
     requires place { IsPlace storage.now at }
     requires facts { AreFacts (numbered storage.now) facts.old }
@@ -158,7 +159,7 @@ fn ask_pairs_of(storage: &Storage, at: usize, facts: &mut PairFacts, x: u32, oth
     true
 }
 
-/// Asks for two variables.
+/// Searches for a pair of variables, to record facts about it.
 fn ask_pair(storage: &Storage, at: usize, facts: &mut PairFacts, x: u32, y: u32)
     requires place { IsPlace storage.now at }
     requires facts { AreFacts (numbered storage.now) facts.old }
@@ -173,7 +174,7 @@ fn ask_pair(storage: &Storage, at: usize, facts: &mut PairFacts, x: u32, y: u32)
 /// Appends the hypotheses of an assertion at `at`, each as one number, and a group for each two of their variables that are
 /// disjoint there.
 ///
-/// Cost: the size of the hypotheses, and for each two variables that of `search_by_facts`.
+/// Cost: the size of the hypotheses, and that of `search_by_facts` for each two variables.
 fn fill_by_pairs(
     storage: &Storage,
     at: usize,
@@ -218,7 +219,7 @@ fn add_pairs(
     Ok(())
 }
 
-/// Appends a group of a variable and each of some others from which it is disjoint.
+/// Appends a group of two for a variable and each of some others from which it is disjoint.
 fn add_pairs_of(
     storage: &Storage,
     at: usize,

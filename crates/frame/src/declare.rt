@@ -1,5 +1,5 @@
-//! The changes that one more statement makes, and how they are undone: the names and the last declarations of symbols, where
-//! blocks end, and what is active after it.
+//! Makes and undoes the changes by one more statement: the names and the last declarations of symbols, where blocks end, and
+//! what is active after it.
 ghost use Rattle.std.specs.Prelude.{◌≡◌, ℕ, ◌+◌, ◌≤◌, ◌==◌, ◌++◌, ◌∷◌, [], Some, length, slice_get, OnOk, if◌then◌else◌, map, take};
 ghost use Rattle.{std.specs.List.list_any, mm_read.specs.declared.stmt.Stmt.Stmt as Statement, scope.specs.Active.label_of, scope.specs.Declares.IsRecordedBy, scope.specs.Declares.MayDeclare, scope.specs.Declares.declared_with, entries.specs.Stored.Spans.Extends, frame.specs.Below.AreBelow, frame.specs.LastActive.last_active_of, frame.specs.declared.storage.Symbol.Symbol as Declared, frame.specs.Stored.Whole.AreStored, frame.specs.Stored.EntryMeanings.option_position, frame.specs.Stored.EntryMeanings.statements_of, frame.specs.Stored.EntryMeanings.declared_by, frame.specs.Stored.EntryMeanings.last_of, frame.specs.Stored.EntryMeanings.with_last, frame.specs.Stored.EntryMeanings.ReadsAs, frame.specs.Stored.EntryMeanings.replaced_of, frame.specs.Stored.EntryMeanings.symbol_of, frame.specs.Stored.Counts.Grown, frame.specs.Stored.Counts.HasRoom, frame.specs.Stored.Counts.kind_of, frame.specs.Stored.Counts.next_last_active, frame.specs.Stored.Counts.HasTwo, frame.specs.Stored.Ends.with_end, frame.specs.Stored.Ends.TellEnds};
 
@@ -14,8 +14,8 @@ use std::alloc::{AllocError, Global};
 /// There are fewer symbols than this, so numbers fit in 32 bits.
 const NAMES_LIMIT: usize = 2147483648;
 
-/// Declares the names of the next statement, whose label gets its position. The numbers of the symbols of a
-/// `$c` and a `$v` are recorded.
+/// Declares the names of the next statement, and appends its position if it has a label. Records the numbers of the
+/// symbols of a `$c` or `$v`.
 pub fn declare_next(
     alloc: Global,
     storage: &mut Storage,
@@ -46,7 +46,7 @@ pub fn declare_next(
     Ok(())
 }
 
-/// Returns what is active after one more statement of a kind.
+/// Returns the last active statements after one more statement of a kind.
 pub fn last_active_after(storage: &Storage, kind: Kind) -> LastActive
     requires { AreStored storage.now }
     ensures { (s : Statement) → kind_of s ≡ kind → result ≡ last_active_of (statements_of storage.now ++ s ∷ []) }
@@ -69,7 +69,7 @@ pub fn last_active_after(storage: &Storage, kind: Kind) -> LastActive
     }
 }
 
-/// Returns what is active after a statement of a kind at `at`, if it is no `$}`.
+/// Returns the last active statements after a statement of a kind at `at` that is not a `$}`.
 fn last_active_with(last_active: LastActive, kind: Kind, at: u32) -> LastActive
     ensures { result ≡ next_last_active last_active at kind }
 {
@@ -145,7 +145,7 @@ fn set_last(symbol: &mut Symbol, kind: Kind, at: usize)
     }
 }
 
-/// Records `at` as the end of the block that opened at `block`, where a statement of this kind ends it.
+/// Records `at` as the end of the block that opened at `block`, if a statement of this kind ends a block.
 pub fn record_end(ends: &mut Vec<u32>, kind: Kind, block: u32, at: u32)
     requires { block ≤ length ends.old.items }
     ensures { ends.new.items ≡ with_end kind block at ends.old.items }
@@ -155,8 +155,8 @@ pub fn record_end(ends: &mut Vec<u32>, kind: Kind, block: u32, at: u32)
     }
 }
 
-/// Removes the entries after the first `len`, the last one first, and with them their declarations and the ends of
-/// blocks that they are.
+/// Removes the entries after the first `len`, the last one first, and with them their declarations and the recorded
+/// ends of blocks.
 pub fn remove_entries(storage: &mut Storage, len: usize)
     requires stored { AreStored storage.old }
     requires within { len ≤ length storage.old.entries }

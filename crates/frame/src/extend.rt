@@ -1,4 +1,4 @@
-//! Appends a statement to the storage, or nothing, or truncates it to the first statements.
+//! Appends a statement to the storage as a whole or not at all, and truncates it to the first statements.
 ghost use Rattle.std.specs.Prelude.{true, ◌≡◌, ◌++◌, ◌∷◌, [], Some, OnOk, OnErr, take, length, slice_get, ◌+◌, IfSome, IfErr};
 ghost use Rattle.frame.specs.Stored.GivenSets.{AreFrames};
 ghost use Rattle.{names.specs.Codes.with_names, scope.specs.Active.bare, scope.specs.Legal.IsLegal, scope.specs.Legal.broken_rule, scope.specs.Stored.SymbolNumbers.AreRecorded, scope.specs.Symbols.AreVariableNumbers, scope.specs.Symbols.symbols_after, scope.specs.Symbols.symbols_by, scope.specs.Symbols.symbols_in, scope.specs.Symbols.symbols_of, entries.specs.Entries.Entry, entries.specs.Histories.AreKeptUntil, entries.specs.Histories.AreSame, entries.specs.Stored.Spans.Extends, frame.specs.Stored.Whole.AreStored, frame.specs.Stored.Counts.IsAfter, frame.specs.Stored.EntryMeanings.labels_in, frame.specs.Stored.EntryMeanings.names_in, frame.specs.Stored.EntryMeanings.statements_of};
@@ -20,7 +20,7 @@ use mm_read::Stmt;
 use scope::{Rule, Rules, Scope, Steps, SymbolNumbers};
 use std::alloc::{AllocError, Global};
 
-/// Appends the statement, with the numbers of its symbols where they were recorded. If an allocation fails,
+/// Appends the statement, by the recorded numbers of its symbols if there are any. If an allocation fails,
 /// some of it may remain after the earlier contents.
 fn extend(
     alloc: Global,
@@ -79,7 +79,7 @@ fn extend(
     Ok(())
 }
 
-/// Appends the statement, with the numbers of its symbols where they were recorded.
+/// Appends the statement, by the recorded numbers of its symbols if there are any.
 ///
 /// If an allocation fails, everything is as before.
 fn extend_whole(
@@ -156,7 +156,7 @@ fn cut(storage: &mut Storage, len: usize)
     }
 }
 
-/// Truncates the storage to the first names and replaced declarations, and to its statements.
+/// Truncates the storage to its statements, and to the first `names` names and the first `replaced` replaced declarations.
 fn roll_back(storage: &mut Storage, names: usize, replaced: usize)
     ensures names { storage.new.numbering ≡ take names storage.old.numbering }
     ensures symbols { storage.new.symbols.items ≡ take (length (names_in storage.new)) storage.old.symbols.items }
@@ -178,9 +178,9 @@ fn roll_back(storage: &mut Storage, names: usize, replaced: usize)
     storage.variables.truncate(last);
 }
 
-/// Gives back the room of what was removed from the storage, where it is more than that of what is there.
+/// Gives back the room of the removed contents of the storage, if it is more than that of the remaining contents.
 ///
-/// Cost: that of `Numbering::shrink`, and the symbols that were removed.
+/// Cost: that of `Numbering::shrink`, and the number of symbols removed.
 fn shrink_lists(alloc: Global, storage: &mut Storage)
     ensures numbering { storage.new.numbering ≡ storage.old.numbering }
     ensures positions { storage.new.positions.items ≡ storage.old.positions.items }
@@ -230,10 +230,10 @@ impl Frames {
         )
     }
 
-    /// Appends the next statement if it breaks none of the rules G1 to G10: the rules, whose state is that after the
-    /// same statements, are lent the numbering, and accept it.
+    /// Appends the next statement if it breaks none of the rules G1 to G10. The rules, whose state is that after the
+    /// same statements, borrow the numbering, and accept the statement.
     ///
-    /// Errors: the least rule that it breaks, or `Memory` where it breaks none; everything is then as before. Cost: that
+    /// Errors: the least rule that it breaks, or `Memory` if it breaks none; everything is then as before. Cost: that
     /// of `Rules::broken_rule` and of `push`; one step is counted, whatever the outcome.
     pub fn add(&mut self, rules: &mut Rules, stmt: &Stmt, steps: &mut Steps) -> Result<(), Rule>
         requires same { rules.old.statements ≡ self.old.statements }
@@ -291,9 +291,10 @@ impl Frames {
         self.given.truncate(len);
     }
 
-    /// Gives back the room of statements that were removed, where it is more than that of those that are there.
+    /// Gives back the room of removed statements, if it is more than that of the remaining ones.
     ///
-    /// Cost: a constant; where room is given back, what is there, which is less than what was removed.
+    /// Cost: a constant; if room is given back, the size of the remaining contents, which is less than that of what was
+    /// removed.
     pub fn shrink(&mut self)
         ensures { self.new ≡ self.old }
     {

@@ -1,4 +1,4 @@
-//! Buffers for the parts of an assertion.
+//! Buffers for the parts of an assertion, which are reused.
 ghost use Rattle.std.specs.Prelude.{◌≡◌, ◌++◌, ◌∷◌, [], length, false, OnOk};
 ghost use Rattle.{entries.specs.Entries.AreShapedParts, entries.specs.Entries.assertion_of, entries.specs.Entries.partless};
 
@@ -8,24 +8,24 @@ use scope::Stack;
 use std::alloc::{AllocError, Global};
 use std::marker::Model;
 
-/// The mandatory hypotheses and groups of an assertion, in buffers that serve one after another.
+/// The mandatory hypotheses and groups of an assertion, in buffers that are reused for one assertion after another.
 ///
-/// Contracts see them as an assertion is kept.
+/// Contracts see them in the form in which the parts of an assertion are kept.
 #[derive(Drop)]
 pub struct FrameBuffers {
     /// Whether the parts are whole, or only those that the assertion adds to what is active.
     pub(crate) whole: bool,
-    /// The symbols whose `$f` was looked for, and then the variables of the hypotheses.
+    /// The symbols whose `$f` were looked up; later the variables of the hypotheses.
     pub(crate) recorded: Stack,
-    /// The positions of its hypotheses, in order.
+    /// The positions of the hypotheses, in order.
     pub(crate) hypotheses: Vec<u32>,
     /// Each hypothesis as one number.
     pub(crate) required: Vec<u32>,
-    /// The typecode of each.
+    /// The typecode of each hypothesis.
     pub(crate) typecodes: Vec<u32>,
     /// The variables whose images must be disjoint, one group after another.
     pub(crate) places: Vec<u32>,
-    /// The groups.
+    /// For each group, its range in `places`.
     pub(crate) groups: Vec<BufferPart>,
 }
 
@@ -54,7 +54,7 @@ impl FrameBuffers {
         }
     }
 
-    /// Returns the kept form of a statement with these symbols.
+    /// Returns the parts of a statement with these symbols, in the form in which they are kept.
     pub(crate) fn parts<'a>(&'a self, symbols: &'a [u32]) -> AssertionParts<'a>
         requires required { length self.now.required ≡ length self.now.hypotheses }
         requires typecodes { length self.now.typecodes ≡ length self.now.hypotheses }
@@ -97,7 +97,7 @@ impl FrameBuffers {
         Ok(())
     }
 
-    /// Empties the buffers, which keep their room.
+    /// Empties the buffers, which keep their capacity.
     pub(crate) fn clear(&mut self)
         ensures { self.new ≡ partless false }
     {

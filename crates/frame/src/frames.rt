@@ -21,13 +21,13 @@ use scope::{Numbering, SymbolNumbers};
 use std::alloc::{AllocError, Global};
 use std::marker::Model;
 
-/// Active `$e` that bring along more mandatory hypotheses than this bring along many.
+/// If the active `$e` bring along more mandatory hypotheses than this, these are many.
 const LONG: usize = 64;
 
 /// The statements of a database by position, without their proofs, with their symbols as numbers.
 ///
-/// Contracts see the list of the statements, each legal after the earlier ones, and the names that the numbers
-/// stand for, in order of first declaration.
+/// Contracts see the list of the statements, each legal after the earlier ones, and the names of the numbers, in
+/// order of first declaration.
 #[derive(Drop)]
 pub struct Frames {
     pub(crate) alloc: Global,
@@ -84,7 +84,7 @@ impl Frames {
         self.storage.entries.len()
     }
 
-    /// Makes room for so many more labels if allocation succeeds: statements that carry them are then added
+    /// Makes room for `labels` more labels if allocation succeeds, so that statements with labels are added
     /// faster.
     pub fn reserve(&mut self, labels: usize)
         ensures { self.new ≡ self.old }
@@ -93,7 +93,7 @@ impl Frames {
         let _ = self.storage.positions.reserve(labels);
     }
 
-    /// Returns the position of the statement with this label.
+    /// Returns the position of the statement with this label, or `None` if there is none.
     pub fn position(&self, label: &[u8]) -> Option<usize>
         ensures { IsPosition self.now.statements label.now result }
     {
@@ -101,7 +101,7 @@ impl Frames {
         Some(self.storage.positions[number as usize] as usize)
     }
 
-    /// Returns the position of the statement with each label.
+    /// Returns, for each label, the position of the statement with it, or `None` if there is none.
     ///
     /// Errors: an allocation fails. Cost: that of looking each label up.
     pub fn positions(&self, labels: &Words) -> Result<Vec<Option<usize>>, AllocError>
@@ -115,7 +115,7 @@ impl Frames {
         Ok(positions)
     }
 
-    /// Returns the expression of the statement at a position, by numbers; nothing if it has none.
+    /// Returns the expression of the statement at a position, by numbers, or an empty slice if it has none.
     pub fn expr(&self, at: usize) -> &[u32]
         requires { (1 ≤ at) × (at ≤ length self.now.statements) }
         ensures same { (s : Statement) → stmt_at self.now.statements at ≡ Some s → decode self.now.names result.now ≡ expr_of s }
@@ -129,8 +129,8 @@ impl Frames {
         }
     }
 
-    /// Returns where each symbol of the expression of the statement at a position stands, if the expression has at least
-    /// `LONG_EXPRESSION` symbols.
+    /// Returns where each symbol of the expression of the statement at a position stands, or `None` if the expression has
+    /// fewer than `LONG_EXPRESSION` symbols.
     ///
     /// Cost: log n for n such expressions.
     pub fn places(&self, at: usize) -> Option<&SymbolPlaces>
@@ -145,7 +145,7 @@ impl Frames {
         }
     }
 
-    /// Returns what a citation of the statement at i means at `at`.
+    /// Returns the meaning at `at` of a citation of the statement at `i`.
     pub fn meaning(&self, at: usize, i: usize) -> Meaning<'_>
         requires { (1 ≤ at) × (at ≤ length self.now.statements) }
         ensures { IsMeaning self.now.statements self.now.names at i result }
@@ -179,7 +179,7 @@ impl Frames {
         }
     }
 
-    /// Returns the parts of the assertion at a position, by numbers, if they are kept whole, which they are if they are few.
+    /// Returns the parts of the assertion at a position, by numbers, or `None` if they are too many to be kept whole.
     pub fn cited(&self, a: usize) -> Option<AssertionView<'_>>
         requires { (s : Statement) × HasAssertion self.now.statements a s }
         ensures { (s : Statement) → stmt_at self.now.statements a ≡ Some s → IfSome result (IsViewOf self.now.statements self.now.names a s) }
@@ -187,9 +187,9 @@ impl Frames {
         self.storage.entries.cited(a - 1)
     }
 
-    /// Makes the lists of the assertion at a position, of which only the additions to what is active are kept.
+    /// Fills the buffers with the parts of the assertion at a position, whose parts need not be kept whole.
     ///
-    /// Cost: the size of its hypotheses, which are sorted, and of the active `$d`.
+    /// Errors: an allocation fails. Cost: the size of its hypotheses, which are sorted, and of the active `$d`.
     pub fn fill_buffers(&self, a: usize, frame_buffers: &mut FrameBuffers) -> Result<(), AllocError>
         requires { (s : Statement) × HasAssertion self.now.statements a s }
         ensures { OnOk result (AreBuffersOf self.now.statements self.now.names a frame_buffers.new) }
@@ -199,7 +199,7 @@ impl Frames {
         fill_from_hypotheses(&self.storage, a, frame_buffers)
     }
 
-    /// Returns the parts of the assertion at a position, by the lists that were made of it.
+    /// Returns the parts of the assertion at a position, from the buffers that `fill_buffers` filled.
     pub fn cited_from<'a>(&'a self, a: usize, frame_buffers: &'a FrameBuffers) -> AssertionView<'a>
         requires assertion { (s : Statement) × HasAssertion self.now.statements a s }
         requires frame_buffers { AreBuffersOf self.now.statements self.now.names a frame_buffers.now }
@@ -213,12 +213,12 @@ impl Frames {
         }
     }
 
-    /// Makes lists by which the assertion at a position can be cited. Its disjoint variables are asked for pair by pair where
-    /// that costs less than going through the active `$d`.
+    /// Fills the buffers with lists by which the assertion at a position can be cited. Its disjoint variables are searched
+    /// for pair by pair if that costs less than going through the active `$d`.
     ///
-    /// Errors: an allocation fails. Cost: the size of its hypotheses, which are sorted; and the symbols of the active `$d`,
-    /// or for each two of its variables those `$d` that earlier calls with the same facts have not passed and some 64 more,
-    /// whichever are fewer, times a constant.
+    /// Errors: an allocation fails. Cost: the size of its hypotheses, which are sorted; and, times a constant, the symbols of
+    /// the active `$d`, or for each two of its variables the `$d` that earlier calls with the same facts have not passed and
+    /// about 64 more, whichever are fewer.
     pub fn fill_lists(
         &self,
         a: usize,
@@ -235,7 +235,7 @@ impl Frames {
         fill_for_citation(self.alloc, &self.storage, a, facts, buffers)
     }
 
-    /// Returns the parts by which the assertion at a position can be cited, by the lists that `fill_lists` made of it.
+    /// Returns the parts by which the assertion at a position can be cited, from the buffers that `fill_lists` filled.
     pub fn cited_by<'a>(&'a self, a: usize, buffers: &'a FrameBuffers) -> AssertionView<'a>
         requires assertion { (s : Statement) × HasAssertion self.now.statements a s }
         requires lists { AreCitingLists self.now.statements self.now.names a buffers.now }
@@ -249,7 +249,7 @@ impl Frames {
         }
     }
 
-    /// Appends the mandatory hypotheses of the assertion at a position, by position, in order, to an empty list.
+    /// Appends the positions of the mandatory hypotheses of the assertion at a position, in order, to an empty list.
     pub fn mandatory(&self, a: usize, list: &mut Vec<u32>) -> Result<(), AllocError>
         requires assertion { (s : Statement) × HasAssertion self.now.statements a s }
         requires empty { list.old.items ≡ [] }
@@ -264,7 +264,8 @@ impl Frames {
         }
     }
 
-    /// Returns the mandatory hypotheses of the assertion at a position without a list of them, or `None` if they are few.
+    /// Returns the mandatory hypotheses of the assertion at a position without making a list of them, or `None` if they are
+    /// few.
     ///
     /// Errors: an allocation fails. Cost: the `$f` of the assertion's own variables, times a logarithm.
     pub fn mandatory_view(&self, a: usize) -> Result<Option<MandatoryView<'_>>, AllocError>
@@ -299,7 +300,7 @@ impl Frames {
         }
     }
 
-    /// Returns the symbol of a number; nothing if no symbol has it.
+    /// Returns the symbol with a number, or an empty slice if there is none.
     pub fn symbol(&self, number: u32) -> &[u8]
         ensures { result.now ≡ name_at self.now.names number }
     {

@@ -24,8 +24,8 @@ pub struct KeptSet {
     pub before: u32,
 }
 
-/// The mandatory hypotheses that the active `$e` up to a `$e` bring along, as a set if they are many. If they are few, a
-/// walk collects them.
+/// The mandatory hypotheses that the active `$e` up to each `$e` bring along, as a set if they are many. If they are few,
+/// they are collected by a walk over the `$e`.
 #[derive(Drop)]
 pub struct GivenSets {
     pub alloc: Global,
@@ -85,8 +85,8 @@ impl GivenSets {
 
     /// Records the set of the last statement.
     ///
-    /// Errors: an allocation fails; the sets are as before. Cost: for a `$e` its `$f`, times a logarithm, or the size of
-    /// the set if it is the first; for another statement a constant.
+    /// Errors: an allocation fails; the sets are as before. Cost: for a `$e` the number of its `$f`, times a logarithm, or
+    /// the size of the set if it is the first one; for another statement a constant.
     pub fn record_set(&mut self, storage: &Storage) -> Result<(), AllocError>
         requires stored { AreStored storage.now }
         requires sets { AreGivenSets self.old storage.now.entries (statements_of storage.now) }
@@ -171,7 +171,7 @@ impl GivenSets {
         }
     }
 
-    /// Gives back the room of sets that were removed, where it is more than that of those that are there.
+    /// Gives back the room of removed sets, if it is more than that of the remaining ones.
     pub fn shrink(&mut self)
         ensures sets { self.new.sets ≡ self.old.sets }
         ensures kept { self.new.kept.items ≡ self.old.kept.items }
@@ -196,7 +196,7 @@ fn add_set(sets: &PositionSets, set: u32, list: &mut Vec<u32>) -> Result<(), All
     Ok(())
 }
 
-/// Makes the set that has these positions too, and returns its number.
+/// Makes the set that also has these positions, and returns its number.
 fn insert_each(sets: &mut PositionSets, set: u32, positions: &[u32]) -> Result<u32, AllocError>
     requires within { set < length sets.old }
     requires ascends { Ascends (set_at sets.old set) }

@@ -1,10 +1,12 @@
 //! The frames of assertions: mandatory hypotheses, disjoint variable conditions and conclusion.
 //!
-//! `Frames` keeps the statements of a database by position, and reads off them what a verifier needs: what a citation means at a
-//! statement, the parts of an assertion, and the disjoint variables. `frame` collects the `Frame` of one assertion from
-//! what is active. Reading order: `storage`, `shape`, `frame_buffers`; `symbol_numbers`, `at_position`, `stacks`, `declare`, `mandatory`,
-//! `make`, `extend` (appending and truncating); `meaning`, `frames`, `row`, `pair_memo`, `pair_facts`, `pairs`, `active_disjoint`, `citing_lists` (queries); `assertion`,
-//! `one_frame`; `laws`.
+//! `Frames` keeps the statements of a database by position, and answers what a verifier asks: what a citation means at a
+//! statement, the parts of an assertion, and which variables are disjoint. `frame` collects the `Frame` of one assertion
+//! from the active statements.
+//!
+//! Reading order: `storage`, `stored_entries`, `shape`, `frame_buffers`; `symbol_numbers`, `at_position`, `stacks`, `declare`,
+//! `mandatory`, `given_sets`, `make`, `extend` (appending and truncating); `meaning`, `frames`, `mandatory_view`, `row`,
+//! `pair_memo`, `pair_facts`, `pairs`, `active_disjoint`, `citing_lists` (queries); `assertion`, `one_frame`; `laws`.
 #![tactic(auto)]
 
 mod active_disjoint;

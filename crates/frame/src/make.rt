@@ -1,4 +1,4 @@
-//! The hypotheses that are kept with a statement, each as one number, and its disjoint variables.
+//! Makes the parts that are kept with a statement: its hypotheses, each as one number, and its disjoint variables.
 ghost use Rattle.std.specs.Prelude.{◌≡◌, ℕ, List, ◌+◌, ◌-◌, ◌≤◌, ◌==◌, ◌||◌, ◌++◌, ◌∷◌, [], true, false, if◌then◌else◌, length, map, take, OnOk};
 ghost use Rattle.mm_read.specs.declared.stmt.Stmt.{Stmt as Statement};
 ghost use Rattle.{names.specs.Codes.decode, names.specs.Codes.with_names, scope.specs.Active.expr_of, scope.specs.Active.bare, scope.specs.Stored.SymbolNumbers.AreRecorded, scope.specs.Symbols.symbols_by, scope.specs.Symbols.symbols_in, entries.specs.Hypotheses.told, entries.specs.Stored.Spans.cut, entries.specs.Stored.Spans.AreSpansIn, frame.specs.Below.AreBelow, frame.specs.AssertionView.typecode_of, frame.specs.Stored.Whole.AreStored, frame.specs.Stored.Whole.ArePartsFor, frame.specs.Stored.Hypotheses.AreHypotheses, frame.specs.Stored.Hypotheses.IsFilledFrom, frame.specs.Stored.Counts.HasTwo, frame.specs.Stored.Counts.kind_of, frame.specs.Stored.AssertionParts.required_at, frame.specs.Stored.AssertionParts.required_by, frame.specs.Stored.AssertionParts.typecode_at, frame.specs.Stored.AssertionParts.has_two, frame.specs.Stored.AssertionParts.is_typed, frame.specs.Stored.AssertionParts.is_typed_by, frame.specs.Stored.AssertionParts.recorded_in, std.specs.List.list_any, frame.specs.Stored.AssertionParts.has_parts, frame.specs.Stored.EntryMeanings.names_in, frame.specs.Stored.EntryMeanings.statements_of, frame.specs.FrameOf.hypotheses, frame.specs.Stored.OneFrame.required};
@@ -25,7 +25,7 @@ fn typecode(codes: &[u32]) -> u32
     }
 }
 
-/// Returns what the hypothesis at a position is.
+/// Returns the hypothesis at a position: the variable of a `$f`, or the position of a `$e`.
 pub fn hypothesis(entry: EntryRef<'_>, position: u32) -> Hypothesis
     requires { HasTwo entry.kind entry.symbols.now }
     ensures { result ≡ required_by position entry.entry.kind entry.entry.symbols.now }
@@ -82,7 +82,7 @@ fn record_variables(hypotheses: &Hypotheses<'_>, found: &mut Stack) -> Result<()
     Ok(())
 }
 
-/// Appends the group of those of the symbols that are among the variables, if they are two or more.
+/// Appends a group of those symbols that are among the variables, if they are two or more.
 fn add_group(
     variables: &Stack,
     codes: &[u32],
@@ -144,8 +144,8 @@ pub fn fill_from_hypotheses(
     Ok(())
 }
 
-/// Finds the parts of an assertion or a `$e` after all statements, by the recorded numbers of its symbols: all mandatory
-/// hypotheses and groups of an assertion if these are few, else the `$f` of its own variables. Another statement has none.
+/// Finds the parts of an assertion or `$e` that is appended to the statements, by the numbers of its symbols: all mandatory
+/// hypotheses and groups of an assertion if these are few, else the `$f` of its own variables. Other statements have none.
 pub fn fill_parts(
     storage: &Storage,
     given: &GivenSets,
@@ -187,7 +187,7 @@ pub fn fill_parts(
     fill_own(storage, buffers, codes)
 }
 
-/// Finds the `$f` of the variables of an assertion after all statements, and no other parts.
+/// Finds only the `$f` of the variables of an assertion that is appended to the statements.
 fn fill_own(storage: &Storage, buffers: &mut FrameBuffers, codes: &[u32]) -> Result<(), AllocError>
     requires stored { AreStored storage.now }
     requires codes { AreBelow (length (names_in storage.now)) codes.now }
@@ -208,5 +208,5 @@ fn fill_own(storage: &Storage, buffers: &mut FrameBuffers, codes: &[u32]) -> Res
     )
 }
 
-/// The parts of an assertion are kept whole if they have at most so many numbers.
+/// The largest number of numbers of parts that are kept whole with an assertion.
 const MOST_KEPT: usize = 96;

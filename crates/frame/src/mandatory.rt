@@ -1,4 +1,4 @@
-//! The mandatory hypotheses of an assertion, found by the symbols that it uses.
+//! Finds the mandatory hypotheses of an assertion by the symbols that it uses.
 ghost use Rattle.std.specs.Prelude.{◌≡◌, ◌+◌, ◌-◌, ◌≤◌, ◌<◌, ◌==◌, [], length, take, OnOk};
 ghost use Rattle.{std.specs.List.list_all, std.specs.List.list_any, frame.specs.Below.AreBelow, frame.specs.Stored.Whole.AreStored, frame.specs.Stored.Hypotheses.In, frame.specs.Stored.Hypotheses.AreThose, frame.specs.Stored.Hypotheses.HasMore, frame.specs.Stored.Hypotheses.IsFloatOf, frame.specs.Stored.Hypotheses.AreLooked, frame.specs.Stored.Hypotheses.AreFloats, frame.specs.Stored.Hypotheses.AreWith, frame.specs.Stored.EntryMeanings.names_in, frame.specs.Stored.EntryMeanings.statements_of};
 
@@ -8,7 +8,7 @@ use crate::storage::Storage;
 use scope::Stack;
 use std::alloc::AllocError;
 
-/// Sorts positions in ascending order, each once.
+/// Sorts positions in ascending order and removes repetitions.
 pub fn order(list: &mut Vec<u32>)
     ensures { AreThose (λ p. In p list.old.items) list.new.items }
 {
@@ -16,7 +16,7 @@ pub fn order(list: &mut Vec<u32>)
     list.dedup();
 }
 
-/// Appends the `$f` of a symbol that is active after all statements, if there is one and it is not listed yet.
+/// Appends the position of the active `$f` of a symbol, if there is one after all statements and it is not in the list yet.
 fn add_float(
     storage: &Storage,
     looked: &mut Stack,
@@ -40,7 +40,7 @@ fn add_float(
     Ok(())
 }
 
-/// Finds the active `$f` of the symbols, in order.
+/// Finds the positions of the active `$f` of the symbols, in order.
 ///
 /// Cost: that of the symbols, and of sorting the `$f`.
 pub fn find_floats(
@@ -99,14 +99,14 @@ pub fn add_essentials(storage: &Storage, at: usize, list: &mut Vec<u32>) -> Resu
     Ok(())
 }
 
-/// The groups of at most so many `$d`, with twice as many symbols, are kept with an assertion.
+/// The largest number of active `$d` whose groups are kept with an assertion; they have at most twice as many symbols.
 const FEW: usize = 64;
 
-/// If the active `$e` bring along more mandatory hypotheses than this, these are kept as a set.
+/// More mandatory hypotheses than this, brought along by the active `$e`, are kept as a set.
 pub const MANY: usize = 32;
 
-/// Returns how many mandatory hypotheses the active `$e` bring along, a `$f` counted for each `$e` that has its variable.
-/// Counting stops above `MANY`.
+/// Returns how many mandatory hypotheses the active `$e` bring along, counting a `$f` once for each `$e` that has its
+/// variable. Counting stops above `MANY`.
 pub fn given_count(storage: &Storage) -> usize {
     let mut essential = storage.last_active.essential as usize;
     let mut count = 0usize;
@@ -126,7 +126,7 @@ pub fn given_count(storage: &Storage) -> usize {
     count
 }
 
-/// Returns whether the mandatory hypotheses and groups of an assertion with so many `$f` of its own are few, or may be.
+/// Returns whether the mandatory hypotheses and groups of an assertion with `own` `$f` of its own variables may be few.
 /// The kept parts are right either way.
 ///
 /// Cost: at most a few steps, however much is active.

@@ -1,12 +1,12 @@
 //! The meaning of a citation.
 
-/// The meaning of a citation of one statement at another.
+/// The meaning, at one statement, of a citation of another.
 #[derive(Clone, Copy, Drop)]
 pub enum Meaning<'a> {
     /// An active hypothesis, and its expression.
     Hypothesis(&'a [u32]),
     /// An earlier assertion.
     Assertion,
-    /// Nothing: it may not be cited there.
+    /// Nothing: the statement cannot be cited there.
     Nothing,
 }

@@ -1,4 +1,4 @@
-//! The frame of one assertion, from what is active.
+//! Collects the frame of one assertion from the active statements.
 ghost use Rattle.std.specs.Prelude.{◌≡◌, ◌||◌, IsTrue, OnOk, IfOk};
 ghost use Rattle.{mm_lex.specs.Alphabet.Name, mm_lex.specs.Alphabet.name_eq, mm_lex.specs.Alphabet.has_name, scope.specs.Active.is_assertion, scope.specs.Active.expr_of, frame.specs.FrameOf.frame_of, frame.specs.Stored.OneFrame.AreRecorded, frame.specs.Stored.OneFrame.AreMandatory, frame.specs.Stored.OneFrame.among, frame.specs.Stored.OneFrame.required, frame.specs.Stored.OneFrame.asks, frame.specs.Stored.OneFrame.groups_among};
 
@@ -12,7 +12,8 @@ use std::alloc::{AllocError, Global};
 
 /// Returns the frame of an assertion after the statements of the scope.
 ///
-/// Source: Metamath, 4.2.7. Cost: the size of the assertion and of the active `$f`, `$e` and `$d`.
+/// Errors: an allocation fails. Cost: the size of the assertion and of the active `$f`, `$e` and `$d`.
+/// Source: Metamath, 4.2.7.
 pub fn frame(alloc: Global, scope: &Scope, stmt: &Stmt) -> Result<Frame, AllocError>
     requires assertion { IsTrue (is_assertion stmt.now) }
     ensures { IfOk result (λ f. f ≡ frame_of scope.now.statements stmt.now) }
@@ -39,7 +40,7 @@ fn expression(stmt: &Stmt) -> &Words
     }
 }
 
-/// Returns the variables of an assertion and of the active `$e`.
+/// Returns the mandatory variables of an assertion: those in its expression and in the active `$e`.
 fn mandatory_variables(alloc: Global, scope: &Scope, stmt: &Stmt) -> Result<NameTable, AllocError>
     requires { IsTrue (is_assertion stmt.now) }
     ensures { IfOk result (λ used. AreMandatory scope.now.statements stmt.now used) }
@@ -79,7 +80,7 @@ fn record_name(alloc: Global, used: &mut NameTable, name: &[u8]) -> Result<(), A
     Ok(())
 }
 
-/// Returns the positions of the `$e`, and of the `$f` of the variables.
+/// Returns the positions of the active `$e`, and of the active `$f` of the used variables.
 fn mandatory_hypotheses(
     alloc: Global,
     standing: &[Standing],
@@ -96,7 +97,7 @@ fn mandatory_hypotheses(
     Ok(list)
 }
 
-/// Returns whether it is an `$e`, or the `$f` of one of the variables.
+/// Returns whether a statement is an `$e`, or the `$f` of one of the used variables.
 fn is_required(used: &NameTable, stmt: &Stmt) -> bool
     ensures { result ≡ asks used.now stmt.now }
 {
@@ -113,7 +114,7 @@ fn has(used: &NameTable, name: &[u8]) -> bool
     used.find(name).is_some()
 }
 
-/// Returns for each `$d` those of the variables, where they are two or more.
+/// Returns for each active `$d` those of its variables that are used, if they are two or more.
 fn groups(alloc: Global, standing: &[Standing], used: &NameTable) -> Result<Vec<Words>, AllocError>
     ensures { IfOk result (λ groups. groups.items ≡ groups_among used.now standing.now) }
 {
@@ -129,7 +130,7 @@ fn groups(alloc: Global, standing: &[Standing], used: &NameTable) -> Result<Vec<
     Ok(groups)
 }
 
-/// Returns those of the names that are among the variables.
+/// Returns those of the names that are among the used variables.
 fn group(alloc: Global, used: &NameTable, names: &Words) -> Result<Words, AllocError>
     ensures { IfOk result (λ group. group ≡ among used.now names.now) }
 {

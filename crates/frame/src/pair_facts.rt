@@ -1,4 +1,4 @@
-//! The answers of long searches for pairs of disjoint variables.
+//! Records the answers of long searches for pairs of disjoint variables.
 ghost use Rattle.std.specs.Prelude.{◌≡◌, [], IfSome};
 ghost use Rattle.frame.specs.PairFacts.{AreFacts, IsFact};
 ghost use Rattle.frame.specs.Parts.{Numbered};
@@ -13,16 +13,16 @@ use std::alloc::Global;
 use std::collections::BTreeMap;
 use std::marker::Model;
 
-/// The most facts in a table.
+/// The largest number of facts in a table.
 const MOST_FACTS: usize = 262_144;
 
-/// A search that passes at most so many `$d` records nothing.
+/// The largest number of `$d` that a search passes without recording facts.
 const SHORT: usize = 16;
 
-/// A search asks for a fact at its first `$d`, and at those with a multiple of so many `$d` from them down.
+/// A search looks up a fact at its first `$d`, and at each `$d` that has a multiple of this many `$d` left, itself included.
 const STRIDE: usize = 64;
 
-/// Whether two variables stand together in a `$d` that is active right after the `$d` at a position.
+/// A fact: whether two variables stand together in a `$d` that is active right after the `$d` at a position.
 #[derive(Clone, Copy, Drop)]
 pub struct PairFact {
     /// The position of a `$d`.
@@ -37,13 +37,13 @@ pub struct PairFact {
 
 /// The answers of long searches, as facts.
 ///
-/// Contracts see the list of the facts. A fact holds for one database and those that begin with its statements.
+/// Contracts see the list of the facts. A fact holds for one database and for those of which its statements are a prefix.
 #[derive(Drop)]
 pub struct PairFacts {
     facts: Vec<PairFact>,
     /// The index of the fact of a position and two variables.
     indexes: BTreeMap<(u64, u64), usize>,
-    /// How many `$d` searches may still pass before they are given up.
+    /// How many more `$d` searches may pass before they are abandoned.
     left: usize,
 }
 
@@ -68,7 +68,7 @@ impl PairFacts {
         }
     }
 
-    /// Forgets all facts.
+    /// Discards all facts.
     pub fn clear(&mut self)
         ensures { self.new ≡ [] }
     {
@@ -76,7 +76,7 @@ impl PairFacts {
         self.indexes.clear();
     }
 
-    /// Returns the answer that is recorded for a position and two variables, if any is.
+    /// Returns the fact that is recorded for a position and two variables, if there is one.
     ///
     /// Cost: log n for n facts.
     fn known(&self, position: u32, x: u32, y: u32) -> Option<PairFact>
@@ -112,7 +112,7 @@ impl PairFacts {
         }
     }
 
-    /// Forgets all facts where more than half of the table is filled.
+    /// Discards all facts if more than half of the table is filled.
     pub(crate) fn make_room(&mut self)
         ensures { (v : Numbered) → AreFacts v self.old → AreFacts v self.new }
     {
@@ -121,7 +121,7 @@ impl PairFacts {
         }
     }
 
-    /// Lets the searches that follow pass so many `$d`.
+    /// Lets the searches that follow pass `count` `$d`.
     pub(crate) fn allow(&mut self, count: usize)
         ensures { self.new ≡ self.old }
     {
@@ -135,7 +135,7 @@ impl PairFacts {
         self.left = self.left.saturating_sub(count);
     }
 
-    /// Returns whether searches passed as many `$d` as they may.
+    /// Returns whether searches have passed as many `$d` as they may.
     pub(crate) fn is_spent(&self) -> bool {
         self.left == 0
     }
@@ -146,10 +146,10 @@ fn key(position: u32, x: u32, y: u32) -> (u64, u64) {
     (position as u64, (x as u64) << 32 | y as u64)
 }
 
-/// Returns whether two variables are disjoint at a position, with what earlier searches found.
+/// Returns whether two variables are disjoint at a position, with the facts of earlier searches.
 ///
-/// Cost: the smaller count of active `$d` that have x or that have y, times a binary search; where an earlier search for the
-/// two began at or below the same `$d`, those above it and at most 64 more, and log n for n facts.
+/// Cost: the smaller count of active `$d` that have x or that have y, times a binary search; if an earlier search for the
+/// two began at the same `$d` or an earlier one, only the `$d` after that one and at most 64 more, and log n for n facts.
 pub fn search_by_facts(storage: &Storage, at: usize, facts: &mut PairFacts, x: u32, y: u32) -> bool
     requires sought { AreSought storage.now at x y }
     requires facts { AreFacts (numbered storage.now) facts.old }
@@ -190,7 +190,7 @@ pub struct Walked {
     pub found: bool,
 }
 
-/// Goes through the `$d` that have x until one has y too, or a fact tells whether one of those that are left has.
+/// Goes through the `$d` that have x until one also has y, or a fact says whether one of those that are left does.
 fn walk(storage: &Storage, facts: &PairFacts, mut row: PositionStack<'_>, x: u32, y: u32) -> Walked
     requires sought { IsSoughtIn storage.now x y row }
     requires facts { AreFacts (numbered storage.now) facts.now }
@@ -251,14 +251,14 @@ fn record_passed(
     }
 }
 
-/// Returns whether a search asks for a fact at a `$d` before which it passed so many, with so many below.
+/// Returns whether a search looks up a fact at a `$d`, after having passed `passed` others and with `below` more to go.
 fn is_asked(passed: usize, below: usize) -> bool {
     passed == 0 || below % STRIDE == STRIDE - 1
 }
 
-/// Returns whether a long search records its answer at a `$d` with so many from it down: the one that it began with, and the
-/// uppermost one with a multiple of 64, of 128, of 256 and so on. So it records few, and a later search that begins a little
-/// lower mostly meets one of these soon.
+/// Returns whether a long search that began with `top` `$d` to go records its answer at the `$d` with `height` to go: at its
+/// first one, and at the first one with a multiple of 64, of 128, of 256 and so on to go. So it records few facts, and a
+/// later search that begins a little further on usually meets one of them soon.
 fn is_recorded(top: usize, height: usize) -> bool {
     let multiple = height & !height.saturating_sub(1);
     height == top || (height % STRIDE == 0 && top.saturating_sub(height) < multiple)

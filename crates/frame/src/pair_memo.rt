@@ -1,4 +1,4 @@
-//! The `$d` in which pairs of variables were found by long searches.
+//! Records the `$d` in which long searches found pairs of variables.
 ghost use Rattle.std.specs.Prelude.{◌≡◌, true};
 ghost use Rattle.frame.specs.Stored.PairSearch.{AreSought, IsLeft, are_pair};
 
@@ -9,13 +9,13 @@ use entries::{Kind, PositionStack};
 use std::alloc::Global;
 use std::collections::BTreeMap;
 
-/// The most pairs in a memo.
+/// The largest number of pairs in a memo.
 const MOST_PAIRS: usize = 65_536;
 
 /// A search that goes through more `$d` than this is long.
 const SHORT: usize = 16;
 
-/// The positions of the `$d` in which pairs of variables were found by long searches.
+/// The positions of the `$d` in which long searches found pairs of variables.
 ///
 /// A position only says where to look first, so one memo serves at all positions and for all databases.
 #[derive(Drop)]
@@ -39,7 +39,7 @@ impl PairMemo {
         }
     }
 
-    /// Records the position of a `$d` that has both variables, unless an allocation fails. A full memo begins anew.
+    /// Records the position of a `$d` that has both variables, unless an allocation fails. A full memo is cleared first.
     fn record(&mut self, x: u32, y: u32, position: u32) {
         if self.found.len() >= MOST_PAIRS {
             self.found.clear();
@@ -48,14 +48,15 @@ impl PairMemo {
     }
 }
 
-/// Returns one number for two variables, whatever their order.
+/// Returns a key for two variables, the same in either order.
 fn key(x: u32, y: u32) -> u64 {
     (x.min(y) as u64) << 32 | x.max(y) as u64
 }
 
-/// Returns whether two variables are disjoint, of which the first is in each of the `$d` that are left.
+/// Returns whether two variables are disjoint, given the `$d` that are left to search, all of which have the first variable.
 ///
-/// Cost: their number, times a binary search; if they are many and the pair is in the memo, log n for n pairs there.
+/// Cost: the number of these `$d`, times a binary search; if they are many and the pair is in the memo, log n for n pairs
+/// there.
 pub fn search(
     storage: &Storage,
     at: usize,
@@ -78,7 +79,7 @@ pub fn search(
     search_on(storage, at, memo, left, x, y)
 }
 
-/// Goes on with a search that is long.
+/// Continues a search that is long.
 #[cold]
 #[inline(never)]
 fn search_on(
@@ -105,7 +106,7 @@ fn search_on(
     false
 }
 
-/// Returns whether a `$d` that is active at `at` stands at a position and has both variables.
+/// Returns whether the statement at a position is a `$d` that is active at `at` and has both variables.
 ///
 /// Cost: two look-ups, and a binary search for each variable.
 fn has_both(storage: &Storage, at: usize, position: u32, x: u32, y: u32) -> bool

@@ -12,7 +12,7 @@ use std::marker::Model;
 
 /// The `$d` that are active at a position.
 ///
-/// Contracts see the statements up to the position, and the names that numbers stand for.
+/// Contracts see the statements before the position, and the names that numbers stand for.
 #[derive(Drop)]
 pub struct Pairs<'a> {
     pub(crate) storage: &'a Storage,
@@ -53,8 +53,8 @@ impl<'a> Pairs<'a> {
     /// Returns whether x and y are different and stand together in an active `$d`, with a memo of the pairs that long
     /// searches found. If an allocation fails, the pair is not recorded.
     ///
-    /// Cost: that of `has`; if the memo has the pair, and the `$d` in which it was found is active, a constant, and log n
-    /// for n pairs in the memo.
+    /// Cost: that of `has`; if the memo has the pair and the `$d` in which it was found is active, only a constant, and
+    /// log n for n pairs in the memo.
     pub fn has_by_memo(&self, memo: &mut PairMemo, x: u32, y: u32) -> bool
         requires { (x < length self.now.names) × (y < length self.now.names) }
         ensures { result ≡ is_pair self.now.statements (name_at self.now.names x) (name_at self.now.names y) }
@@ -110,7 +110,7 @@ impl<'a> Pairs<'a> {
         Some(self.storage.entries.entry(last - 1).symbols)
     }
 
-    /// Returns the number of a name, where it has one. A name with none is no variable there.
+    /// Returns the number of a name, if it has one. A name without a number is not a variable there.
     pub fn number(&self, name: &[u8]) -> Option<u32>
         ensures number { result ≡ code_of self.now.names name.now }
         ensures unnamed { IfNone result (is_variable self.now.statements name.now ≡ false) }
@@ -129,12 +129,12 @@ impl<'a> Pairs<'a> {
     }
 }
 
-/// A `$d` with at most so many symbols is searched in order; for a longer one the stacks tell whether it has a symbol.
+/// The largest number of symbols of a `$d` that is searched in order; a longer one is looked up in the stack of the symbol.
 const FEW: usize = 8;
 
 /// Returns whether one of the `$d` at these positions has the symbol.
 ///
-/// Cost: their number, times a binary search.
+/// Cost: the number of the `$d`, times a binary search.
 fn any_has(storage: &Storage, mut stack: PositionStack<'_>, code: u32) -> bool
     requires stored { AreStored storage.now }
     requires disjoints { AreOfKind is_disj (statements_of storage.now) stack }
@@ -164,7 +164,7 @@ pub(crate) fn has_symbol(storage: &Storage, at: u32, code: u32) -> bool
     }
 }
 
-/// Returns whether x stands in the list.
+/// Returns whether x is in the list.
 pub(crate) fn contains(codes: &[u32], x: u32) -> bool
     ensures { result ≡ list_any (λ y. x == y) codes.now }
 {

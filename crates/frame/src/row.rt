@@ -33,7 +33,7 @@ impl<'a> Model for Row<'a> {
 }
 
 impl<'a> Row<'a> {
-    /// Makes the row of the `$d` at these positions.
+    /// Creates the row of the `$d` at these positions.
     pub(crate) fn new(storage: &'a Storage, stack: PositionStack<'a>) -> Row<'a>
         requires stored { AreStored storage.now }
         requires disjoints { AreOfKind is_disj (statements_of storage.now) stack }

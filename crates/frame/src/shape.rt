@@ -1,4 +1,4 @@
-//! Properties of a statement's shape.
+//! Properties of the shape of a statement.
 ghost use Rattle.std.specs.Prelude.{◌≡◌};
 ghost use Rattle.{scope.specs.Active.bare, scope.specs.Active.is_assertion, scope.specs.Active.is_essential, frame.specs.Stored.AssertionParts.has_parts, frame.specs.Stored.Counts.kind_of, frame.specs.Stored.Labels.is_label_kind};
 
@@ -43,7 +43,7 @@ pub fn has_parts(kind: Kind) -> bool
     matches!(kind, Kind::Ess | Kind::Axiom | Kind::Prove)
 }
 
-/// Returns whether statements of a kind have a label. They are those with an expression.
+/// Returns whether statements of a kind have a label, and so an expression.
 pub fn has_label(kind: Kind) -> bool
     ensures { result ≡ is_label_kind kind }
 {

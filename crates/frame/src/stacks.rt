@@ -8,7 +8,7 @@ ghost use Rattle.frame.specs.Stored.Whole.{IsWalked};
 use entries::{Entries, Histories, Kind, LastActive};
 use std::alloc::AllocError;
 
-/// The next statement, as far as it changes what is active.
+/// The parts of the next statement that determine what is active after it.
 #[derive(Clone, Copy, Drop)]
 pub struct NextStatement<'a> {
     pub kind: Kind,
@@ -20,7 +20,7 @@ pub struct NextStatement<'a> {
     pub last_active: LastActive,
 }
 
-/// Records what the next statement makes active, or what is active again after a `$}`.
+/// Records the next statement if it is a `$d` or `$v`, or restores what is active after it if it is a `$}`.
 ///
 /// Cost: the symbols of a `$d` or `$v`; for a `$}` those of the `$d` and `$v` that it makes inactive, and for each of
 /// these symbols a binary search.
@@ -49,7 +49,7 @@ pub fn record_active(
     }
 }
 
-/// Puts `at` on top of the stack of each of the symbols.
+/// Pushes `at` onto the stack of each of the symbols.
 fn push_each(histories: &mut Histories, codes: &[u32], at: u32) -> Result<(), AllocError>
     requires { AreUntil at histories.old }
     ensures changed { OnOk result (AreChangedBy (pushed at) codes.now histories.old histories.new) }
@@ -61,8 +61,8 @@ fn push_each(histories: &mut Histories, codes: &[u32], at: u32) -> Result<(), Al
     Ok(())
 }
 
-/// Restores the stack of each symbol of the active statements of a kind that stand in the last block to the one that it was
-/// when that block opened.
+/// Restores the stack of each symbol of the active statements of a kind in the last block to the stack that it was when that
+/// block opened.
 fn go_back_all(
     histories: &mut Histories,
     entries: &Entries,
@@ -84,7 +84,7 @@ fn go_back_all(
     Ok(())
 }
 
-/// Restores the stack of each of the symbols to the one that it was at `before`.
+/// Restores the stack of each of the symbols to the stack that it was at `before`.
 fn go_back_each(
     histories: &mut Histories,
     codes: &[u32],
@@ -101,7 +101,7 @@ fn go_back_each(
     Ok(())
 }
 
-/// Returns the last active statement of a kind, by position, or 0.
+/// Returns the position of the last active statement of a kind, or 0.
 fn last_of_kind(last_active: LastActive, of: Kind) -> u32
     ensures { result ≡ last_by_kind of last_active }
 {

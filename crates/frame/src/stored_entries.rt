@@ -10,7 +10,7 @@ use entries::{
 use std::alloc::{AllocError, Global};
 use std::marker::Model;
 
-/// An expression with at least so many symbols is long: the places of its symbols are kept.
+/// The least number of symbols of a long expression, whose symbols' places are kept.
 pub const LONG_EXPRESSION: usize = 128;
 
 /// The statements as numbers, with the places of the symbols of long expressions. Contracts see the list of the statements.
@@ -87,7 +87,7 @@ impl StoredEntries {
         self.list.is_whole(index)
     }
 
-    /// Returns the parts of the assertion at an index, if they are whole.
+    /// Returns the parts of the assertion at an index, or `None` if they are not whole.
     #[inline(always)]
     pub fn cited(&self, index: usize) -> Option<AssertionView<'_>>
         requires { index < length self.now }
@@ -106,7 +106,7 @@ impl StoredEntries {
         self.long.get(index)
     }
 
-    /// Appends a statement, and notes where its symbols stand if it has a long expression.
+    /// Appends a statement, and records where its symbols stand if it has a long expression.
     ///
     /// Errors: an allocation fails; the list is as before.
     /// Cost: its size; n log n for n symbols of a long expression.
@@ -141,7 +141,7 @@ impl StoredEntries {
         self.long.truncate(len);
     }
 
-    /// Gives back the room of statements that were removed, where it is more than that of those that are there.
+    /// Gives back the room of removed statements, if it is more than that of the remaining ones.
     pub fn shrink(&mut self)
         ensures { self.new ≡ self.old }
     {
@@ -150,7 +150,7 @@ impl StoredEntries {
     }
 }
 
-/// Returns whether a statement has an expression in which images may be put, and a long one.
+/// Returns whether a statement has a long expression into which images can be substituted.
 #[inline(always)]
 fn is_long(kind: Kind, symbols: &[u32]) -> bool {
     match kind {

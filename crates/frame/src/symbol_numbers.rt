@@ -1,4 +1,4 @@
-//! Numbers of symbols and labels.
+//! Looks up the numbers of symbols and labels.
 ghost use Rattle.std.specs.Prelude.{◌≡◌, ◌++◌, ◌∷◌, [], IfSome, IfNone, false};
 ghost use Rattle.{mm_read.specs.Statements.Expr, names.specs.Codes.with_names, scope.specs.Kinds.declared_symbols, scope.specs.Kinds.declared_labels, scope.specs.Kinds.is_label_kind, scope.specs.Kinds.kind_in, scope.specs.Kinds.IsNumberOf, scope.specs.Stored.SymbolNumbers.AreRecorded, scope.specs.Symbols.symbols_by, scope.specs.Symbols.symbols_in, frame.specs.Stored.Naming.is_declared};
 
@@ -6,7 +6,7 @@ use mm_lex::Words;
 use mm_read::Stmt;
 use scope::{NameKind, Numbering, SymbolNumbers};
 
-/// Returns the number of a symbol, or `None` if the word is no symbol.
+/// Returns the number of a symbol, or `None` if the word is not a symbol.
 pub fn symbol_number(numbering: &Numbering, word: &[u8]) -> Option<u32>
     ensures found { IfSome result (λ n. IsNumberOf (declared_symbols numbering.now) word.now n) }
     ensures none { IfNone result (is_declared (kind_in numbering.now word.now) ≡ false) }
@@ -19,7 +19,7 @@ pub fn symbol_number(numbering: &Numbering, word: &[u8]) -> Option<u32>
     }
 }
 
-/// Returns the number of a label, or `None` if the word is no label.
+/// Returns the number of a label, or `None` if the word is not a label.
 pub fn label_number(numbering: &Numbering, word: &[u8]) -> Option<u32>
     ensures found { IfSome result (λ n. IsNumberOf (declared_labels numbering.now) word.now n) }
     ensures none { IfNone result (is_label_kind (kind_in numbering.now word.now) ≡ false) }
@@ -52,7 +52,8 @@ fn record_list(numbering: &Numbering, words: &Words, recorded: &mut SymbolNumber
     }
 }
 
-/// Records the numbers of the symbols of a statement, if they are not recorded. Those that it declares have none yet.
+/// Records the numbers of the symbols of a statement, if they are not recorded yet. The symbols that it declares have no
+/// numbers yet.
 pub fn find_numbers(numbering: &Numbering, stmt: &Stmt, recorded: &mut SymbolNumbers)
     requires { AreRecorded (with_names (declared_symbols numbering.now) (symbols_by stmt.now)) (symbols_in stmt.now) recorded.old }
     ensures { AreRecorded (with_names (declared_symbols numbering.now) (symbols_by stmt.now)) (symbols_in stmt.now) recorded.new }

@@ -1,4 +1,4 @@
-//! The page of one assertion.
+//! Makes the page of one assertion.
 ghost use Rattle.std.specs.Prelude.{◌≤◌, length};
 ghost use Rattle.frame.specs.FrameOf.{HasAssertion};
 ghost use Rattle.mm_read.specs.declared.stmt.Stmt.{Stmt as Statement};
@@ -17,11 +17,11 @@ use steps::{essential_table, proof_table};
 pub struct Contents<'a> {
     pub site: &'a Site<'a>,
     pub references: CrossReferences,
-    /// The places of the descriptions in the text.
+    /// For each statement, in order, the span of its description in the text.
     pub descriptions: Vec<Option<Span>>,
 }
 
-/// Appends the page of the assertion at an index; nothing if the statement is none.
+/// Appends the page of the assertion at an index, or nothing if the statement there is not an assertion.
 pub fn push_page(
     alloc: Global,
     contents: &Contents<'_>,
@@ -95,7 +95,7 @@ fn write_assertion(
     Ok(write_site_page(alloc, page, &assertion)?)
 }
 
-/// Returns the positions of the list at an index; none if there is no list.
+/// Returns the positions of the list at an index, or an empty list if there is none.
 fn numbers_at(alloc: Global, lists: &[Vec<usize>], index: usize) -> Result<Vec<u32>, AllocError> {
     let mut numbers = Vec::new(alloc);
     if let Some(list) = lists.get(index) {

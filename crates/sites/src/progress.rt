@@ -1,4 +1,4 @@
-//! The progress of a site with many pages.
+//! Prints the progress of a site with many pages.
 use numbers::push_number;
 use std::alloc::{AllocError, Global};
 use std::io::Write;
@@ -6,7 +6,7 @@ use std::io::Write;
 /// The least number of pages for which progress is printed.
 const MANY: u64 = 5_000;
 
-/// Prints how many pages are written, at each tenth of many.
+/// Prints how many pages are written, after each tenth of them but the last, if they are many.
 pub fn note_progress<F: Write>(alloc: Global, faults: &mut F, written: u64, all: u64) {
     let tenth = all / 10;
     if all < MANY || tenth == 0 || written % tenth != 0 || written == all {

@@ -1,4 +1,4 @@
-//! The files of a site.
+//! Writes the files of a site.
 ghost use Rattle.std.specs.Prelude.{◌≡◌, ℕ, ◌+◌, ◌<◌, ◌∷◌, [], length, get_or, option_map, codes, OnOk};
 ghost use Rattle.mm_read.specs.declared.stmt.Stmt.TheVariants.{Open};
 ghost use Rattle.sites.specs.SiteFiles.{WritesNamed, named_page, page_name, page_names, site_names};
@@ -20,12 +20,12 @@ use std::str::from_utf8;
 /// A library, and the text that it was read from.
 #[derive(Drop)]
 pub struct Site<'a> {
-    /// The descriptions stand in it.
+    /// The text, with the descriptions of its assertions.
     pub text: &'a [u8],
     pub library: &'a Library,
 }
 
-/// Why a site is not written to its end.
+/// The reason that a site is not written completely.
 #[derive(Debug, Drop, PartialEq, Eq)]
 pub enum SiteFault {
     /// An allocation failed.
@@ -54,11 +54,11 @@ impl From<AskFault> for SiteFault {
     }
 }
 
-/// Writes the style sheet, a page for each assertion and the list of them into the folder at a path. The
-/// progress of a site with many pages goes to `faults`.
+/// Writes the style sheet, a page for each assertion and an index of them into the folder at a path. The
+/// progress of a site with many pages is printed to `faults`.
 ///
-/// Errors: `Memory`; `Folder`, `File`, after which the files before it are written. Cost: that of
-/// `cross_references`, of each proof's steps, and the bytes written; one page is held back.
+/// Errors: `Memory`, `Folder` or `File`; the files before the error are written. Cost: that of
+/// `cross_references`, of each proof's steps, and the bytes written; one page is in memory at a time.
 pub fn write_site<F: Write, S: Folder>(
     alloc: Global,
     site: &Site<'_>,
@@ -84,7 +84,7 @@ fn open_folder<S: Folder>(path: &str, folder: &mut S) -> Result<(), SiteFault> {
     }
 }
 
-/// Writes the list of all assertions.
+/// Writes the index of all assertions.
 fn write_list<S: Folder>(alloc: Global, library: &Library, folder: &mut S) -> Result<(), SiteFault>
     ensures { OnOk result (WritesNamed S.gains folder.old (codes "index.html" ∷ []) folder.new) }
 {
@@ -93,7 +93,7 @@ fn write_list<S: Folder>(alloc: Global, library: &Library, folder: &mut S) -> Re
     write_file(alloc, folder, INDEX.as_bytes(), page.as_slice())
 }
 
-/// Writes a file of the folder.
+/// Writes a file into the folder.
 fn write_file<S: Folder>(
     alloc: Global,
     folder: &mut S,
@@ -112,7 +112,7 @@ fn write_file<S: Folder>(
     }
 }
 
-/// Writes a page of each assertion.
+/// Writes a page for each assertion.
 fn write_pages<F: Write, S: Folder>(
     alloc: Global,
     site: &Site<'_>,
@@ -139,7 +139,7 @@ fn write_pages<F: Write, S: Folder>(
     Ok(())
 }
 
-/// Writes the page of the assertion at an index; returns whether there is one.
+/// Writes the page of the assertion at an index. Returns whether the statement there is an assertion.
 fn write_page<S: Folder>(
     alloc: Global,
     contents: &Contents<'_>,
@@ -162,7 +162,7 @@ fn write_page<S: Folder>(
     Ok(true)
 }
 
-/// Returns the label of an assertion; `None` if the statement is none.
+/// Returns the label of an assertion, or `None` if the statement is not an assertion.
 fn label_of(statement: &Stmt) -> Option<&Word>
     ensures { (at : ℕ) → page_name at statement.now ≡ named_page at (option_map (λ label. label.now) result) }
 {

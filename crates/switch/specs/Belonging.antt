@@ -1,5 +1,5 @@
--- Prefixes of a node's log, and how an event of the switch keeps them.
--- Source: Lamport, Paxos Made Simple, section 3: all servers execute the same commands, each as far as it learned them.
+-- Prefixes of a node's log, which remain prefixes after an event of the switch.
+-- Source: Lamport, Paxos Made Simple, section 3: all servers execute the same sequence of commands, each as far as it has learned it.
 -- The code (of `cluster`) tests entry by entry whether entries are a prefix.
 use Rattle.std.specs.Prelude.{◌≢◌, ◌≡◌, ◌<◌, ℕ, List, Option, Result, OnErr, length}
 use Rattle.switch.specs.Words.{Event, Restart, StepFault, log_after, IsPrefixOf}
@@ -10,11 +10,11 @@ pub record BeginsLog {V : Type 0} (size : V → ℕ) (switch : SwitchView V) (k 
   pub node : k < length switch.stores
   pub begins : IsPrefixOf entries (log_after (world_of size switch) k)
 
--- a prefix of a log stays one
+-- at each node, a prefix of its log remains one
 abbrev pub StaysBelonging : {V : Type 0} → (V → ℕ) → SwitchView V → SwitchView V → Type 0
 StaysBelonging {V} size old new = (k : ℕ) (entries : List (Option V)) → BeginsLog size old k entries → BeginsLog size new k entries
 
--- a prefix of a node's log stays one, except at a restart of that node; after a refused event that holds at every node
+-- a prefix of a node's log remains one, except at a restart of that node; after a refused event without exception
 pub record KeepsLogs {V : Type 0} (size : V → ℕ) (e : Event V) (old new : SwitchView V) (result : Result ℕ StepFault) : Type 0 where
   pub others : (k : ℕ) (entries : List (Option V)) → e ≢ Restart k → BeginsLog size old k entries → BeginsLog size new k entries
   pub refused : OnErr result (StaysBelonging size old new)

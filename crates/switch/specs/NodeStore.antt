@@ -1,12 +1,12 @@
--- A node's store: the record of its keep, and whether the node is up, or down since a call of its keep failed.
--- Source: Lamport, Paxos Made Simple, section 2.5: what an acceptor must remember is in stable storage before it is seen.
--- The code has the keep itself. Contracts see the record that it would load, how often it failed, and the event that is owed.
+-- The store of a node: the record of its keep, and whether the node is up, or down since a call of its keep failed.
+-- Source: Lamport, Paxos Made Simple, section 2.5: an acceptor records its response in stable storage before sending it.
+-- The code has the keep itself. Contracts see the record that it would load, how often it failed, and the event that the node owes, whose store failed.
 use Rattle.std.specs.Prelude.{◌≡◌, ◌⊎◌, ◌+◌, ℕ, List, [], Option, Some, None}
 use Rattle.switch.specs.Words.{Packet, Change, Kept, changed_by, Node, kept_of, StagedEvent, change_in, posts_of}
 use Rattle.switch.specs.declared.node_store.Standing.{Standing as Stands}
 use Rattle.switch.specs.declared.node_store.Standing.TheVariants.{Up, Down}
 
--- up; or down, with the event that is owed, if there is one
+-- up; or down, with the event that the node owes, if there is one
 pub data Standing (A : Type 0) : Type 0 where
   up : Standing A
   down : Option A → Standing A
@@ -20,7 +20,7 @@ pub record StoreState (V : Type 0) : Type 0 where
   pub failures : ℕ  -- how many calls of the keep failed
   pub standing : Standing (StagedEvent V)
 
--- The event that is owed: its change, its posts.
+-- The event that is owed, its change, and the packets that it posts.
 
 abbrev pub owed_in : {V : Type 0} → Standing (StagedEvent V) → Option (StagedEvent V)
 owed_in up = None
@@ -34,9 +34,9 @@ abbrev pub posts_owed : {V : Type 0} → Option (StagedEvent V) → List (Packet
 posts_owed None = []
 posts_owed (Some due) = posts_of due.work
 
--- The record of the keep: that of the node, with or without the change that is owed.
+-- The record of the keep is that of the node, with or without the change that is owed.
 
--- the old record, or that with the change
+-- the old record, or the old record with the change
 abbrev pub IsWithOrWithout : {V : Type 0} → Kept V → Option (Change V) → Kept V → Type 0
 IsWithOrWithout old change new = (new ≡ old) ⊎ (new ≡ changed_by old change)
 
@@ -44,7 +44,7 @@ abbrev pub IsRecordOf : {V : Type 0} → Node V → Standing (StagedEvent V) →
 IsRecordOf n up kept = kept ≡ kept_of n
 IsRecordOf n (down o) kept = IsWithOrWithout (kept_of n) (change_owed o) kept
 
--- a call of the keep failed
+-- the effect of a failed call of the keep
 pub record Fails {V : Type 0} (old : StoreState V) (change : Option (Change V)) (left : Standing (StagedEvent V)) (new : StoreState V) : Type 0 where
   pub kept : IsWithOrWithout old.kept change new.kept
   pub rest : new ≡ record { kept = new.kept; failures = old.failures + 1; standing = left }

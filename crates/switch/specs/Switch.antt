@@ -1,14 +1,14 @@
 -- The switch that the nodes of a cluster share: its history, and for each node the record of its keep and whether it is up.
--- Source: Lamport, Paxos Made Simple, section 3; that a node with a failed store is down is this project's profile.
--- The code has a net beside the keeps; by the invariant of the type its state is that of the world after the history.
+-- Source: Lamport, Paxos Made Simple, section 3; that a node with a failed store is down is this project's choice.
+-- The code has a net and the keeps; by the invariant of the type, the state of the net is that of the world after the history.
 use Rattle.std.specs.Prelude.{◌≡◌, ◌⊎◌, ◌+◌, ◌≤◌, ◌<◌, ℕ, Bool, true, false, List, [], ◌∷◌, ◌++◌, Option, Some, None, Result, Ok, Err, length, slice_get, slice_set}
 use Rattle.switch.specs.Words.{Change, Kept, changed_by, new_kept, Node, kept_of, MOST_EVENTS, Event, Offer, Begin, Deliver, Restart, StepFault, Memory, Device, Down, EventsSpent, World, happens, after, IsAfter, AreOfWorld, node_of, change_of, kept_part, StagedEvent, NetView, IsStaged, HasRoom, IsTaken, posts_of}
 use Rattle.switch.specs.NodeStore.{Standing, up, down, StoreState, IsRecordOf, IsWithOrWithout}
 
--- The view that contracts have.
+-- The switch as contracts see it.
 
--- a node's store: the record that its keep would load, how often the keep failed, and whether the node is up; while it is
--- down, the event whose store failed
+-- the store of a node: the record that its keep would load, how often the keep failed, and whether the node is up, or down
+-- with the event whose store failed, if one did
 pub record StoreView (V : Type 0) : Type 0 where
   pub kept : Kept V
   pub failures : ℕ
@@ -52,12 +52,12 @@ IsOwing size net k up = Unit {0}
 IsOwing size net k (down None) = Unit {0}
 IsOwing size net k (down (Some due)) = (due.at ≡ k) × IsStaged size net due
 
--- the keep fits its node, and so does what is owed
+-- the record of the keep and the event that is owed fit the node
 pub record IsStore {V : Type 0} (size : V → ℕ) (net : NetView V) (k : ℕ) (n : Node V) (store : StoreState V) : Type 0 where
   pub fits : IsRecordOf n store.standing store.kept
   pub owing : IsOwing size net k store.standing
 
--- the net is that of a world, and each node has a keep that fits it
+-- the net is that of a world, and each node has a store that fits it
 pub record IsSwitch {V : Type 0} (size : V → ℕ) (net : NetView V) (stores : List (StoreState V)) : Type 0 where
   pub world : AreOfWorld size net.taken net.cores net.packets
   pub count : length stores ≡ length net.cores
@@ -69,12 +69,12 @@ pub record IsSwitch {V : Type 0} (size : V → ℕ) (net : NetView V) (stores : 
 abbrev pub world_of : {V : Type 0} → (V → ℕ) → SwitchView V → Result (World V) StepFault
 world_of size switch = after size switch.weights switch.history
 
--- the change that is owed, in that world
+-- the change of the event that is owed, in a world
 abbrev pub change_due : {V : Type 0} → (V → ℕ) → World V → Option (Event V) → Option (Change V)
 change_due size w None = None
 change_due size w (Some e) = change_of size w e
 
--- the record of the keep is the kept part of its node; while the node is down it may have the change whose store failed
+-- the record of the keep is the kept part of its node; while the node is down, with or without the change whose store failed
 abbrev pub IsRecordIn : {V : Type 0} → (V → ℕ) → World V → Node V → Standing (Event V) → Kept V → Type 0
 IsRecordIn size w n up kept = kept ≡ kept_of n
 IsRecordIn size w n (down e) kept = IsWithOrWithout (kept_of n) (change_due size w e) kept
@@ -104,7 +104,7 @@ abbrev pub is_down_at : {V : Type 0} → List (StoreView V) → Option ℕ → B
 is_down_at views None = false
 is_down_at views (Some k) = is_down_view (slice_get views k)
 
--- the fault is returned, and all is as before
+-- the fault is returned, and everything is as before
 abbrev pub Refuses : {V : Type 0} → SwitchView V → SwitchView V → Result ℕ StepFault → StepFault → Type 0
 Refuses old new result fault = (result ≡ Err fault) × (new ≡ old)
 
@@ -116,25 +116,25 @@ abbrev pub with_event : {V : Type 0} → SwitchView V → ℕ → StoreView V �
 with_event old k view change e =
     record (with_store old k record { kept = changed_by view.kept change; failures = view.failures; standing = view.standing }) { history = old.history ++ e ∷ [] }
 
--- the event that a node owes if its keep fails at this event: a restart stores nothing
+-- the event that a node owes if its keep fails at this event; none for a restart, which stores nothing
 abbrev pub due : {V : Type 0} → Event V → Option (Event V)
 due (Offer k v) = Some (Offer k v)
 due (Begin k) = Some (Begin k)
 due (Deliver number) = Some (Deliver number)
 due (Restart k) = None
 
--- a call of node k's keep failed: its count of failures has grown, its record is old or new, and the rest is as before
+-- a call of the keep of node k failed: it counts one failure more, its record is old or new, the node is left as `left` says, and the rest is as before
 pub record FailsAt {V : Type 0} (old new : SwitchView V) (k : ℕ) (view : StoreView V) (change : Option (Change V)) (left : Standing (Event V)) : Type 0 where
   pub kept : Kept V
   pub either : IsWithOrWithout view.kept change kept
   pub rest : new ≡ with_store old k record { kept = kept; failures = view.failures + 1; standing = left }
 
--- an event that meets no fault is taken, x being the world after it; or an allocation failed, or the store failed
+-- an event that meets no fault is taken, and x is the world after it; or an allocation failed, or the keep failed
 abbrev pub TakesAt : {V : Type 0} → SwitchView V → SwitchView V → Event V → ℕ → StoreView V → Option (Change V) → World V → Result ℕ StepFault → Type 0
 TakesAt old new e k view change x (Ok count) = (new ≡ with_event old k view change e) × (count ≡ length x.packets)
 TakesAt old new e k view change x (Err fault) = ((fault ≡ Memory) × (new ≡ old)) ⊎ ((fault ≡ Device) × FailsAt old new k view change (down (due e)))
 
--- the effect of an event whose node is not down, w being the world after the old history
+-- the effect of an event whose node is not down; w is the world after the old history
 pub record ActsUp {V : Type 0} (size : V → ℕ) (w : World V) (old new : SwitchView V) (e : Event V) (result : Result ℕ StepFault) : Type 0 where
   pub refused : (fault : StepFault) → happens size w e ≡ Err fault → Refuses old new result fault
   pub taken : (x : World V) → happens size w e ≡ Ok x → (k : ℕ) → node_of w e ≡ Some k → (view : StoreView V) → slice_get old.stores k ≡ Some view → TakesAt old new e k view (change_of size w e) x result
@@ -145,7 +145,7 @@ abbrev pub events_due : {V : Type 0} → Option (Event V) → List (Event V)
 events_due None = []
 events_due (Some e) = e ∷ []
 
--- node k is up again with what its keep loaded: the event whose store failed, if there is one, and then the restart are taken
+-- node k is up again with the record that its keep loaded: the event whose store failed, if there is one, and then the restart are taken
 pub record IsRevived {V : Type 0} (size : V → ℕ) (old new : SwitchView V) (k : ℕ) (view : StoreView V) (e : Option (Event V)) (count : ℕ) : Type 0 where
   pub world : World V
   pub is_after : IsAfter size old.weights (old.history ++ events_due e ++ Restart k ∷ []) world
@@ -154,7 +154,7 @@ pub record IsRevived {V : Type 0} (size : V → ℕ) (old new : SwitchView V) (k
   pub is_kept : kept_part world k ≡ Some kept
   pub rest : new ≡ record { weights = old.weights; history = old.history ++ events_due e ++ Restart k ∷ []; stores = slice_set old.stores k record { kept = kept; failures = view.failures; standing = up } }
 
--- an allocation failed: all but the record is as before
+-- an allocation failed: everything but the record is as before
 pub record StaysDownAt {V : Type 0} (old new : SwitchView V) (k : ℕ) (view : StoreView V) (change : Option (Change V)) : Type 0 where
   pub kept : Kept V
   pub either : IsWithOrWithout view.kept change kept
@@ -170,28 +170,28 @@ pub record Revives {V : Type 0} (size : V → ℕ) (w : World V) (old new : Swit
   pub spent : MOST_EVENTS < length old.history + 2 → Refuses old new result EventsSpent
   pub revived : length old.history + 2 ≤ MOST_EVENTS → RevivesAt size w old new k view e result
 
--- Every event.
+-- Events in general.
 
--- the effect of an event whose node is down: a restart brings it up again, and every other event is refused
+-- the effect of an event whose node is down: a restart may bring it up again, and every other event is refused
 abbrev pub ActsDown : {V : Type 0} → (V → ℕ) → World V → SwitchView V → SwitchView V → Event V → Result ℕ StepFault → Type 0
 ActsDown size w old new (Offer k v) result = Refuses old new result Down
 ActsDown size w old new (Begin k) result = Refuses old new result Down
 ActsDown size w old new (Deliver number) result = Refuses old new result Down
 ActsDown {V} size w old new (Restart k) result = (view : StoreView V) → slice_get old.stores k ≡ Some view → (e : Option (Event V)) → view.standing ≡ down e → Revives size w old new k view e result
 
--- the effect of an event, w being the world after the old history
+-- the effect of an event; w is the world after the old history
 pub record Acts {V : Type 0} (size : V → ℕ) (w : World V) (old new : SwitchView V) (e : Event V) (result : Result ℕ StepFault) : Type 0 where
   pub is_down : is_down_at old.stores (node_of w e) ≡ true → ActsDown size w old new e result
   pub is_up : is_down_at old.stores (node_of w e) ≡ false → ActsUp size w old new e result
 
--- the history before the event is taken, each node of its world has its store, and the event has its effect there
+-- the history before the event is taken, each node of the world after it has its store, and the event has its effect in that world
 pub record Plays {V : Type 0} (size : V → ℕ) (old new : SwitchView V) (e : Event V) (result : Result ℕ StepFault) : Type 0 where
   pub world : World V
   pub is_after : world_of size old ≡ Ok world
   pub stores : AreStores size world old.stores
   pub acts : Acts size world old new e result
 
--- The event that is owed at the node comes first.
+-- At the restart of a node that is down, the event that it owes is taken first.
 
 abbrev pub CanTakeOwed : {V : Type 0} → (V → ℕ) → NetView V → Option (StagedEvent V) → Type 0
 CanTakeOwed size net None = Unit {0}

@@ -1,4 +1,4 @@
--- The words of the layers below in which this crate's definitions are written, passed on from one place.
+-- The definitions of the layers below that this crate's definitions use, re-exported from one place.
 pub use Rattle.net.specs.Agree.{IsAfter, IsPrefixOf}
 pub use Rattle.net.specs.Staged.{StagedEvent, HasRoom, IsStaged, IsTaken, NetView, change_in, posts_of}
 pub use Rattle.net.specs.KeptPart.{change_of, kept_part, node_of}

@@ -1,4 +1,4 @@
-//! The one way in which an event comes to a node of a switch.
+//! Plays an event, the only way in which one reaches a node of a switch.
 ghost use Rattle.std.specs.Prelude.{◌≡◌, Some, false};
 ghost use Rattle.std.specs.Result.{ForOk};
 ghost use Rattle.net.specs.KeptPart.{node_of};
@@ -16,10 +16,10 @@ impl<V: Value, K: Keep<V>> Switch<V, K> {
     ///
     /// Errors: `Down` if the node is down and the event is not a restart; else the first fault that the event meets, in the
     /// order that `StepFault` gives; else `Memory`, with nothing changed, or `Device` if the node's keep failed: the node is
-    /// then down. A restart of a node that is down meets only `EventsSpent`, if fewer than two events are left; after
-    /// `Memory` or `Device` it stays down.
+    /// then down. A restart of a node that is down returns `EventsSpent` if fewer than two events are left; after `Memory`
+    /// or `Device` the node stays down.
     ///
-    /// Cost: the step of the node, one packet looked up and one change stored; at a restart the record, loaded once.
+    /// Cost: the step of the node, looking up one packet and storing one change; at a restart, loading the record once.
     pub fn play(&mut self, event: Event<V>) -> Result<u64, StepFault>
         ensures plays { Plays V.bytes self.old self.new event result }
         ensures logs { KeepsLogs V.bytes event self.old self.new result }
@@ -33,7 +33,7 @@ impl<V: Value, K: Keep<V>> Switch<V, K> {
         }
     }
 
-    /// Plays an event, other than a restart, whose node is up or does not exist.
+    /// Plays an event that is not a restart and whose node is up or does not exist.
     fn step(&mut self, event: Event<V>) -> Result<u64, StepFault>
         requires owed { due event ≡ Some event }
         requires up { ForOk (world_of V.bytes self.old) (λ world. is_down_at self.old.stores (node_of world event) ≡ false) }

@@ -1,10 +1,11 @@
 //! The nodes of one agreement on any values, each with a keep (its stable storage) that may fail.
 //!
-//! The contract that the crates above use is that of `Switch::play`: each event that is played is one of a history that is
-//! taken (`Plays` of `specs/Switch.antt`). `Switch::history` says what is true of every switch.
+//! The contract that the crates above use is that of `Switch::play`: an event that is played without an error extends a
+//! history none of whose events meets a refusal (`Plays` of `specs/Switch.antt`). The clauses of `Switch::history` hold for
+//! every switch.
 //!
-//! Read `node_store` and `switch`, then `events`, `restart` and `node_state`; the definitions are specs/NodeStore, Switch and
-//! Belonging.
+//! Reading order: `node_store` and `switch`, then `events`, `restart` and `node_state`; the definitions are in `NodeStore`,
+//! `Switch` and `Belonging` of `specs`.
 #![tactic(auto)]
 
 mod events;

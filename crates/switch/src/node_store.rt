@@ -1,4 +1,4 @@
-//! A node's store: its keep, and whether the node is up, or down since a call of its keep failed.
+//! The store of a node: its keep, and whether the node is up, or down since a call of its keep failed.
 ghost use Rattle.std.specs.Prelude.{◌≡◌, ◌+◌, Ok, Some, None, length, IfOk, OnOk, OnErr, is_ok, if◌then◌else◌};
 ghost use Rattle.synod.specs.Record.{changed_by};
 ghost use Rattle.net.specs.Staged.{change_in, posts_of};
@@ -54,7 +54,7 @@ impl<V: Value, K: Keep<V>> NodeStore<V, K> {
         }
     }
 
-    /// Stores the change of a staged event, and returns the event. If that fails, the node is down and owes the event.
+    /// Stores the change of a staged event and returns the event. If the keep fails, the node is down and owes the event.
     pub fn store(&mut self, due: StagedEvent<V>) -> Result<StagedEvent<V>, Failed>
         ensures stored { OnOk result (self.new ≡ record { kept = changed_by self.old.kept (change_in due.work); failures = self.old.failures; standing = self.old.standing }) }
         ensures due { IfOk result (λ same. same ≡ due) }
@@ -69,7 +69,7 @@ impl<V: Value, K: Keep<V>> NodeStore<V, K> {
         }
     }
 
-    /// Loads the record. If that fails, the node is down and owes nothing.
+    /// Loads the record. If the keep fails, the node is down and owes no event.
     pub fn load(&mut self) -> Result<Record<V>, Failed>
         ensures loaded { IfOk result (λ loaded. loaded.kept ≡ self.old.kept) }
         ensures same { OnOk result (self.new ≡ self.old) }

@@ -1,4 +1,4 @@
-//! The restart of one node of a switch.
+//! Restarts a node of a switch.
 ghost use Rattle.std.specs.Prelude.{◌≡◌, Some, Option, true, false, slice_get};
 ghost use Rattle.std.specs.Result.{ForOk};
 ghost use Rattle.net.specs.declared.event.Event.{Event};
@@ -11,7 +11,7 @@ use net::{Event, MOST_EVENTS, Net, StagedEvent, StepFault};
 use synod::{Keep, Value};
 
 impl<V: Value, K: Keep<V>> Switch<V, K> {
-    /// Restarts a node that is up, from the record that its keep loads, or returns `NoNode` if there is no such node.
+    /// Restarts a node that is up from the record that its keep loads, or returns `NoNode` if there is no such node.
     pub(crate) fn reload(&mut self, k: u8) -> Result<u64, StepFault>
         requires { is_down_at self.old.stores (Some k) ≡ false }
         ensures { ForOk (world_of V.bytes self.old) (λ world. ActsUp V.bytes world self.old self.new (Restart k) result) }
@@ -23,7 +23,7 @@ impl<V: Value, K: Keep<V>> Switch<V, K> {
         Ok(self.net.commit(due))
     }
 
-    /// Restarts a node that is down: stores the change that it owes, and commits that event before the restart.
+    /// Restarts a node that is down: stores the change of the event that it owes, and commits that event before the restart.
     pub(crate) fn revive(&mut self, k: u8) -> Result<u64, StepFault>
         requires { is_down_at self.old.stores (Some k) ≡ true }
         ensures { ForOk (world_of V.bytes self.old) (λ world. (view : StoreView V) → slice_get self.old.stores k ≡ Some view → (e : Option (Event V)) → view.standing ≡ down e → Revives V.bytes world self.old self.new k view e result) }
@@ -33,7 +33,7 @@ impl<V: Value, K: Keep<V>> Switch<V, K> {
         }
         let mut due = self.net.ready(Event::Restart(k))?;
         let at = due.at() as usize;
-        // No memory has so much room.
+        // No memory has room for so many packets.
         let Some(room) = self.stores[at].count_owed().checked_add(due.posts().len()) else {
             return Err(StepFault::Memory);
         };
@@ -45,7 +45,7 @@ impl<V: Value, K: Keep<V>> Switch<V, K> {
     }
 }
 
-/// Commits the event that was owed, if there is one. It does not allocate.
+/// Commits the event that was owed, if there is one. Does not allocate.
 fn take_owed<V: Value>(net: &mut Net<V>, owed: Option<StagedEvent<V>>)
     requires { CanTakeOwed V.bytes net.old owed }
     ensures { TakesOwed net.old net.new owed }

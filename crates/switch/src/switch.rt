@@ -1,4 +1,4 @@
-//! The switch that the nodes share: the net, and each node's store.
+//! The switch: a net of nodes and packets, and the store of each node.
 ghost use Rattle.std.specs.Prelude.{◌≡◌, ◌<◌, ◌≤◌, Ok, Err, Some, None, [], length, slice_get, IsOk, IsSome, IfOk, IsOkUnless, MatchOption, MatchResult};
 ghost use Rattle.std.specs.List.{AllByRecursion};
 ghost use Rattle.std.specs.Result.{ForOk};
@@ -49,7 +49,7 @@ impl<V: Value, K: Keep<V>> Switch<V, K> {
         Ok(Switch { net, stores })
     }
 
-    /// Returns whether there is such a node and it is down.
+    /// Returns whether the node exists and is down.
     pub fn is_down(&self, node: Option<u8>) -> bool
         ensures { result ≡ is_down_at self.now.stores node }
     {
@@ -62,7 +62,7 @@ impl<V: Value, K: Keep<V>> Switch<V, K> {
         }
     }
 
-    /// Returns entry `slot` of the log of node `k`, or `NoNode`. It does not allocate.
+    /// Returns entry `slot` of the log of node `k`, if it has one, or `NoNode` if there is no such node. Does not allocate.
     pub fn entry(&self, k: u8, slot: u32) -> Result<Option<&Option<V>>, StepFault>
         ensures entry { IfOk result (λ found. MatchOption found (slice_get (log_after (world_of V.bytes self.now) k) slot ≡ None) (λ entry. slice_get (log_after (world_of V.bytes self.now) k) slot ≡ Some entry.now)) }
         ensures below { IfOk result (λ found. IsSome found → slot < SLOTS) }
@@ -75,8 +75,8 @@ impl<V: Value, K: Keep<V>> Switch<V, K> {
 
     /// Returns the events taken, in order.
     ///
-    /// The nodes and the packets are those of the world after them, and the record of each keep is the kept part of its
-    /// node: while the node is down, with or without the change whose store failed.
+    /// The nodes and the packets are those of the world after these events. The record of each keep is the kept part of its
+    /// node; while the node is down, with or without the change whose store failed.
     pub fn history(&self) -> &[Event<V>]
         ensures history { result.now ≡ self.now.history }
         ensures few { length result.now ≤ MOST_EVENTS }
@@ -94,7 +94,7 @@ impl<V: Value, K: Keep<V>> Switch<V, K> {
         self.net.node_of(event)
     }
 
-    /// Returns the packet of a number, from 0 in the order of posting, or `NoPacket`. It does not allocate.
+    /// Returns the packet with a number, from 0 in the order of posting, or `NoPacket`. Does not allocate.
     pub fn packet(&self, number: u64) -> Result<&Packet<V>, StepFault>
         ensures taken { IsOk (world_of V.bytes self.now) }
         ensures found { ForOk (world_of V.bytes self.now) (λ world. MatchResult result (λ packet. slice_get world.packets number ≡ Some packet.now) (λ fault. (slice_get world.packets number ≡ None) × (fault ≡ NoPacket))) }

@@ -1,4 +1,4 @@
--- Statements that follow one another, as jobs of a pool.
+-- Consecutive statements as jobs of a pool.
 -- Source: none; for the private functions of `stretch` and `search`.
 -- The code keeps a reference to all statements.
 use Rattle.std.specs.Prelude.{◌≡◌, ℕ, ◌+◌, ◌-◌, ◌≤◌, List, length, Option}
@@ -7,7 +7,7 @@ use Rattle.library.specs.Words.{Database, bares}
 use Rattle.library.specs.Judging.{StandsProved}
 use Rattle.verify_pool.specs.Least.{IsLeast}
 
--- statements, the names that their frames number, and the part of them after position `front`, up to `end`
+-- statements, the names that their frames number, and the range of them after position `front`, up to `end`
 pub record Within : Type 0 where
   pub statements : Database
   pub names : List Name
@@ -20,11 +20,11 @@ pub record IsStretch (frames S : Database) (front end : ℕ) : Type 0 where
   pub order : front ≤ end
   pub within : end ≤ length S
 
--- the `$p` of that index is proved, if one stands there
+-- the statement at that index of the range is proved, if it is a `$p`
 abbrev pub IsRightIn : Within → ℕ → Type 0
 IsRightIn stretch k = StandsProved stretch.statements (stretch.front + k + 1)
 
--- the answer is the index of the first `$p` of these that is not proved
+-- the answer is the index, in the range, of the first `$p` that is not proved
 abbrev pub IsLeastIn : Database → ℕ → ℕ → Option ℕ → Type 0
 IsLeastIn S front end answer =
     IsLeast (λ k. StandsProved S (front + k + 1)) (end - front) answer

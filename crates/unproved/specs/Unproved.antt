@@ -1,6 +1,6 @@
 -- The `$p` that are not proved.
--- Source: Metamath, 4.2.6 and appendix B; that each is judged by itself is this project's.
--- The code judges some statements in parallel, and then goes on from each that is not proved.
+-- Source: Metamath, 4.2.6 and appendix B; that each is judged by itself is this project's choice.
+-- The code judges a range of statements in parallel, and goes on after each `$p` that is not proved.
 use Rattle.std.specs.Prelude.{◌≡◌, ℕ, ◌-◌, ◌<◌, ◌≤◌, List, [], ◌∷◌, get_or, slice_set, IsTrue, IsFalse, Some}
 use Rattle.library.specs.Words.{AllLegal, AreShaped, Stmt, Database, Prove, Axiom, bares, proof_of, stmt_at, is_unfinished}
 use Rattle.mm_read.specs.declared.stmt.Stmt.TheVariants.{Open}
@@ -15,7 +15,7 @@ AreUnproved S front end (at ∷ list) =
     (front < at) × (at ≤ end) × (¬ StandsProved S at)
     × ((m : ℕ) → front < m → m < at → StandsProved S m) × AreUnproved S at end list
 
--- the cause of a `$p` there: unfinished exactly if a token of its proof has the byte `?`
+-- the cause for the `$p` at that position: unfinished exactly if a token of its proof has the byte `?`
 abbrev pub CauseAt : Database → ℕ → Cause → Type 0
 CauseAt S at (Proof n) =
     (n ≡ at) × ((s : Stmt) → stmt_at S at ≡ Some s → IsFalse (is_unfinished (proof_of s)))
@@ -28,12 +28,12 @@ abbrev pub as_axiom : Stmt → Stmt
 as_axiom (Prove label expr proof) = Axiom label expr
 as_axiom s = s
 
--- the statements, those at these positions taken as `$a` if they are `$p`
+-- the statements, with each `$p` at one of these positions replaced by a `$a`
 abbrev pub assumed : Database → List ℕ → Database
 assumed S [] = S
 assumed S (at ∷ list) = assumed (slice_set S (at - 1) (as_axiom (get_or S (at - 1) Open))) list
 
--- a position of one of so many statements
+-- a position among `count` statements
 abbrev pub IsWithin : ℕ → ℕ → Type 0
 IsWithin count at = (1 ≤ at) × (at ≤ count)
 

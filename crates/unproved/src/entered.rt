@@ -1,4 +1,4 @@
-//! The statements of a text, with their rules and frames.
+//! The statements of a legal text, with their rules and frames.
 ghost use Rattle.std.specs.Prelude.{◌≡◌, ◌≤◌, [], true, false, length, Ok, None, IfOk, IfSome};
 ghost use Rattle.std.specs.List.{All};
 ghost use Rattle.mm_read.specs.Statements.{AreShaped};
@@ -20,8 +20,8 @@ use std::mem::replace;
 use std::thread::Threads;
 use verify_pool::Workers;
 
-/// The statements of a legal text, with the state of the rules and their frames. Contracts see the
-/// statements.
+/// The statements of a legal text, with their frames and the state of the rules after them.
+/// Contracts see the statements.
 #[derive(Drop)]
 pub struct Entered {
     alloc: Global,
@@ -80,11 +80,11 @@ impl Entered {
         &self.frames
     }
 
-    /// Finds every `$p` that is not proved, each judged against earlier statements. Returns their
-    /// positions, from 1, ascending. No answer depends on the number of workers.
+    /// Returns the positions, from 1 and ascending, of every `$p` that is not proved, each judged
+    /// against earlier statements. No answer depends on the number of workers.
     ///
-    /// Errors: an allocation fails. Cost: that of the proofs over the workers; the proofs after the first
-    /// wrong one in a stretch of at most 2,048 statements are judged again, on the calling thread.
+    /// Errors: an allocation fails. Cost: that of the proofs, divided among the workers; in each stretch of
+    /// at most 2,048 statements the proofs after the first wrong one are judged again, on the calling thread.
     /// Source: Metamath, 4.2.6 and appendix B.
     pub fn unproved<R: Threads + Sync>(
         &self,
@@ -104,8 +104,8 @@ impl Entered {
         find_all(&search)
     }
 
-    /// Makes a library of the statements, each unproved `$p` taken as a `$a` with the same label and
-    /// expression. `unproved` is the list that the call of this name returns. No proof is judged again.
+    /// Makes a library of the statements, with each unproved `$p` replaced by a `$a` that has the same label
+    /// and expression. `unproved` is the list that `Entered::unproved` returns. No proof is judged again.
     ///
     /// Errors: an allocation fails. Cost: the size of the statements.
     #[tactic(auto, using(crate::proofs::AssumedGoodLemmas::good_assumed, crate::proofs::UnprovedLemmas::all_within))]
@@ -132,7 +132,7 @@ impl Entered {
         Library::of_good(alloc, statements, rules, frames)
     }
 
-    /// Returns the statements, each `$p` at one of these positions taken as a `$a`.
+    /// Returns the statements, with each `$p` at one of these positions replaced by a `$a`.
     fn assumed(self, unproved: &[usize]) -> Vec<Stmt>
         requires { All (IsWithin (length self)) unproved.now }
         ensures is { result.items ≡ assumed self unproved.now }
@@ -143,8 +143,8 @@ impl Entered {
         statements
     }
 
-    /// Returns why a text is refused in which the `$p` at this position is not proved: it is
-    /// unfinished if a token of its proof has the byte `?`, else wrong.
+    /// Returns the cause of refusing a text in which the `$p` at this position is not proved:
+    /// `Unfinished` if a token of its proof has the byte `?`, else `Proof`.
     pub fn cause(&self, at: usize) -> Cause
         requires { IsWithin (length self.now) at }
         ensures { CauseAt self.now at result }
@@ -174,7 +174,7 @@ fn enter_good(alloc: Global, statements: Vec<Stmt>) -> Result<Library, AllocErro
     }
 }
 
-/// Takes each `$p` at one of these positions as a `$a`.
+/// Replaces each `$p` at one of these positions by a `$a`.
 fn assume_all(statements: &mut Vec<Stmt>, unproved: &[usize])
     requires within { All (IsWithin (length statements.old.items)) unproved.now }
     requires shaped { AreShaped statements.old.items }
@@ -186,7 +186,7 @@ fn assume_all(statements: &mut Vec<Stmt>, unproved: &[usize])
     }
 }
 
-/// Takes a `$p` as a `$a` with the same label and expression.
+/// Replaces a `$p` by a `$a` with the same label and expression.
 fn assume(statement: &mut Stmt)
     ensures { statement.new ≡ as_axiom statement.old }
 {
@@ -201,8 +201,8 @@ fn assume(statement: &mut Stmt)
     };
 }
 
-/// Adds the statements to rules and frames that have none, up to the first that is not legal.
-/// Returns whether all are legal and no block is open at the end.
+/// Adds the statements to empty rules and frames, up to the first that is not legal. Returns
+/// whether all are legal and no block is open at the end.
 ///
 /// Errors: an allocation fails. Cost: the size of the statements.
 fn enter(rules: &mut Rules, frames: &mut Frames, statements: &[Stmt]) -> Result<bool, AllocError>

@@ -1,10 +1,10 @@
-//! The `$p` of a list of statements that are not proved.
+//! Finds the `$p` of a list of statements that are not proved.
 //!
 //! The main contract: `Entered::unproved` returns the positions of exactly the `$p`
 //! that are not proved, in order, with any number of workers.
 //!
-//! Reading order: `entered` (statements with their frames), `stretch` (statements as jobs of a
-//! pool), `search` (all that are not proved), `laws`.
+//! Reading order: `entered` (statements with their frames), `stretch` (consecutive statements as
+//! jobs of a pool), `search` (all `$p` that are not proved), `laws`.
 #![tactic(auto)]
 
 mod entered;

@@ -1,4 +1,4 @@
-//! All `$p` that are not proved.
+//! Finds all `$p` that are not proved.
 ghost use Rattle.std.specs.Prelude.{◌≡◌, ◌-◌, ◌<◌, ◌≤◌, [], length, IfOk, OnOk};
 ghost use Rattle.scope.specs.Active.{bares};
 ghost use Rattle.unproved.specs.Stretches.{IsLeastIn};
@@ -12,7 +12,7 @@ use std::alloc::{AllocError, Global};
 use std::thread::Threads;
 use verify_pool::{Checkers, OpenGate, Workers, judge_all, judge_here};
 
-/// The largest number of statements that are judged in parallel at a time.
+/// The largest number of statements in a stretch, whose proofs are judged in parallel.
 const STRETCH: usize = 2_048;
 
 /// Fewer statements than this are judged on the calling thread: starting threads would cost more.
@@ -30,8 +30,8 @@ pub(crate) struct Search<'a, R: Threads + Sync> {
 
 /// Returns the positions of the `$p` that are not proved, in order.
 ///
-/// Errors: an allocation fails. Cost: that of the proofs over the workers, and once more those that
-/// follow a wrong one in its stretch.
+/// Errors: an allocation fails. Cost: that of the proofs, divided among the workers, and once more
+/// that of the proofs that follow a wrong one in its stretch.
 pub(crate) fn find_all<R: Threads + Sync>(search: &Search<'_, R>) -> Result<Vec<usize>, AllocError>
     requires { search.now.frames.now.statements ≡ bares search.now.statements.now }
     ensures { IfOk result (λ list.
@@ -48,8 +48,8 @@ pub(crate) fn find_all<R: Threads + Sync>(search: &Search<'_, R>) -> Result<Vec<
     Ok(list)
 }
 
-/// Returns the position at which the next stretch ends: that of the first `$p` with an unfinished
-/// proof, else `front + STRETCH`, or that of the last statement.
+/// Returns the position of the last statement of the next stretch: that of the first `$p` with an
+/// unfinished proof, or else `front + STRETCH`, but at most that of the last statement of all.
 fn stretch_end(statements: &[Stmt], front: usize) -> usize
     requires { front < length statements.now }
     ensures later { front < result }
@@ -64,7 +64,7 @@ fn stretch_end(statements: &[Stmt], front: usize) -> usize
     front + most
 }
 
-/// Tells whether a statement is a `$p` with an unfinished proof.
+/// Returns whether a statement is a `$p` with an unfinished proof.
 fn is_left_open(statement: &Stmt) -> bool {
     match statement {
         Stmt::Prove { proof, .. } => is_unfinished(proof),
@@ -72,8 +72,8 @@ fn is_left_open(statement: &Stmt) -> bool {
     }
 }
 
-/// Appends the positions of the `$p` after the first `front` statements, up to `end`, that are not
-/// proved. The workers find the first of them, and the calling thread the others.
+/// Appends the positions of the unproved `$p` after the first `front` statements, up to `end`. The
+/// workers find the first of them, and the calling thread the others.
 fn add_found<R: Threads + Sync>(
     search: &Search<'_, R>,
     checkers: &mut Checkers,
@@ -97,8 +97,8 @@ fn add_found<R: Threads + Sync>(
     Ok(())
 }
 
-/// Returns how many statements, after the first `front`, stand before the first `$p` up to `end`
-/// that is not proved; `None` if each is proved. One worker, or few statements, need no thread.
+/// Returns the index, from 0 after the first `front` statements, of the first `$p` up to `end` that
+/// is not proved, or `None` if each is proved. One worker, or few statements, need no thread.
 fn first_in<R: Threads + Sync>(
     search: &Search<'_, R>,
     checkers: &mut Checkers,

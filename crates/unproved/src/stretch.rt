@@ -1,4 +1,4 @@
-//! Statements that follow one another, as jobs of a pool.
+//! Consecutive statements as jobs of a pool.
 use frame::Frames;
 use mm_read::Stmt;
 use std::alloc::AllocError;
@@ -7,7 +7,7 @@ use verify::{Answer, Checker};
 use verify_pool::Work;
 
 /// The statements after the first `front`, up to `end`, as jobs in order. Contracts see all
-/// statements, the names that their frames number, and where these stand.
+/// statements, the names that their frames number, `front` and `end`.
 #[derive(Drop)]
 pub(crate) struct Stretch<'a> {
     pub(crate) frames: &'a Frames,

@@ -7,21 +7,21 @@ use Rattle.entries.specs.declared.assertion_view.Hypothesis.TheVariants as hypot
 use Rattle.frame.specs.AssertionView.{typecode_of}
 use Rattle.frame.specs.LastActive.{actives, is_disj}
 
--- ---- the parts of an assertion, by numbers
+-- ---- hypotheses and groups
 
 -- the number is the variable of that `$f`
 abbrev pub is_typed_by : ℕ → Hypothesis → Bool
 is_typed_by c (hypothesis.Float x) = c == x
 is_typed_by c (hypothesis.Essential p) = false
 
--- the numbers that are the variable of one of the `$f`
+-- the number is the variable of one of the `$f`
 abbrev pub is_typed : List Hypothesis → ℕ → Bool
 is_typed hs c = list_any (is_typed_by c) hs
 
 abbrev pub typed : List Hypothesis → List ℕ → List ℕ
 typed hs codes = filter (is_typed hs) codes
 
--- those that were recorded
+-- the numbers that are in the list ns
 abbrev pub recorded_in : List ℕ → List ℕ → List ℕ
 recorded_in ns codes = filter (λ c. list_any (λ n. n == c) ns) codes
 
@@ -32,7 +32,7 @@ option_symbols (Some e) = e.symbols
 abbrev pub symbols_at : List Entry → ℕ → List ℕ
 symbols_at es p = option_symbols (slice_get es (p - 1))
 
--- two or more
+-- the list has two or more
 abbrev pub has_two : {A : Type 0} → List A → Bool
 has_two [] = false
 has_two (x ∷ []) = false
@@ -45,7 +45,7 @@ groups_by hs lists = filter has_two (map (typed hs) lists)
 abbrev pub typecode_at : List Entry → ℕ → ℕ
 typecode_at es p = typecode_of (symbols_at es p)
 
--- the hypothesis at a position as one number
+-- the hypothesis at a position: the variable of a `$f`, or the position of a `$e`
 abbrev pub required_by : ℕ → Kind → List ℕ → Hypothesis
 required_by p Float codes = hypothesis.Float (get_or codes 1 0)
 required_by p kind codes = hypothesis.Essential p
@@ -57,12 +57,12 @@ option_required p (Some e) = required_by p e.kind e.symbols
 abbrev pub required_at : List Entry → ℕ → Hypothesis
 required_at es p = option_required p (slice_get es (p - 1))
 
--- a `$f` of a symbol of the expression
+-- the statement is a `$f` of a symbol of the expression
 abbrev pub is_float_in : Expr → Stmt → Bool
 is_float_in e (stmt.Float label constant variable) = has_name variable e
 is_float_in e s = false
 
--- the active ones, by position
+-- the positions of the active `$f` of the symbols of the expression
 abbrev pub floats_in : Database → Expr → List ℕ
 floats_in S e = map (λ p. p.0) (filter (λ p. is_float_in e p.1) (active S))
 
@@ -70,7 +70,7 @@ floats_in S e = map (λ p. p.0) (filter (λ p. is_float_in e p.1) (active S))
 abbrev pub kept_with : Bool → Database → Stmt → List ℕ
 kept_with whole S s = if whole then hypotheses S s else floats_in S (expr_of s)
 
--- the statement s, which stands after the first statements S, is kept with the parts d
+-- the statement s, which follows the statements S, is kept with the parts d
 pub record IsKeptAs (es : List Entry) (S : Database) (s : Stmt) (d : Assertion) : Type 0 where
   pub hypotheses_kept : d.hypotheses ≡ kept_with d.whole S s
   pub required_kept : d.required ≡ map (required_at es) d.hypotheses
@@ -78,7 +78,7 @@ pub record IsKeptAs (es : List Entry) (S : Database) (s : Stmt) (d : Assertion) 
   pub groups_kept : d.whole ≡ true → d.groups ≡ groups_by d.required (map (λ q. symbols_at es q.0) (actives is_disj S))
   pub own_kept : is_essential s ≡ true → d.whole ≡ false
 
--- a statement that is kept with hypotheses
+-- statements of the kind are kept with hypotheses
 abbrev pub has_parts : Kind → Bool
 has_parts Ess = true
 has_parts Axiom = true

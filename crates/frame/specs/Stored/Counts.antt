@@ -11,7 +11,7 @@ use Rattle.frame.specs.Stored.Stacks.{KeepsUntil}
 
 -- ---- numbers that stand for names
 
--- a label's number has a name, where the kind has a label
+-- the number of a label is below n, if statements of the kind have a label
 abbrev pub IsLabelBelow : Kind → ℕ → ℕ → Type 0
 IsLabelBelow kind label n = is_label_kind kind ≡ true → label < n
 
@@ -24,13 +24,13 @@ abbrev pub AreNumbered : ℕ → ℕ → List Entry → Type 0
 AreNumbered n m [] = Unit {0}
 AreNumbered n m (e ∷ es) = AreBelow n e.symbols × IsLabelBelow e.kind e.label m × AreNumbered n m es × HasTwo e.kind e.symbols
 
--- the entry e keeps the counts of the names and of the labels before it: those entries use no others
+-- the entry e has the counts of the names and of the labels before it: earlier entries use no others
 pub record KeepsCounts (names labels : List Name) (entries : List Entry) (i : ℕ) (e : Entry) : Type 0 where
   pub numbered : AreNumbered e.names e.label (take i entries)
   pub label_count : e.label ≡ length (labels_of (take i (map (stmt_of names labels) entries)))
   pub name_count : e.names ≡ length (symbols_of (take i (map (stmt_of names labels) entries)))
 
--- a statement that neither opens nor closes a block
+-- the statement neither opens nor closes a block
 abbrev pub IsPlain : Option Stmt → Type 0
 IsPlain None = ⊥
 IsPlain (Some s) = (is_open s ≡ false) × (is_close s ≡ false)
@@ -43,7 +43,7 @@ abbrev pub AreZero : List Symbol → Type 0
 AreZero [] = Unit {0}
 AreZero (x ∷ xs) = (x ≡ zero_symbol) × AreZero xs
 
--- the list with symbols after it that nothing declares
+-- the new list is the old one, followed by symbols that nothing declares
 abbrev pub AreZeroAfter : List Symbol → List Symbol → Type 0
 AreZeroAfter old new = (more : List Symbol) × (new ≡ old ++ more) × AreZero more
 
@@ -66,7 +66,7 @@ next_last_active l at Var = record { block = l.block; essential = l.essential; v
 next_last_active l at Disj = record { block = l.block; essential = l.essential; variable = l.variable; disjoint = at }
 next_last_active l at kind = l
 
--- the effect of one more entry on the last declarations of a symbol
+-- the last declarations of a symbol after one more entry
 abbrev pub with_declared : Kind → List ℕ → ℕ → ℕ → Symbol → Symbol
 with_declared kind codes at c x =
     if list_any (λ y. c == y) (declared_by kind codes) then with_last kind at x else x
@@ -74,12 +74,12 @@ with_declared kind codes at c x =
 abbrev pub with_entry : Entry → ℕ → ℕ → Symbol → Symbol
 with_entry e at c x = with_declared e.kind e.symbols at c x
 
--- there is room for the numbers of names: fewer than 2^31, and each with its declarations
+-- there are fewer than 2^31 names, and each has its last declarations
 pub record HasRoom (k : Storage) : Type 0 where
   pub count : length k.symbols.items ≡ length (names_in k)
   pub few : length (names_in k) < 2 ^ 31
 
--- more names and positions at the end; the entries and the `LastActive` stay
+-- names and positions were appended; everything else is as before
 pub record Grown (old new : Storage) : Type 0 where
   pub numbering : Extends old.numbering new.numbering
   pub symbols : AreZeroAfter old.symbols.items new.symbols.items
@@ -91,7 +91,7 @@ pub record Grown (old new : Storage) : Type 0 where
   pub variables : new.variables ≡ old.variables
   pub last_active : new.last_active ≡ old.last_active
 
--- the storage with more names and positions at the end: cut back it is as before
+-- the new storage may have more at its end: truncated, it is the old one
 pub record IsAfter (old new : Storage) : Type 0 where
   pub numbering : Extends old.numbering new.numbering
   pub symbols : AreZeroAfter old.symbols.items new.symbols.items

@@ -1,4 +1,4 @@
--- The meaning of an entry, and of the entries for a symbol's number. The code's own form: no public clause cites it.
+-- The meaning of an entry, and of the entries for the number of a symbol. The code's own form: no public clause cites it.
 use Rattle.std.specs.Prelude.{◌≡◌, ℕ, ◌+◌, ◌<◌, ◌==◌, Bool, true, false, ◌&&◌, if◌then◌else◌, List, [], ◌∷◌, ◌++◌, length, map, slice_get, Option, Some, None}
 use Rattle.frame.specs.Words.{list_any, Name, Stmt, Expr, Database, stmt_at, before, label_of, declared_symbols, declared_labels, name_at, decode, Kind, Open, Close, Const, Var, Disj, Float, Ess, Axiom, Prove, Entry, IsLegal}
 use Rattle.mm_read.specs.declared.stmt.Stmt.TheVariants as stmt
@@ -34,7 +34,7 @@ statements_of k = map (stmt_of (names_in k) (labels_in k)) k.entries
 abbrev pub numbered : Storage → Numbered
 numbered k = record { statements = statements_of k; names = names_in k }
 
--- where the labels stand
+-- the position of a statement, before these positions, if it has a label
 abbrev pub option_position : {A : Type 0} → Option A → ℕ → List ℕ → List ℕ
 option_position None at ps = ps
 option_position (Some x) at ps = at ∷ ps
@@ -47,9 +47,9 @@ positions_from at (s ∷ S) = option_position (label_of s) at (positions_from (a
 abbrev pub AreAllLegal : Database → Type 0
 AreAllLegal S = (j : ℕ) (s : Stmt) → stmt_at S j ≡ Some s → IsLegal (before S j) s
 
--- ---- the meaning of an entry for a symbol's number
+-- ---- the declarations of a symbol, by its number
 
--- a `$f` of it
+-- a `$f`
 abbrev pub is_float_kind : Kind → Bool
 is_float_kind Float = true
 is_float_kind kind = false
@@ -65,7 +65,7 @@ second_is c codes = false
 abbrev pub floats : ℕ → Entry → Bool
 floats c e = is_float_kind e.kind && second_is c e.symbols
 
--- a `$v` that has it
+-- the entry is a `$v` that has the symbol
 abbrev pub declares : ℕ → Entry → Bool
 declares c e = is_var_kind e.kind && list_any (λ x. c == x) e.symbols
 
@@ -80,7 +80,7 @@ last_where test es = last_from test 0 1 es
 abbrev pub symbol_of : List Entry → ℕ → Symbol
 symbol_of es c = record { float = last_where (floats c) es; variable = last_where (declares c) es }
 
--- the entries of the list at the numbers of symbols
+-- the list has, at each number c of a symbol, x c
 abbrev pub ReadsAs : List Symbol → (ℕ → Symbol) → Type 0
 ReadsAs symbols x = (c : ℕ) → c < length symbols → slice_get symbols c ≡ Some (x c)
 
@@ -92,7 +92,7 @@ declared_by Float (a ∷ c ∷ codes) = c ∷ []
 declared_by Var codes = codes
 declared_by kind codes = []
 
--- the last declaration of a symbol by statements of this kind, and another in its place
+-- the last declaration of a symbol by statements of this kind; the declarations with another in its place
 abbrev pub last_of : Kind → Symbol → ℕ
 last_of Float x = x.float
 last_of kind x = x.variable
@@ -101,11 +101,11 @@ abbrev pub with_last : Kind → ℕ → Symbol → Symbol
 with_last Float at x = record { float = at; variable = x.variable }
 with_last kind at x = record { float = x.float; variable = at }
 
--- the declarations that a statement of this kind with these symbols replaces, where the last declarations before it are x
+-- the declarations that a statement of this kind with these symbols replaces, if the last declarations before it are x
 abbrev pub replaced_by : (ℕ → Symbol) → Kind → List ℕ → List ℕ
 replaced_by x kind codes = map (λ c. last_of kind (x c)) (declared_by kind codes)
 
--- the same for each entry of a list, after others
+-- the declarations that the entries of a list replace, in order, after earlier entries
 abbrev pub replaced_after : List Entry → List Entry → List ℕ
 replaced_after before [] = []
 replaced_after before (e ∷ es) = replaced_by (symbol_of before) e.kind e.symbols ++ replaced_after (before ++ e ∷ []) es

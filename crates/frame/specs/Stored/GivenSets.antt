@@ -1,4 +1,4 @@
--- The hypotheses that the active `$e` up to a `$e` bring along, as a set that is kept by the `$e`. The code's own form: no public clause cites it.
+-- The mandatory hypotheses that the active `$e` up to a `$e` bring along, as a set that is kept with the `$e`. The code's own form: no public clause cites it.
 -- Metamath, 4.2.7: each active `$e` is mandatory, and so is the active `$f` of each variable in it.
 use Rattle.std.specs.Prelude.{◌≡◌, ℕ, zero, suc, ◌<◌, ◌≤◌, List, length, take, slice_get, Option, Some, None}
 use Rattle.frame.specs.Words.{set_at, Database, Entry}
@@ -13,16 +13,16 @@ abbrev pub option_set : Option KeptSet → ℕ
 option_set None = 0
 option_set (Some k) = k.set
 
--- the number of the set that is kept by the statement at a position, or 0
+-- the number of the set that is kept with the statement at a position, or 0
 abbrev pub kept_set : List KeptSet → ℕ → ℕ
 kept_set kept zero = 0
 kept_set kept (suc i) = option_set (slice_get kept i)
 
--- the set, if one is kept, has the hypotheses that the active `$e` after the statements bring along
+-- the set, if one is kept, has the hypotheses that the `$e` active after the statements bring along
 abbrev pub IsGivenBy : List Entry → Database → List (List ℕ) → ℕ → Type 0
 IsGivenBy es S sets set = (set ≡ 0 → ⊥) → AreThose (IsGiven es S) (set_at sets set)
 
--- what is kept by the statement at an index; no set of an earlier statement was made since
+-- k is kept with the statement at an index; earlier statements use only sets that were made before it
 pub record IsKeptSet (sets : List (List ℕ)) (kept : List KeptSet) (es : List Entry) (S : Database) (i : ℕ) (k : KeptSet) : Type 0 where
   pub some : 1 ≤ k.before
   pub before : k.before ≤ length sets
@@ -30,13 +30,13 @@ pub record IsKeptSet (sets : List (List ℕ)) (kept : List KeptSet) (es : List E
   pub earlier : (j : ℕ) (h : KeptSet) → j < i → slice_get kept j ≡ Some h → (h.before ≤ k.before) × (h.set < k.before)
   pub given : IsGivenBy (take (suc i) es) (take (suc i) S) sets k.set
 
--- what is kept by the first statements
+-- the sets that are kept with the first statements
 pub record AreGivenSets (g : GivenSets) (es : List Entry) (S : Database) : Type 0 where
   pub some : 1 ≤ length g.sets
   pub within : length g.kept.items ≤ length es
   pub each : (i : ℕ) (k : KeptSet) → slice_get g.kept.items i ≡ Some k → IsKeptSet g.sets g.kept.items es S i k
 
--- the storage, and what is kept by each of its statements
+-- the storage, and the sets that are kept with each of its statements
 pub record AreFrames (k : Storage) (g : GivenSets) : Type 0 where
   pub stored : AreStored k
   pub sets : AreGivenSets g k.entries (statements_of k)

@@ -1,45 +1,45 @@
--- How the mandatory hypotheses are found: the `$f` of the symbols of the assertion and of the active `$e`, and these. The code's own form: no public clause cites it.
+-- How the mandatory hypotheses are found: the active `$e`, and the `$f` of the symbols of these and of the assertion. The code's own form: no public clause cites it.
 use Rattle.std.specs.Prelude.{◌≡◌, ℕ, ◌+◌, ◌-◌, ◌≤◌, ◌==◌, ◌⊎◌, Bool, true, false, List, [], ◌∷◌, length, map, slice_get, Option, Some, None}
 use Rattle.frame.specs.Words.{Database, is_active, is_essential, Kind, Float, Ess, Entry, Assertion, list_any, Ascends}
 use Rattle.frame.specs.LastActive.{actives, is_disj}
 use Rattle.frame.specs.Stored.EntryMeanings.{floats, last_where}
 use Rattle.frame.specs.Stored.AssertionParts.{symbols_at, groups_by, typecode_at, required_at}
 
--- ---- how the mandatory hypotheses are found: the `$f` of the symbols of the assertion and of the active `$e`, and these
+-- ---- lists of positions
 
 abbrev pub In : ℕ → List ℕ → Type 0
 In p [] = ⊥
 In p (q ∷ qs) = (p ≡ q) ⊎ In p qs
 
--- the list has just those that P holds of, in ascending order, each once
+-- the list has exactly those for which P holds, in ascending order, each once
 pub record AreThose (P : ℕ → Type 0) (list : List ℕ) : Type 0 where
   pub ascends : Ascends list
   pub all : (p : ℕ) → P p → In p list
   pub only : (p : ℕ) → In p list → P p
 
--- the list has what it had, and those that P holds of
+-- the new list has exactly those of the old list, and those for which P holds
 pub record HasMore (P : ℕ → Type 0) (old new : List ℕ) : Type 0 where
   pub stays : (p : ℕ) → In p old → In p new
   pub all : (p : ℕ) → P p → In p new
   pub only : (p : ℕ) → In p new → In p old ⊎ P p
 
--- p is the last `$f` of the symbol c, and active after all entries
+-- p is the position of the last `$f` of the symbol c, which is active after all entries
 pub record IsFloatOf (es : List Entry) (S : Database) (c p : ℕ) : Type 0 where
   pub last : p ≡ last_where (floats c) es
   pub some : p ≡ 0 → ⊥
   pub stands : is_active S p (length S + 1) ≡ true
 
--- P ties p to one of the list
+-- P relates one of the list to p
 pub record OfSome (P : ℕ → ℕ → Type 0) (list : List ℕ) (p : ℕ) : Type 0 where
   pub one : ℕ
   pub among : In one list
   pub is : P one p
 
--- p is that of one of the symbols
+-- p is the position of the active `$f` of one of the symbols
 abbrev pub SomeFloat : List Entry → Database → List ℕ → ℕ → Type 0
 SomeFloat es S codes p = OfSome (IsFloatOf es S) codes p
 
--- the list has the `$f` of each symbol that was looked at
+-- the list has the active `$f` of each symbol that was looked up
 abbrev pub AreLooked : List Entry → Database → List ℕ → List ℕ → Type 0
 AreLooked es S looked list = (c p : ℕ) → list_any (λ n. n == c) looked ≡ true → IsFloatOf es S c p → In p list
 
@@ -51,22 +51,22 @@ option_kept (Some e) = e.assertion.hypotheses
 abbrev pub kept_at : List Entry → ℕ → List ℕ
 kept_at es p = option_kept (slice_get es (p - 1))
 
--- p is the `$e` at q, or kept with it
+-- p is the position q of a `$e`, or that of a hypothesis kept with it
 abbrev pub IsWith : List Entry → ℕ → ℕ → Type 0
 IsWith es q p = In p (q ∷ kept_at es q)
 
--- p is an active `$e`, or kept with one
+-- p is the position of an active `$e`, or of a hypothesis kept with one
 abbrev pub IsGiven : List Entry → Database → ℕ → Type 0
 IsGiven es S p = OfSome (IsWith es) (map (λ q. q.0) (actives is_essential S)) p
 
--- the `$f` of the symbols; with them the active `$e` and what is kept with these
+-- the list has exactly the active `$f` of the symbols; or also the active `$e` and the hypotheses kept with these
 abbrev pub AreFloats : List Entry → Database → List ℕ → List ℕ → Type 0
 AreFloats es S codes list = AreThose (SomeFloat es S codes) list
 
 abbrev pub AreCollected : List Entry → Database → List ℕ → List ℕ → Type 0
 AreCollected es S codes list = AreThose (λ p. SomeFloat es S codes p ⊎ IsGiven es S p) list
 
--- those before, with the active `$e` and what is kept with these
+-- the new list has exactly those of the old one, the active `$e` and the hypotheses kept with these
 abbrev pub AreWith : List Entry → Database → List ℕ → List ℕ → Type 0
 AreWith es S old new = AreThose (λ p. In p old ⊎ IsGiven es S p) new
 
@@ -75,19 +75,19 @@ is_hypothesis_entry Float = true
 is_hypothesis_entry Ess = true
 is_hypothesis_entry kind = false
 
--- a `$f` or `$e` stands at each of the positions
+-- the statement at each of the positions is a `$f` or `$e`
 abbrev pub AreHypotheses : List Entry → List ℕ → Type 0
 AreHypotheses es [] = Unit {0}
 AreHypotheses es (p ∷ ps) = ((e : Entry) × (1 ≤ p) × (slice_get es (p - 1) ≡ Some e) × (is_hypothesis_entry e.kind ≡ true)) × AreHypotheses es ps
 
--- the hypotheses have their kinds and typecodes, and, where they are all, the groups are the disjoint variables by the `$d`
--- after S
+-- the parts have the hypotheses by number and their typecodes, and, if they are whole, the groups of disjoint variables by the
+-- `$d` that are active after S
 pub record AreDescribed (es : List Entry) (S : Database) (d : Assertion) : Type 0 where
   pub required_made : d.required ≡ map (required_at es) d.hypotheses
   pub typecodes_made : d.typecodes ≡ map (typecode_at es) d.hypotheses
   pub groups_made : d.whole ≡ true → d.groups ≡ groups_by d.required (map (λ q. symbols_at es q.0) (actives is_disj S))
 
--- an assertion after the statements S has these hypotheses, of which all is said
+-- the parts of an assertion after the statements S, with these mandatory hypotheses, are whole
 pub record IsFilledFrom (es : List Entry) (S : Database) (ps : List ℕ) (d : Assertion) : Type 0 where
   pub is_whole : d.whole ≡ true
   pub same : d.hypotheses ≡ ps

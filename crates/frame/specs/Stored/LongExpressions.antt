@@ -1,10 +1,10 @@
--- Where the symbols of long expressions stand, beside the statements. The code's own form: no public clause cites it.
--- Metamath, 4.2.6: an image may be empty, and then nothing stands for its variable.
+-- Where the symbols of long expressions stand, kept beside the statements. The code's own form: no public clause cites it.
+-- Metamath, 4.2.6: an image may be empty, and then its variable is removed.
 -- The code keeps the places of the symbols of an expression with 128 symbols or more.
 use Rattle.std.specs.Prelude.{◌≡◌, ℕ, List, Some, slice_get}
 use Rattle.frame.specs.Words.{All, Entry, ArePlacesOf, SymbolGroups}
 
--- a statement stands at the index, and these are the places of its symbols
+-- there is a statement at the index, and these are the places of its symbols
 abbrev pub IsLongIn : List Entry → ℕ × SymbolGroups → Type 0
 IsLongIn es p = (e : Entry) × (slice_get es p.0 ≡ Some e) × ArePlacesOf e.symbols p.1
 

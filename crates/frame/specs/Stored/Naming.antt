@@ -1,4 +1,4 @@
--- The names that statements declare, each with what it was declared as. The code's own form: no public clause cites it.
+-- The names that statements declare, each with its kind. The code's own form: no public clause cites it.
 use Rattle.std.specs.Prelude.{Bool, ◌||◌, [], ◌∷◌, Option}
 use Rattle.frame.specs.Words.{Database, Declared, is_constant_kind, is_variable_kind, declared_with, NameKind}
 
@@ -10,6 +10,6 @@ naming_from names (s ∷ S) = naming_from (declared_with names s) S
 abbrev pub naming_of : Database → Declared
 naming_of S = naming_from [] S
 
--- a symbol's kind
+-- the kind is that of a symbol
 abbrev pub is_declared : Option NameKind → Bool
 is_declared kind = is_constant_kind kind || is_variable_kind kind

@@ -1,11 +1,11 @@
--- The frame of one assertion, as it is collected from what stands.
+-- The frame of one assertion, collected from the active statements.
 -- The code's own form: no public clause cites it.
 use Rattle.std.specs.Prelude.{◌≡◌, ℕ, Bool, true, false, ◌&&◌, ◌||◌, List, map, filter}
 use Rattle.frame.specs.Words.{Name, has_name, Stmt, Expr, Database, separated, expr_of, is_essential, is_variable, Standing}
 use Rattle.mm_read.specs.declared.stmt.Stmt.TheVariants.{Float, Ess}
 use Rattle.frame.specs.FrameOf.{is_mandatory, separates}
 
--- the variables of the expression beside the others
+-- the new names are the old ones and the variables of the expression
 abbrev pub AreRecorded : Database → List Name → List Name → Expr → Type 0
 AreRecorded S old new expr = (x : Name) → has_name x new ≡ (has_name x old || (is_variable S x && has_name x expr))
 
@@ -13,11 +13,11 @@ AreRecorded S old new expr = (x : Name) → has_name x new ≡ (has_name x old |
 abbrev pub AreMandatory : Database → Stmt → List Name → Type 0
 AreMandatory S s used = (x : Name) → has_name x used ≡ is_mandatory S s x
 
--- an `$e` that has it
+-- the statement is an `$e` that has the name
 abbrev pub is_in_essential : Name → Standing → Bool
 is_in_essential x e = is_essential e.stmt && has_name x (expr_of e.stmt)
 
--- an `$e`, or the `$f` of one of the variables
+-- the statement is an `$e`, or the `$f` of one of the used variables
 abbrev pub asks : List Name → Stmt → Bool
 asks used (Ess label expr) = true
 asks used (Float label constant variable) = has_name variable used
@@ -26,7 +26,7 @@ asks used other = false
 abbrev pub required : List Name → List Standing → List ℕ
 required used standing = map (λ e. e.at) (filter (λ e. asks used e.stmt) standing)
 
--- those of the names that are among the variables
+-- those of the names that are among the used variables
 abbrev pub among : List Name → List Name → List Name
 among used names = filter (λ x. has_name x used) names
 

@@ -1,6 +1,6 @@
 -- Lists of two disjoint variables each, in place of the groups of an assertion. The code's own form: no public clause cites it.
 -- Metamath, 4.2.7: the mandatory `$d` of an assertion are pairs of its mandatory variables.
--- The code makes them pair by pair where the active `$d` are many.
+-- The code makes them pair by pair if the active `$d` are many.
 use Rattle.std.specs.Prelude.{◌≡◌, ℕ, ◌<◌, ◌≤◌, ◌-◌, ◌==◌, ◌⊎◌, Bool, false, ◌&&◌, ◌||◌, List, length, map, take, drop}
 use Rattle.frame.specs.Words.{list_any, Assertion, AreDistinct}
 use Rattle.frame.specs.AssertionView.{has_both}
@@ -15,15 +15,15 @@ use Rattle.frame.specs.Stored.PairSearch.{are_pair}
 use Rattle.frame.specs.Stored.Stacks.{has_code, having}
 use Rattle.frame.specs.Stored.Whole.{AreStored}
 
--- ---- the search for a pair, of which facts are known
+-- ---- the search for a pair, with known facts
 
--- the `$d` that have x and are active after the first n statements, from the last one back
+-- the `$d` that have x and are active after the first `count` statements, from the last one back
 pub record IsRowOf (k : Storage) (x : ℕ) (row : List ℕ) : Type 0 where
   pub count : ℕ
   pub within : count ≤ length (statements_of k)
   pub are : row ≡ having k.entries x (actives is_disj (take count (statements_of k)))
 
--- two variables that are sought, and the `$d` that have the first
+-- x and y are variables that are searched for, and the row is that of the `$d` that have x
 pub record IsSoughtIn (k : Storage) (x y : ℕ) (row : List ℕ) : Type 0 where
   pub stored : AreStored k
   pub distinct : AreDistinct (names_in k)
@@ -32,20 +32,20 @@ pub record IsSoughtIn (k : Storage) (x y : ℕ) (row : List ℕ) : Type 0 where
   pub differ : (x == y) ≡ false
   pub row_of : IsRowOf k x row
 
--- from each of the first `$d` on, as many as were passed and one more, the answer is the same
+-- the answer is the same for the rows from each of the passed `$d` on, and from the next one on
 abbrev pub AreAnswered : Storage → ℕ → List ℕ → Walked → Type 0
 AreAnswered k y row walked = (i : ℕ) → i ≤ walked.steps → list_any (has_code k.entries y) (drop i row) ≡ walked.found
 
--- ---- the lists of two
+-- ---- the lists of two variables
 
--- pairs are sought at a position
+-- pairs can be searched for at the position
 pub record IsPlace (k : Storage) (at : ℕ) : Type 0 where
   pub stored : AreStored k
   pub distinct : AreDistinct (names_in k)
   pub above : 1 ≤ at
   pub within : at ≤ length (statements_of k)
 
--- one of the two is x, and the other in the list
+-- one of the two is x, and the other is in the list
 abbrev pub is_beside : ℕ → List ℕ → ℕ → ℕ → Bool
 is_beside x ys u v = x == u && list_any (λ c. c == v) ys || x == v && list_any (λ c. c == u) ys
 
@@ -53,7 +53,7 @@ is_beside x ys u v = x == u && list_any (λ c. c == v) ys || x == v && list_any 
 abbrev pub are_among : List ℕ → ℕ → ℕ → Bool
 are_among vs u v = list_any (λ c. c == u) vs && list_any (λ c. c == v) vs
 
--- the pairs that pass the test were added to the groups
+-- the pairs of disjoint variables that pass the test were added to the groups
 pub record HasPairs (k : Storage) (at : ℕ) (test : ℕ → ℕ → Bool) (old new : Assertion) : Type 0 where
   pub hypotheses : new.hypotheses ≡ old.hypotheses
   pub required : new.required ≡ old.required
@@ -62,7 +62,7 @@ pub record HasPairs (k : Storage) (at : ℕ) (test : ℕ → ℕ → Bool) (old 
       → list_any (has_both u v) new.groups ≡ (list_any (has_both u v) old.groups || (are_pair k at u v && test u v))
   pub below : AllBelow (length (names_in k)) old.groups → AllBelow (length (names_in k)) new.groups
 
--- these hypotheses, with a list for each two of their variables that are disjoint
+-- the parts have these hypotheses, and a group for each two of their variables that are disjoint
 pub record IsFilledByPairs (k : Storage) (at : ℕ) (ps : List ℕ) (d : Assertion) : Type 0 where
   pub same : d.hypotheses ≡ ps
   pub required_made : d.required ≡ map (required_at k.entries) ps
@@ -71,6 +71,6 @@ pub record IsFilledByPairs (k : Storage) (at : ℕ) (ps : List ℕ) (d : Asserti
       → list_any (has_both u v) d.groups ≡ (are_pair k at u v && is_typed d.required u && is_typed d.required v)
   pub below : AllBelow (length (names_in k)) d.groups
 
--- these hypotheses, with groups by the active `$d` or by pairs
+-- the parts have these hypotheses, and groups by the active `$d` or by pairs
 abbrev pub IsFilledForCitation : Storage → ℕ → List ℕ → Assertion → Type 0
 IsFilledForCitation k at ps d = IsFilledFrom k.entries (take (at - 1) (statements_of k)) ps d ⊎ IsFilledByPairs k at ps d

@@ -1,6 +1,6 @@
 -- The search for an active `$d` that has two variables. The code's own form: no public clause cites it.
--- Metamath, 4.2.4: two variables are disjoint where they stand together in an active `$d`.
--- The code goes through the `$d` of the one variable from the last one back.
+-- Metamath, 4.2.4: two variables are disjoint if they stand together in an active `$d`.
+-- The code goes through the `$d` of one of the variables, from the last one back.
 use Rattle.std.specs.Prelude.{◌≡◌, ℕ, ◌<◌, ◌≤◌, ◌==◌, Bool, false, List, length}
 use Rattle.frame.specs.Words.{list_any, name_at, AreDistinct, before}
 use Rattle.frame.specs.declared.storage.Storage.{Storage}
@@ -10,11 +10,11 @@ use Rattle.frame.specs.Stored.EntryMeanings.{names_in, statements_of}
 use Rattle.frame.specs.Stored.Stacks.{AreOfKind, has_code}
 use Rattle.frame.specs.Stored.Whole.{AreStored}
 
--- x and y stand together in a `$d` that is active at the position
+-- the variables x and y stand together in a `$d` that is active at the position
 abbrev pub are_pair : Storage → ℕ → ℕ → ℕ → Bool
 are_pair k at x y = is_pair (before (statements_of k) at) (name_at (names_in k) x) (name_at (names_in k) y)
 
--- two numbers of names are sought at a position
+-- x and y are numbers of two names, searched for at a position
 pub record AreSought (k : Storage) (at x y : ℕ) : Type 0 where
   pub stored : AreStored k
   pub distinct : AreDistinct (names_in k)
@@ -24,7 +24,7 @@ pub record AreSought (k : Storage) (at x y : ℕ) : Type 0 where
   pub second : y < length (names_in k)
   pub differ : (x == y) ≡ false
 
--- the `$d` that are left decide
+-- x and y are a pair exactly if one of the `$d` that are left has y
 pub record IsLeft (k : Storage) (at x y : ℕ) (left : List ℕ) : Type 0 where
   pub sought : AreSought k at x y
   pub of_kind : AreOfKind is_disj (statements_of k) left

@@ -1,5 +1,5 @@
--- The active `$d` and `$v` that have a symbol, kept by its number. The code's own form: no public clause cites it.
--- Metamath, 4.2.8: after a `$}` the statements that were active before its `${` are active.
+-- For each symbol, by its number, the active `$d` and `$v` that have it. The code's own form: no public clause cites it.
+-- Metamath, 4.2.8: after a `$}` the statements that were active before its `${` are active again.
 use Rattle.std.specs.Prelude.{◌≡◌, ℕ, zero, suc, ◌+◌, ◌-◌, ◌≤◌, ◌==◌, Bool, true, if◌then◌else◌, List, [], ◌∷◌, length, take, slice_get, Some}
 use Rattle.frame.specs.Words.{list_any, StackVersion, AreUntil, history, kept_until, stack_at, Stmt, Database, Entry, LastActive, Kind, Close, Disj, Var}
 use Rattle.frame.specs.declared.stacks.NextStatement.{NextStatement}
@@ -14,16 +14,16 @@ abbrev pub having_after : List ℕ → List Entry → ℕ → List (ℕ × Stmt)
 having_after found es c [] = found
 having_after found es c (p ∷ ps) = having_after (if has_code es c p.0 then p.0 ∷ found else found) es c ps
 
--- the positions of those that have the symbol c, from the last one back
+-- the positions of those statements that have the symbol c, from the last one back
 abbrev pub having : List Entry → ℕ → List (ℕ × Stmt) → List ℕ
 having es c ps = having_after [] es c ps
 
--- the stack of each symbol, at each position, are the active statements of the kind that have it
+-- the stack of each symbol, at each position, has the active statements of the kind that have the symbol
 pub record AreStacks (kind : Stmt → Bool) (hs : List (List StackVersion)) (es : List Entry) (S : Database) : Type 0 where
   pub until : AreUntil (length es) hs
   pub each : (c at : ℕ) → 1 ≤ at → at ≤ length es + 1 → stack_at (history hs c) at ≡ having es c (actives kind (take (at - 1) S))
 
--- a statement of the kind stands at the position
+-- the statement at the position is of the kind
 pub record IsOfKind (kind : Stmt → Bool) (S : Database) (p : ℕ) : Type 0 where
   pub one : 1 ≤ p
   pub statement : Stmt
@@ -34,9 +34,9 @@ abbrev pub AreOfKind : (Stmt → Bool) → Database → List ℕ → Type 0
 AreOfKind kind S [] = Unit {0}
 AreOfKind kind S (p ∷ ps) = IsOfKind kind S p × AreOfKind kind S ps
 
--- ---- the changes by the next statement
+-- ---- the changes that the next statement makes
 
--- the two kinds that have stacks: which statements are of the kind, and which link leads to the last active one
+-- the test for the statements of a kind that has stacks, `$d` or `$v`, and the last active one of the kind
 abbrev pub kind_test : Kind → Stmt → Bool
 kind_test Disj s = is_disj s
 kind_test kind s = is_var s
@@ -45,7 +45,7 @@ abbrev pub last_by_kind : Kind → LastActive → ℕ
 last_by_kind Disj l = l.disjoint
 last_by_kind kind l = l.variable
 
--- a `$}` goes back to where its block opened
+-- the position to whose stacks a `$}` goes back: that of its `${`
 abbrev pub opening : ℕ → ℕ
 opening zero = 1
 opening (suc b) = suc b
@@ -60,15 +60,15 @@ latest_of Var Var x hs c = with_top x.codes.now x.at hs c
 latest_of of Close x hs c = stack_at (history hs c) (opening x.last_active.block)
 latest_of of kind x hs c = stack_at (history hs c) x.at
 
--- the versions of each number until n are the earlier ones
+-- the versions up to n are the same for each number
 abbrev pub KeepsUntil : ℕ → List (List StackVersion) → List (List StackVersion) → Type 0
 KeepsUntil n old new = (c : ℕ) → kept_until n (history new c) ≡ kept_until n (history old c)
 
--- the versions of each of these symbols were changed
+-- the versions of exactly these symbols were changed by f
 abbrev pub AreChangedBy : (List StackVersion → List StackVersion) → List ℕ → List (List StackVersion) → List (List StackVersion) → Type 0
 AreChangedBy f codes old new = (d : ℕ) → history new d ≡ (if list_any (λ x. d == x) codes then f (history old d) else history old d)
 
--- the stacks after the statement at `at` are these, and the earlier ones are as they were
+-- the stacks after the statement at `at` are these (`after`), and the earlier ones are as before
 pub record IsNext (at : ℕ) (after : ℕ → List ℕ) (old new : List (List StackVersion)) : Type 0 where
   pub latest : (c : ℕ) → stack_at (history new c) (at + 1) ≡ after c
   pub until : AreUntil at new

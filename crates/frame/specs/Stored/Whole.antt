@@ -11,7 +11,7 @@ use Rattle.frame.specs.Stored.AssertionParts.{IsKeptAs, has_parts}
 use Rattle.frame.specs.Stored.Ends.{AreEnds}
 use Rattle.frame.specs.Stored.Stacks.{AreStacks, kind_test}
 
--- the storage of a database
+-- the lists of a storage are those of its statements
 pub record AreKept (names labels : List Name) (positions : List ℕ) (symbols : List Symbol) (replaced : List ℕ) (entries : List Entry) (last_active : LastActive) : Type 0 where
   pub last : last_active ≡ last_active_of (map (stmt_of names labels) entries)
   pub linked : (i : ℕ) (e : Entry) → slice_get entries i ≡ Some e → e.last_active ≡ last_active_of (take i (map (stmt_of names labels) entries))
@@ -35,7 +35,7 @@ pub record AreStored (k : Storage) : Type 0 where
   pub disjoints : AreStacks is_disj k.disjoints k.entries (statements_of k)
   pub variables : AreStacks is_var k.variables k.entries (statements_of k)
 
--- the stacks of a kind are those of a storage with these entries, after which this is active
+-- the stacks of a kind are those of a storage with these entries and these last active statements
 pub record IsWalked (of : Kind) (entries : List Entry) (last_active : LastActive) (hs : List (List StackVersion)) : Type 0 where
   pub storage : Storage
   pub stored : AreStored storage
@@ -43,7 +43,7 @@ pub record IsWalked (of : Kind) (entries : List Entry) (last_active : LastActive
   pub last_active_are : last_active ≡ storage.last_active
   pub stacks : AreStacks (kind_test of) hs entries (statements_of storage)
 
--- the header of the next statement
+-- h is the header of the next statement
 pub record IsEntryHeader (k : Storage) (s : Stmt) (h : EntryHeader) : Type 0 where
   pub kind : h.kind ≡ kind_of s
   pub label : h.before.label ≡ length (labels_in k)
@@ -53,7 +53,7 @@ pub record IsEntryHeader (k : Storage) (s : Stmt) (h : EntryHeader) : Type 0 whe
 abbrev pub IsKeptOf : Storage → Stmt → Assertion → Type 0
 IsKeptOf k s d = IsKeptAs k.entries (statements_of k) s d
 
--- the parts that were found of the statement s; each hypothesis has its kind and its typecode
+-- the parts found for the statement s; each hypothesis has its number and its typecode
 pub record ArePartsFor (k : Storage) (s : Stmt) (d : Assertion) : Type 0 where
   pub paired : length d.required ≡ length d.hypotheses
   pub headed : length d.typecodes ≡ length d.hypotheses
