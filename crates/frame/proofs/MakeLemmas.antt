@@ -1,5 +1,5 @@
 -- Making the parts of an assertion: the loops' steps.
-use Rattle.frame.proofs.Words.{sym, ◌∙◌, ap, subst, arith, append_assoc, append-nil, ◌≡◌, ℕ, zero, suc, ◌+◌, ◌-◌, ◌<◌, ◌≤◌, Bool, true, false, cond, List, [], ◌∷◌, ◌++◌, length, map, filter, reverse, get_or, slice_range, refl, is_typed, recorded_in, list_any, ◌==◌, filter-append, length-append, map-append, reverse-append, slice_get_within, Stmt, cut, AreSpansIn, range-after, extends-refl, cut-more, cut-push, spans-push, Entry, typed, symbols_at, has_two, groups_by, AreHypotheses, map_push, BufferPart, Hypothesis}
+use Rattle.frame.proofs.Words.{sym, ◌∙◌, ap, subst, arith, append_assoc, append-nil, ◌≡◌, ℕ, zero, suc, ◌+◌, ◌-◌, ◌<◌, ◌≤◌, Bool, true, false, cond, List, [], ◌∷◌, ◌++◌, length, map, filter, reverse, get_or, slice_range, refl, is_typed, recorded_in, list_any, ◌==◌, filter-append, length-append, map-append, reverse-append, slice_get_within, Stmt, cut, AreSpansIn, range-behind, extends-refl, cut-more, cut-push, spans-push, Entry, typed, symbols_at, has_two, groups_by, AreHypotheses, map_push, BufferPart, Hypothesis}
 
 -- ---- the hypotheses, one by one
 
@@ -65,7 +65,7 @@ group-added places new a b s group e from to two h k =
     let l = length-append places group in
     let m = ap length e in
     let both : has_two group ≡ true = has_two-len group (omega arith) in
-    let here : slice_range new s.from s.to ≡ group = range-after places group new new s.from s.to from e to (extends-refl new) in
+    let here : slice_range new s.from s.to ≡ group = range-behind places group new new s.from s.to from e to (extends-refl new) in
     let before : cut new a ≡ cut places a = ap (λ w. cut w a) e ∙ cut-more places group a h in (
       ap (cut new) k ∙ (cut-push new a s ∙ (ap (λ r. r ++ slice_range new s.from s.to ∷ []) before ∙ (ap (λ g. cut places a ++ g ∷ []) here
           ∙ sym (ap (λ t. cond t (cut places a ++ group ∷ []) (cut places a)) both)))),

@@ -5,7 +5,7 @@ pub use Rattle.entries.proofs.HistoryLemmas.{changed-twice, kept-changed, stack-
 pub use Rattle.entries.proofs.LogLemmas.{until-kept, until-later}
 pub use Rattle.entries.proofs.PositionSetLemmas.{above-all, ascends-with, count-above, count-all, count-get, count-grows, count-less, count-with, get-count, has-above, has-get, has-with, length-with}
 pub use Rattle.entries.proofs.SetNodeLemmas.{cut-back, set_at-extends}
-pub use Rattle.entries.proofs.SpanLemmas.{cut-more, cut-push, extends-length, extends-refl, extends-take, extends-trans, range-after, spans-push, spans-reverse}
+pub use Rattle.entries.proofs.SpanLemmas.{cut-more, cut-push, extends-length, extends-refl, extends-take, extends-trans, range-behind, spans-push, spans-reverse}
 pub use Rattle.entries.proofs.StatementRecordLemmas.{get-last, get-more}
 pub use Rattle.entries.specs.Entries.{AreWhole, Assertion, Entry, assertion_of, made, partless, seen}
 pub use Rattle.entries.specs.Histories.{AreKeptUntil, AreSame, AreUntil, IsUntil, StackVersion, gone_back, history, kept_until, pushed, stack_at}
