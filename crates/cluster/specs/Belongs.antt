@@ -1,6 +1,6 @@
 -- Which switch a cell belongs to, and which of two cells of one switch is ahead.
 -- Source: Lamport, Paxos Made Simple, section 3: all servers execute the same commands, each as far as it learned them.
--- The code tests this entry by entry where it has both switch and cell, since two locks share no fact.
+-- The code tests this entry by entry where it has both switch and cell, since no fact relates values under different locks.
 use Rattle.std.specs.Prelude.{◌≡◌, ◌<◌, ℕ, List, Some, length, slice_get}
 use Rattle.cluster.specs.Words.{Database, IsPrefixOf, SwitchView, BeginsLog, Carried, carried_size}
 use Rattle.cluster.specs.declared.compare.Ahead.{Ahead}
@@ -15,7 +15,7 @@ Belongs c switch = BeginsLog carried_size switch c.at c.entries
 abbrev pub EachBelongs : List Cell → SwitchView Carried → Type 0
 EachBelongs cells switch = (k : ℕ) (c : Cell) → slice_get cells k ≡ Some c → Belongs c switch
 
--- which library has more statements: the other's statements are a prefix of its own
+-- which library has more statements, if one has; the other's statements are a prefix of them
 abbrev pub IsAhead : Ahead → Database → Database → Type 0
 IsAhead First one other = IsPrefixOf other one × (length other < length one)
 IsAhead Same one other = one ≡ other

@@ -1,6 +1,6 @@
 -- The cell of a node: the entries that it has taken over from its log, and the library of those that it applied.
 -- Source: Lamport, Paxos Made Simple, section 3: a server executes the commands in the order of their numbers.
--- The code keeps these under a lock of their own; that the entries are a prefix of the log is tested where both are at hand.
+-- `nodes` keeps these under a lock of their own; that the entries are a prefix of the log is tested where both are borrowed.
 use Rattle.std.specs.Prelude.{◌≡◌, ℕ, ◌+◌, ◌≤◌, Bool, true, false, List, [], ◌∷◌, ◌++◌, Option, Some, None, Result, Ok, Err, length, slice_get}
 use Rattle.cluster.specs.Words.{SLOTS, Entry, Carried, StepFault, Memory, entries_of, NodeLibrary, new_library, IsOfLog}
 
@@ -26,11 +26,11 @@ AddsEntry old new None (Ok true) = ⊥
 AddsEntry old new None (Ok false) = new ≡ old
 AddsEntry old new None (Err fault) = ⊥
 
--- the cell takes over the next entry in this way, and is otherwise unchanged
+-- the cell takes over the next entry, as `AddsEntry` describes, and is otherwise unchanged
 pub record TakesOver (old new : Cell) (next : Option (Option Carried)) (result : Result Bool StepFault) : Type 0 where
   pub adds : AddsEntry old.entries new.entries next result
   pub rest : new ≡ record old { entries = new.entries }
 
--- the entry to apply next, if it is taken over
+-- the next entry to apply, if it is taken over
 abbrev pub next_entry : Cell → Option (Option Entry)
 next_entry c = slice_get (entries_of c.entries) c.node.applied

@@ -4,7 +4,7 @@
 use Rattle.std.specs.Prelude.{ℕ, suc, List, [], ◌∷◌}
 use Rattle.cluster.specs.Cell.{Cell, new_cell}
 
--- the cells of the nodes from k on, as many as there are weights
+-- new cells of the nodes from k on, one for each weight
 abbrev pub new_cells : ℕ → List ℕ → List Cell
 new_cells k [] = []
 new_cells k (w ∷ ws) = new_cell k ∷ new_cells (suc k) ws

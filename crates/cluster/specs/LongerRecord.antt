@@ -1,4 +1,4 @@
--- A record with one more entry.
+-- The accepted entries of a record with one more slot copied.
 -- Source: this project's profile.
 -- The code copies a record slot by slot. A slot without an entry adds nothing.
 use Rattle.std.specs.Prelude.{ℕ, List, Option, Some, None}

@@ -8,17 +8,17 @@ use Rattle.library.specs.declared.verdict.Verdict.TheVariants.{Repeat}
 use Rattle.world.specs.declared.carried.Carried.{Carried}
 use Rattle.cluster.specs.Cell.{Cell}
 
--- an element of a log is an entry under the author and the serial number of this entry
+-- an element of a log is an entry with the author and the serial number of this entry
 abbrev pub is_under : Entry → Option Carried → Bool
 is_under entry None = false
 is_under entry (Some c) = (author_of entry == author_of c.0) && (serial_of entry == serial_of c.0)
 
--- the first entry of a log under them, which is the one that its library decides; None if there is none
+-- the first entry of a log under this entry's author and number, which the log's library decides; None if there is none
 abbrev pub first_under : Entry → List (Option Carried) → Option Carried
 first_under entry [] = None
 first_under entry (c ∷ cs) = if is_under entry c then c else first_under entry cs
 
--- from the verdict decided under them and the first entry under them: the verdict if the first is this entry, else a repeat
+-- from the verdict and the first entry under that author and number: the verdict if the first is this entry, else a repeat
 abbrev pub IsOutcomeBy : Option Verdict → Option Carried → Entry → Option Verdict → Type 0
 IsOutcomeBy None first entry outcome = outcome ≡ None
 IsOutcomeBy (Some verdict) first entry outcome =

@@ -1,4 +1,4 @@
-//! Questions on a cell: of which node it is, and the outcome of an entry.
+//! Questions about a cell: a question to the cell of a named node, and the outcome of an entry.
 ghost use Rattle.std.specs.Prelude.{◌≡◌, ◌↔◌, Err, IfOk, IsOk, IsTrue, Some};
 ghost use Rattle.std.specs.Fn.{FnOnceReturnsAt};
 ghost use Rattle.net.specs.declared.fault.StepFault.TheVariants.{Apart};
@@ -10,7 +10,7 @@ use library::{Entry, Verdict};
 use net::StepFault;
 use world::Carried;
 
-/// Asks the question of the cell, and returns its answer.
+/// Calls `question` on the cell if it is that of node `k`, and returns the answer.
 ///
 /// Errors: `Apart` exactly if the cell is not that of node `k`. Cost: that of the question.
 pub fn ask_on<T, F: FnOnce(&NodeCell) -> T + Drop>(

@@ -102,7 +102,7 @@ impl NodeCell {
     }
 }
 
-/// Returns whether the cell belongs to the switch: it has such a node, and the entries taken over are a prefix of its log.
+/// Returns whether the cell belongs to the switch: the switch has its node, and the entries taken over are a prefix of its log.
 ///
 /// Cost: the size of the entries taken over, each compared with one of the log.
 pub fn belongs<K: Keep<Carried>>(cell: &NodeCell, switch: &Switch<Carried, K>) -> bool
@@ -115,7 +115,7 @@ pub fn belongs<K: Keep<Carried>>(cell: &NodeCell, switch: &Switch<Carried, K>) -
 /// Takes over the next entry of the node's log, and returns whether there is one.
 ///
 /// Errors: `NoNode` if the switch has no such node; else `Memory` if an allocation fails. Nothing is then taken over.
-/// Cost: one entry, copied.
+/// Cost: one copy of an entry.
 pub fn take_on<K: Keep<Carried>>(
     cell: &mut NodeCell,
     switch: &Switch<Carried, K>,
@@ -181,7 +181,7 @@ pub fn apply_on_with<G: Gate + Sync, R: Threads + Sync>(
     cell.replica.apply_next_with(rt, next, workers, gate)
 }
 
-/// Returns the entry of a slot, if it is taken over.
+/// Returns the entry of a slot, if it was taken over.
 fn entry_at(entries: &[Option<Carried>], slot: u32) -> Option<&Option<Carried>>
     ensures { option_map (λ e. e.now) result ≡ slice_get entries.now slot }
 {

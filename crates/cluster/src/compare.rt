@@ -11,16 +11,16 @@ use world::Carried;
 /// Which of two libraries has more statements.
 #[derive(Clone, Copy, PartialEq, Eq, Debug)]
 pub enum Ahead {
-    /// The first: the second's statements are a prefix of its own.
+    /// The first; the statements of the second are a prefix of its statements.
     First,
     /// They have the same statements.
     Same,
-    /// The second: the first's statements are a prefix of its own.
+    /// The second; the statements of the first are a prefix of its statements.
     Second,
 }
 
-/// Returns which of two cells of one switch has the library with more statements. The statements of the other are a prefix
-/// of them. It does not allocate.
+/// Returns which of two cells of one switch has the library with more statements, if one has. The statements of the other
+/// are a prefix of them. It does not allocate.
 ///
 /// Cost: constant; the two counts are compared.
 pub fn compare_on<K: Keep<Carried>>(
@@ -32,7 +32,7 @@ pub fn compare_on<K: Keep<Carried>>(
     requires other { Belongs other.now switch.now }
     ensures { IsAhead result one.now.node.library.statements other.now.node.library.statements }
 {
-    // The node is one of the switch, and `entry` says that the history is taken.
+    // The switch has the node, and a clause of `entry` states that the history is taken.
     prove!(switch.entry(one.at(), 0).is_ok());
     ahead_of(one.library(), other.library())
 }

@@ -1,4 +1,4 @@
-//! The events of the nodes, each one call on the locked switch.
+//! The events of the nodes, each one call on a borrowed switch.
 ghost use Rattle.std.specs.Prelude.{◌≡◌, OnOk, OnErr};
 ghost use Rattle.net.specs.declared.event.Event.TheVariants.{Offer, Begin, Deliver, Restart};
 ghost use Rattle.switch.specs.Switch.{Plays};
@@ -38,7 +38,7 @@ pub fn begin_on<V: Value, K: Keep<V>>(switch: &mut Switch<V, K>, k: u8) -> Resul
     switch.play(Event::Begin(k))
 }
 
-/// Delivers the packet of a number to its receiver. Returns the number of packets posted so far.
+/// Delivers the packet of that number to its receiver. Returns the number of packets posted so far.
 ///
 /// Errors and cost: those of `Switch::play`.
 pub fn deliver_on<V: Value, K: Keep<V>>(
@@ -51,8 +51,8 @@ pub fn deliver_on<V: Value, K: Keep<V>>(
     switch.play(Event::Deliver(number))
 }
 
-/// Restarts the cell's node. The cell is then as new: nothing is taken over, and the library is empty. Returns the number of
-/// packets posted so far.
+/// Restarts the cell's node. The cell is then that of a new node: nothing is taken over, and the library is empty. Returns the
+/// number of packets posted so far.
 ///
 /// Errors: those of `Switch::play`; the cell is then as before. Cost: that of `Switch::play`, and of dropping the library.
 pub fn restart_on<K: Keep<Carried>>(

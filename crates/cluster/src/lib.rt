@@ -1,11 +1,11 @@
 //! The nodes of one agreement on the entries of libraries, each with the entries that it has taken over from its log.
 //!
-//! The contract that the crates above use is that of the calls that borrow locked values: each of `begin_on`, `offer_on`,
-//! `deliver_on` and `restart_on` is one event of a history that is taken (`Plays` of `switch/specs/Switch.antt`).
-//! `Switch::history` says what is true of every switch, and `NodeCell::library` what is true of every cell. The cells that
+//! The crates above use the contracts of the calls that borrow locked values: each of `begin_on`, `offer_on`,
+//! `deliver_on` and `restart_on` plays one event of a history that is taken (`Plays` of `switch/specs/Switch.antt`).
+//! The clauses of `Switch::history` hold of every switch, those of `NodeCell::library` of every cell. The cells that
 //! `cells` creates belong to its switch after each call of this crate; `compare_on` returns which of two libraries is ahead.
 //!
-//! Read `memory_keep`, `cell`, `log` and `events`, then `asking` and `compare`; the definitions are specs/Cell and Belongs.
+//! Read the definitions, specs/Cell and Belongs; then `memory_keep`, `cell`, `log`, `events`, `asking` and `compare`.
 #![tactic(auto)]
 
 mod asking;

@@ -1,4 +1,4 @@
-//! Whether entries begin a node's log.
+//! Tests of whether entries are a prefix of a node's log.
 ghost use Rattle.std.specs.Prelude.{◌≡◌, ◌↔◌, ◌≤◌, ◌<◌, Some, length, slice_get, option_map, IsTrue, IsOk};
 ghost use Rattle.slots.specs.declared.slots.TheConstants.{SLOTS};
 ghost use Rattle.net.specs.World.{log_after};
@@ -34,7 +34,7 @@ pub(crate) fn begins_log<K: Keep<Carried>>(
     true
 }
 
-/// Returns whether the entry is that of node `k`'s log at a slot.
+/// Returns whether the log of node `k` has this entry at a slot.
 fn is_entry<K: Keep<Carried>>(
     switch: &Switch<Carried, K>,
     k: u8,
@@ -50,7 +50,7 @@ fn is_entry<K: Keep<Carried>>(
     }
 }
 
-/// Returns whether the entry was found: the same no-operation, text or charter of one author and serial number.
+/// Returns whether `found` is there and equal to `entry`: both are a no-operation, or both are the same entry.
 fn is_found(found: Option<&Option<Carried>>, entry: &Option<Carried>) -> bool
     ensures { IsTrue result ↔ (option_map (λ e. e.now) found.entry ≡ Some entry.now) }
 {
@@ -61,7 +61,7 @@ fn is_found(found: Option<&Option<Carried>>, entry: &Option<Carried>) -> bool
     }
 }
 
-/// Returns whether two entries are the same: two texts, or two charters, of one author and serial
+/// Returns whether two entries are the same: two texts, or two charters, of the same author and serial
 /// number, with the same bytes or names. It does not allocate.
 pub(crate) fn is_same(one: &Entry, other: &Entry) -> bool
     ensures { IsTrue result ↔ (one.now ≡ other.now) }

@@ -1,4 +1,4 @@
-//! A keep in memory.
+//! The keep of a node (its stable storage) in memory.
 ghost use Rattle.std.specs.Prelude.{◌≡◌, ◌<◌, Ok, Err, Some, None, OnOk, IfOk};
 ghost use Rattle.slots.specs.FiniteMap.{entry_at, trimmed};
 ghost use Rattle.slots.specs.declared.slots.TheConstants.{SLOTS};
@@ -10,7 +10,7 @@ use slots::SLOTS;
 use std::alloc::{AllocError, Global};
 use synod::{AcceptedEntry, Change, Failed, Keep, Record, Value, copy_value};
 
-/// A node's storage that lasts as long as the process. A call fails if an allocation fails.
+/// The storage of a node in the memory of the process. A call fails if an allocation fails.
 #[derive(Drop)]
 pub struct MemoryKeep<V: Value> {
     alloc: Global,
@@ -56,7 +56,7 @@ impl<V: Value> Keep<V> for MemoryKeep<V> {
     }
 }
 
-/// Returns a copy of a change, and reserves room for it.
+/// Returns a copy of a change, and reserves room for it in the record.
 ///
 /// Errors: an allocation fails, or the slot is past the limit.
 fn ready_change<V: Value>(kept: &mut Record<V>, change: &Change<V>) -> Result<Change<V>, AllocError>

@@ -1,6 +1,6 @@
 -- The outcome of adding statements, on one thread or with proofs judged ahead.
 -- Source: this project's profile; Metamath, 4.2 and appendix B.
--- The code judges the proofs of first statements while all are added, since a `$p` stays proved when others follow.
+-- The code judges the proofs of a first part while all statements are added, since a `$p` stays proved when others are appended.
 use Rattle.std.specs.Prelude.{◌≡◌, ℕ, ◌+◌, ◌*◌, ◌≤◌, ◌++◌, length, take, drop, IsTrue, None, Ok, IfOk}
 use Rattle.std.specs.Borrow.{Bor, MutBor}
 use Rattle.verify_pool.specs.declared.checkers.Checkers.{Checkers}
@@ -28,11 +28,11 @@ pub record IsAdded (old new : Tables) (T : Database) (a : Added) : Type 0 where
   pub marked : new.rules.marked ≡ old.rules.marked
   pub known : (L : Database) → length L ≡ length old.frames.statements → IsKnown (L ++ T) (length L) a.known
 
--- adding the statements T took no step back, and two steps each at most
+-- adding the statements T does not lower the count of steps, and raises it by at most two for each
 abbrev pub IsCounted : StepCounts → StepCounts → Database → Type 0
 IsCounted old new T = (count_of old ≤ count_of new) × (count_of new ≤ count_of old + 2 * length T)
 
--- a function with this contract adds statements to tables whose rules and frames are of the same ones
+-- a function with this contract adds statements to tables whose rules and frames have the same statements
 abbrev pub Adds : (Bor Database → MutBor Tables → MutBor StepCounts → MutBor Checkers → Type 0)
     → (Bor Database → MutBor Tables → MutBor StepCounts → MutBor Checkers → Added → MutBor Tables → MutBor StepCounts → MutBor Checkers → Type 0) → Type 0
 Adds pre post =

@@ -1,6 +1,6 @@
 -- Why a text is not added: the first cause that holds.
 -- Source: this project's profile.
--- The code stops at the first cause that it meets; here each cause says what does not stand before it.
+-- The code stops at the first cause that it meets; here each cause states which earlier causes do not hold.
 use Rattle.std.specs.Prelude.{◌≡◌, ◌≢◌, ℕ, ◌+◌, ◌<◌, ◌≤◌, IsTrue, IsFalse, List, ◌++◌, length, Option, Some, None}
 use Rattle.library.specs.Words.{Name, LexFault, IsLexFault, Stmt, Database, Reads, HasTokens, IsNoDatabase, proof_of, first_broken, is_unfinished, IsProvable}
 use Rattle.mm_lex.specs.declared.fault.LexFault.TheVariants as lex
@@ -16,7 +16,7 @@ pub record IsReadable (text : List ℕ) (T : Database) : Type 0 where
   pub short : length text ≤ MOST_BYTES
   pub read : Reads text T
 
--- the text reads as T, and the charter that is there forbids its author nothing in it
+-- the text reads as T, and the charter in force, if any, forbids its author nothing in it
 pub record IsAllowed (charter : Option (List ℕ)) (submission : Submission) (T : Database) : Type 0 where
   pub readable : IsReadable submission.text T
   pub allowed : forbidden charter submission.author T ≡ None
@@ -36,7 +36,7 @@ IsFault L T (Unfinished n) =
     (s : Stmt) × (first_broken 1 L T ≡ None) × IsFirstUnproved L T n s × IsTrue (is_unfinished (proof_of s))
 IsFault L T cause = ⊥
 
--- why the submission is not added after L, under the charter that is there
+-- why the submission is not added after L, under the charter in force
 abbrev pub IsCause : Database → Option (List ℕ) → Submission → Cause → Type 0
 IsCause L charter submission TooLong = MOST_BYTES < length submission.text
 IsCause L charter submission Text =

@@ -22,7 +22,7 @@ pub record AreNames (numbers : List ℕ) : Type 0 where
 abbrev pub names_author : List ℕ → ℕ → Bool
 names_author names author = list_any (λ n. n == author) names
 
--- where a charter is there, it names the author
+-- there is no charter, or it names the author
 abbrev pub may_declare : Option (List ℕ) → ℕ → Bool
 may_declare None author = true
 may_declare (Some names) author = names_author names author
@@ -33,11 +33,11 @@ is_declaration (Const symbols) = true
 is_declaration (Axiom label expr) = true
 is_declaration s = false
 
--- the number of the least `$c` or `$a`, the first statement having this number
+-- the number of the first `$c` or `$a`, counted from this number
 abbrev pub first_declaration : ℕ → Database → Option ℕ
 first_declaration at [] = None
 first_declaration at (s ∷ T) = if is_declaration s then Some at else first_declaration (at + 1) T
 
--- the least statement of the text that its author may not declare
+-- the number of the first statement of the text that its author may not declare
 abbrev pub forbidden : Option (List ℕ) → ℕ → Database → Option ℕ
 forbidden charter author T = if may_declare charter author then None else first_declaration 1 T

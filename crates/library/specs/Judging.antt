@@ -1,6 +1,6 @@
 -- Judging statements that follow others: the least rule broken, or else the least `$p` that is not proved.
 -- Source: this project's profile; Metamath, 4.2 and appendix B.
--- The code adds the statements to the state of the rules and to frames, and goes back where it finds a fault.
+-- The code adds the statements to the state of the rules and to frames, and rolls back if it finds a fault.
 use Rattle.std.specs.Prelude.{◌≡◌, ℕ, ◌+◌, ◌<◌, ◌≤◌, List, ◌++◌, length, Option, Some, None, Result, Ok, Err, IfOk, IfErr, Vec}
 use Rattle.std.specs.declared.alloc.Global.{Global}
 use Rattle.library.specs.Words.{Stmt, Database, AreShaped, Reads, IsReadFault, bares, first_broken, IsProvable}
@@ -11,11 +11,11 @@ use Rattle.library.specs.declared.submission.Submission.{Submission}
 use Rattle.library.specs.Good.{Good, IsProved}
 use Rattle.library.specs.Causes.{IsAllowed, IsCause, IsFault}
 
--- the list begins with these statements
+-- these statements are a prefix of the list
 abbrev pub Begins : Database → Database → Type 0
 Begins front whole = (rest : Database) × (whole ≡ front ++ rest)
 
--- where a `$p` stands there, it is proved
+-- if a `$p` is at that position, it is proved
 abbrev pub StandsProved : Database → ℕ → Type 0
 StandsProved S at = (s : Stmt) → IsProvable S at s → IsProved S at
 
@@ -45,7 +45,7 @@ pub record IsChecked (S : Database) (tables : Tables) : Type 0 where
   pub marked_is : tables.rules.marked ≡ bares S
   pub frames_are : tables.frames.statements ≡ bares S
 
--- the statements T were added whole after L, or nothing of them, for this cause
+-- the statements T were all added after L, or none of them, for this cause
 abbrev pub Extends : Database → Database → Option Cause → Database → Type 0
 Extends L T None new = Good (L ++ T) × (new ≡ L ++ T)
 Extends L T (Some cause) new = IsFault L T cause × (new ≡ L)
@@ -56,7 +56,7 @@ ReadsTexts returns =
     (text : List ℕ) (r : Result (Vec Stmt Global) ReadFault) → returns text r
     → IfOk r (λ statements. Reads text statements.items) × IfErr r (IsReadFault text)
 
--- the statements of a text that may be judged, or the cause why not, whatever stands before them
+-- the statements of a text that may be judged, or the cause of its refusal, whatever statements are before them
 abbrev pub IsReading : Option (List ℕ) → Submission → Result (Vec Stmt Global) Cause → Type 0
 IsReading charter submission (Ok statements) = IsAllowed charter submission statements.items
 IsReading charter submission (Err cause) = (L : Database) → IsCause L charter submission cause

@@ -1,6 +1,6 @@
 -- Laws of the library of a log.
 -- Source: this project's profile.
--- The working calls make the steps of these definitions; the laws say what the definitions leave no choice of.
+-- The working calls make the steps of these definitions; the laws state that the definitions leave no choice.
 use Rattle.std.specs.Prelude.{◌≡◌, ◌↔◌, List, ◌++◌, map, option_map, Option, None}
 use Rattle.mm_read.specs.Statements.{Database}
 use Rattle.library.specs.declared.submission.Submission.{Submission}
@@ -11,7 +11,7 @@ use Rattle.library.specs.Good.{Good}
 use Rattle.library.specs.LibraryOf.{Replica, Applies, IsLibraryOf}
 use Rattle.library.specs.PlainLibraryOf.{PlainReplica, IsPlainLibraryOf}
 
--- an entry has one verdict at a replica, and makes one replica of it
+-- at a given replica, an entry has one verdict and leads to one replica
 abbrev pub OneVerdict : Type 0
 OneVerdict = (old new other : Replica) (entry : Option Entry) (v w : Verdict)
     → Applies old entry v new → Applies old entry w other → (v ≡ w) × (new ≡ other)
@@ -20,7 +20,7 @@ OneVerdict = (old new other : Replica) (entry : Option Entry) (v w : Verdict)
 abbrev pub OneLibrary : Type 0
 OneLibrary = (log : List (Option Entry)) (replica other : Replica) → IsLibraryOf log replica → IsLibraryOf log other → replica ≡ other
 
--- the statements of a log's library begin those of a longer log's library
+-- the statements of a log's library are a prefix of those of a longer log's library
 abbrev pub LibrariesGrow : Type 0
 LibrariesGrow = (log later : List (Option Entry)) (replica longer : Replica)
     → IsLibraryOf log replica → IsLibraryOf (log ++ later) longer → (more : Database) × (longer.statements ≡ replica.statements ++ more)

@@ -12,7 +12,7 @@ use Rattle.library.specs.Charters.{may_declare}
 use Rattle.library.specs.Good.{Good}
 use Rattle.library.specs.Causes.{IsAllowed, IsCause}
 
--- who made an entry, his number of it, and its size in bytes
+-- the author of an entry, its serial number, and its size in bytes
 abbrev pub author_of : Entry → ℕ
 author_of (Text submission) = submission.author
 author_of (Charter author serial names) = author
@@ -31,7 +31,7 @@ pub record Decided : Type 0 where
   pub serial : ℕ
   pub verdict : Verdict
 
--- the state of a replica: the statements added, the verdicts decided, and the charter that is there
+-- the state of a replica: the statements added, the verdicts decided, and the charter in force
 pub record Replica : Type 0 where
   pub statements : Database
   pub decided : List Decided
@@ -58,7 +58,7 @@ abbrev pub decided_with : Replica → Entry → Verdict → List Decided
 decided_with old entry verdict =
     old.decided ++ record { author = author_of entry; serial = serial_of entry; verdict = verdict } ∷ []
 
--- an entry that was not decided before makes the replica new of old, with this verdict
+-- an entry that was not decided before turns the replica old into new, with this verdict
 abbrev pub Decides : Replica → Entry → Verdict → Replica → Type 0
 Decides old (Text submission) Added new =
     (T : Database) × IsAllowed old.charter submission T × Good (old.statements ++ T)
@@ -74,12 +74,12 @@ Decides old (Charter author serial names) (Refused cause) new =
     × (new ≡ record old { decided = decided_with old (Charter author serial names) (Refused cause) })
 Decides old entry verdict new = ⊥
 
--- with what was decided on the entry before
+-- given the verdict decided before under its author and serial number, if any
 abbrev pub AppliesAt : Option Verdict → Replica → Entry → Verdict → Replica → Type 0
 AppliesAt (Some first) old entry verdict new = (verdict ≡ Repeat) × (new ≡ old)
 AppliesAt None old entry verdict new = Decides old entry verdict new
 
--- one entry of the log, or a no-operation, makes the replica new of old, with this verdict
+-- one entry of the log, or a no-operation, turns the replica old into new, with this verdict
 abbrev pub Applies : Replica → Option Entry → Verdict → Replica → Type 0
 Applies old None verdict new = (verdict ≡ Nothing) × (new ≡ old)
 Applies old (Some entry) verdict new = AppliesAt (status_of old entry) old entry verdict new

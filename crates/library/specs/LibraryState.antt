@@ -45,7 +45,7 @@ IsDecision Added = ⊤
 IsDecision (Refused cause) = ⊤
 IsDecision verdict = ⊥
 
--- the judging of a text takes at most three steps a statement, and none where the text reads as nothing
+-- the judging of a text takes at most three steps for each statement, and none if the text does not read
 pub record IsWithinText (submission : Submission) (before after : ℕ) : Type 0 where
   pub read : (T : Database) → Reads submission.text T → after ≤ before + 3 * length T
   pub unread : ((T : Database) → ¬ Reads submission.text T) → after ≡ before
@@ -55,7 +55,7 @@ abbrev pub IsWithinEntry : Entry → ℕ → ℕ → Type 0
 IsWithinEntry (Text submission) before after = IsWithinText submission before after
 IsWithinEntry (Charter author serial names) before after = after ≡ before
 
--- with what was decided on the entry before
+-- given the verdict decided before under its author and serial number, if any
 abbrev pub IsWithinAt : Option Verdict → Entry → ℕ → ℕ → Type 0
 IsWithinAt (Some first) entry before after = after ≡ before
 IsWithinAt None entry before after = IsWithinEntry entry before after

@@ -1,6 +1,6 @@
 -- The library of a log of texts, by a definition that knows no charter.
 -- Source: this project's profile without charters.
--- No code stands on it; a law says that the library of a log without charters is this one.
+-- No code uses it; a law says that the library of a log without charters is this one.
 use Rattle.std.specs.Prelude.{◌≡◌, ◌≢◌, ◌<◌, ◌≤◌, List, [], ◌∷◌, ◌++◌, length, Option, Some, None}
 use Rattle.library.specs.Words.{Name, LexFault, IsLexFault, Database, HasTokens, IsNoDatabase}
 use Rattle.mm_lex.specs.declared.fault.LexFault.TheVariants as lex
@@ -36,7 +36,7 @@ IsPlainCause L submission Shape =
     (length submission.text ≤ MOST_BYTES) × ((tokens : List Name) × HasTokens submission.text tokens × IsNoDatabase tokens)
 IsPlainCause L submission cause = (T : Database) × IsReadable submission.text T × IsFault L T cause
 
--- a text that was not decided before makes the replica new of old, with this verdict
+-- a text that was not decided before turns the replica old into new, with this verdict
 abbrev pub PlainDecides : PlainReplica → Submission → Verdict → PlainReplica → Type 0
 PlainDecides old submission Added new =
     (T : Database) × IsReadable submission.text T × Good (old.statements ++ T)
@@ -46,12 +46,12 @@ PlainDecides old submission (Refused cause) new =
     × (new ≡ record { statements = old.statements; decided = plain_decided_with old submission (Refused cause) })
 PlainDecides old submission verdict new = ⊥
 
--- with what was decided on the text before
+-- given the verdict decided before under its author and serial number, if any
 abbrev pub PlainAppliesAt : Option Verdict → PlainReplica → Submission → Verdict → PlainReplica → Type 0
 PlainAppliesAt (Some first) old submission verdict new = (verdict ≡ Repeat) × (new ≡ old)
 PlainAppliesAt None old submission verdict new = PlainDecides old submission verdict new
 
--- one text, or a no-operation, makes the replica new of old, with this verdict
+-- one text, or a no-operation, turns the replica old into new, with this verdict
 abbrev pub PlainApplies : PlainReplica → Option Submission → Verdict → PlainReplica → Type 0
 PlainApplies old None verdict new = (verdict ≡ Nothing) × (new ≡ old)
 PlainApplies old (Some submission) verdict new =

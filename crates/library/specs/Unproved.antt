@@ -19,7 +19,7 @@ pub record ProofsAt : Type 0 where
 abbrev pub IsRightProof : ProofsAt → ℕ → Type 0
 IsRightProof proofs k = StandsProved proofs.statements (get_or proofs.positions k 0)
 
--- positions of these statements, whose frames these are
+-- positions among these statements, given with their frames
 pub record AreProofs (S frames : Database) (positions : List ℕ) : Type 0 where
   pub same : frames ≡ bares S
   pub placed : (k at : ℕ) → slice_get positions k ≡ Some at → (1 ≤ at) × (at ≤ length S)
@@ -30,7 +30,7 @@ AreAfter S front end [] = (at : ℕ) (s : Stmt) → front < at → at ≤ end �
 AreAfter S front end (at ∷ positions) =
     (front < at) × (at ≤ end) × ((m : ℕ) (s : Stmt) → front < m → m < at → ¬ IsProvable S m s) × AreAfter S at end positions
 
--- a function with this contract returns of proofs the index of the least that is not right
+-- a function with this contract returns the index of the least of the proofs that is not right
 abbrev pub FindsLeast : {E : Type 0} → (Bor ProofsAt → MutBor Checkers → Type 0) → (Bor ProofsAt → MutBor Checkers → Result (Option ℕ) E → MutBor Checkers → Type 0) → Type 0
 FindsLeast {E} pre post =
     ((proofs : Bor ProofsAt) (checkers : MutBor Checkers) → pre proofs checkers)

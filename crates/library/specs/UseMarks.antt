@@ -6,7 +6,7 @@ use Rattle.library.specs.Words.{Name, name_eq, has_name, Stmt, Database, Carries
 use Rattle.frame.specs.AtPosition.{ArePositions}
 use Rattle.library.specs.Uses.{ItemsCite, Cites, IsAxiomAt}
 
--- whether a position that there may be is marked
+-- whether the position, if there is one, is marked
 abbrev pub is_marked : List Bool → Option ℕ → Bool
 is_marked marks (Some (suc k)) = slice_index_or marks k false
 is_marked marks o = false
@@ -15,7 +15,7 @@ is_marked marks o = false
 abbrev pub IsMarked : List Bool → ℕ → Type 0
 IsMarked marks a = is_marked marks (Some a) ≡ true
 
--- the marks, with that of the position
+-- the marks, with the position marked too
 abbrev pub mark : Option ℕ → List Bool → List Bool
 mark (Some (suc k)) marks = slice_set marks k true
 mark o marks = marks
@@ -25,7 +25,7 @@ abbrev pub place_of : List (Option ℕ) → ℕ → Option ℕ
 place_of places zero = None
 place_of places (suc n) = slice_index_or places n None
 
--- the marks, with those of the items of these numbers
+-- the marks, with the positions that the items of these numbers cite marked too
 abbrev pub mark_items : List (Option ℕ) → List ℕ → List Bool → List Bool
 mark_items places [] marks = marks
 mark_items places (number ∷ numbers) marks = mark_items places numbers (mark (place_of places number) marks)
@@ -36,7 +36,7 @@ pub record AreWanted (S : Database) (labels : List Name) (marks wanted : List Bo
   pub named : ArePositions S labels places
   pub tests : wanted ≡ map (is_marked marks) places
 
--- the positions that pass, as far as there is a place for them, are marked beside what was
+-- the positions that pass and have a place in the list are marked, in addition to those marked before
 pub record Marks (Passes : ℕ → Type 0) (old new : List Bool) : Type 0 where
   pub count : length new ≡ length old
   pub kept : (a : ℕ) → IsMarked old a → IsMarked new a
@@ -60,11 +60,11 @@ abbrev pub listed_in : List Name → List Name
 listed_in [] = []
 listed_in (token ∷ tokens) = if name_eq token finish then [] else token ∷ listed_in tokens
 
--- none of them is the label of a statement that is marked
+-- none of those tokens is the label of a statement that is marked
 abbrev pub ListsNone : Database → List Name → List Bool → Type 0
 ListsNone S tokens marks = (a : ℕ) (s : Stmt) (label : Name) → IsMarked marks a → Carries S a s label → has_name label (listed_in tokens) ≡ false
 
--- one of them is
+-- one of those tokens is the label of a statement that is marked
 pub record ListsSome (S : Database) (tokens : List Name) (marks : List Bool) : Type 0 where
   pub position : ℕ
   pub stmt : Stmt

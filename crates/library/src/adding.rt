@@ -1,5 +1,5 @@
-//! Adds the statements of a text after those that are there: rules and frames take them, up to the first that breaks a
-//! rule; with several workers, the proofs of the first ones are judged meanwhile.
+//! Appends the statements of a text to the rules and the frames, up to the first that breaks a rule; with several workers,
+//! judges the proofs of the first ones meanwhile.
 ghost use Rattle.std.specs.Prelude.{◌≡◌, ◌+◌, ◌*◌, ◌≤◌, length};
 ghost use Rattle.std.specs.Thread.{IsSync};
 ghost use Rattle.mm_read.specs.Statements.{AreShaped};
@@ -13,7 +13,7 @@ use std::alloc::{AllocError, Global};
 use std::thread::{Threads, join_mut};
 use verify_pool::{Checkers, Gate, Workers, judge_all};
 
-/// The first part of a text, whose proofs are judged ahead, has more statements than this.
+/// The proofs of the first part of a text are judged ahead only if that part has more statements than this.
 const MANY: usize = 8_192;
 
 /// Tables that judge the next statement: the state of the rules, and the frames of the statements.
@@ -43,14 +43,14 @@ pub(crate) struct Parallel<'a, G: Gate + Sync, R: Threads + Sync> {
 #[derive(Drop)]
 pub(crate) struct Added {
     /// The number of the first statement that breaks a rule, counted from 1, and its least rule. A block that is open at the
-    /// end breaks G10 one above the last statement. An error where an allocation failed.
+    /// end breaks G10 at the number after the last statement. An error if an allocation failed.
     pub broken: Result<Option<(usize, Rule)>, AllocError>,
     /// A position up to which each new `$p` is known to be proved.
     pub known: usize,
 }
 
-/// Adds the statements to the frames and the rules, up to the first that breaks a rule. Room for labels of half as many
-/// is made first, if allocation succeeds.
+/// Adds the statements to the frames and the rules, up to the first that breaks a rule. Reserves room for
+/// the labels of half of them first, if allocation succeeds.
 ///
 /// Cost: that of the statements, one step each.
 pub(crate) fn add_all(statements: &[Stmt], tables: &mut Tables, steps: &mut Steps) -> Added
@@ -79,9 +79,9 @@ pub(crate) fn add_all(statements: &[Stmt], tables: &mut Tables, steps: &mut Step
     Added { broken, known }
 }
 
-/// Adds the statements as `add_all` does. Where they are the first of a library and many, a thread of its own adds a first
-/// part of them to tables of its own, and half of the workers less one, but at least one, judge the proofs of this part
-/// meanwhile: these leave a processor to the calling thread.
+/// Adds the statements as `add_all` does. If they are the first of a library and many, another thread meanwhile adds a first
+/// part of them to tables of its own and judges the proofs of this part with half of the workers less one, but at least
+/// one: these leave a processor to the calling thread.
 ///
 /// Cost: that of `add_all`, and one step more for each statement of the first part.
 pub(crate) fn add_all_verifying<G: Gate + Sync, R: Threads + Sync>(
@@ -128,7 +128,7 @@ pub(crate) fn add_all_verifying<G: Gate + Sync, R: Threads + Sync>(
     added
 }
 
-/// Returns the length of the part that is judged ahead: the shortest beginning with more than five sixteenths of the
+/// Returns the length of the part that is judged ahead: the shortest prefix with more than five sixteenths of the
 /// statements, and more than `MANY`, at whose end no block is open; 0 if there is none.
 fn count_ahead(statements: &[Stmt]) -> usize
     ensures { result ≤ length statements.now }
@@ -148,8 +148,8 @@ fn count_ahead(statements: &[Stmt]) -> usize
     0
 }
 
-/// Adds the statements to tables of their own and judges their proofs, and returns up to which position each `$p` is found
-/// to be proved: the last one, or 0.
+/// Adds the statements to tables of their own and judges their proofs, and returns a position up to which each `$p` is
+/// found to be proved: the last one, or 0.
 ///
 /// Cost: that of `add_all`, one step for each statement, and of the proofs.
 fn verify_ahead<G: Gate + Sync, R: Threads + Sync>(

@@ -14,7 +14,7 @@ use mm_read::Stmt;
 use proof_code::{Items, is_compressed, normal, packed, written};
 use std::alloc::{AllocError, Global};
 
-/// Returns the items of the `$p` at a position, which are right; `None` where another statement stands there.
+/// Returns the items of the `$p` at a position, which are right; `None` if there is no `$p`.
 ///
 /// Errors: an allocation fails. Cost: the size of the proof.
 pub(crate) fn items_of(database: &CheckedDatabase, at: usize) -> Result<Option<Items>, AllocError>
@@ -45,8 +45,8 @@ pub(crate) fn items_of(database: &CheckedDatabase, at: usize) -> Result<Option<I
 /// Errors: an allocation fails. Cost: that of the proofs that it rests on, each read once, and a byte for each
 /// statement before it.
 ///
-/// A position up to that of the `$p` is marked if its proof, or one of a `$p` that it leads to, cites the statement there, or
-/// if it stands there itself. A proof cites earlier statements, so the positions are walked down.
+/// Marks the position of the `$p`, and each position whose statement is cited by the proof of a marked `$p`. A proof cites
+/// earlier statements only, so one walk down the positions is enough.
 pub(crate) fn axioms_used(database: &CheckedDatabase, at: usize) -> Result<Vec<Word>, AllocError>
     requires { (s : Statement) × IsProvable database.now at s }
     ensures { IfOk result (λ labels. AreLabelsOf database.now (Uses database.now at) labels.items) }
@@ -96,7 +96,7 @@ fn place_of(places: &[Option<usize>], number: u32) -> Option<usize>
     *places.get(index)?
 }
 
-/// Marks a position, where it is one of those that can be marked.
+/// Marks a position, if the marks have a place for it.
 fn mark_position(marks: &mut [bool], position: Option<usize>)
     ensures { marks.new ≡ mark position marks.old }
 {

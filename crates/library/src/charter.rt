@@ -8,7 +8,7 @@ use std::marker::Model;
 /// The largest number of authors that a charter may name.
 pub const MOST_NAMES: usize = 64;
 
-/// The authors that a charter names: 1 to 64 numbers, each above the one before. Contracts see the list.
+/// The authors that a charter names: 1 to 64 strictly increasing numbers. Contracts see the list.
 #[derive(Drop)]
 pub struct Names {
     numbers: Vec<u64>,
@@ -26,8 +26,8 @@ impl Model for Names {
 }
 
 impl Names {
-    /// Returns the names with these numbers; `None` where there are no numbers, more than 64, or they are not strictly
-    /// increasing.
+    /// Returns the names with these numbers; `None` if the list is empty, has more than 64 numbers,
+    /// or is not strictly increasing.
     /// Does not allocate.
     pub fn new(numbers: Vec<u64>) -> Option<Names>
         ensures { MatchOption result (AreNames numbers.items → ⊥) (λ names. names ≡ numbers.items) }
@@ -47,7 +47,7 @@ impl Names {
         self.numbers.as_slice()
     }
 
-    /// Tells whether the author is named.
+    /// Returns whether the author is named.
     pub fn has(&self, author: u64) -> bool
         ensures { result ≡ names_author self.now author }
     {
@@ -65,7 +65,7 @@ impl Names {
     }
 }
 
-/// Tells whether each number is below the next.
+/// Returns whether each number is below the next.
 fn is_rising(numbers: &[u64]) -> bool
     ensures { result ≡ is_rising numbers.now }
 {

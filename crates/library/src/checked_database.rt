@@ -1,4 +1,4 @@
-//! Good statements, with the tables that judge those that follow.
+//! Good statements, with the tables that judge later ones.
 ghost use Rattle.std.specs.Prelude.{◌≡◌, ◌+◌, ◌-◌, ◌*◌, ◌≤◌, ◌++◌, [], length, take, drop, Ok, Some, None, IfOk, OnOk, OnErr};
 ghost use Rattle.frame.specs.AtPosition.{HasLabelsOnce};
 ghost use Rattle.library.specs.Added.{Adds, IsAddedAfter, count_of};
@@ -21,8 +21,8 @@ use std::alloc::{AllocError, Global};
 use std::marker::Model;
 use verify_pool::Checkers;
 
-/// Good statements as they were read, with the tables that take the next one and the checkers of proofs, which serve one
-/// text after another. Contracts see the list of statements.
+/// Good statements as they were read, with the tables that take the next one and the proof checkers, which are reused
+/// from text to text. Contracts see the list of statements.
 #[derive(Drop)]
 pub(crate) struct CheckedDatabase {
     statements: Vec<Stmt>,
@@ -56,7 +56,7 @@ impl CheckedDatabase {
         }
     }
 
-    /// Returns a database of good statements, whose rules and frames these are. Does not allocate.
+    /// Returns a database of good statements, given with their rules and frames. Does not allocate.
     #[tactic(auto, using(crate::proofs::JoinedRulesLemmas::good_closed))]
     pub(crate) fn of_good(
         alloc: Global,
@@ -97,7 +97,7 @@ impl CheckedDatabase {
         &self.statements[at - 1]
     }
 
-    /// Returns the frames of the statements, no two of which carry one label.
+    /// Returns the frames of the statements, no two of which have the same label.
     pub(crate) fn frames(&self) -> &Frames
         ensures same { result.now.statements ≡ bares self.now }
         ensures once { HasLabelsOnce result.now.statements }
@@ -155,7 +155,7 @@ impl CheckedDatabase {
     }
 }
 
-/// Appends more statements; where there are none yet, takes the list as it is.
+/// Appends more statements; if there are none yet, takes over the list itself.
 ///
 /// Errors: an allocation fails; nothing is added then. Cost: that of the statements added.
 fn append_all(statements: &mut Vec<Stmt>, mut more: Vec<Stmt>) -> Result<(), AllocError>
@@ -170,7 +170,7 @@ fn append_all(statements: &mut Vec<Stmt>, mut more: Vec<Stmt>) -> Result<(), All
     Ok(())
 }
 
-/// Adds the statements after the first `front` to the tables, which are those of these first ones.
+/// Adds the statements after the first `front` to the tables, which have taken these first ones.
 ///
 /// Cost: that of `add`.
 fn add_after<E: Fn(&[Stmt], &mut Tables, &mut StepCounts, &mut Checkers) -> Added>(
@@ -192,10 +192,10 @@ fn add_after<E: Fn(&[Stmt], &mut Tables, &mut StepCounts, &mut Checkers) -> Adde
     add(&statements[front..], tables, steps, checkers)
 }
 
-/// Returns why the statements after the first `front` may not stand there, where adding them had this outcome; `None`
-/// where they may.
+/// Returns why the statements after the first `front` are refused, given the outcome of adding them; `None` if they
+/// are good there.
 ///
-/// Errors: an allocation fails. Cost: that of the proofs, and one look at each of these statements.
+/// Errors: an allocation fails. Cost: that of the proofs, and one pass over these statements.
 fn judge<F: Fn(&Proofs<'_>, &mut Checkers) -> Result<Option<usize>, AllocError>>(
     added: Added,
     frames: &Frames,

@@ -22,8 +22,8 @@ use std::alloc::AllocError;
 /// Returns the labels of the `$p` that cite the statement at a position, each once, in order; with `all` also of those that
 /// cite one of them, and so on.
 ///
-/// Errors: an allocation fails. Cost: that of the proofs after the position, each read once, and once more where it lists what is
-/// sought, and a byte a statement.
+/// Errors: an allocation fails. Cost: that of the proofs after the position, each read once, and once more if it lists a sought
+/// label, and a byte for each statement.
 pub(crate) fn citing_labels(
     database: &CheckedDatabase,
     at: usize,
@@ -59,14 +59,14 @@ struct Search {
     reader: Reader,
     /// The positions of a proof's mandatory hypotheses.
     mandatory: Vec<u32>,
-    /// For each label of a proof, the mandatory ones first, whether what it names is marked.
+    /// For each label of a proof, those of mandatory hypotheses first, whether the statement is marked.
     wanted: Vec<bool>,
 }
 
 impl Search {
-    /// Tells whether the proof of the `$p` at a position, whose tokens these are, cites a statement that is marked. A normal proof
-    /// cites the labels that it lists. For a compressed one, if no mandatory hypothesis is marked and it lists none that is, the
-    /// letters need not be read.
+    /// Returns whether the proof of the `$p` at a position, whose tokens these are, cites a marked statement. A normal proof
+    /// cites the labels that it lists. The letters of a compressed one need not be read if no mandatory hypothesis and no
+    /// listed label is marked.
     fn meets(
         &mut self,
         database: &CheckedDatabase,
@@ -107,7 +107,7 @@ impl Search {
 }
 
 impl Search {
-    /// Does the same as `meets` for a proof with many mandatory hypotheses, which are read through a view.
+    /// Answers as `meets` does, for a proof with many mandatory hypotheses, which are read through a view.
     fn meets_many(
         &mut self,
         database: &CheckedDatabase,
@@ -130,8 +130,8 @@ impl Search {
     }
 }
 
-/// Returns whether one of the numbers cites a marked statement, by a list with one flag for each mandatory hypothesis, and then
-/// for each listed label. The first marked one is usually cited, so the numbers are searched once as soon as it is found.
+/// Returns whether one of the numbers cites a marked statement, from one flag for each mandatory hypothesis and then for
+/// each listed label. The first marked one is usually cited, so the numbers are searched once as soon as it is found.
 fn listed_meet(
     frames: &Frames,
     heading: Heading<'_>,
@@ -167,7 +167,7 @@ fn listed_meet(
     Ok(has_marked(numbers, wanted))
 }
 
-/// Does the same as `listed_meet`, with the mandatory hypotheses through a view, and flags for the listed labels alone.
+/// Answers as `listed_meet` does, with the mandatory hypotheses read through a view, and flags for the listed labels alone.
 fn listed_meet_many(
     frames: &Frames,
     heading: Heading<'_>,
@@ -192,7 +192,7 @@ fn listed_meet_many(
     Ok(has_wanted(view, marks, wanted, numbers))
 }
 
-/// Tells whether one of the numbers is that of a label that is marked.
+/// Returns whether one of the numbers is that of a marked mandatory hypothesis or listed label.
 fn has_wanted(view: &MandatoryView<'_>, marks: &[bool], wanted: &[bool], numbers: &[u32]) -> bool
     ensures { result ≡ list_any (λ n. is_marked (map (λ position. is_marked marks.now (Some position)) view.now ++ wanted.now) (Some n)) numbers.now }
 {
@@ -201,7 +201,7 @@ fn has_wanted(view: &MandatoryView<'_>, marks: &[bool], wanted: &[bool], numbers
         .any(|number| is_wanted(view, marks, wanted, *number as usize))
 }
 
-/// Tells whether the number is that of a mandatory hypothesis that is marked, or of a listed label that is.
+/// Returns whether the number is that of a marked mandatory hypothesis or listed label.
 fn is_wanted(view: &MandatoryView<'_>, marks: &[bool], wanted: &[bool], number: usize) -> bool
     ensures { result ≡ is_marked (map (λ position. is_marked marks.now (Some position)) view.now ++ wanted.now) (Some number) }
 {
@@ -215,7 +215,7 @@ fn is_wanted(view: &MandatoryView<'_>, marks: &[bool], wanted: &[bool], number: 
     is_marked(wanted, Some(number - many))
 }
 
-/// Tells whether one of the positions is marked; or one of the numbers of a proof, by the tests of its labels.
+/// Returns whether one of the positions is marked.
 fn has_marked(positions: &[u32], marks: &[bool]) -> bool
     ensures { result ≡ list_any (λ position. is_marked marks.now (Some position)) positions.now }
 {
@@ -224,7 +224,7 @@ fn has_marked(positions: &[u32], marks: &[bool]) -> bool
         .any(|position| is_marked(marks, Some(*position as usize)))
 }
 
-/// Tells whether a token before `)` is the label of a marked statement.
+/// Returns whether a token before `)` is the label of a marked statement.
 fn lists_marked(frames: &Frames, tokens: &Words, marks: &[bool]) -> bool
     requires once { HasLabelsOnce frames.now.statements }
     ensures none { result ≡ false → ListsNone frames.now.statements tokens.now marks.now }
@@ -242,7 +242,7 @@ fn lists_marked(frames: &Frames, tokens: &Words, marks: &[bool]) -> bool
     false
 }
 
-/// Tells whether the position is marked.
+/// Returns whether the position is marked.
 fn is_marked(marks: &[bool], position: Option<usize>) -> bool
     ensures { result ≡ is_marked marks.now position }
 {

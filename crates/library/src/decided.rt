@@ -1,4 +1,4 @@
-//! Where entries stand, and the verdicts in the order of the log as contracts alone see them.
+//! The states of entries, and the verdicts in the order of the log, which only contracts see.
 ghost use Rattle.std.specs.Prelude.{◌≡◌, ◌++◌, ◌∷◌, [], List};
 ghost use Rattle.std.specs.Borrow.{ftrue};
 ghost use Rattle.library.specs.LibraryOf.{Decided};
@@ -10,7 +10,7 @@ use std::marker::Model;
 /// The state of an entry whose judging has begun.
 #[derive(Clone, Copy, Drop)]
 pub enum Standing {
-    /// Its judging began; an allocation failed, or it is under way.
+    /// It is undecided: its judging is under way, or an allocation failed in it.
     Undecided,
     /// It was added, or refused for the cause.
     Decided(Option<Cause>),
@@ -24,7 +24,7 @@ pub struct DecidedEntry {
     pub cause: Option<Cause>,
 }
 
-/// The verdicts so far, in the order of the log. It has no bytes: only contracts see the entries.
+/// The verdicts so far, in the order of the log. Its size is zero: only contracts see the entries.
 #[derive(Drop)]
 pub struct DecidedEntries {
     pub ghost entries: { List Decided },
@@ -45,7 +45,7 @@ impl DecidedEntries {
         DecidedEntries {}
     }
 
-    /// Returns the verdicts with one at the end.
+    /// Returns the verdicts with one more appended.
     pub fn after(_before: &DecidedEntries, _last: &DecidedEntry) -> DecidedEntries
         ensures { result.entries ≡ _before.now.entries ++ record { author = _last.now.author; serial = _last.now.serial; verdict = verdict_of _last.now.cause } ∷ [] }
     {

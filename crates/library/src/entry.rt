@@ -6,12 +6,12 @@ use crate::charter::Names;
 use crate::submission::Submission;
 use std::alloc::AllocError;
 
-/// An entry of the log. Texts and charters share one numbering: an author and a serial number name one entry.
+/// An entry of the log. Texts and charters share one numbering: an author and a serial number identify one entry.
 #[derive(Drop)]
 pub enum Entry {
     /// A text, to be added whole or not at all.
     Text(Submission),
-    /// From its place on, the named authors alone may declare constants and axioms.
+    /// A charter: after it in the log, the named authors alone may declare constants and axioms.
     Charter {
         author: u64,
         serial: u64,
@@ -30,7 +30,7 @@ impl Entry {
         }
     }
 
-    /// Returns the author's number of the entry.
+    /// Returns the serial number that the author gave the entry.
     pub fn serial(&self) -> u64
         ensures { result ≡ serial_of self.now }
     {

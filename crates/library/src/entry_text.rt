@@ -10,8 +10,8 @@ use crate::verdict::Cause;
 use mm_read::{ReadFault, Stmt};
 use std::alloc::AllocError;
 
-/// Returns the statements of the text, where it is within the limit, reads, and the charter forbids its author none of
-/// them; else the cause why it is refused, whatever statements are there. `read` returns the statements that a text writes.
+/// Returns the statements of the text if it is within the limit, reads, and has none that the charter forbids its author;
+/// else the cause of its refusal, whatever statements the library has. `read` returns the statements that a text writes.
 ///
 /// Errors: an allocation fails. Cost: that of reading, and the number of statements.
 pub(crate) fn read_text<T: Fn(&[u8]) -> Result<Vec<Stmt>, ReadFault>>(
@@ -37,7 +37,7 @@ pub(crate) fn read_text<T: Fn(&[u8]) -> Result<Vec<Stmt>, ReadFault>>(
     }
 }
 
-/// Tells whether the author may declare constants and axioms: where there is a charter, it names him.
+/// Returns whether the author may declare constants and axioms: there is no charter, or it names him.
 pub(crate) fn may_declare(charter: &Option<Names>, author: u64) -> bool
     ensures { result ≡ may_declare charter.now author }
 {
@@ -47,7 +47,7 @@ pub(crate) fn may_declare(charter: &Option<Names>, author: u64) -> bool
     }
 }
 
-/// Returns the number of the least statement that its author may not declare, counted from 1.
+/// Returns the number of the first statement that the author may not declare, counted from 1.
 fn forbidden(charter: &Option<Names>, author: u64, statements: &[Stmt]) -> Option<usize>
     ensures { result ≡ forbidden charter.now author statements.now }
 {
@@ -62,7 +62,7 @@ fn forbidden(charter: &Option<Names>, author: u64, statements: &[Stmt]) -> Optio
     None
 }
 
-/// Tells whether the statement is a `$c` or a `$a`.
+/// Returns whether the statement is a `$c` or a `$a`.
 fn is_declaration(statement: &Stmt) -> bool
     ensures { result ≡ is_declaration statement.now }
 {

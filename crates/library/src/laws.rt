@@ -1,7 +1,7 @@
 //! Laws of the library of a log. Each is a function that does nothing and ensures a sentence of `specs/Laws`.
 ghost use Rattle.library.specs.Laws.{OneVerdict, OneLibrary, LibrariesGrow, LibrariesAreGood, PlainWithoutCharters};
 
-/// An entry has one verdict at a replica, and makes one replica of it.
+/// At a given replica, an entry has one verdict and leads to one replica.
 pub fn one_verdict()
     ensures { OneVerdict }
 {}

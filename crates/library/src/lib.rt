@@ -1,10 +1,11 @@
-//! One replica of the library: entries of the log to verdicts, and the statements that they validly add.
+//! One replica of the library: applies entries of the log, and keeps their verdicts and the statements that they validly add.
 //!
-//! The main contract, which `world` uses: an application makes the step of `specs/LibraryOf` with its verdict, and running out
-//! of memory decides nothing.
+//! The main contract, which `world` uses: applying an entry makes the step of `specs/LibraryOf` and returns its verdict; if an
+//! allocation fails, nothing is decided.
 //!
-//! Reading order: `submission`, `charter`, `entry` (what a log holds), `verdict`; `library`, `decided`; `entry_text` (a text and its
-//! charter), `checked_database` (all or nothing), `adding` (the rules), `unproved` (the proofs); `queries` (questions on a label), `axioms_used`, `cited_by`; `listed`; `laws`.
+//! Reading order: `submission`, `charter`, `entry` (the entries of a log), `verdict`; `library`, `decided`; `entry_text` (a
+//! text and its charter), `checked_database` (all or nothing), `adding` (the rules), `unproved` (the proofs); `queries`
+//! (questions on a label), `axioms_used`, `cited_by`; `listed`; `laws`.
 #![tactic(auto)]
 
 mod adding;

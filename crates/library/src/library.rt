@@ -28,8 +28,8 @@ use std::marker::Model;
 use std::thread::Threads;
 use verify_pool::{Checkers, Gate, Workers, judge_all, judge_here};
 
-/// The statements added, where each entry stands by its author and number, and the charter that is there. Contracts see them
-/// as a replica, with the verdicts in the order of the log, and the count of the steps that the library took.
+/// The statements added, the state of each entry by its author and serial number, and the charter in force. Contracts see a
+/// replica, with the verdicts in the order of the log, and the count of the steps that the library took.
 ///
 /// Authors choose the numbers, so the table is an ordered map: no choice makes a look-up cost more than the logarithm of the
 /// count of entries.
@@ -71,8 +71,8 @@ impl Library {
         }
     }
 
-    /// Returns a library of good statements, whose rules and frames these are, without verdicts and charter. Does not
-    /// allocate. Nothing is judged: that the statements are good is what the caller knows.
+    /// Returns a library of good statements, given with their rules and frames, without verdicts and charter. Does not
+    /// allocate. Judges nothing: the caller knows that the statements are good.
     ///
     /// Cost: a constant.
     pub fn of_good(alloc: Global, statements: Vec<Stmt>, rules: Rules, frames: Frames) -> Library
@@ -99,7 +99,7 @@ impl Library {
     ///
     /// Errors: an allocation fails; the entry stays undecided, and statements, verdicts and charter are as before.
     /// Cost: that of the entry's own text, whatever was added before and whoever submitted it; at most three steps for each
-    /// of its statements: a step is one statement that is given to the rules and frames, and contracts alone see their count.
+    /// of its statements: a step is one statement that is given to the rules and frames, and only contracts see their count.
     pub fn apply(&mut self, next: Option<&Entry>) -> Result<Verdict, AllocError>
         ensures step { IfOk result (λ verdict. Applies self.old.replica (option_map (λ e. e.now) next.entry) verdict self.new.replica) }
         ensures same { OnErr result (self.new.replica ≡ self.old.replica) }
@@ -123,7 +123,7 @@ impl Library {
     /// first part and then those of the rest, each counted from 0. No answer depends on the number of workers.
     ///
     /// Errors and steps: those of `apply`, and out of memory if a proof is heavy and the gate keeps these out
-    /// (`Gate::admits_heavy`). Cost: that of the entry's own text, a large text and its proofs over the workers.
+    /// (`Gate::admits_heavy`). Cost: that of the entry's own text; a large text and its proofs are divided among the workers.
     pub fn apply_with<G: Gate + Sync, R: Threads + Sync>(
         &mut self,
         rt: &R,
@@ -210,8 +210,8 @@ impl Library {
         Ok(verdict_of(cause))
     }
 
-    /// Returns the verdict first decided on the author's text or charter of that number: Added or Refused; `None` where none
-    /// was decided. Does not allocate.
+    /// Returns the verdict first decided on the author's entry of that serial number: Added or Refused; `None` if none was
+    /// decided. Does not allocate.
     ///
     /// Cost: the logarithm of the count of entries.
     pub fn status(&self, author: u64, serial: u64) -> Option<Verdict>
@@ -241,7 +241,7 @@ impl Library {
         &self.database
     }
 
-    /// Returns the charter that counts now.
+    /// Returns the charter in force, if there is one.
     pub fn charter(&self) -> Option<&Names>
         ensures { option_map (λ names. names.now) result ≡ self.now.replica.charter }
     {

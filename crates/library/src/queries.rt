@@ -24,9 +24,9 @@ use verify::{Tree, TreeFault, derivation};
 pub enum AskFault {
     /// No statement has the label.
     NoLabel,
-    /// The statement that has it is no `$p`.
+    /// The statement with the label is no `$p`.
     NotProvable,
-    /// The derivation has more nodes or lies deeper than the limits allow.
+    /// The derivation has more nodes or a greater depth than the limits allow.
     TooLarge,
     /// An allocation failed.
     Memory,
@@ -47,8 +47,8 @@ impl Library {
     /// in the order of the library.
     ///
     /// Errors: `NoLabel` if no statement has the label, `NotProvable` if it is no `$p`, both even if every allocation
-    /// fails; else `Memory`. Cost: that of the proofs that it rests on, each read
-    /// once, and a byte for each statement before it. Source: Metamath, 4.2.6 and appendix B.
+    /// fails; else `Memory`. Cost: that of the proofs that it rests on, each read once, and a byte for each statement
+    /// before it. Source: Metamath, 4.2.6 and appendix B.
     pub fn trace(&self, label: &[u8]) -> Result<Vec<Word>, AskFault>
         ensures labels { IfOk result (λ labels. IsTrace self.now.replica.statements label.now labels.items) }
         ensures no_label { (result ≡ Err AskFault.NoLabel) ↔ HasNoLabel self.now.replica.statements label.now }
@@ -60,10 +60,11 @@ impl Library {
     }
 
     /// Returns the labels of the `$p` whose proofs cite the statement with the label, a hypothesis or an assertion, each once,
-    /// in the order of the library; with `all` also of those that use it through others, as `trace` does.
+    /// in the order of the library; with `all` also of those that use it through other `$p`.
     ///
-    /// Errors: `NoLabel` if no statement has the label, even if every allocation fails; else `Memory`. Cost: that of the proofs after the statement, each read once, and once more where it lists what is sought, and
-    /// a byte a statement. Source: Metamath, 4.2.6 and appendix B.
+    /// Errors: `NoLabel` if no statement has the label, even if every allocation fails; else `Memory`. Cost: that of the
+    /// proofs after the statement, each read once, and once more if it lists a sought label, and a byte for each statement.
+    /// Source: Metamath, 4.2.6 and appendix B.
     pub fn usage(&self, label: &[u8], all: bool) -> Result<Vec<Word>, AskFault>
         ensures labels { IfOk result (λ labels. IsUsage self.now.replica.statements label.now all labels.items) }
         ensures no_label { (result ≡ Err AskFault.NoLabel) ↔ HasNoLabel self.now.replica.statements label.now }
@@ -93,7 +94,7 @@ impl Library {
         }
     }
 
-    /// Returns the frames of the statements, no two of which carry one label.
+    /// Returns the frames of the statements, no two of which have the same label.
     pub fn frames(&self) -> &Frames
         ensures same { result.now.statements ≡ bares self.now.replica.statements }
         ensures once { HasLabelsOnce result.now.statements }
@@ -103,7 +104,7 @@ impl Library {
 
     /// Returns the derivation that the proof of the label spells.
     ///
-    /// Errors: `NoLabel` and `NotProvable` as for `trace`; `TooLarge` where the derivation has more than 65,536 nodes or a
+    /// Errors: `NoLabel` and `NotProvable` as for `trace`; `TooLarge` if the derivation has more than 65,536 nodes or a
     /// depth above 1,024; `Memory` in place of an answer or of `TooLarge`. Cost: a check of the proof, and the tree.
     /// Source: Metamath, 4.2.6 and appendix B.
     pub fn tree(&self, label: &[u8]) -> Result<Tree, AskFault>
@@ -144,7 +145,7 @@ fn proof_at(database: &CheckedDatabase, label: &[u8]) -> Result<usize, AskFault>
     }
 }
 
-/// Tells whether the statement is a `$p`.
+/// Returns whether the statement is a `$p`.
 pub(crate) fn is_proof(statement: &Stmt) -> bool
     ensures { result ≡ is_provable statement.now }
 {

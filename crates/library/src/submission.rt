@@ -7,7 +7,7 @@ use std::alloc::AllocError;
 /// The largest number of bytes of a text.
 pub const MOST_BYTES: usize = 67_108_864;
 
-/// A text under its author's name. An author numbers his texts and charters: the first one of a number is decided.
+/// A text with its author. Each author numbers his texts and charters; the first one of a number in the log is decided.
 #[derive(Drop)]
 pub struct Submission {
     pub author: u64,

@@ -12,7 +12,7 @@ use std::marker::Model;
 use verify::{Answer, Checker};
 use verify_pool::{Checkers, Work};
 
-/// The `$p` after some first statements, as work for a pool. Contracts see the statements, the names that their frames number,
+/// The `$p` after the first statements, as work for a pool. Contracts see the statements, the names that their frames number,
 /// and the positions of these `$p`.
 #[derive(Drop)]
 pub(crate) struct Proofs<'a> {
@@ -63,7 +63,7 @@ impl<'a> Work for Proofs<'a> {
 /// Returns the position of the first `$p` after the first `front` statements that is not proved, where `least` returns the
 /// index of the first proof that is not right, or `None`.
 ///
-/// Errors: an allocation fails. Cost: that of the proofs, and one look at each of these statements.
+/// Errors: an allocation fails. Cost: that of the proofs, and one pass over these statements.
 pub(crate) fn least_unproved<
     F: Fn(&Proofs<'_>, &mut Checkers) -> Result<Option<usize>, AllocError>,
 >(

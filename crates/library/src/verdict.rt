@@ -2,7 +2,7 @@
 
 use scope::Rule;
 
-/// Why an entry is refused: the first cause that holds, in the order of the list. Statements are numbered from 1
+/// Why an entry is refused: the first of these causes that holds, in this order. Statements are numbered from 1
 /// within the text, blocks counted.
 #[derive(Clone, Copy, Debug, Drop, PartialEq, Eq)]
 pub enum Cause {
@@ -15,12 +15,12 @@ pub enum Cause {
     /// C7: the charter in force does not name the author, and this is the first `$c` or `$a` of the text. For a
     /// refused charter the number is 0.
     NotChartered { statement: usize },
-    /// C4: the first statement that breaks a rule, and its least rule. A block that is open at the end breaks G10 one
-    /// above the last statement.
+    /// C4: the first statement that breaks a rule, and its least rule. A block that is open at the end breaks G10 at
+    /// the number after the last statement.
     Rule { statement: usize, rule: Rule },
-    /// C5: the first `$p` whose proof is not right, where no token of the proof has the byte `?`.
+    /// C5: the first `$p` whose proof is not right, if no token of the proof has the byte `?`.
     Proof { statement: usize },
-    /// C6: the first `$p` whose proof is not right, where a token of the proof has it.
+    /// C6: the first `$p` whose proof is not right, if a token of the proof has it.
     Unfinished { statement: usize },
 }
 

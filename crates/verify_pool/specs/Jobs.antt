@@ -1,6 +1,6 @@
--- The least job that is not right.
--- The notion of a right proof is `verify`'s, from Metamath, 4.2.6 and appendix B; that the least bad proof decides is this
--- project's.
+-- The least job that is not right, for proofs that are given as their items.
+-- The notion of a right proof is `verify`'s, from Metamath, 4.2.6 and appendix B; that the least bad proof decides
+-- is this project's.
 -- The code deals the jobs out to workers; here they are one list, judged in order.
 use Rattle.std.specs.Prelude.{◌≡◌, ℕ, List, slice_get, Option, Some, IfSome, MatchOption}
 use Rattle.mm_lex.specs.Alphabet.{Name}
@@ -14,7 +14,7 @@ use Rattle.verify_pool.specs.Least.{IsBefore}
 abbrev pub IsJob : Database → Job → Type 0
 IsJob S job = (s : Stmt) × IsProvable S job.at s
 
--- jobs, with the statements that they are checked against, and the names that these number
+-- jobs, with the statements that they are checked against, and the names that their items number
 pub record Checked : Type 0 where
   pub statements : Database
   pub names : List Name
@@ -27,7 +27,7 @@ AreJobs S jobs = (k : ℕ) (job : Job) → slice_get jobs k ≡ Some job → IsJ
 abbrev pub IsRightJob : Database → Job → Type 0
 IsRightJob S job = MatchOption job.code ⊥ (λ items. IsRight S job.at items)
 
--- the job of that index is right, where there is one
+-- the job of that index, if there is one, is right
 abbrev pub IsRightAt : Database → List Job → ℕ → Type 0
 IsRightAt S jobs k = (job : Job) → slice_get jobs k ≡ Some job → IsRightJob S job
 
@@ -41,7 +41,7 @@ pub record IsBadAt (S : Database) (jobs : List Job) (i : ℕ) : Type 0 where
   pub stands : slice_get jobs i ≡ Some job
   pub bad : ¬ IsRightJob S job
 
--- the answer is the index of the least job that is not right, or none where each is right
+-- the answer is the least index of a job that is not right, or none if each is right
 pub record LeastBad (S : Database) (jobs : List Job) (answer : Option ℕ) : Type 0 where
   pub before : AreRightBefore S jobs answer
   pub bad : IfSome answer (IsBadAt S jobs)

@@ -1,6 +1,6 @@
--- The jobs of one worker: of every `step` jobs one, from the job `first` on.
--- This project's.
--- The code goes from job to job by adding `step`; here the jobs are told by their turn, from 0.
+-- The stripe of a worker: every `step`-th job, from the job `first` on.
+-- Source: this project's profile.
+-- The code goes from job to job by adding `step`; here the jobs are numbered by their turn, from 0.
 use Rattle.std.specs.Prelude.{◌≡◌, ◌⊎◌, ℕ, ◌+◌, ◌*◌, ◌<◌, List, length, slice_get, slice_index_or, Option, Some, IfOk, IfSome}
 use Rattle.verify_pool.specs.declared.checkers.Worker.{Worker}
 use Rattle.verify_pool.specs.Least.{IsBefore, IsWrongAt}
@@ -10,7 +10,7 @@ abbrev pub IsStripeRightBefore : (ℕ → Type 0) → ℕ → ℕ → ℕ → Op
 IsStripeRightBefore right count first step answer =
     (turn : ℕ) → first + turn * step < count → IsBefore (first + turn * step) answer → right (first + turn * step)
 
--- the answer is the index of the least job of the stripe that is not right, or none where each is right
+-- the answer is the least index of a job of the stripe that is not right, or none if each is right
 pub record IsLeastInStripe (right : ℕ → Type 0) (count first step : ℕ) (answer : Option ℕ) : Type 0 where
   pub before : IsStripeRightBefore right count first step answer
   pub wrong : IfSome answer (IsWrongAt right count)
@@ -25,13 +25,13 @@ pub record IsFoundInStripe (right : ℕ → Type 0) (count first step : ℕ) (an
   pub within : (k : ℕ) → IsIn k deferred → k < count
   pub wrong : IfSome answer (IsWrongAt right count)
 
--- each worker has found of its stripe what there is, or ran out of memory
+-- each worker has judged its stripe up to its answer, or ran out of memory
 abbrev pub AreFound : (ℕ → Type 0) → ℕ → List Worker → Type 0
 AreFound right count workers =
     (i : ℕ) (d : Worker) → i < length workers
     → IfOk (slice_index_or workers i d).least (λ least. IsFoundInStripe right count i (length workers) least (slice_index_or workers i d).deferred.items)
 
--- the job of an index is taken as the answer where it is before the old one and is not right
+-- the index becomes the answer if it is before the old answer and its job is not right, else the old answer stays
 abbrev pub IsSettled : (ℕ → Type 0) → ℕ → Option ℕ → Option ℕ → Type 0
 IsSettled right index old new =
     ((new ≡ old) × (IsBefore index old → right index)) ⊎ ((new ≡ Some index) × IsBefore index old × (¬ right index))

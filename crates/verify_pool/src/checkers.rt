@@ -1,4 +1,4 @@
-//! Checkers that serve one text after another.
+//! Checkers that are reused from text to text.
 ghost use Rattle.std.specs.Prelude.{◌≤◌, vec_len, OnOk};
 
 use std::alloc::{AllocError, Global};
@@ -12,16 +12,16 @@ pub const SHARE: usize = 1_048_576;
 #[derive(Drop)]
 pub struct Worker {
     pub checker: Checker,
-    /// The least job that is not right, of those that were judged.
+    /// The least index of a job that was judged and is not right.
     pub least: Result<Option<usize>, AllocError>,
-    /// The jobs that need more memory than the worker has.
+    /// The indexes of the jobs that need more memory than the worker has.
     pub deferred: Vec<usize>,
 }
 
 /// The checker of the calling thread, and those of the workers, which are made when first needed and kept, with their buffers,
-/// until memory runs out. The one of the calling thread alone takes the heaviest proofs, so their room is needed once.
+/// until memory runs out. Only that of the calling thread takes the heaviest proofs, so their room is needed once.
 ///
-/// `Work::begin` prepares each of them whatever it judged before, so contracts say nothing of them.
+/// `Work::begin` prepares each of them, whatever it judged before, so contracts see nothing of them.
 #[derive(Drop)]
 pub struct Checkers {
     alloc: Global,
@@ -30,7 +30,7 @@ pub struct Checkers {
 }
 
 impl Checkers {
-    /// Returns a checker for the calling thread, and none for workers. Does not allocate.
+    /// Creates a checker for the calling thread, and none for workers. Does not allocate.
     pub fn new(alloc: Global) -> Checkers {
         Checkers {
             alloc,
@@ -50,7 +50,7 @@ impl Checkers {
             .limit(if are_admitted { usize::MAX } else { SHARE });
     }
 
-    /// Gives back the room that large proofs needed.
+    /// Gives back the memory that large proofs needed.
     ///
     /// Does not allocate. Cost: a constant for each worker.
     pub fn shrink(&mut self) {
@@ -66,7 +66,7 @@ impl Checkers {
         self.workers.clear();
     }
 
-    /// Makes checkers for workers up to this number.
+    /// Creates checkers until there is one for each of this number of workers.
     ///
     /// Errors: an allocation fails. Cost: a constant for each worker.
     pub(crate) fn add_workers(&mut self, count: usize) -> Result<(), AllocError>

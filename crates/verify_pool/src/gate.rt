@@ -1,6 +1,6 @@
-//! Places that threads pass.
+//! Gates, which threads pass before a job or an entry.
 
-/// A place where a thread goes on next.
+/// A place before which a thread passes a gate.
 #[derive(Clone, Copy, Debug, PartialEq, Eq)]
 pub enum Place {
     /// The job of this index, from 0.
@@ -11,13 +11,13 @@ pub enum Place {
 
 /// A gate that a thread passes before each job that it checks, and before each entry that it applies.
 ///
-/// It may watch the threads or hold them back, and it may keep heavy proofs out. No answer but out of memory depends on it.
+/// It may watch the threads or hold them back, and it may keep heavy proofs out. No answer depends on it, except an `AllocError`.
 pub trait Gate {
     /// Returns when the thread may go on.
     fn pass(&self, place: Place);
 
-    /// Returns whether the calling thread may judge proofs that are too heavy for a worker. If not, such a proof is answered
-    /// by `AllocError`.
+    /// Returns whether the calling thread may judge proofs that are too heavy for a worker. If not, the result for such
+    /// a proof is `AllocError`.
     fn admits_heavy(&self) -> bool {
         true
     }

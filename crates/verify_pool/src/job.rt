@@ -1,4 +1,4 @@
-//! Proofs whose items were made before.
+//! Proofs that are given as their items.
 
 ghost use Rattle.std.specs.Prelude.{◌≡◌, IfOk};
 ghost use Rattle.verify.specs.KeptLists.{AreKeptFor};
@@ -26,9 +26,9 @@ pub struct Job {
     pub code: Option<Items>,
 }
 
-/// Returns the index, from 0, of the least job that is not right; `None` where each is right.
+/// Returns the least index, from 0, of a job that is not right; `None` if each is right.
 ///
-/// The jobs are dealt out to the workers in turn, each worker runs on a thread of its own where one can be made, and
+/// The jobs are dealt out to the workers in turn, each worker runs on a thread of its own if one can be started, and
 /// passes `Place::Job(index)` of the gate before the job of that index. A worker stops at its first job that is not right.
 ///
 /// Errors and cost: those of `judge_all`.
@@ -89,7 +89,7 @@ impl<'a> Work for Jobs<'a> {
     }
 }
 
-/// Tells whether the job is right.
+/// Returns whether the job is right.
 fn check_job(frames: &Frames, job: &Job, checker: &mut Checker) -> Result<Answer, AllocError>
     requires job { IsJob frames.now.statements job.now }
     requires kept { AreKeptFor frames.now.statements frames.now.names checker.old }

@@ -1,10 +1,10 @@
 //! Judges many proofs in parallel, with the answer of one thread.
 //!
-//! The crate above uses one contract: `judge_all` returns the index of the least job that is not right, or `None` where
+//! The crate above uses one contract: `judge_all` returns the least index of a job that is not right, or `None` if
 //! each is right, whatever the number of workers; `judge_here` returns it on the calling thread. `check_all` returns it
-//! for jobs whose items were made before.
+//! for proofs that are given as their items.
 //!
-//! Reading order: `work` (jobs by index), `workers`, `gate` (what a thread passes before each job), `checkers` (kept from
+//! Reading order: `work` (jobs by index), `workers`, `gate` (what a thread passes before each job), `checkers` (reused from
 //! text to text), `pool` (the jobs of one worker, and all of them), `job` (proofs with their items), `laws`.
 #![tactic(auto)]
 

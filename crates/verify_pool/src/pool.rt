@@ -1,4 +1,4 @@
-//! All jobs, in parallel.
+//! Judging all jobs, in parallel or on the calling thread.
 
 ghost use Rattle.std.specs.Prelude.{◌≡◌, ◌+◌, ◌<◌, ◌≤◌, ◌⊎◌, ◌↔◌, ℕ, [], length, true, false, IfOk, IsTrue};
 ghost use Rattle.verify_pool.specs.Least.{IsBefore, IsLeast};
@@ -13,16 +13,16 @@ use std::thread;
 use std::thread::Threads;
 use verify::{Answer, Checker};
 
-/// Returns the index, from 0, of the least job that is not right; `None` where each is right.
+/// Returns the least index, from 0, of a job that is not right; `None` if each is right.
 ///
 /// The jobs are dealt out in turn to the workers, of whom no more take part than there are jobs. Each worker has a checker
-/// of its own, runs on a thread of its own where one can be made, and passes `Place::Job(index)` of the gate before the job
+/// of its own, runs on a thread of its own if one can be started, and passes `Place::Job(index)` of the gate before the job
 /// of that index. A worker stops at its first job that is not right, and puts off those that need more memory than it has:
-/// the calling thread judges these after all workers ended. If this runs out of memory and the gate admits heavy proofs, the
+/// the calling thread judges these after all workers have ended. If this runs out of memory and the gate admits heavy proofs, the
 /// checkers of the workers are dropped, and the calling thread judges all jobs again.
 ///
 /// Errors: an allocation fails for the calling thread; if the gate admits no heavy proofs, also if one fails for a worker or
-/// a proof is heavy. Cost: that of the jobs, over the workers, and again if jobs are judged again.
+/// a proof is heavy. Cost: that of the jobs, divided among the workers, and once more if jobs are judged again.
 pub fn judge_all<W: Work + Sync, G: Gate + Sync, R: Threads + Sync>(
     rt: &R,
     checkers: &mut Checkers,
@@ -45,9 +45,9 @@ pub fn judge_all<W: Work + Sync, G: Gate + Sync, R: Threads + Sync>(
     judge_alone(work, &mut checkers.calling, gate)
 }
 
-/// Returns the index of the least job that is not right, judged by so many workers.
+/// Returns the least index of a job that is not right, judged by this number of workers.
 ///
-/// Errors: an allocation fails. Cost: that of the jobs, over the workers.
+/// Errors: an allocation fails. Cost: that of the jobs, divided among the workers.
 fn judge_by_workers<W: Work + Sync, G: Gate + Sync, R: Threads + Sync>(
     rt: &R,
     checkers: &mut Checkers,
@@ -71,7 +71,7 @@ fn judge_by_workers<W: Work + Sync, G: Gate + Sync, R: Threads + Sync>(
 
 /// Judges the jobs by these workers, to whom they are dealt out in turn.
 ///
-/// Cost: that of the jobs, over the workers.
+/// Cost: that of the jobs, divided among the workers.
 fn judge_stripes<W: Work + Sync, G: Gate + Sync, R: Threads + Sync>(
     rt: &R,
     work: &W,
@@ -86,7 +86,7 @@ fn judge_stripes<W: Work + Sync, G: Gate + Sync, R: Threads + Sync>(
     thread::for_each_mut(rt, workers, step, &judge);
 }
 
-/// Returns the index of the least job that is not right, where the workers judged the jobs.
+/// Returns the least index of a job that is not right, from the results of the workers and the jobs that they put off.
 ///
 /// Errors: an allocation failed for a worker, or fails for the calling thread. Cost: that of the jobs that were put off.
 fn least_of<W: Work>(
@@ -106,7 +106,7 @@ fn least_of<W: Work>(
     Ok(least)
 }
 
-/// Returns the index, from 0, of the least job that is not right, judged on the calling thread; `None` where each is right.
+/// Returns the least index, from 0, of a job that is not right, judged on the calling thread; `None` if each is right.
 ///
 /// Errors: an allocation fails. Cost: that of the jobs.
 pub fn judge_here<W: Work>(checkers: &mut Checkers, work: &W) -> Result<Option<usize>, AllocError>
@@ -116,7 +116,7 @@ pub fn judge_here<W: Work>(checkers: &mut Checkers, work: &W) -> Result<Option<u
     judge_alone(work, &mut checkers.calling, &OpenGate)
 }
 
-/// Returns the index of the least job that is not right, judged with one checker.
+/// Returns the least index of a job that is not right, judged with one checker.
 ///
 /// Errors: an allocation fails. Cost: that of the jobs up to the first that is not right.
 fn judge_alone<W: Work, G: Gate>(
@@ -136,7 +136,7 @@ fn judge_alone<W: Work, G: Gate>(
     Ok(None)
 }
 
-/// Returns the earlier of two indexes, where there are any.
+/// Returns the lesser of two indexes, or the only one, if there is one.
 fn earlier(a: Option<usize>, b: Option<usize>) -> Option<usize>
     ensures first { IsNoLater result a }
     ensures second { IsNoLater result b }
@@ -165,7 +165,7 @@ fn judge_stripe<W: Work, G: Gate>(
     worker.least = least_in_stripe(work, first, step, worker, gate);
 }
 
-/// Returns the least job that is found not to be right of the jobs `first`, `first + step` and so on.
+/// Returns the least index of a job that is found not to be right, among the jobs `first`, `first + step` and so on.
 ///
 /// Errors: a job can neither be judged nor be put off. Cost: that of these jobs up to the first that is not right.
 fn least_in_stripe<W: Work, G: Gate>(
@@ -220,7 +220,7 @@ fn is_wrong<W: Work>(
     }
 }
 
-/// Judges the jobs that a worker put off, and returns the least job of its stripe that is not right.
+/// Judges the jobs that a worker put off, and returns the least index of a job of its stripe that is not right.
 ///
 /// Errors: an allocation fails. Cost: that of these jobs.
 fn settle<W: Work>(
@@ -261,7 +261,7 @@ fn settle_one<W: Work>(
     Ok(least)
 }
 
-/// Tells whether an index is before another one, if there is another one.
+/// Returns whether an index is before another one, if there is another one.
 fn is_before(index: usize, other: Option<usize>) -> bool
     ensures { IsTrue result ↔ IsBefore index other }
 {

@@ -15,7 +15,7 @@ pub trait Work {
     /// The job of this index is right.
     ghost right: { Self → ℕ → Type 0 };
 
-    /// What a checker keeps is right for these jobs.
+    /// The results that a checker caches are right for these jobs.
     ghost fits: { Self → Kept → Type 0 };
 
     /// Returns the number of jobs.
@@ -23,11 +23,11 @@ pub trait Work {
         ensures count { result ≡ count self.now }
         ensures few { result < 2 ^ 63 };
 
-    /// Prepares a checker that may have judged other jobs for these.
+    /// Prepares a checker for these jobs, whatever jobs it judged before.
     fn begin(&self, checker: &mut Checker)
         ensures { fits self.now checker.new };
 
-    /// Tells whether the job of that index, from 0, is right.
+    /// Returns whether the job of that index, from 0, is right.
     ///
     /// Errors: an allocation fails.
     fn judge(&self, index: usize, checker: &mut Checker) -> Result<Answer, AllocError>

@@ -1,4 +1,4 @@
-//! How many threads judge in parallel.
+//! The number of threads that judge in parallel.
 
 ghost use Rattle.std.specs.Prelude.{◌≡◌, ℕ, ◌≤◌};
 ghost use Rattle.verify_pool.specs.declared.workers.TheConstants.{MOST_WORKERS};
@@ -35,8 +35,8 @@ impl Workers {
         Workers { count }
     }
 
-    /// Returns twice as many workers as the machine offers threads, 16 at most, so that faster processors take over what a
-    /// slower one leaves; one worker where the machine offers one thread or does not tell.
+    /// Returns twice as many workers as the machine offers threads, 16 at most, so that faster processors take over the
+    /// jobs that a slower one leaves; one worker if the machine offers one thread or does not report the number.
     pub fn offered<R: Threads>(rt: &R) -> Workers {
         let threads = thread::available_parallelism(rt).map_or(1, |threads| threads.get());
         if threads < 2 {

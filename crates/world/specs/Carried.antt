@@ -1,6 +1,6 @@
 -- Entries of a library as the values that nodes agree on.
 -- Source: Lamport, Paxos Made Simple, section 3: the values chosen are the commands of a state machine.
--- The code wraps an entry in a type of its own; its size is the text's count of bytes, or 8 bytes a name of a charter.
+-- The code wraps an entry in a type of its own; its size is the number of bytes of its text, or 8 for each name of a charter.
 use Rattle.std.specs.Prelude.{ℕ, List, [], ◌∷◌, Option, Some, None}
 use Rattle.world.specs.Words.{Entry, size_of, Event, Offer, Begin, Deliver, Restart}
 use Rattle.world.specs.declared.carried.Carried.{Carried}
@@ -8,7 +8,7 @@ use Rattle.world.specs.declared.carried.Carried.{Carried}
 abbrev pub carried_size : Carried → ℕ
 carried_size c = size_of c.0
 
--- an event on entries, as the one on values
+-- an event on entries, as an event on values
 abbrev pub carried : Event Entry → Event Carried
 carried (Offer k entry) = Offer k (record { 0 = entry })
 carried (Begin k) = Begin k

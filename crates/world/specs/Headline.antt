@@ -1,5 +1,5 @@
--- The headline: of any two replicas' libraries, at any two moments, one is a prefix of the other; each is exactly what its learned
--- entries validly add, in order; and every provable assertion of it has a derivation.
+-- The headline theorem: of any two replicas' libraries, at any two moments, one is a prefix of the other; each has exactly the
+-- statements that its learned entries validly add, in order; and each of its provable assertions has a derivation.
 -- Source: Lamport, Paxos Made Simple, section 3; Megill and Wheeler, Metamath, 2nd ed. 2019, 4.2.
 -- The code has none of this; it follows from agreement and from the library of a log.
 use Rattle.std.specs.Prelude.{◌≡◌, ℕ, Some, IsOk, take}
@@ -7,7 +7,7 @@ use Rattle.world.specs.Words.{Stmt, Database, bares, stmt_at, expr_of, Derivatio
 use Rattle.world.specs.declared.carried.Carried.{Carried}
 use Rattle.world.specs.Carried.{carried_size, entries_of}
 
--- a library of the history: at a moment of it, that of the first entries of a node's log, of any number
+-- a library of the history: at some moment, that of some number of first entries of a node's log
 pub record IsLibraryIn (taken : Taken Carried) (library : Replica) : Type 0 where
   pub world : World Carried
   pub moment : IsMoment carried_size taken world
@@ -32,6 +32,6 @@ pub record Headline (taken : Taken Carried) : Type 0 where
   pub libraries_good : (library : Replica) → IsLibraryIn taken library → Good library.statements
   pub derived : (library : Replica) → IsLibraryIn taken library → (at : ℕ) (stmt : Stmt) → IsProvable library.statements at stmt → HasDerivation library.statements at
 
--- it holds of every history that is taken
+-- the headline holds of every history that is taken
 abbrev pub HeadlineHolds : Type 0
 HeadlineHolds = (taken : Taken Carried) → IsOk (world_of carried_size taken) → Headline taken

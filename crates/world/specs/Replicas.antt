@@ -1,12 +1,12 @@
--- The view that contracts have of a world: its weights, the events that it took, and each node's library with the count of entries applied.
--- Source: Lamport, Paxos Made Simple, section 3: a server executes the commands of its log in order, each once all before it are known.
--- The code keeps the nodes and packets too; the type keeps that each library is that of the first entries of its node's log.
+-- A world as contracts see it: its weights, the events taken, and each node's library with the count of entries applied.
+-- Source: Lamport, Paxos Made Simple, section 3: a server executes the commands in order, each when it knows all earlier ones.
+-- The code has the nodes and packets too; by its type, each library is that of the first entries of its node's log.
 use Rattle.std.specs.Prelude.{◌≡◌, ◌+◌, ◌≤◌, ℕ, List, [], Option, Some, None, Result, Ok, Err, length, take, replicate, slice_get, slice_set}
 use Rattle.world.specs.Words.{Entry, Verdict, Replica, empty, Applies, IsLibraryOf, Event, StepFault, Memory, Offer, Begin, Deliver, Restart, log_after, Taken, world_of, with_event}
 use Rattle.world.specs.declared.carried.Carried.{Carried}
 use Rattle.world.specs.Carried.{carried_size, entries_of}
 
--- a node's library, and how many entries of its log made it
+-- a node's library, and the number of entries of its log that were applied to it
 pub record NodeLibrary : Type 0 where
   pub applied : ℕ
   pub library : Replica
@@ -21,23 +21,23 @@ new_library = record { applied = 0; library = empty }
 abbrev pub new_libraries : List ℕ → List NodeLibrary
 new_libraries weights = replicate (length weights) new_library
 
--- before any event
+-- a world before any event
 abbrev pub new_replicas : List ℕ → Replicas
 new_replicas weights = record { taken = record { weights = weights; events = [] }; libraries = new_libraries weights }
 
--- the node that restarts by the event
+-- the node that the event restarts, if it is a restart
 abbrev pub restarts : {V : Type 0} → Event V → Option ℕ
 restarts (Offer k v) = None
 restarts (Begin k) = None
 restarts (Deliver number) = None
 restarts (Restart k) = Some k
 
--- that node's library is given up
+-- the libraries, with that of this node, if there is one, emptied
 abbrev pub given_up : List NodeLibrary → Option ℕ → List NodeLibrary
 given_up libraries None = libraries
 given_up libraries (Some k) = slice_set libraries k new_library
 
--- with one event more
+-- a world after one more event: the library of a node that restarts is emptied
 abbrev pub then_event : Replicas → Event Carried → Replicas
 then_event r e = record { taken = with_event r.taken e; libraries = given_up r.libraries (restarts e) }
 
@@ -50,7 +50,7 @@ pub record IsOfLog (log : List (Option Entry)) (node : NodeLibrary) : Type 0 whe
   pub within : node.applied ≤ length log
   pub library : IsLibraryOf (take node.applied log) node.library
 
--- one library a node, each that of its log
+-- there is one library for each node, each of its node's log
 pub record AreReplicas (r : Replicas) : Type 0 where
   pub one_each : length r.libraries ≡ length r.taken.weights
   pub of_logs : (k : ℕ) (node : NodeLibrary) → slice_get r.libraries k ≡ Some node → IsOfLog (log_entries r.taken k) node
@@ -61,7 +61,7 @@ abbrev pub next_of : List (Option Entry) → Option NodeLibrary → Option (Opti
 next_of log None = None
 next_of log (Some node) = slice_get log node.applied
 
--- the entry of node k's log that is to be applied next, if it is there
+-- the entry of node k's log to be applied next, if there is one
 abbrev pub next_entry : Replicas → ℕ → Option (Option Entry)
 next_entry r k = next_of (log_entries r.taken k) (slice_get r.libraries k)
 
@@ -73,7 +73,7 @@ pub record IsApplied (old : Replicas) (k : ℕ) (entry : Option Entry) (verdict 
   pub applies : Applies before.library entry verdict library
   pub becomes : new ≡ record { taken = old.taken; libraries = slice_set old.libraries k (record { applied = before.applied + 1; library = library }) }
 
--- the entry is applied with this verdict, or there is none; or an allocation fails, and the library stays at its entry
+-- the entry is applied with this verdict, or there is none; or an allocation fails, and nothing changes
 abbrev pub AppliesNext : NodeLibrary → NodeLibrary → Option (Option Entry) → Result (Option Verdict) StepFault → Type 0
 AppliesNext old new None (Ok None) = new ≡ old
 AppliesNext old new None (Ok (Some verdict)) = ⊥

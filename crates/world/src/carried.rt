@@ -1,4 +1,4 @@
-//! An entry of the library as a value that nodes agree on, and events on entries as the nodes take them.
+//! An entry of the library as a value that nodes agree on, and events on entries as events on values.
 ghost use Rattle.std.specs.Prelude.{◌≡◌, IfOk};
 ghost use Rattle.world.specs.Carried.{carried, entry_of, entries_of};
 ghost use Rattle.world.specs.Replicas.{restarts};

@@ -1,7 +1,7 @@
 ghost use Rattle.world.specs.Headline.{HeadlineHolds};
 
-/// States the headline: for every history that is taken, the logs agree; any two libraries, at any two moments, are one a prefix
-/// of the other; each library is good; and every provable assertion of a library has a derivation.
+/// States the headline: for every history that is taken, the logs agree; of any two libraries, at any two moments, one is a
+/// prefix of the other; each library is good; and every provable assertion of a library has a derivation.
 pub fn headline()
     ensures { HeadlineHolds }
 {}

@@ -1,11 +1,10 @@
 //! The libraries of all nodes of one agreement, driven by a list of events.
 //!
-//! The main theorem is `headline`: whatever was lost, repeated or delayed and whoever restarted, any two nodes' libraries, at any
-//! two moments, are one a prefix of the other. `program` and `run_pictures` use `World`, `cluster` uses `Replica`; `run` serves
-//! tests.
+//! The main theorem is `headline`: whatever packets are lost, repeated or delayed and whichever nodes restart, of any two
+//! nodes' libraries, at any two moments, one is a prefix of the other. `program` and `run_pictures` use `World`, `cluster` uses
+//! `Replica`; `run` serves tests.
 //!
-//! Read the definitions, specs/Carried, Replicas and Headline; then `carried`, `replica`,
-//! `world`, `replay` and `laws`.
+//! Read the definitions, specs/Carried, Replicas and Headline; then `carried`, `replica`, `world`, `replay` and `laws`.
 #![tactic(auto)]
 
 mod carried;

@@ -1,4 +1,4 @@
-//! All events of a list, one after another.
+//! Taking all events of a list, one after another.
 ghost use Rattle.std.specs.Prelude.{◌≡◌, IfOk, IfErr, OnOk};
 ghost use Rattle.net.specs.History.{StopsAt};
 ghost use Rattle.world.specs.Carried.{carried_size, all_carried};
@@ -11,10 +11,10 @@ use net::{Event, StepFault};
 use std::alloc::Global;
 use synod::Weights;
 
-/// Returns the world after all the events, from new nodes on. Its libraries are still empty.
+/// Takes all events, starting with new nodes, and returns the world after them. No entry is applied yet: its libraries are empty.
 ///
-/// Errors: the index from 0 of the first event that is refused, with its fault, or with `Memory` where it meets none. The index
-/// is 0 where the world of new nodes runs out of memory. Cost: that of the steps.
+/// Errors: the index from 0 of the first event that is refused, with its fault, or with `Memory` if it meets none. The index
+/// is 0 if creating the new nodes runs out of memory. Cost: that of the steps.
 pub fn run(
     alloc: Global,
     weights: Weights,

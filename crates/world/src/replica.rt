@@ -29,7 +29,7 @@ impl Model for Replica {
 }
 
 impl Replica {
-    /// Makes the replica of a new node. Does not allocate.
+    /// Creates the replica of a new node. Does not allocate.
     pub fn new(alloc: Global) -> Self
         ensures { result ≡ new_library }
     {
@@ -46,7 +46,7 @@ impl Replica {
         let _old = mem::replace(self, Replica::new(alloc));
     }
 
-    /// Returns how many entries were applied: the slot of the next.
+    /// Returns the number of entries applied, which is the slot of the next one.
     pub fn applied(&self) -> u32
         ensures { result ≡ self.now.applied }
     {
@@ -60,8 +60,8 @@ impl Replica {
         &self.library
     }
 
-    /// Applies the entry that is next in the log, if there is one: `Some(None)` is a no-operation. Returns `None` if the log ends
-    /// here.
+    /// Applies `next`, the next entry of the log, and returns its verdict; `Some(None)` is a no-operation. Returns `None` if the
+    /// log ends here.
     ///
     /// Errors: `Memory`; the replica is then unchanged. Cost: that of `Library::apply` on the entry.
     pub fn apply_next(
@@ -79,8 +79,8 @@ impl Replica {
         Ok(Some(verdict))
     }
 
-    /// Applies the entry that is next in the log, with its proofs checked by workers in parallel. Each worker passes the gate before
-    /// each proof. No answer depends on the number of workers.
+    /// Applies the next entry of the log as `apply_next` does, with its proofs checked by workers in parallel. Each worker
+    /// passes the gate before each proof. No answer depends on the number of workers.
     ///
     /// Errors: those of `apply_next`. Cost: that of `Library::apply_with` on the entry.
     pub fn apply_next_with<G: Gate + Sync, R: Threads + Sync>(
@@ -102,7 +102,7 @@ impl Replica {
     }
 }
 
-/// Returns the entry for a library; `None` is the no-operation.
+/// Returns the entry that a library applies; `None` is the no-operation.
 fn entry_in(entry: &Option<Carried>) -> Option<&Entry>
     ensures { option_map (λ e. e.now) result ≡ entry_of entry.now }
 {
@@ -112,7 +112,7 @@ fn entry_in(entry: &Option<Carried>) -> Option<&Entry>
     }
 }
 
-/// Makes a new replica for each of `nodes` nodes.
+/// Creates a new replica for each of `nodes` nodes.
 pub(crate) fn new_replicas(alloc: Global, nodes: u8) -> Result<Vec<Replica>, AllocError>
     ensures { IfOk result (λ replicas. replicas.items ≡ replicate nodes new_library) }
 {
@@ -123,7 +123,7 @@ pub(crate) fn new_replicas(alloc: Global, nodes: u8) -> Result<Vec<Replica>, All
     Ok(replicas)
 }
 
-/// Discards the library of a node that restarts.
+/// Discards the library of the node that restarts, if one does.
 pub(crate) fn give_up(alloc: Global, replicas: &mut Vec<Replica>, restarted: Option<u8>)
     ensures { replicas.new.items ≡ given_up replicas.old.items restarted }
 {

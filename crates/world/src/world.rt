@@ -41,7 +41,9 @@ impl World {
     ghost use Rattle.world.specs.Replicas.{new_replicas, then_event, next_entry, AreReplicas, IsApplied};
     ghost use Rattle.world.specs.Headline.{Headline};
 
-    /// Makes a world of new nodes, each with an empty library.
+    /// Creates a world of new nodes, each with an empty library.
+    ///
+    /// Errors: `Memory`.
     pub fn new(alloc: Global, weights: Weights) -> Result<Self, StepFault>
         ensures new { IfOk result (λ world. world ≡ new_replicas weights) }
         ensures only_memory { IsOkUnless result Memory }
@@ -53,14 +55,14 @@ impl World {
         })
     }
 
-    /// Takes an event. Returns how many packets were posted so far. A restart discards the library of its node.
+    /// Takes an event. Returns the number of packets posted so far. A restart discards the library of its node.
     ///
-    /// Errors: the first fault that the event meets, or `Memory` where it meets none; the world is then as before.
+    /// Errors: the first fault that the event meets, or `Memory` if it meets none; the world is then as before.
     pub fn step(&mut self, event: Event<Entry>) -> Result<u64, StepFault>
         ensures taken { OnOk result (self.new ≡ then_event self.old (carried_event event)) }
         ensures posted { IfOk result (λ count. count ≡ length (packets_after (world_of carried_size self.new.taken))) }
 
-        // A fault is answered however little memory there is.
+        // A fault of the event is returned even if every allocation fails.
         ensures refused { IfErr (world_of carried_size (with_event self.old.taken (carried_event event))) (λ fault. result ≡ Err fault) }
         ensures only_memory { OnOk (world_of carried_size (with_event self.old.taken (carried_event event))) (IsOkUnless result Memory) }
         ensures same { OnErr result (self.new ≡ self.old) }
@@ -72,9 +74,9 @@ impl World {
         Ok(posted)
     }
 
-    /// Applies the next entry of node `k`'s log to its library. Returns `None` if no entry is next. Never passes a gap.
+    /// Applies the next entry of node `k`'s log to its library. Returns `None` if there is no next entry. Never passes a gap.
     ///
-    /// Errors: `NoNode` where there is no such node, else `Memory`; the world is then unchanged.
+    /// Errors: `NoNode` if there is no such node, else `Memory`; the world is then unchanged.
     /// Cost: that of `Library::apply` on the entry.
     pub fn apply_next(&mut self, k: u8) -> Result<Option<Verdict>, StepFault>
         ensures applied { IfSome (next_entry self.old k) (λ entry. IfOk result (λ answer. IsSomeAnd answer (λ verdict. IsApplied self.old k entry verdict self.new))) }
@@ -121,7 +123,7 @@ impl World {
         Ok(entries(self.alloc, self.net.log(k)?)?)
     }
 
-    /// Returns what node `k` tells of itself. Does not allocate.
+    /// Returns the state that node `k` reports. Does not allocate.
     pub fn state(&self, k: u8) -> Result<NodeState, StepFault>
         ensures state { IfOk result (λ state. state_after (world_of carried_size self.now.taken) k ≡ Some state) }
         ensures no_node { length self.now.taken.weights ≤ k → result ≡ Err NoNode }
@@ -130,7 +132,7 @@ impl World {
         self.net.state(k)
     }
 
-    /// Returns how many entries of node `k`'s log were applied. Does not allocate.
+    /// Returns the number of entries of node `k`'s log that its library applied. Does not allocate.
     pub fn applied(&self, k: u8) -> Result<u32, StepFault>
         ensures applied { IfOk result (λ applied. IsSomeAnd (slice_get self.now.libraries k) (λ node. applied ≡ node.applied)) }
         ensures no_node { length self.now.taken.weights ≤ k → result ≡ Err NoNode }
@@ -152,7 +154,7 @@ impl World {
     }
 }
 
-/// Applies the entry of node `k`'s log that is next at its replica.
+/// Applies the next entry of node `k`'s log to its replica.
 fn apply_from(
     replica: &mut Replica,
     net: &Net<Carried>,
