@@ -1,6 +1,6 @@
 -- The words of a line: a verb, then numbers, nodes, entries by their author and serial number.
 -- Source: this project's own form.
--- The code takes one word after another; here a definition has the value that it reads, and the words after it.
+-- The code takes one word after another; here a definition returns the value of the first words and the words after them.
 use Rattle.std.specs.Prelude.{ℕ, Bool, true, false, List, [], ◌∷◌, Option, Some, None, option_map, option_and_then, nat_lt, if◌then◌else◌}
 use Rattle.numbers.specs.Numbers.{number_of}
 use Rattle.commands.specs.Pieces.{split_at}
@@ -16,12 +16,12 @@ o >>= f = option_and_then f o
 abbrev pub Words : Type 0
 Words = List (List ℕ)
 
--- the line that the first word and the words after it write
+-- a line by its first word and the words after it
 abbrev pub by_first : {L : Type 0} → (List ℕ → Words → Option L) → Words → Option L
 by_first by [] = None
 by_first by (verb ∷ ws) = by verb ws
 
--- a line by its verb, which is the first word, and the words after it
+-- a line by its verb, which is its first word, and the words after it, each after a space
 abbrev pub line_by : {L : Type 0} → (List ℕ → Words → Option L) → List ℕ → Option L
 line_by by line = by_first by (split_at SPACE line)
 
@@ -30,7 +30,7 @@ abbrev pub number_at : Words → Option (ℕ × Words)
 number_at [] = None
 number_at (w ∷ ws) = option_map (λ n. (n, ws)) (number_of w)
 
--- the value that is read, if no word follows it
+-- the value, if no word follows it
 abbrev pub alone : {A : Type 0} → A × Words → Option A
 alone (x, []) = Some x
 alone (x, w ∷ ws) = None
@@ -45,7 +45,7 @@ one_number ws = do
   n ← number_at ws
   alone n
 
--- the node of a number: 256 and above are no node, and 255 is none either
+-- the node with a number, or 255 if the number is greater; no cluster has a node 255
 abbrev pub node_of : ℕ → ℕ
 node_of n = if nat_lt n 256 then n else 255
 

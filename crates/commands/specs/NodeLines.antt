@@ -12,7 +12,7 @@ use Rattle.commands.specs.NodeQuestions.{label_question_of, question_asked}
 use Rattle.commands.specs.declared.offered.Offered.{Offered}
 use Rattle.commands.specs.Offered.{text_offered, charter_offered}
 
--- a question about all that a node has, or about the history
+-- a question about a whole library or log, about the state of a node or about the history
 abbrev pub about_node : List ℕ → Words → Option NodeLine
 about_node verb ws =
     if bytes_eq verb (codes "list") then option_map (λ k. ListLine k) (one_node ws) else (
@@ -35,11 +35,11 @@ abbrev pub ask_or : Option LabelQuestion → List ℕ → Words → Option NodeL
 ask_or (Some kind) verb ws = option_map (λ q. Ask q) (question_asked kind ws)
 ask_or None verb ws = short_node_line verb ws
 
--- a line that takes none of the lines that follow
+-- a line without a text on the lines that follow
 abbrev pub stands_alone : {L : Type 0} → Option L → Option (L × ℕ)
 stands_alone said = option_map (λ l. (l, 0)) said
 
--- a line that gives a text, if the verb gives one in this form; else the line `said`
+-- a line that gives a text, if the verb gives one; else the line `said`
 abbrev pub text_or : {L : Type 0} → (Offered → L) → Option TextForm → Option (L × ℕ) → Words → List (List ℕ) → Option (L × ℕ)
 text_or line (Some form) said ws lines = option_map (λ o. (line o.0, o.1)) (text_offered form ws lines)
 text_or line None said ws lines = said

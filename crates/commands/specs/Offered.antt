@@ -11,7 +11,7 @@ use Rattle.numbers.specs.Numbers.{number_of}
 use Rattle.commands.specs.LineWords.{◌>>=◌, Words, entry_at}
 use Rattle.commands.specs.Texts.{text_at}
 
--- K AUTHOR SERIAL and a text, and how many of the lines that follow the text takes
+-- K AUTHOR SERIAL and a text, and how many of the lines that follow are the text
 abbrev pub text_offered : TextForm → Words → List (List ℕ) → Option (Offered × ℕ)
 text_offered form ws lines = do
   e ← entry_at ws
@@ -26,11 +26,11 @@ numbers_of (w ∷ ws) = do
   ns ← numbers_of ws
   Some (n ∷ ns)
 
--- 1 to 64 numbers in rising order
+-- whether these are 1 to 64 numbers in rising order
 abbrev pub are_names : List ℕ → Bool
 are_names numbers = nat_lt 0 (length numbers) && nat_lt (length numbers) (MOST_NAMES + 1) && is_rising numbers
 
--- a number above the last one, if there is a last one
+-- whether a number is greater than the last one, or there is no last one
 abbrev pub rises : Option ℕ → ℕ → Bool
 rises None n = true
 rises (Some last) n = nat_lt last n

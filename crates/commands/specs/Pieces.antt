@@ -7,7 +7,7 @@ use Rattle.std.specs.List.{slice_split}
 abbrev pub split_at : ℕ → List ℕ → List (List ℕ)
 split_at separator bytes = slice_split (λ b. b == separator) bytes
 
--- the pieces of what is left; none after the last
+-- the pieces of the bytes that are left; none if the last piece was taken
 abbrev pub pieces_left : ℕ → Option (List ℕ) → List (List ℕ)
 pieces_left separator None = []
 pieces_left separator (Some rest) = split_at separator rest

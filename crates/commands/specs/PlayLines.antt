@@ -11,7 +11,7 @@ use Rattle.commands.specs.declared.node_line.NodeLine.TheVariants.{Offer}
 use Rattle.commands.specs.Texts.{form_by}
 use Rattle.commands.specs.NodeLines.{node_line, stands_alone, text_or}
 
--- the lines that `serve` does not have
+-- a line that `serve` does not have
 abbrev pub world_line : List ℕ → Words → Option PlayLine
 world_line verb ws =
     if bytes_eq verb (codes "deliver") then option_map (λ n. Deliver n) (one_number ws) else (
@@ -23,7 +23,7 @@ abbrev pub or_node_line : Option PlayLine → List ℕ → Words → Option Play
 or_node_line (Some line) verb ws = Some line
 or_node_line None verb ws = option_map (λ l. Node l) (node_line verb ws)
 
--- the form in which a verb gives the text that it offers
+-- the form of the text that a verb offers
 abbrev pub play_text_form : List ℕ → Option TextForm
 play_text_form verb = form_by (codes "offer") (codes "offer-lines") (codes "offer-bytes") verb
 
@@ -34,6 +34,6 @@ play_alone lines verb ws = stands_alone (or_node_line (world_line verb ws) verb 
 abbrev pub play_line_by : List (List ℕ) → List ℕ → Words → Option (PlayLine × ℕ)
 play_line_by lines verb ws = text_or (λ o. Node (Offer o)) (play_text_form verb) (play_alone lines verb ws) ws lines
 
--- the line that these bytes write for `play`, given the lines that follow, and how many of those it takes
+-- the line of `play` that these bytes are, given the lines that follow, and how many of those are its text
 abbrev pub play_line_of : List ℕ → List (List ℕ) → Option (PlayLine × ℕ)
 play_line_of line lines = line_by (play_line_by lines) line

@@ -1,4 +1,4 @@
--- The lines of a script, or the number of the first that is none of its command's.
+-- The lines of a script, or the number of the first bad line.
 -- Source: this project's own form.
 -- The code stops at the first bad line, as here; it may return `Memory` in place of the lines, never in place of a bad line.
 use Rattle.std.specs.Prelude.{◌≡◌, ℕ, zero, suc, ◌+◌, List, [], ◌∷◌, Option, Some, None, Result, Ok, Err, IsOk, IsSome, Vec}
@@ -11,13 +11,13 @@ use Rattle.commands.specs.declared.script.TheConstants.{LINE_FEED}
 use Rattle.commands.specs.Pieces.{split_at}
 use Rattle.commands.specs.Remaining.{Remaining, IsPast}
 
--- the result of parsing a line that writes `said`
+-- the result of parsing a line that by definition is `said`
 abbrev pub Parses : {A : Type 0} → Option A → Result A LineFault → Type 0
 Parses said (Ok x) = said ≡ Some x
 Parses said (Err Bad) = said ≡ None
 Parses said (Err NoMemory) = IsSome said
 
--- the result of parsing a line that with those after it writes `said`; it takes the lines of its text
+-- the result of parsing a line that by definition is `said`, given the lines after it; the lines of its text are taken
 abbrev pub ParsesLine : {A : Type 0} → Option (A × ℕ) → Remaining → Remaining → Result A LineFault → Type 0
 ParsesLine {A = A} said old new (Ok x) = (count : ℕ) × (said ≡ Some (x, count)) × IsPast count old new
 ParsesLine {A = A} said old new (Err Bad) = said ≡ None
@@ -44,7 +44,7 @@ script_from said number zero ((c ∷ cs) ∷ lines) =
 abbrev pub script_of : {L : Type 0} → (List ℕ → List (List ℕ) → Option (L × ℕ)) → List ℕ → Result (List L) ℕ
 script_of said script = script_from said 1 0 (split_at LINE_FEED script)
 
--- the result of parsing a script whose result is `said`
+-- the result of parsing a script that by definition is `said`
 abbrev pub ParsesScript : {L : Type 0} → Result (List L) ℕ → Result (Vec L Global) ScriptFault → Type 0
 ParsesScript said (Ok lines) = said ≡ Ok lines.items
 ParsesScript said (Err (BadLine number)) = said ≡ Err number

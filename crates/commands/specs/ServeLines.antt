@@ -11,14 +11,14 @@ use Rattle.commands.specs.declared.node_line.NodeLine.TheVariants.{Offer}
 use Rattle.commands.specs.Texts.{form_by}
 use Rattle.commands.specs.NodeLines.{node_line, stands_alone, text_or}
 
--- the form in which a verb gives the text that it submits, or adds
+-- the form of the text that a verb submits, and of the text that a verb adds
 abbrev pub submit_form : List ℕ → Option TextForm
 submit_form verb = form_by (codes "submit") (codes "submit-lines") (codes "submit-bytes") verb
 
 abbrev pub add_form : List ℕ → Option TextForm
 add_form verb = form_by (codes "add") (codes "add-lines") (codes "add-bytes") verb
 
--- the line that `play` does not have, but for texts
+-- the line without a text that `play` does not have
 abbrev pub settle_line : List ℕ → Words → Option ServeLine
 settle_line verb ws = if bytes_eq verb (codes "settle") then option_map (λ e. Settle e) (one_entry ws) else None
 
@@ -38,6 +38,6 @@ added_or lines verb ws = text_or (λ o. Add o) (add_form verb) (serve_alone line
 abbrev pub serve_line_by : List (List ℕ) → List ℕ → Words → Option (ServeLine × ℕ)
 serve_line_by lines verb ws = text_or (λ o. Node (Offer o)) (submit_form verb) (added_or lines verb ws) ws lines
 
--- the line that these bytes write for `serve`, given the lines that follow, and how many of those it takes
+-- the line of `serve` that these bytes are, given the lines that follow, and how many of those are its text
 abbrev pub serve_line_of : List ℕ → List (List ℕ) → Option (ServeLine × ℕ)
 serve_line_of line lines = line_by (serve_line_by lines) line

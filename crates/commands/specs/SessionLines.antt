@@ -1,6 +1,6 @@
 -- The lines of a session of `serve`, and the end of a text that a line gives on the lines that follow.
 -- Source: this project's own form.
--- The code reads a session line by line, and the lines of a text before it parses them with the line that gives it.
+-- The code reads a line, then the lines of its text, and then parses all of them.
 use Rattle.std.specs.Prelude.{ℕ, Bool, true, false, List, codes, Option, Some, None, option_map}
 use Rattle.std.specs.Str.{bytes_eq}
 use Rattle.commands.specs.declared.serve_line.ServeLine.{ServeLine}
@@ -14,12 +14,12 @@ use Rattle.commands.specs.LineWords.{◌>>=◌, Words, line_by, entry_at, one_nu
 use Rattle.commands.specs.Texts.{one_word}
 use Rattle.commands.specs.ServeLines.{submit_form, add_form, serve_line_of}
 
--- the line that a script does not have, or one that it has
+-- `help`, which scripts do not have, or a line that they have
 abbrev pub help_or : Bool → Option (ServeLine × ℕ) → Option (SessionLine × ℕ)
 help_or true said = Some (Help, 0)
 help_or false said = option_map (λ l. (Serve l.0, l.1)) said
 
--- the line that these bytes write in a session, given the lines that follow, and how many of those it takes
+-- the line of a session that these bytes are, given the lines that follow, and how many of those are its text
 abbrev pub session_line_of : List ℕ → List (List ℕ) → Option (SessionLine × ℕ)
 session_line_of line lines = help_or (bytes_eq line (codes "help")) (serve_line_of line lines)
 
@@ -37,7 +37,7 @@ abbrev pub end_view : TextEnd → End
 end_view (AtWord w) = word w.now
 end_view (AfterBytes n) = bytes n
 
--- where a text in this form ends, by the words after the entry; a text on the line has no end after it
+-- where a text in this form ends, given the words after its author and serial number; a text on the line ends with the line
 abbrev pub end_by : TextForm → Words → Option End
 end_by Rest ws = None
 end_by Lines ws = option_map (λ w. word w) (one_word ws)
@@ -49,6 +49,6 @@ text_end_by verb ws = do
   e ← entry_at ws
   end_by form e.1
 
--- the end of the text that a line gives on the lines that follow, if it gives one there
+-- the end of the text of a line, if the text is on the lines that follow
 abbrev pub text_end_of : List ℕ → Option End
 text_end_of line = line_by text_end_by line

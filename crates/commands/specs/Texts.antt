@@ -1,4 +1,4 @@
--- The texts that lines offer, and how many of the lines that follow each text takes.
+-- The texts that lines give, and how many of the lines that follow are the text.
 -- Source: this project's own form.
 -- The code takes one line after another, or skips a number of bytes; here a text is taken from all lines that follow.
 use Rattle.std.specs.Prelude.{ℕ, ◌+◌, ◌==◌, List, [], ◌∷◌, ◌++◌, take, slice_index, count_by, Option, Some, None, option_map, if◌then◌else◌}
@@ -10,20 +10,20 @@ use Rattle.commands.specs.declared.text_form.TextForm.{TextForm}
 use Rattle.commands.specs.declared.text_form.TextForm.TheVariants.{Rest, Lines, Bytes}
 use Rattle.commands.specs.LineWords.{◌>>=◌, Words, alone, one_number}
 
--- the form in which a verb gives a text: `rest` on the line, `lines` on lines that follow, `bytes` as a number of bytes
+-- the form of the text that a verb gives: `rest` on the line, `lines` on lines that follow, `bytes` as a number of bytes
 abbrev pub form_by : List ℕ → List ℕ → List ℕ → List ℕ → Option TextForm
 form_by rest lines bytes verb =
     if bytes_eq verb rest then Some Rest else (
     if bytes_eq verb lines then Some Lines else (
     if bytes_eq verb bytes then Some Bytes else None))
 
--- the lines before the first that is the word alone, each with its line feed; the text takes that line too
+-- the lines before the first that is the word alone, each with its line feed, and their count together with that line
 abbrev pub lines_before : List ℕ → List (List ℕ) → Option (List ℕ × ℕ)
 lines_before word [] = None
 lines_before word (line ∷ lines) =
     if bytes_eq line word then Some ([], 1) else option_map (λ t. (line ++ LINE_FEED ∷ t.0, t.1 + 1)) (lines_before word lines)
 
--- the first bytes, if a line feed follows them; they take the lines that end in them, and the one that they end in
+-- the first n bytes, if a line feed follows them, and the count of the lines that they and this line feed end
 abbrev pub first_bytes : ℕ → List ℕ → Option (List ℕ × ℕ)
 first_bytes n bytes =
     if slice_index bytes n == LINE_FEED then Some (take n bytes, count_by (λ b. b == LINE_FEED) (take n bytes) + 1) else None
@@ -38,7 +38,7 @@ one_word [] = None
 one_word ([] ∷ ws) = None
 one_word ((c ∷ cs) ∷ ws) = alone (c ∷ cs, ws)
 
--- the text that the words give in this form, given the lines that follow
+-- the text that the words give in this form, given the lines that follow, and how many of those it takes
 abbrev pub text_at : TextForm → Words → List (List ℕ) → Option (List ℕ × ℕ)
 text_at Rest ws lines = Some (join_with_byte SPACE ws, 0)
 text_at Lines ws lines = do

@@ -18,7 +18,7 @@ use synod::{MOST_NODES, Weights};
 
 /// Parses the words of a command line, without the program's own name.
 ///
-/// Errors: `Bad` if they are no command line or ask for help; `Memory` if an allocation fails.
+/// Errors: `Bad` if they are a bad command line or ask for help; `Memory` if an allocation fails.
 pub fn parse_words<'a>(alloc: Global, words: &'a [&'a str]) -> Result<Request<'a>, WordsFault> {
     match matches_of(alloc, words) {
         Ok(matches) => request(alloc, &matches),
@@ -26,8 +26,7 @@ pub fn parse_words<'a>(alloc: Global, words: &'a [&'a str]) -> Result<Request<'a
     }
 }
 
-/// Returns the fault of words that are no command line or ask for help, or the request for the
-/// version.
+/// Returns the request for the version, or the fault of a bad command line or a request for help.
 fn answered<'a>(alloc: Global, error: &Error, words: &[&str]) -> Result<Request<'a>, WordsFault> {
     match error.kind() {
         ErrorKind::OutOfMemory => Err(WordsFault::Memory),
@@ -41,7 +40,7 @@ fn answered<'a>(alloc: Global, error: &Error, words: &[&str]) -> Result<Request<
     }
 }
 
-/// Returns the text of an error, after a hint if a file stands among the words.
+/// Returns the text of an error, after a hint if a file is among the words.
 fn with_hint(alloc: Global, error: &Error, words: &[&str]) -> Result<String, WordsFault> {
     let mut text = String::new(alloc);
     push_hint(alloc, words, &mut text)?;
@@ -50,7 +49,7 @@ fn with_hint(alloc: Global, error: &Error, words: &[&str]) -> Result<String, Wor
     Ok(text)
 }
 
-/// Returns the request of a command and its options.
+/// Returns the request that a command makes with its options.
 fn request<'a>(alloc: Global, matches: &ArgMatches<'a>) -> Result<Request<'a>, WordsFault> {
     match matches.subcommand() {
         Some(("outline", options)) => Ok(Request::Outline {
@@ -89,7 +88,7 @@ fn request<'a>(alloc: Global, matches: &ArgMatches<'a>) -> Result<Request<'a>, W
     }
 }
 
-/// Returns the question of a command and its options.
+/// Returns the question that a command asks with its options.
 fn question<'a>(
     alloc: Global,
     name: &str,
@@ -156,7 +155,7 @@ fn proof_form(options: &ArgMatches) -> ProofForm {
     }
 }
 
-/// Returns the count of nodes, 1 to 9.
+/// Returns the count of nodes, which is 1 to 9.
 fn node_count(alloc: Global, options: &ArgMatches) -> Result<u8, WordsFault>
     ensures { IfOk result (λ nodes. (1 ≤ nodes) × (nodes ≤ MOST_NODES)) }
 {
@@ -193,7 +192,7 @@ pub(crate) fn number(options: &ArgMatches, name: &str) -> Option<u64> {
     parse_number(options.get_str(name)?.as_bytes())
 }
 
-/// Returns the weights of `nodes` nodes; without the option each weighs 1.
+/// Returns the weights of `nodes` nodes. Without the option each node has weight 1.
 fn weights(alloc: Global, options: &ArgMatches, nodes: u8) -> Result<Weights, WordsFault>
     requires { (1 ≤ nodes) × (nodes ≤ MOST_NODES) }
 {

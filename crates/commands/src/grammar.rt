@@ -10,7 +10,7 @@ pub const VERSION: &str = "1.0.0";
 enum Form {
     /// A label.
     Label,
-    /// A pattern, or words that are sought.
+    /// A pattern, or words to search for.
     Pattern,
     /// The path of a folder.
     Folder,
@@ -280,12 +280,12 @@ pub fn commands<'a>(alloc: Global) -> Result<Command<'a>, AllocError> {
     Ok(program)
 }
 
-/// Returns what `clap` finds in the words of a command line.
+/// Returns the commands and options that `clap` finds in the words of a command line.
 pub(crate) fn matches_of<'a>(alloc: Global, words: &'a [&'a str]) -> Result<ArgMatches<'a>, Error> {
     commands(alloc)?.try_get_matches_from(words)
 }
 
-/// Returns the command of a shape.
+/// Returns the command of `clap` with this shape.
 fn command<'a>(alloc: Global, shape: &Shape) -> Result<Command<'a>, AllocError> {
     let Shape(name, usage, help, arguments) = *shape;
     let mut command = Command::new(alloc, name).about(help).override_usage(usage);

@@ -1,4 +1,4 @@
-//! Hints on files that stand among the words of a command line.
+//! Hints for command lines that name a file, although files are read from standard input.
 use crate::grammar::matches_of;
 use std::alloc::{AllocError, Global};
 
@@ -9,8 +9,8 @@ enum Source {
     Script,
 }
 
-/// Appends a line that says how to give a file, if one stands among the words: it is the only word,
-/// or the others are a request, or the last two words are files. Else appends nothing.
+/// Appends a line that says how to give a file, if one is among the words: it is the only word, or
+/// the other words are a request, or the last two words are files. Else appends nothing.
 ///
 /// Errors: an allocation fails. Cost: that of parsing the words, for each word that may be a file.
 pub(crate) fn push_hint(
@@ -38,8 +38,8 @@ pub(crate) fn push_hint(
     push_files(alloc, words, text)
 }
 
-/// Returns whether the word at a place may be the name of a file: it is no option, and it is the last
-/// word or has a full stop or a slash.
+/// Returns whether the word at an index may be the name of a file: it is not an option, and it is the
+/// last word or has a full stop or a slash.
 fn may_be_file(words: &[&str], place: usize) -> bool {
     match words.get(place) {
         Some(word) => { !word.starts_with('-') && (place + 1 == words.len() || is_file_name(word)) }
@@ -47,12 +47,12 @@ fn may_be_file(words: &[&str], place: usize) -> bool {
     }
 }
 
-/// Returns whether a word is no option and has a full stop or a slash, as names of files have.
+/// Returns whether a word is not an option and has a full stop or a slash, as names of files have.
 fn is_file_name(word: &str) -> bool {
     !word.starts_with('-') && (word.contains('.') || word.contains('/'))
 }
 
-/// Returns the words without the one at a place.
+/// Returns the words without the one at an index.
 fn without<'a>(alloc: Global, words: &[&'a str], place: usize) -> Result<Vec<&'a str>, AllocError> {
     let mut others = Vec::new(alloc);
     for (at, word) in words.iter().enumerate() {
@@ -63,7 +63,7 @@ fn without<'a>(alloc: Global, words: &[&'a str], place: usize) -> Result<Vec<&'a
     Ok(others)
 }
 
-/// Returns the kind of text that the request of these words reads; `None` if they are no request.
+/// Returns the kind of text that the request of these words reads, or `None` if they are no request.
 fn source_of(alloc: Global, words: &[&str]) -> Option<Source> {
     match matches_of(alloc, words) {
         Ok(matches) => match matches.subcommand() {
@@ -75,7 +75,7 @@ fn source_of(alloc: Global, words: &[&str]) -> Option<Source> {
     }
 }
 
-/// Appends the line that says how to give one file to a request.
+/// Appends the line that says how to give one file to the command.
 fn push_file(
     text: &mut String,
     source: Source,
@@ -95,8 +95,8 @@ fn push_file(
     text.push_str("\n")
 }
 
-/// Appends the line that says how to give two files to a request about a database, if the last two
-/// words are names of files and the others such a request.
+/// Appends the line that says how to give two files to a command about a database, if the last two
+/// words are names of files and the others are such a command.
 fn push_files(alloc: Global, words: &[&str], text: &mut String) -> Result<(), AllocError> {
     let [front @ .., first, second] = words else {
         return Ok(());

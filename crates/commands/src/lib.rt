@@ -1,9 +1,9 @@
-//! Requests to the program: command lines, and the lines of the scripts of `play` and `serve`.
+//! The parsers of command lines, and of the lines of the scripts of `play` and `serve`.
 //!
-//! The crate above uses `parse_words` (a `Request` of a command line) and one contract:
+//! Crates above use `parse_words`, which returns the `Request` of a command line, and one contract:
 //! `parse_script` returns the lines by the definition of the command's lines (`specs/PlayLines`,
-//! `specs/ServeLines`, `specs/SessionLines`), or the number of the first line that is none of them.
-//! No other crate knows `clap`.
+//! `specs/ServeLines`, `specs/SessionLines`), or the number of the first bad line. No other crate
+//! depends on `clap`.
 //!
 //! Reading order: `request` (what a command line asks for), `weights` (numbers of a command line),
 //! `grammar` (its commands and options) with `script_help`, `hints` (on files among the words),

@@ -13,7 +13,7 @@ pub const SPACE: u8 = b' ';
 /// The words of a line that are not taken yet.
 pub(crate) type Words<'a> = Pieces<'a, SPACE>;
 
-/// An entry, named by its author and serial number, and a node.
+/// A node, and the author and serial number of an entry.
 #[derive(Clone, Copy, Debug, PartialEq, Eq)]
 pub struct EntryAt {
     pub node: u8,
@@ -21,7 +21,7 @@ pub struct EntryAt {
     pub serial: u64,
 }
 
-/// Two nodes, in this order.
+/// Two nodes, in order.
 #[derive(Clone, Copy, Debug, PartialEq, Eq)]
 pub struct NodePair {
     pub first: u8,
@@ -39,14 +39,14 @@ impl<'a> Pieces<'a, SPACE> {
         }
     }
 
-    /// Takes the next word as a number. Returns `None` if it is none.
+    /// Takes the next word as a number. Returns `None` if it is not a number.
     pub fn number(&mut self) -> Option<u64>
         ensures { option_map (λ number. (number, self.new)) result ≡ number_at self.old }
     {
         parse_number(self.take()?)
     }
 
-    /// Takes the next word as the number of a node. Returns `None` if it is no number.
+    /// Takes the next word as the number of a node. Returns `None` if it is not a number.
     pub fn node(&mut self) -> Option<u8>
         ensures { option_map (λ node. (node, self.new)) result ≡ node_at self.old }
     {
@@ -68,7 +68,7 @@ impl<'a> Pieces<'a, SPACE> {
         })
     }
 
-    /// Returns the only word that is left as a number.
+    /// Returns the remaining word as a number, or `None` unless exactly one number is left.
     pub fn only_number(mut self) -> Option<u64>
         ensures { result ≡ one_number self.entry }
     {
@@ -79,7 +79,7 @@ impl<'a> Pieces<'a, SPACE> {
         }
     }
 
-    /// Returns the only word that is left as the number of a node.
+    /// Returns the remaining word as a node, or `None` unless exactly one number is left.
     pub fn only_node(self) -> Option<u8>
         ensures { result ≡ one_node self.entry }
     {
@@ -93,7 +93,7 @@ impl<'a> Pieces<'a, SPACE> {
         self.take().is_none()
     }
 
-    /// Returns the only two words that are left as nodes.
+    /// Returns the two remaining words as nodes, or `None` unless exactly two numbers are left.
     pub fn only_pair(mut self) -> Option<NodePair>
         ensures { result ≡ two_nodes self.entry }
     {
@@ -102,7 +102,8 @@ impl<'a> Pieces<'a, SPACE> {
         Some(NodePair { first, second })
     }
 
-    /// Returns the only three words that are left as `K AUTHOR SERIAL`.
+    /// Returns the three remaining words as `K AUTHOR SERIAL`, or `None` unless exactly three numbers
+    /// are left.
     pub fn only_entry(mut self) -> Option<EntryAt>
         ensures { result ≡ one_entry self.entry }
     {
@@ -114,7 +115,7 @@ impl<'a> Pieces<'a, SPACE> {
     }
 }
 
-/// Returns the node of this number; for a number above 255 it is 255, which is no node.
+/// Returns the node with this number, or 255 if the number is greater. No cluster has a node 255.
 fn node(number: u64) -> u8
     ensures { result ≡ node_of number }
 {

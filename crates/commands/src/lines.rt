@@ -8,8 +8,8 @@ use crate::pieces::Pieces;
 use crate::script::LINE_FEED;
 use std::marker::Model;
 
-/// The lines of a script that are not taken yet. Contracts see them, and the number of the last
-/// line taken.
+/// The lines of a script that are not taken yet. In contracts it is these lines and the number of
+/// the last line taken.
 #[derive(Drop)]
 pub struct Lines<'a> {
     number: usize,
@@ -58,8 +58,8 @@ impl<'a> Lines<'a> {
         Some(line)
     }
 
-    /// Takes the lines up to the first that is the word, and returns those before it, each with its
-    /// line feed. Returns `None` if there is no such line; what is left then is not specified.
+    /// Takes the lines up to the first that is `word` alone, and returns those before it, each with
+    /// its line feed. Returns `None` if there is no such line; the lines left are then not specified.
     pub(crate) fn take_lines(&mut self, word: &[u8]) -> Option<&'a [u8]>
         ensures { MatchOption result
             (lines_before word.now self.old.lines ≡ None)
@@ -72,8 +72,8 @@ impl<'a> Lines<'a> {
         Some(taken.text)
     }
 
-    /// Takes `count` bytes, and the line feed that follows them. Returns `None` if none follows; what
-    /// is left then is not specified.
+    /// Takes `count` bytes and the line feed that follows them, and returns the bytes. Returns `None`
+    /// if no line feed follows; the lines left are then not specified.
     pub(crate) fn take_bytes(&mut self, count: u64) -> Option<&'a [u8]>
         ensures { MatchOption result
             (bytes_before count self.old.lines ≡ None)

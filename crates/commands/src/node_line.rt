@@ -22,13 +22,13 @@ pub enum NodeLine {
     List { node: u8 },
     /// `export K`: the statements of the node's library.
     Export { node: u8 },
-    /// `log K`: the entries that the node learned, or took over from its log.
+    /// `log K`: the entries that the node learned (`play`), or took over from its log (`serve`).
     Log { node: u8 },
     /// `state K`: the role of the node, its promise, and what it learned and applied.
     State { node: u8 },
-    /// `status K AUTHOR SERIAL`: what the node's library decided.
+    /// `status K AUTHOR SERIAL`: the verdict of the node's library.
     Status(EntryAt),
-    /// `why K AUTHOR SERIAL`: why the entry was refused there.
+    /// `why K AUTHOR SERIAL`: the reason why the node's library refused the entry.
     Why(EntryAt),
     /// `trace K LABEL`, `tree`, `usage`, `show` and `proof`: a question about a label.
     Ask(NodeQuestion),
@@ -38,9 +38,9 @@ pub enum NodeLine {
     Events,
 }
 
-/// Parses the words after a verb.
+/// Parses the words after a verb as a line that both commands have.
 ///
-/// Errors: `Bad` if they and the verb are no such line; else `Memory` if an allocation fails.
+/// Errors: `Bad` if the verb and the words are no such line; else `Memory` if an allocation fails.
 pub(crate) fn parse_node_line(
     alloc: Global,
     verb: &[u8],
@@ -84,7 +84,7 @@ fn parse_short(verb: &[u8], words: Words<'_>) -> Option<NodeLine>
     }
 }
 
-/// Parses a question about all that a node has, or about the history.
+/// Parses a question about a whole library or log, about the state of a node or about the history.
 fn parse_about_node(verb: &[u8], words: Words<'_>) -> Option<NodeLine>
     ensures { result ≡ about_node verb.now words.entry }
 {

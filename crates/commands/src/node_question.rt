@@ -38,8 +38,8 @@ impl LabelQuestion {
         }
     }
 
-    /// Returns the question of a database command about the label. For `show` a label that is not
-    /// UTF-8 becomes the empty label; no statement has either.
+    /// Returns the same question about the label, as the command for a database asks it. For `show` a
+    /// label that is not UTF-8 is replaced by the empty label; no statement has either.
     ///
     /// Errors: an allocation fails.
     pub fn about(self, alloc: Global, label: &[u8]) -> Result<Question<'_>, AllocError> {
@@ -68,7 +68,7 @@ pub struct NodeQuestion {
     pub label: Bytes,
 }
 
-/// Returns the question about a label that a verb asks, if it asks one.
+/// Returns the question about a label that a verb asks, or `None` if it asks none.
 pub(crate) fn label_question(verb: &[u8]) -> Option<LabelQuestion>
     ensures { result ≡ label_question_of verb.now }
 {

@@ -21,7 +21,7 @@ pub struct Offered {
     pub entry: Entry,
 }
 
-/// Parses `K AUTHOR SERIAL` and a text in this form, and takes the lines that the text stands on.
+/// Parses `K AUTHOR SERIAL` and a text in this form, and takes the lines that are the text.
 pub(crate) fn parse_text<'a>(
     alloc: Global,
     form: TextForm,
@@ -84,7 +84,7 @@ fn are_names(mut words: Words<'_>) -> bool
     count > 0
 }
 
-/// Returns whether the number is above the last one, if there is a last one.
+/// Returns whether a number is greater than the last one, or there is no last one.
 fn is_above(number: u64, last: Option<u64>) -> bool
     ensures { result ≡ rises last number }
 {

@@ -4,7 +4,7 @@ ghost use Rattle.commands.specs.Pieces.{split_at, pieces_left};
 
 use std::marker::Model;
 
-/// The pieces of a text that are not taken yet. Contracts see their list.
+/// The pieces of a text that are not taken yet. In contracts it is the list of them.
 #[derive(Drop)]
 pub(crate) struct Pieces<'a, const SEPARATOR: u8> {
     pub rest: Option<&'a [u8]>,

@@ -20,7 +20,7 @@ pub enum PlayLine {
     Deliver { packet: u64 },
     /// `apply K`: the next entry of the node's log is applied.
     Apply { node: u8 },
-    /// `show N`: a packet. `show K LABEL` is a line that both commands have.
+    /// `show N`: a packet is shown. `show K LABEL` is a line that both commands have.
     Show { packet: u64 },
 }
 
@@ -44,7 +44,7 @@ impl Line for PlayLine {
     }
 }
 
-/// Returns the form in which a verb gives the text that it offers, if it offers one.
+/// Returns the form of the text that a verb offers, if it offers one.
 fn text_form(verb: &[u8]) -> Option<TextForm>
     ensures { result ≡ play_text_form verb.now }
 {

@@ -11,7 +11,7 @@ pub enum Request<'a> {
     Version,
     /// `outline`: the outline of a database.
     Outline {
-        /// `--name`: what stands before each place.
+        /// `--name`: the name that is printed before each line and column.
         name: Option<&'a str>,
     },
     /// A question about a database.
@@ -27,11 +27,11 @@ pub enum Request<'a> {
         weights: Weights,
         steps: PicturedSteps,
     },
-    /// `serve`: lines are carried out by nodes that are threads.
+    /// `serve`: nodes that are threads carry out lines.
     Serve(Serving),
 }
 
-/// The nodes that are to serve, and how their lines are read.
+/// The nodes that `serve` starts, and how their lines are read.
 #[derive(Drop)]
 pub struct Serving {
     pub weights: Weights,
@@ -56,7 +56,7 @@ pub struct PicturedSteps {
 #[derive(Drop)]
 pub struct Asked<'a> {
     pub question: Question<'a>,
-    /// `--name`: what stands before each place.
+    /// `--name`: the name that is printed before each line and column.
     pub name: Option<&'a str>,
     /// `--assume`: each `$p` that is not proved is taken as a `$a`.
     pub assumes: bool,
@@ -67,7 +67,7 @@ pub struct Asked<'a> {
 pub struct SiteQuestion<'a> {
     /// The path of the folder that the pages are written into.
     pub folder: &'a str,
-    /// `--name`: what stands before each place.
+    /// `--name`: the name that is printed before each line and column.
     pub name: Option<&'a str>,
     /// `--assume`: each `$p` that is not proved is taken as a `$a`.
     pub assumes: bool,
@@ -76,9 +76,9 @@ pub struct SiteQuestion<'a> {
 /// A question about a library. It borrows the labels that it names.
 #[derive(Drop)]
 pub enum Question<'a> {
-    /// `check`: how many `$p` it proves.
+    /// `check`: how many `$p` are proved.
     Check,
-    /// `check --all`: each `$p` that is not proved, and how many are.
+    /// `check --all`: each `$p` that is not proved, and how many are proved.
     CheckEach,
     /// `list`: its assertions.
     List,
@@ -91,7 +91,7 @@ pub enum Question<'a> {
     /// `usage`: the `$p` whose proofs cite the statement with the label.
     Usage {
         label: &'a [u8],
-        /// Also those that use it indirectly.
+        /// Whether those that use it indirectly are listed too.
         all: bool,
     },
     /// `proof`: the steps of a proof.
@@ -108,7 +108,7 @@ pub enum Question<'a> {
 #[derive(Drop)]
 pub struct ProofQuestion<'a> {
     pub label: &'a [u8],
-    /// The essential steps alone.
+    /// `--essential`: whether only the essential steps are shown.
     pub is_essential: bool,
     pub form: ProofForm,
 }
@@ -116,18 +116,18 @@ pub struct ProofQuestion<'a> {
 /// The form in which a proof is printed.
 #[derive(Clone, Copy, Debug, PartialEq, Eq)]
 pub enum ProofForm {
-    /// A line a step.
+    /// A line for each step.
     Steps,
     /// `--dot`: a picture of the steps, for Graphviz.
     Picture,
-    /// `--html`: a page that stands alone.
+    /// `--html`: a page that needs no other file.
     Page,
 }
 
-/// Why words are no request.
+/// Why the words of a command line are not parsed.
 #[derive(Drop)]
 pub enum WordsFault {
-    /// They are no command line, or ask for help. The text is for standard error.
+    /// They are a bad command line, or ask for help. The text is for standard error.
     Bad { text: String },
     /// An allocation failed.
     Memory,

@@ -11,7 +11,7 @@ pub const LINE_FEED: u8 = b'\n';
 /// Why a line is not parsed.
 #[derive(Debug, Drop, PartialEq, Eq)]
 pub enum LineFault {
-    /// The line is none of its command's, or the end of its text is missing.
+    /// The line is not one of its command, or the end of its text is missing.
     Bad,
     /// An allocation failed.
     Memory,
@@ -20,23 +20,23 @@ pub enum LineFault {
 /// Why a script is not parsed.
 #[derive(Debug, Drop, PartialEq, Eq)]
 pub enum ScriptFault {
-    /// A line is none of its command's. `number` is that of the first, from 1; empty lines count.
+    /// A line is bad. `number` is that of the first bad line, counted from 1 with the empty lines.
     BadLine { number: usize },
     /// An allocation failed.
     Memory,
 }
 
-/// A line of the scripts of one command.
+/// A line of a script of one command.
 pub trait Line: Sized + Drop {
     ghost use Rattle.std.specs.Prelude.{ℕ, List, Option};
 
-    /// The line that these bytes write, if they are a line of the command, given the lines that
-    /// follow, and how many of those it takes as its text.
+    /// The line that these bytes are by definition, given the lines that follow, and how many of those
+    /// are its text; `None` if they are not a line of the command.
     ghost said: { List ℕ → List (List ℕ) → Option (Self × ℕ) };
 
-    /// Parses the bytes between two line feeds, and takes the lines of its text.
+    /// Parses the bytes between two line feeds as a line, and takes the lines of its text.
     ///
-    /// Errors: `Bad` if they are no line of the command, or the end of its text is missing; else
+    /// Errors: `Bad` if they are not a line of the command, or the end of its text is missing; else
     /// `Memory` if an allocation fails.
     fn parse<'a>(alloc: Global, line: &'a [u8], lines: &mut Lines<'a>) -> Result<Self, LineFault>
         ensures { ParsesLine (said line.now lines.old.lines) lines.old lines.new result };
@@ -45,7 +45,7 @@ pub trait Line: Sized + Drop {
 /// Parses the lines of a script. Each ends with a line feed, which the last may lack; empty ones
 /// are skipped.
 ///
-/// Errors: the first line that is none of the command's; else `Memory` if an allocation fails.
+/// Errors: `BadLine` with the number of the first bad line; else `Memory` if an allocation fails.
 /// Cost: the size of the script.
 pub fn parse_script<L: Line>(alloc: Global, script: &[u8]) -> Result<Vec<L>, ScriptFault>
     ensures { ParsesScript (script_of L.said script.now) result }

@@ -1,8 +1,8 @@
-//! The lines of scripts, as the help of their commands lists them.
+//! The lines of scripts, as listed in the help of `play` and `serve`.
 use crate::line_words::SPACE;
 use crate::pieces::cut;
 
-/// The lines of `play`: each after two spaces, and then its meaning, after two spaces or more.
+/// The help on the lines of `play`: two spaces, a line, two spaces or more, and its meaning.
 pub(crate) const PLAY_LINES: &str = "\
 Lines, K a node from 0:
   offer K AUTHOR SERIAL TEXT         offer a text at node K
@@ -28,8 +28,8 @@ Lines, K a node from 0:
   compare J K                        print which library has more statements
   events                             print the history, as lines of play";
 
-/// The lines of `serve`: each after two spaces, and then its meaning, after two spaces or more. A
-/// session has `help` too.
+/// The help on the lines of `serve`: two spaces, a line, two spaces or more, and its meaning. A
+/// session also has the line `help`.
 pub const SERVE_LINES: &str = "\
 Lines, K a node from 0:
   add K AUTHOR SERIAL TEXT           submit a text until it is decided

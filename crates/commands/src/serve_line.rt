@@ -17,7 +17,7 @@ use std::alloc::Global;
 pub enum ServeLine {
     /// A line that both commands have; `submit`, `submit-lines` and `submit-bytes` offer a text.
     Node(NodeLine),
-    /// `settle K AUTHOR SERIAL`: what the node's library decided, once it is known.
+    /// `settle K AUTHOR SERIAL`: the verdict of the node's library, as soon as it is known.
     Settle(EntryAt),
     /// `add`, `add-lines` and `add-bytes`: a text is submitted until its verdict is known.
     Add(Offered),
@@ -43,7 +43,7 @@ impl Line for ServeLine {
     }
 }
 
-/// Returns the form in which a verb gives the text that it submits, if it submits one.
+/// Returns the form of the text that a verb submits, if it submits one.
 pub(crate) fn submitted_form(verb: &[u8]) -> Option<TextForm>
     ensures { result ≡ submit_form verb.now }
 {
@@ -55,7 +55,7 @@ pub(crate) fn submitted_form(verb: &[u8]) -> Option<TextForm>
     )
 }
 
-/// Returns the form in which a verb gives the text that it adds, if it adds one.
+/// Returns the form of the text that a verb adds, if it adds one.
 pub(crate) fn added_form(verb: &[u8]) -> Option<TextForm>
     ensures { result ≡ add_form verb.now }
 {

@@ -9,9 +9,9 @@ use std::alloc::Global;
 /// A line of a session of `serve`.
 #[derive(Drop)]
 pub enum SessionLine {
-    /// A line that a script has too.
+    /// A line that scripts have too.
     Serve(ServeLine),
-    /// `help`: the lines and what they ask for.
+    /// `help`: the lines of a session, and what each asks for.
     Help,
 }
 

@@ -1,4 +1,4 @@
-//! The end of the text that a line of `serve` gives on the lines that follow it.
+//! The end of a text that a line of `serve` gives on the lines that follow it.
 ghost use Rattle.std.specs.Prelude.{◌≡◌, option_map};
 ghost use Rattle.commands.specs.SessionLines.{end_by, end_view, or_form, text_end_of};
 ghost use Rattle.commands.specs.ServeLines.{add_form, submit_form};
@@ -16,8 +16,8 @@ pub enum TextEnd<'a> {
     AfterBytes(u64),
 }
 
-/// Returns where the text ends that a line gives on the lines that follow it. Returns `None` if it
-/// gives none there, or is no line of `serve` whatever follows. Does not allocate.
+/// Returns where the text of a line ends. Returns `None` if the line has no text on the lines that
+/// follow it, or is bad whatever lines follow. Does not allocate.
 pub fn text_end(line: &[u8]) -> Option<TextEnd<'_>>
     ensures { option_map end_view result ≡ text_end_of line.now }
 {
@@ -27,7 +27,7 @@ pub fn text_end(line: &[u8]) -> Option<TextEnd<'_>>
     end_of(form, words)
 }
 
-/// Returns the form in which a verb gives a text, if it gives one.
+/// Returns the form of the text that a verb gives, if it gives one.
 fn text_form(verb: &[u8]) -> Option<TextForm>
     ensures { result ≡ or_form (submit_form verb.now) (add_form verb.now) }
 {
@@ -37,7 +37,7 @@ fn text_form(verb: &[u8]) -> Option<TextForm>
     }
 }
 
-/// Returns where a text in this form ends, by the words after its entry.
+/// Returns where a text in this form ends, given the words after its author and serial number.
 fn end_of(form: TextForm, words: Words<'_>) -> Option<TextEnd<'_>>
     ensures { option_map end_view result ≡ end_by form words.entry }
 {

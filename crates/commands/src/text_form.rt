@@ -21,7 +21,7 @@ pub enum TextForm {
     Bytes,
 }
 
-/// Returns the form in which a verb gives a text, if it is one of three verbs: `rest` for a text on
+/// Returns the form of the text that a verb gives, if it is one of three verbs: `rest` for a text on
 /// the line, `lines` for one on the lines that follow, `bytes` for one of a given number of bytes.
 pub(crate) fn form_of(verb: &[u8], rest: &[u8], lines: &[u8], bytes: &[u8]) -> Option<TextForm>
     ensures { result ≡ form_by rest.now lines.now bytes.now verb.now }
@@ -37,7 +37,7 @@ pub(crate) fn form_of(verb: &[u8], rest: &[u8], lines: &[u8], bytes: &[u8]) -> O
     }
 }
 
-/// Returns the text that the words give, and takes the lines that it stands on. Returns `None` if
+/// Returns the text that the words give, and takes the lines that are the text. Returns `None` if
 /// the words give no text in this form, or its end is missing.
 pub(crate) fn take_text<'a>(
     form: TextForm,
@@ -68,7 +68,7 @@ pub(crate) fn only_word<'a>(mut words: Words<'a>) -> Option<&'a [u8]>
     Some(word)
 }
 
-/// A text that is taken, and how many lines it takes.
+/// A text that was taken, and the count of the lines that it takes.
 #[derive(Clone, Copy, Debug)]
 pub(crate) struct Taken<'a> {
     pub text: &'a [u8],
@@ -76,8 +76,8 @@ pub(crate) struct Taken<'a> {
 }
 
 impl<'a> Pieces<'a, LINE_FEED> {
-    /// Takes the lines up to the first that is the word, and returns those before it, each with its
-    /// line feed. Returns `None` if there is no such line.
+    /// Takes the lines up to the first that is `word` alone, and returns those before it, each with
+    /// its line feed. Returns `None` if there is no such line.
     pub fn take_until(&mut self, word: &[u8]) -> Option<Taken<'a>>
         ensures text { MatchOption result
             (lines_before word.now self.old ≡ None)
@@ -91,7 +91,8 @@ impl<'a> Pieces<'a, LINE_FEED> {
         Some(taken)
     }
 
-    /// Takes `count` bytes, and the line feed that follows them. Returns `None` if none follows.
+    /// Takes `count` bytes and the line feed that follows them, and returns the bytes. Returns `None`
+    /// if no line feed follows.
     pub fn take_bytes(&mut self, count: u64) -> Option<Taken<'a>>
         ensures text { MatchOption result
             (bytes_before count self.old ≡ None)
@@ -114,8 +115,8 @@ impl<'a> Pieces<'a, LINE_FEED> {
     }
 }
 
-/// Returns the lines before the first that is the word, and those after it. Returns `None` if there
-/// is no such line.
+/// Returns the lines before the first that is `word` alone, and those after it. Returns `None` if
+/// there is no such line.
 fn lines_until<'a>(all: &'a [u8], word: &[u8]) -> Option<(Taken<'a>, Pieces<'a, LINE_FEED>)>
     ensures { MatchOption result
         (lines_before word.now (split_at LINE_FEED all.now) ≡ None)
@@ -138,7 +139,7 @@ fn lines_until<'a>(all: &'a [u8], word: &[u8]) -> Option<(Taken<'a>, Pieces<'a, 
     None
 }
 
-/// Returns whether a line feed stands at this index.
+/// Returns whether the byte at this index is a line feed.
 #[tactic(auto, using(std::proofs::lemmas::List::get_or_past))]
 fn is_line_feed_at(bytes: &[u8], place: usize) -> bool
     ensures feed { result ≡ (slice_index bytes.now place == LINE_FEED) }

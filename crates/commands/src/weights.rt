@@ -6,7 +6,7 @@ use crate::pieces::cut;
 use numbers::parse_number;
 use synod::{MOST_NODES, Weights};
 
-/// The most workers that there may be.
+/// The greatest count of workers.
 pub const MOST_WORKERS: usize = 16;
 
 /// How many threads read one text and check its proofs: 1 to 16.
@@ -18,7 +18,7 @@ pub struct WorkerCount {
 }
 
 impl WorkerCount {
-    /// Makes a count of workers. Returns `None` if it is not 1 to 16.
+    /// Returns a count of workers, or `None` if it is not 1 to 16.
     pub fn new(count: u64) -> Option<WorkerCount>
         ensures { MatchOption result
             ((count ≡ 0) ⊎ (MOST_WORKERS < count))
@@ -33,8 +33,8 @@ impl WorkerCount {
     }
 }
 
-/// Parses decimal numbers that are joined by commas. Returns `None` if they are no weights of `nodes`
-/// nodes.
+/// Parses decimal numbers that are joined by commas. Returns `None` if they are not the weights of
+/// `nodes` nodes.
 pub(crate) fn parse_weights(text: &[u8], nodes: u8) -> Option<Weights>
     requires { nodes ≤ MOST_NODES }
 {

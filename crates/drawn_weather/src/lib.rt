@@ -1,4 +1,4 @@
-//! A weather that a generator of random numbers draws from a seed.
+//! A weather that a random number generator draws from a seed.
 //!
 //! Agreement holds in any weather, so no clause says which fates are drawn.
 #![tactic(auto)]
@@ -7,19 +7,19 @@ use nodes::{Fate, Weather};
 use rand_core::utils::NextWord;
 use rand_pcg::Pcg32;
 
-/// How many numbers a fate is drawn from: one stands for each fate but `Pass`, so about one hint in
-/// four does not pass.
+/// How many numbers a fate is drawn from. `Drop`, `Twice` and `Later` have one number each, so about
+/// one hint in four does not pass.
 const FATES: u32 = 12;
 
-/// A weather that loses, repeats or delays about one hint in four, as a generator draws.
+/// A weather that loses, repeats or delays about one hint in four, chosen by a generator.
 #[derive(Drop)]
 pub struct DrawnWeather {
     generator: Pcg32,
 }
 
 impl DrawnWeather {
-    /// Makes the weather of a node. Weathers with the same seed and node draw the same fates; each node
-    /// has its own stream of the generator.
+    /// Creates the weather of a node. Weathers with the same seed and node draw the same fates; each
+    /// node has its own stream of the generator.
     pub fn new(seed: u64, node: u8) -> DrawnWeather {
         DrawnWeather {
             generator: Pcg32::new(seed, u64::from(node)),

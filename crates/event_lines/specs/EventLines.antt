@@ -1,4 +1,4 @@
--- The lines of `play` that make events again.
+-- The lines of `play` that reproduce events.
 -- Source: this project's own form.
 -- The code appends the lines of one event after those of another.
 use Rattle.std.specs.Prelude.{ℕ, ◌==◌, ◌^◌, ◌<◌, List, [], ◌∷◌, ◌++◌, codes, count_by, decimal, length, map, flat_map, if◌then◌else◌}
@@ -22,7 +22,7 @@ led_word word = codes " " ++ word
 abbrev pub led : List (List ℕ) → List ℕ
 led words = flat_map led_word words
 
--- a verb and a number
+-- the line of a verb and a number
 abbrev pub number_line : List ℕ → ℕ → List ℕ
 number_line verb n = verb ++ led (decimal n ∷ []) ++ codes "\n"
 
@@ -30,19 +30,19 @@ number_line verb n = verb ++ led (decimal n ∷ []) ++ codes "\n"
 abbrev pub place_words : ℕ → ℕ → ℕ → List (List ℕ)
 place_words node author serial = decimal node ∷ decimal author ∷ decimal serial ∷ []
 
--- a text on its line
+-- the line `offer`, with the text on it
 abbrev pub line_offer : ℕ → Submission → List ℕ
 line_offer node s = codes "offer" ++ led (place_words node s.author s.serial) ++ codes " " ++ s.text ++ codes "\n"
 
--- a line that offers so many bytes
+-- the line `offer-bytes`, which ends with the count of the bytes of the text
 abbrev pub bytes_line : ℕ → Submission → List ℕ
 bytes_line node s = codes "offer-bytes" ++ led (place_words node s.author s.serial) ++ led (decimal (length s.text) ∷ []) ++ codes "\n"
 
--- a text as so many bytes
+-- the line `offer-bytes`, and the bytes of the text after it
 abbrev pub bytes_offer : ℕ → Submission → List ℕ
 bytes_offer node s = bytes_line node s ++ s.text ++ codes "\n"
 
--- a text is offered on its line, or if it has a line feed, as so many bytes
+-- the lines that offer a text: `offer-bytes` if it has a line feed, else `offer`
 abbrev pub offer_text : ℕ → Submission → List ℕ
 offer_text node s = if list_any (λ b. b == LINE_FEED) s.text then bytes_offer node s else line_offer node s
 
@@ -65,7 +65,7 @@ abbrev pub history_text : List (Event Carried) → List ℕ
 history_text events =
     codes "events " ++ decimal (count_by (λ b. b == LINE_FEED) (events_text events)) ++ codes "\n" ++ events_text events
 
--- the line of `play` that makes an event
+-- the line of `play` that causes an event
 abbrev pub line_of : Event Carried → PlayLine
 line_of (Offer node value) = Node (OfferLine (record { node = node; entry = value.0 }))
 line_of (Begin node) = Node (BeginLine node)

@@ -13,8 +13,8 @@ use numbers::push_number;
 use std::alloc::{AllocError, Global};
 use world::Carried;
 
-/// Returns the lines of `play` that reproduce the events: each event is one line, but a text with a
-/// line feed is offered by `offer-bytes`, followed by its bytes.
+/// Returns the lines of `play` that reproduce the events. Each event is one line, except that a text
+/// with a line feed is offered by a line `offer-bytes` and the bytes after it.
 ///
 /// Errors: an allocation fails. Cost: the size of the lines.
 pub fn event_lines(alloc: Global, events: &[Event<Carried>]) -> Result<Vec<u8>, AllocError>
@@ -29,7 +29,7 @@ pub fn event_lines(alloc: Global, events: &[Event<Carried>]) -> Result<Vec<u8>, 
     Ok(text)
 }
 
-/// Appends a line `events N` with the count of the lines of the events, and these lines.
+/// Appends a line `events N`, where N is the count of the lines of the events, and these lines.
 ///
 /// Errors: an allocation fails. Cost: the size of the lines.
 pub fn push_events(
@@ -66,7 +66,7 @@ fn push_event(text: &mut Vec<u8>, event: &Event<Carried>) -> Result<(), AllocErr
     }
 }
 
-/// Appends a verb and the number of a node.
+/// Appends a line of a verb and the number of a node.
 fn push_node_line(text: &mut Vec<u8>, verb: &[u8], node: u8) -> Result<(), AllocError>
     ensures text { OnOk result (text.new.items ≡ text.old.items ++ number_line verb.now node) }
     ensures fits { node < 256 }
@@ -74,7 +74,7 @@ fn push_node_line(text: &mut Vec<u8>, verb: &[u8], node: u8) -> Result<(), Alloc
     push_number_line(text, verb, u64::from(node))
 }
 
-/// Appends a verb and a number.
+/// Appends a line of a verb and a number.
 fn push_number_line(text: &mut Vec<u8>, verb: &[u8], number: u64) -> Result<(), AllocError>
     ensures text { OnOk result (text.new.items ≡ text.old.items ++ number_line verb.now number) }
     ensures fits { number < 2 ^ 64 }

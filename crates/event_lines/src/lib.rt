@@ -1,7 +1,7 @@
-//! The history of a run as a script of `play`, which makes each of its events again.
+//! The history of a run as a script of `play` that reproduces each of its events.
 //!
-//! The main contract: the text of `event_lines` is parsed as exactly the events. `push_events`, which
-//! `program` uses, appends this text to an answer, after the count of its lines.
+//! The main contract: the text of `event_lines` is parsed as exactly the events. `program` uses
+//! `push_events`, which appends the count of the lines and then this text to an answer.
 #![tactic(auto)]
 
 mod events;

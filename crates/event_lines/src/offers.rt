@@ -42,7 +42,7 @@ fn push_text(text: &mut Vec<u8>, node: u8, submission: &Submission) -> Result<()
     }
 }
 
-/// Appends a line that offers so many bytes, and these bytes.
+/// Appends the line `offer-bytes` of a text, and the bytes of the text.
 fn push_bytes(text: &mut Vec<u8>, node: u8, submission: &Submission) -> Result<(), AllocError>
     ensures text { OnOk result
         (text.new.items ≡ text.old.items ++ bytes_offer node submission.now) }
@@ -53,7 +53,7 @@ fn push_bytes(text: &mut Vec<u8>, node: u8, submission: &Submission) -> Result<(
     text.extend_from_slice(b"\n")
 }
 
-/// Appends a line that offers so many bytes.
+/// Appends the line `offer-bytes` of a text, which ends with the count of its bytes.
 fn push_bytes_line(text: &mut Vec<u8>, node: u8, submission: &Submission) -> Result<(), AllocError>
     ensures text { OnOk result
         (text.new.items ≡ text.old.items ++ bytes_line node submission.now) }
@@ -64,7 +64,7 @@ fn push_bytes_line(text: &mut Vec<u8>, node: u8, submission: &Submission) -> Res
     text.extend_from_slice(b"\n")
 }
 
-/// Appends the verb that offers bytes, and the place.
+/// Appends `offer-bytes`, the node, and the author and serial number of a text.
 fn push_bytes_place(text: &mut Vec<u8>, node: u8, submission: &Submission) -> Result<(), AllocError>
     ensures text { OnOk result (text.new.items ≡ text.old.items
         ++ (codes "offer-bytes" ++ led (place_words node submission.now.author submission.now.serial))) }
@@ -75,7 +75,7 @@ fn push_bytes_place(text: &mut Vec<u8>, node: u8, submission: &Submission) -> Re
     push_place(text, node, submission.author, submission.serial)
 }
 
-/// Appends a line that offers a text.
+/// Appends the line `offer` of a text without line feeds.
 fn push_line(text: &mut Vec<u8>, node: u8, submission: &Submission) -> Result<(), AllocError>
     ensures text { OnOk result
         (text.new.items ≡ text.old.items ++ line_offer node submission.now) }
@@ -88,7 +88,7 @@ fn push_line(text: &mut Vec<u8>, node: u8, submission: &Submission) -> Result<()
     text.extend_from_slice(b"\n")
 }
 
-/// Tells whether a line feed is among the bytes.
+/// Returns whether the bytes contain a line feed.
 fn has_line_feed(bytes: &[u8]) -> bool
     ensures { result ≡ list_any (λ b. b == LINE_FEED) bytes.now }
 {

@@ -1,4 +1,4 @@
--- The files that were written into a folder in memory.
+-- The files written into a folder in memory.
 -- Source: this project's own form.
 -- The code keeps each as a name and its bytes.
 use Rattle.std.specs.Prelude.{ℕ, List, map, string_bytes}

@@ -4,12 +4,12 @@ ghost use Rattle.std.specs.Prelude.{ℕ, List, OnOk, ⊤};
 use std::alloc::AllocError;
 use std::io;
 
-/// Why a folder is not opened, or a file not written.
+/// Why a folder cannot be opened or a file cannot be written.
 #[derive(Debug, Drop, PartialEq, Eq)]
 pub enum FolderFault {
     /// An allocation failed.
     Memory,
-    /// The folder or the file cannot be made or written.
+    /// The folder or the file cannot be created or written.
     Refused,
 }
 
@@ -34,15 +34,15 @@ pub trait Folder {
     /// after it. The default says nothing.
     ghost gains: { Self → List ℕ → List ℕ → Self → Type 0 } = { λ _ _ _ _. ⊤ };
 
-    /// Opens the folder at a path, which is made if it is not there.
+    /// Opens the folder at a path. A folder of the file system is created if it does not exist.
     ///
-    /// Errors: `Memory`; `Refused` if something else stands there, or it cannot be made.
+    /// Errors: `Memory`; `Refused` if the path is not a folder, or the folder cannot be created.
     fn open(&mut self, path: &str) -> Result<(), FolderFault>;
 
     /// Writes a file with this name and these bytes into the folder. A folder of the file system
-    /// replaces a file of that name, one in memory keeps both.
+    /// replaces a file of that name; a folder in memory keeps both.
     ///
-    /// Errors: `Memory`, `Refused`; no file of that name has then a part of these bytes.
+    /// Errors: `Memory`, `Refused`. After an error no file of that name holds a part of these bytes.
     fn write(&mut self, name: &str, bytes: &[u8]) -> Result<(), FolderFault>
         ensures { OnOk result (gains self.old name.now bytes.now self.new) };
 }

@@ -1,4 +1,4 @@
-//! Files that are written into a folder, each as a whole.
+//! Files written into a folder, each completely or not at all.
 //!
 //! Reading order: `folder` (the trait), `memory_folder` (in memory), `system_folder` (of the file system).
 #![tactic(auto)]

@@ -5,11 +5,11 @@ use std::fs::{self, File};
 use std::io::Write;
 use std::rt::Files;
 
-/// The name of a file that is not whole yet. No page has this name, since it has no extension.
+/// The name of a file that is not complete yet. It has no extension, so no page has this name.
 const UNFINISHED: &str = "+unfinished";
 
-/// A folder of the file system. A file is written under another name, which it loses once it is
-/// whole; a link of that name is not followed.
+/// A folder of the file system. A file is written under the name `+unfinished`, and renamed once it
+/// is complete; a link of that name is not followed.
 #[derive(Drop)]
 pub struct SystemFolder<'a, R> {
     rt: &'a R,
@@ -17,7 +17,7 @@ pub struct SystemFolder<'a, R> {
 }
 
 impl<'a, R: Files + AllocGlobal> SystemFolder<'a, R> {
-    /// Returns a folder that is not open yet: `open` comes before `write`. Does not allocate.
+    /// Returns a folder that is not open yet: call `open` before `write`. Does not allocate.
     pub fn new(rt: &'a R) -> SystemFolder<'a, R> {
         SystemFolder {
             rt,
@@ -25,7 +25,7 @@ impl<'a, R: Files + AllocGlobal> SystemFolder<'a, R> {
         }
     }
 
-    /// Returns the path of the file with a name.
+    /// Returns the path of the file with this name.
     fn path_of(&self, name: &str) -> Result<String, AllocError> {
         let mut path = String::new(self.rt.alloc());
         path.push_str(self.path.as_str())?;
@@ -34,7 +34,7 @@ impl<'a, R: Files + AllocGlobal> SystemFolder<'a, R> {
         Ok(path)
     }
 
-    /// Writes the bytes into a file under one name, and gives it another.
+    /// Writes the bytes into the unfinished file, and renames it to `path`.
     fn write_renamed(
         &self,
         mut file: R::File,

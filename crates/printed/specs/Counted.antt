@@ -1,4 +1,4 @@
--- Answers of several lines, which begin with the count of their lines.
+-- Answers of several lines, which begin with their line count, and the entries that a node learned.
 -- Source: this project's own form.
 -- The code appends each part to the answer.
 use Rattle.std.specs.Prelude.{ℕ, ◌==◌, List, ◌++◌, codes, count_by, decimal, flat_map, Option}
@@ -6,11 +6,11 @@ use Rattle.world.specs.declared.carried.Carried.{Carried}
 use Rattle.world.specs.Carried.{entry_of}
 use Rattle.printed.specs.Printed.{entry_text}
 
--- how many bytes are line feeds
+-- the number of line feeds in a text
 abbrev pub line_feeds_of : List ℕ → ℕ
 line_feeds_of text = count_by (λ b. b == 10) text
 
--- a word, the count of the lines, and the lines
+-- a line of a word and the count of the lines, and then the lines
 abbrev pub counted_text : List ℕ → List ℕ → List ℕ
 counted_text word lines = word ++ codes " " ++ decimal (line_feeds_of lines) ++ codes "\n" ++ lines
 

@@ -1,6 +1,6 @@
--- The outline of a database: a line for each statement and one for the rules, or the one line of a text that does not read.
+-- The outline of a database: a line for each statement and one for the rules, or only one line for a text that cannot be parsed.
 -- Source: this project's own form; a statement's line is its export form, the rules are those of Metamath, chapter 4.
--- The code appends one line after another, and judges the statements by a scope; here the lines are joined.
+-- The code appends one line after another, and finds a broken rule by a scope; here the lines are joined.
 use Rattle.std.specs.Prelude.{◌≡◌, ℕ, ◌+◌, List, [], ◌∷◌, ◌++◌, length, codes, decimal, Option, Some, None}
 use Rattle.mm_lex.specs.TextFaults.{IsFirstBadByte, IsCommentFault}
 use Rattle.mm_read.specs.declared.stmt.Stmt.{Stmt}
@@ -19,7 +19,7 @@ abbrev pub proof_of : Stmt → Expr
 proof_of (Prove label expr proof) = proof
 proof_of s = []
 
--- its number, a space, and its export form with the count of its proof's tokens in place of the proof
+-- the line of a statement: its number, a space, and its export form with the number of proof tokens in place of the proof
 abbrev pub outline_line : ℕ → Stmt → List ℕ
 outline_line number s = decimal number ++ codes " " ++ line_of (with_proof s (decimal (length (proof_of s)) ∷ []))
 
@@ -28,7 +28,7 @@ abbrev pub lines_from : ℕ → Database → List ℕ
 lines_from number [] = []
 lines_from number (s ∷ S) = outline_line number s ++ lines_from (number + 1) S
 
--- the last line: the first statement that breaks a rule, with its least rule
+-- the last line: `good`, or the first statement that breaks a rule and the least rule that it breaks
 abbrev pub rules_line : Option (ℕ × Rule) → List ℕ
 rules_line None = codes "good\n"
 rules_line (Some broken) = verdict_text (Refused (BrokenRule broken.0 broken.1)) ++ codes "\n"
@@ -36,11 +36,11 @@ rules_line (Some broken) = verdict_text (Refused (BrokenRule broken.0 broken.1))
 abbrev pub outline_of : Database → List ℕ
 outline_of S = lines_from 1 S ++ rules_line (first_broken 1 [] S)
 
--- words and a number, and a line feed
+-- a line of words and a number
 abbrev pub numbered_line : List ℕ → ℕ → List ℕ
 numbered_line words number = words ++ decimal number ++ codes "\n"
 
--- these bytes are the outline of the text: exactly one of the four premises holds
+-- these bytes are the outline of the text; for every text exactly one of the four premises holds
 pub record IsOutline (text bytes : List ℕ) : Type 0 where
   pub reads : (S : Database) → Reads text S → bytes ≡ outline_of S
   pub text_fault : (offset : ℕ) → IsFirstBadByte text offset → bytes ≡ numbered_line (codes "refused C2 byte ") offset

@@ -1,5 +1,5 @@
 -- The texts that the program prints of packets, verdicts and libraries.
--- Source: this project's own forms; a ballot is written round first (Lamport, Paxos Made Simple, 2.2, orders them so).
+-- Source: this project's own forms; a ballot is written with its round first, by which ballots are ordered first (Lamport, Paxos Made Simple, 2.2).
 -- The code appends each text to the answer.
 use Rattle.std.specs.Prelude.{ℕ, ◌==◌, List, [], ◌++◌, length, codes, decimal, flat_map, Option, Some, None, if◌then◌else◌}
 use Rattle.mm_read.specs.Statements.{Database}
@@ -33,7 +33,7 @@ entry_text (Some entry) = decimal (author_of entry) ++ codes "/" ++ decimal (ser
 abbrev pub report_text : SlotReport Carried → List ℕ
 report_text r = codes " " ++ decimal r.slot ++ codes "@" ++ ballot_text r.ballot
 
--- the number of the page, if there are more than one
+-- the number of the page and the count of pages, unless there is one page
 abbrev pub page_text : ℕ → ℕ → List ℕ
 page_text page count = if count == 1 then [] else (codes " page " ++ decimal page ++ codes " of " ++ decimal count)
 
@@ -84,25 +84,25 @@ verdict_text Nothing = codes "nothing"
 verdict_text Repeat = codes "repeat"
 verdict_text (Refused cause) = codes "refused " ++ cause_text cause
 
--- a verdict, or a word if nothing was decided
+-- a verdict, or the caller's word `undecided` if nothing was decided
 abbrev pub decided_text : Option Verdict → List ℕ → List ℕ
 decided_text None undecided = undecided
 decided_text (Some verdict) undecided = verdict_text verdict
 
--- an entry of a log, after a space; a log, on one line
+-- an entry of a log, after a space; a log on one line, without a line feed
 abbrev pub logged_text : Option Entry → List ℕ
 logged_text entry = codes " " ++ entry_text entry
 
 abbrev pub log_text : List (Option Entry) → List ℕ
 log_text log = codes "log" ++ flat_map logged_text log
 
--- the line of an assertion; the assertions of a library: their count, and a line for each
+-- the line of an assertion; the assertions of a library: their count, and a line for each assertion
 abbrev pub listed_text : Listed → List ℕ
 listed_text l = (if l.proved then codes "proved " else codes "axiom ") ++ l.label ++ codes "\n"
 
 abbrev pub list_text : List Listed → List ℕ
 list_text ls = codes "list " ++ decimal (length ls) ++ codes "\n" ++ flat_map listed_text ls
 
--- the statements of a library: their count, and the export form
+-- the statements of a library: their count, and their export form
 abbrev pub export_text : Database → List ℕ
 export_text S = codes "export " ++ decimal (length S) ++ codes "\n" ++ export_of S

@@ -13,7 +13,7 @@ role_text Idle = codes "idle"
 role_text (Preparing ballot first) = codes "preparing " ++ ballot_text ballot
 role_text (Leading ballot next) = codes "leading " ++ ballot_text ballot
 
--- a name and a number
+-- a name, followed by a number
 abbrev pub count_text : List ℕ → ℕ → List ℕ
 count_text name n = name ++ decimal n
 

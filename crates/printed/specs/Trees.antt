@@ -1,6 +1,6 @@
 -- The texts that the program prints of derivations, and of labels.
 -- Source: this project's own forms; a derivation is a tree (Metamath, 4.2.6).
--- The code walks the tree once, and appends each line to the answer.
+-- The code visits each node once, and appends its line to the answer.
 use Rattle.std.specs.Prelude.{ℕ, ◌+◌, List, [], ◌++◌, codes, decimal}
 use Rattle.mm_lex.specs.Alphabet.{Name}
 use Rattle.mm_read.specs.Statements.{Database}
@@ -12,7 +12,7 @@ use Rattle.verify.specs.Proves.{label_or_none}
 abbrev pub label_line : Name → List ℕ
 label_line label = label ++ codes "\n"
 
--- a node: its depth, a space, and the label of the statement at its position
+-- the line of a node: its depth, a space, and the label of the statement at its position
 abbrev pub node_line : Database → ℕ → ℕ → List ℕ
 node_line S depth at = decimal depth ++ codes " " ++ label_or_none (stmt_at S at) ++ codes "\n"
 

@@ -1,4 +1,4 @@
-//! The answers to lines of a script, with their line feeds.
+//! The answers to the lines of a script, with their line feeds.
 ghost use Rattle.std.specs.Prelude.{◌≡◌, ◌++◌, codes, decimal, flat_map, OnOk};
 ghost use Rattle.mm_read.specs.Statements.{AreShaped};
 ghost use Rattle.mm_read.specs.Export.{export_of};
@@ -12,7 +12,7 @@ use mm_read::{Stmt, push_line};
 use numbers::push_number;
 use std::alloc::AllocError;
 
-/// Appends `ok` and how many packets were posted so far, on one line.
+/// Appends a line `ok N`, where N packets were posted so far.
 pub fn push_posted(text: &mut Vec<u8>, posted: u64) -> Result<(), AllocError>
     ensures { OnOk result (text.new.items
         ≡ text.old.items ++ (codes "ok " ++ decimal posted ++ codes "\n")) }
@@ -22,7 +22,7 @@ pub fn push_posted(text: &mut Vec<u8>, posted: u64) -> Result<(), AllocError>
     text.extend_from_slice(b"\n")
 }
 
-/// Appends the verdict, or a word if nothing was decided, and a line feed.
+/// Appends the verdict, or the caller's word `undecided` if nothing was decided, and a line feed.
 pub fn push_decided(
     text: &mut Vec<u8>,
     verdict: Option<Verdict>,
@@ -35,7 +35,7 @@ pub fn push_decided(
     text.extend_from_slice(b"\n")
 }
 
-/// Appends the verdict, or a word if nothing was decided.
+/// Appends the verdict, or the caller's word `undecided` if nothing was decided.
 fn push_verdict_or(
     text: &mut Vec<u8>,
     verdict: Option<Verdict>,
@@ -61,7 +61,7 @@ pub fn push_log(text: &mut Vec<u8>, log: &[Option<Entry>]) -> Result<(), AllocEr
     text.extend_from_slice(b"\n")
 }
 
-/// Appends the count of the assertions of a library, and a line for each.
+/// Appends the count of the assertions of a library, and a line for each assertion.
 ///
 /// Cost: the size of all statements.
 pub fn push_library(text: &mut Vec<u8>, library: &Library) -> Result<(), AllocError>
@@ -72,7 +72,7 @@ pub fn push_library(text: &mut Vec<u8>, library: &Library) -> Result<(), AllocEr
     push_list(text, list.as_slice())
 }
 
-/// Appends the count of the assertions, and a line for each.
+/// Appends the count of the assertions, and a line for each assertion.
 pub fn push_list(text: &mut Vec<u8>, list: &[Listed]) -> Result<(), AllocError>
     ensures { OnOk result (text.new.items ≡ text.old.items ++ list_text list.now) }
 {
@@ -106,7 +106,7 @@ fn push_listed(text: &mut Vec<u8>, assertion: &Listed) -> Result<(), AllocError>
     text.extend_from_slice(b"\n")
 }
 
-/// Appends the count of the statements of a library, and their export form.
+/// Appends the count of the statements of a library, and their export form, a line for each.
 pub fn push_export(text: &mut Vec<u8>, library: &Library) -> Result<(), AllocError>
     ensures { OnOk result (text.new.items
         ≡ text.old.items ++ export_text library.now.replica.statements) }

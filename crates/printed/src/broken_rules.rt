@@ -7,9 +7,9 @@ use mm_read::Stmt;
 use scope::{Rule, Scope, Steps};
 use std::alloc::{AllocError, Global};
 
-/// Finds the first statement that breaks a rule, and returns its number from 1 with the least rule
-/// that it breaks. A block that is open at the end breaks G10 as one more statement. Returns `None`
-/// if all rules are kept.
+/// Finds the first statement that breaks a rule, and returns its number, counted from 1, and the
+/// least rule that it breaks. A block that is open at the end breaks G10 and counts as one more
+/// statement. Returns `None` if no statement breaks a rule.
 ///
 /// Errors: an allocation fails. Cost: the size of the statements.
 /// Source: Metamath, chapter 4.
@@ -24,7 +24,7 @@ pub fn first_broken_rule(
     first_broken_in(&mut scope, statements)
 }
 
-/// Adds the statements to a scope without statements, up to the first that breaks a rule.
+/// Adds the statements to an empty scope, up to the first that breaks a rule, and returns that one.
 fn first_broken_in(
     scope: &mut Scope,
     statements: &[Stmt],

@@ -1,4 +1,4 @@
-//! Answers of several lines, which begin with the count of their lines, and the entries of a node.
+//! Answers of several lines, which begin with their line count, and the entries that a node learned.
 ghost use Rattle.std.specs.Prelude.{◌≡◌, ◌++◌, OnOk};
 ghost use Rattle.printed.specs.Counted.{counted_text, learned_text, line_feeds_of};
 
@@ -7,7 +7,7 @@ use numbers::push_number;
 use std::alloc::AllocError;
 use world::Carried;
 
-/// Appends a word, the count of the lines, and the lines, each with its line feed.
+/// Appends a line of a word and the count of `lines`, and then `lines`, each with its line feed.
 pub fn push_counted(text: &mut Vec<u8>, word: &[u8], lines: &[u8]) -> Result<(), AllocError>
     ensures { OnOk result (text.new.items ≡ text.old.items ++ counted_text word.now lines.now) }
 {

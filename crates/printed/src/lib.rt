@@ -3,7 +3,7 @@
 //! an allocation fails, and its cost is the size of the text. After a failure the answer is not
 //! specified.
 //!
-//! The crate above uses the clause of each call, which gives exactly the text of a definition in
+//! Crates above use the clause of each call: the appended text is exactly that of a definition in
 //! `specs`.
 //!
 //! Reading order: `verdict_text`, `packets`, `answers` (logs, lists and exports), `counted`,

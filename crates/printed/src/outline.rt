@@ -15,9 +15,9 @@ use scope::Rule;
 use std::alloc::{AllocError, Global};
 
 /// Returns the outline of a text: a line for each statement (its number, a space, and its export
-/// form with the count of its proof's tokens in place of the proof), then `good`, or
-/// `refused C4 N Gk` for the first statement that breaks a rule and the least rule that it breaks.
-/// A text that does not read gives `refused C2 byte N` or `refused C3 token N` alone.
+/// form with the number of proof tokens in place of the proof), then `good`, or `refused C4 N Gk`
+/// for the first statement that breaks a rule and the least rule that it breaks. For a text that
+/// cannot be parsed, returns only `refused C2 byte N` or `refused C3 token N`.
 ///
 /// Errors: an allocation fails. Cost: the size of the text.
 pub fn outline_text(alloc: Global, text: &[u8]) -> Result<Vec<u8>, AllocError>
@@ -40,7 +40,7 @@ pub fn outline_text(alloc: Global, text: &[u8]) -> Result<Vec<u8>, AllocError>
     }
 }
 
-/// Returns the outline of these statements.
+/// Returns the outline of a text with these statements.
 fn outline(alloc: Global, statements: &[Stmt]) -> Result<Vec<u8>, AllocError>
     requires { AreShaped statements.now }
     ensures { IfOk result (λ bytes. bytes.items ≡ outline_of statements.now) }
@@ -84,7 +84,7 @@ fn proof_len(statement: &Stmt) -> usize
     }
 }
 
-/// Appends the last line, which says whether all rules are kept.
+/// Appends the last line: `good`, or the first statement that breaks a rule.
 fn push_rules_line(bytes: &mut Vec<u8>, broken: Option<(usize, Rule)>) -> Result<(), AllocError>
     ensures { OnOk result (bytes.new.items ≡ bytes.old.items ++ rules_line broken) }
 {
@@ -97,7 +97,7 @@ fn push_rules_line(bytes: &mut Vec<u8>, broken: Option<(usize, Rule)>) -> Result
     }
 }
 
-/// Returns a line of some words and a number.
+/// Returns a line that consists of some words and a number.
 fn refusal(alloc: Global, words: &[u8], number: usize) -> Result<Vec<u8>, AllocError>
     ensures { IfOk result (λ bytes. bytes.items ≡ numbered_line words.now number) }
 {

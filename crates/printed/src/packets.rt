@@ -1,4 +1,4 @@
-//! Packets and entries.
+//! Packets, ballots and entries as text.
 ghost use Rattle.std.specs.Prelude.{◌≡◌, ◌++◌, codes, decimal, flat_map, option_map, OnOk};
 ghost use Rattle.world.specs.Carried.{entry_of};
 ghost use Rattle.printed.specs.Printed.{ballot_text, entry_text, report_text, page_text};
@@ -21,7 +21,7 @@ pub fn push_packet(text: &mut Vec<u8>, packet: &Packet<Carried>) -> Result<(), A
     push_body(text, &packet.body)
 }
 
-/// Appends the name of the body and its values.
+/// Appends the name of the body and its fields.
 fn push_body(text: &mut Vec<u8>, body: &Body<Carried>) -> Result<(), AllocError>
     ensures { OnOk result (text.new.items ≡ text.old.items ++ body_text body.now) }
 {
@@ -65,7 +65,7 @@ fn push_body(text: &mut Vec<u8>, body: &Body<Carried>) -> Result<(), AllocError>
     }
 }
 
-/// Appends a page of a promise.
+/// Appends a promise, or one page of a promise that is split into pages.
 fn push_promise(
     text: &mut Vec<u8>,
     ballot: Ballot,
@@ -83,7 +83,7 @@ fn push_promise(
     push_reports(text, reports)
 }
 
-/// Appends the number of the page, if there are more than one.
+/// Appends the number of the page and the count of pages, unless there is one page.
 fn push_page(text: &mut Vec<u8>, page: u32, count: u32) -> Result<(), AllocError>
     ensures { OnOk result (text.new.items ≡ text.old.items ++ page_text page count) }
 {
@@ -115,7 +115,7 @@ fn push_report(text: &mut Vec<u8>, report: &SlotReport<Carried>) -> Result<(), A
     push_ballot(text, report.ballot)
 }
 
-/// Appends a word, a ballot, a slot and a value.
+/// Appends `accept` or `accepted`, a ballot, a slot and a value.
 fn push_vote(
     text: &mut Vec<u8>,
     word: &[u8],

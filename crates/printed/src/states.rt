@@ -31,7 +31,7 @@ fn push_role_and_promise(text: &mut Vec<u8>, state: &NodeState) -> Result<(), Al
     push_ballot(text, state.promise)
 }
 
-/// Appends how many entries the log has, how many were applied, and how many values wait.
+/// Appends how many entries the node's log has, how many were applied, and how many values wait.
 fn push_counts(text: &mut Vec<u8>, state: &NodeState, applied: u32) -> Result<(), AllocError>
     ensures { OnOk result (text.new.items ≡ text.old.items ++ counts_text state.now applied) }
 {
@@ -65,7 +65,7 @@ fn push_count(text: &mut Vec<u8>, name: &[u8], number: u64) -> Result<(), AllocE
     push_number(text, number)
 }
 
-/// Appends ` down` if the node is down, and the end of the line.
+/// Appends ` down` if the node is down, and a line feed.
 fn push_down(text: &mut Vec<u8>, is_down: bool) -> Result<(), AllocError>
     ensures { OnOk result (text.new.items ≡ text.old.items ++ down_text is_down) }
 {

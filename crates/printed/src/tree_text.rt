@@ -1,4 +1,4 @@
-//! Derivations and labels.
+//! Derivations and labels as text.
 ghost use Rattle.std.specs.Prelude.{◌≡◌, ◌+◌, ◌++◌, flat_map, option_map, IfOk, OnOk};
 ghost use Rattle.scope.specs.Active.{stmt_at, label_of};
 ghost use Rattle.verify.specs.Derivations.{derivation_of};
@@ -12,9 +12,9 @@ use std::alloc::AllocError;
 use verify::Tree;
 
 /// Appends a line for each node of a derivation over these statements, parents before children,
-/// children in order: its depth, a space, its label. The root has the depth that is given.
+/// children in order: its depth, a space, its label. The root has depth `depth`.
 ///
-/// Errors: an allocation fails; a depth is 2^64, which no derivation of a library reaches.
+/// Errors: an allocation fails, or a depth is 2^64, which no derivation of a library reaches.
 pub fn push_tree(
     text: &mut Vec<u8>,
     statements: &[Stmt],
@@ -37,9 +37,9 @@ pub fn push_tree(
     }
 }
 
-/// Returns the depth of the children of a node.
+/// Returns the depth of the children of a node at a depth.
 ///
-/// Errors: it is 2^64.
+/// Errors: the depth of the children is 2^64.
 fn depth_below(depth: u64) -> Result<u64, AllocError>
     ensures { IfOk result (λ below. below ≡ depth + 1) }
 {

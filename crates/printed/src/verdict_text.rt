@@ -1,4 +1,4 @@
-//! Verdicts and their causes.
+//! Verdicts and causes of refusals as text.
 ghost use Rattle.std.specs.Prelude.{◌≡◌, ◌++◌, decimal, OnOk};
 ghost use Rattle.printed.specs.Printed.{cause_text, rule_text, verdict_text};
 
@@ -7,7 +7,7 @@ use numbers::push_number;
 use scope::Rule;
 use std::alloc::AllocError;
 
-/// Appends the verdict, with the cause of a refusal, without a line feed.
+/// Appends the verdict, and the cause of a refusal, without a line feed.
 pub fn push_verdict(text: &mut Vec<u8>, verdict: Verdict) -> Result<(), AllocError>
     ensures { OnOk result (text.new.items ≡ text.old.items ++ verdict_text verdict) }
 {

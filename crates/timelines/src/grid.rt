@@ -4,34 +4,35 @@ ghost use Rattle.std.specs.Prelude.{◌≡◌, ◌≤◌, ◌+◌, ◌*◌, ◌^
 /// The most rows that a caller may show; a `Timeline` does not enforce it.
 pub const MOST_ROWS: u64 = 200;
 
-/// The x of the first column.
+/// The x coordinate of the first column.
 const LEFT: u64 = 80;
 
 /// The distance from a column to the next.
 const COLUMN: u64 = 200;
 
-/// The y of the first row.
+/// The y coordinate of the first row.
 const TOP: u64 = 60;
 
 /// The distance from a row to the next.
 const ROW: u64 = 28;
 
-/// The y at which the lines of nodes begin, and arrows that come from before the first row.
+/// The y coordinate at which the lines of nodes begin, and the arrows from above the first row.
 pub(crate) const EDGE: u64 = 34;
 
-/// How far a stump goes to the side for each column from its node to its receiver.
+/// How far a stump goes sideways for each column between its node and its receiver.
 const STUMP: u64 = 44;
 
-/// How far a stump to its own node goes to the left; one to a node at the left goes so much further.
+/// How far a stump to its own node goes to the left. A stump to a node at the left goes further by
+/// this distance.
 const OWN_STUMP: u64 = 22;
 
 /// How far a stump goes down.
 pub(crate) const STUMP_DEPTH: u64 = 9;
 
-/// How wide a character of a label is at most.
+/// The greatest width of a character of a label.
 const BYTE_WIDTH: u64 = 7;
 
-/// A place in a picture: the column of a node, and a row from 0; `None` is above the first row.
+/// A place in a picture: the column of a node, and a row, counted from 0; `None` is above row 0.
 #[derive(Clone, Copy, Debug, PartialEq, Eq)]
 pub struct Place {
     pub node: u8,
@@ -57,21 +58,21 @@ impl Place {
     }
 }
 
-/// Returns the x of the column of a node.
+/// Returns the x coordinate of the column of a node.
 pub(crate) fn column(node: u8) -> u64
     ensures { result ≡ LEFT + COLUMN * node }
 {
     LEFT + COLUMN * u64::from(node)
 }
 
-/// Returns the y of a row.
+/// Returns the y coordinate of a row.
 pub(crate) fn below(row: u32) -> u64
     ensures { result ≡ TOP + ROW * row }
 {
     TOP + ROW * u64::from(row)
 }
 
-/// Returns the x at which a stump from one node towards another ends.
+/// Returns the x coordinate at which a stump from one node towards another ends.
 pub(crate) fn stump_end(from: u8, to: u8) -> u64 {
     if from < to {
         column(from) + STUMP * u64::from(to - from)

@@ -6,7 +6,7 @@ use std::alloc::AllocError;
 /// How far an arrow from a node to itself goes to the left.
 const BULGE: u64 = 30;
 
-/// How many characters have room below a stump, next to those of another one.
+/// How many characters fit below a stump without covering those of the next stump.
 const MOST_CHARACTERS: usize = 8;
 
 /// Appends some text and a number.
@@ -72,8 +72,8 @@ pub(crate) fn push_stump(
     text.extend_from_slice(b"</title></path>\n")
 }
 
-/// Appends the numbers of a stump, which are joined by commas, below its end. If they have no room,
-/// the first ones stand there, and `..` for the others.
+/// Appends the numbers of a stump, which are joined by commas, below its end. If they do not fit,
+/// only the first ones are shown, followed by `..`.
 pub(crate) fn push_stump_numbers(
     text: &mut Vec<u8>,
     from: Place,
@@ -98,8 +98,8 @@ pub(crate) fn push_stump_numbers(
     text.extend_from_slice(b"</text>\n")
 }
 
-/// Returns the first of some numbers that are joined by commas, as many as have room before `..`, but
-/// at least one.
+/// Returns the first of some numbers that are joined by commas: as many as fit before `..`, but at
+/// least one.
 fn first_numbers(numbers: &[u8]) -> &[u8] {
     let mut len = 0usize;
     for (end, byte) in numbers.iter().enumerate() {
@@ -133,7 +133,7 @@ pub(crate) fn push_dot(text: &mut Vec<u8>, at: Place, class: &[u8]) -> Result<()
     text.extend_from_slice(b"\" r=\"4\"/>\n")
 }
 
-/// Appends the number of a row, at the left, and the start of its text.
+/// Appends the number of a row at the left, and the start of its text.
 pub(crate) fn push_row(text: &mut Vec<u8>, at: Place, number: u64) -> Result<(), AllocError> {
     let base = at.y() + 4;
     push_at(text, b"<text class=\"r\" x=\"40\" y=\"", base)?;
@@ -142,7 +142,7 @@ pub(crate) fn push_row(text: &mut Vec<u8>, at: Place, number: u64) -> Result<(),
     text.extend_from_slice(b"\">")
 }
 
-/// Appends words of a class to the text of a row.
+/// Appends words to the text of a row, with a class for their style.
 pub(crate) fn push_span(text: &mut Vec<u8>, class: &[u8], words: &[u8]) -> Result<(), AllocError> {
     text.extend_from_slice(b" <tspan class=\"")?;
     text.extend_from_slice(class)?;

@@ -1,4 +1,4 @@
-//! The style of a picture: dark lines on white, and texts with a white edge over lines.
+//! The style of a picture: dark lines on white, and texts with a white outline above the lines.
 
 /// The start of a picture, before its width.
 pub(crate) const HEAD: &[u8] = b"<svg xmlns=\"http://www.w3.org/2000/svg\" width=\"";

@@ -8,7 +8,7 @@ use crate::style::{END, HEAD, STYLE};
 use numbers::push_number;
 use std::alloc::{AllocError, Global};
 
-/// How a point looks.
+/// The look of a point.
 #[derive(Clone, Copy, Debug, PartialEq, Eq)]
 pub enum Sign {
     /// Dark.
@@ -19,8 +19,8 @@ pub enum Sign {
     Bad,
 }
 
-/// A picture that is drawn row by row. Labels, notes and titles are text of XML, their markup escaped
-/// by the caller.
+/// A picture that is drawn row by row. Labels, notes and titles are XML text: the caller escapes
+/// markup in them.
 ///
 /// Errors of every call: an allocation fails; the picture is then not specified. Cost: the size of
 /// the label.
@@ -33,7 +33,7 @@ pub struct Timeline {
     last: Place,
     /// The stumps of the last row, one for each node that they go to.
     stumps: Vec<Stump>,
-    /// Arrows and stumps, which stand below points and texts.
+    /// Arrows and stumps, which are drawn below points and texts.
     lines: Vec<u8>,
     points: Vec<u8>,
     texts: Vec<u8>,
@@ -68,7 +68,7 @@ impl Timeline {
         }
     }
 
-    /// Begins the next row: a point at a node, a number at the left, and a label.
+    /// Begins the next row, with a point at a node, a number at the left, and a label.
     pub fn push_row(
         &mut self,
         node: u8,
@@ -95,14 +95,14 @@ impl Timeline {
         push_break(&mut self.lines, at)
     }
 
-    /// Draws an arrow, and appends its label to the row that was begun last.
+    /// Draws an arrow, and appends its label to the text of the last row.
     pub fn push_arrow(&mut self, from: Place, to: Place, label: &[u8]) -> Result<(), AllocError> {
         push_arrow(&mut self.lines, from, to)?;
         self.push_words(b"p", label)
     }
 
-    /// Draws a stump from the point of the row that was begun last towards a node, with its number and
-    /// a title. Several to one node are drawn as one, with all their numbers and titles.
+    /// Draws a stump from the point of the last row towards a node, with its number and a title.
+    /// Several stumps to one node are drawn as one, with all their numbers and titles.
     pub fn push_stump(&mut self, to: u8, number: u64, title: &[u8]) -> Result<(), AllocError> {
         for stump in self.stumps.iter_mut() {
             if stump.to == to {
@@ -126,12 +126,12 @@ impl Timeline {
         Ok(())
     }
 
-    /// Appends a note to the label of the row that was begun last.
+    /// Appends a note to the text of the last row.
     pub fn push_note(&mut self, note: &[u8]) -> Result<(), AllocError> {
         self.push_words(b"k", note)
     }
 
-    /// Appends words of a class to the text of the last row.
+    /// Appends words to the text of the last row, with a class for their style.
     fn push_words(&mut self, class: &[u8], words: &[u8]) -> Result<(), AllocError> {
         push_span(&mut self.texts, class, words)?;
         self.length = self.length.saturating_add(1).saturating_add(count(words));
@@ -158,7 +158,7 @@ impl Timeline {
         Ok(())
     }
 
-    /// Draws the stumps and ends the text of the row that was begun last, if there is one.
+    /// Draws the stumps and ends the text of the last row, if there is a row.
     fn end_row(&mut self) -> Result<(), AllocError> {
         self.draw_stumps()?;
         if self.rows > 0 {
@@ -205,7 +205,7 @@ fn class_of(sign: Sign) -> &'static [u8] {
     }
 }
 
-/// Returns how many characters a label shows; a character reference is one.
+/// Returns how many characters a label shows. A character reference counts as one.
 fn count(label: &[u8]) -> u32 {
     let mut shown = 0u32;
     let mut is_reference = false;
