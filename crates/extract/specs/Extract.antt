@@ -1,6 +1,6 @@
 -- Extracts of a database.
 -- Source: this project's profile; Metamath, 4.2 (what makes a database good).
--- The code chooses statements, judges the choice, and returns the whole if the choice is not enough.
+-- The code chooses statements, checks the choice, and returns the whole database if the choice is not enough.
 use Rattle.std.specs.Prelude.{ℕ, List}
 use Rattle.std.specs.List.{AllByRecursion}
 use Rattle.mm_lex.specs.Alphabet.{Name}
@@ -9,12 +9,12 @@ use Rattle.mm_read.specs.Reads.{Reads}
 use Rattle.library.specs.Good.{Good}
 use Rattle.database_parts.specs.Selected.{IsPart, IsKept}
 
--- good statements T of S, with each of these assertions as in S
+-- T is a part of S, is good, and has each of these assertions as in S
 pub record AreExtract (S : Database) (labels : List Name) (T : Database) : Type 0 where
   pub good : Good T
   pub part : IsPart T S
   pub kept : AllByRecursion (IsKept S T) labels
 
--- the text reads as such statements
+-- the text reads as such an extract
 abbrev pub IsExtract : Database → List Name → List ℕ → Type 0
 IsExtract S labels text = (T : Database) × Reads text T × AreExtract S labels T

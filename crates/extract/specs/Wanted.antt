@@ -1,5 +1,5 @@
--- Labels that name assertions, each once, and the first of a list that does not.
--- Source: Metamath, 4.2 (assertions are `$a` and `$p`); that a label stands once is this project's choice.
+-- Labels that name assertions, each once, and the first label of a list that is wrong.
+-- Source: Metamath, 4.2 (assertions are `$a` and `$p`); that a label occurs once is this project's choice.
 -- The code finds labels in a table.
 use Rattle.std.specs.Prelude.{◌≡◌, ◌⊎◌, ℕ, true, false, IsTrue, IsFalse, List, [], ◌∷◌, ◌++◌, Option, Some, None}
 use Rattle.mm_lex.specs.Alphabet.{Name, has_name}
@@ -11,28 +11,28 @@ use Rattle.library.specs.Queries.{HasNoLabel}
 use Rattle.extract.specs.declared.fault.ExtractFault.{ExtractFault}
 use Rattle.extract.specs.declared.fault.ExtractFault.TheVariants.{NoLabel, NotAssertion, SameLabel, Memory}
 
--- the assertion of the label
+-- an assertion has the label
 pub record NamesAssertion (S : Database) (label : Name) : Type 0 where
   pub position : ℕ
   pub stmt : Stmt
   pub carries : Carries S position stmt label
   pub assertion : IsTrue (is_assertion stmt)
 
--- a statement has the label, and is no assertion
+-- a statement that is no assertion has the label
 pub record NamesHypothesis (S : Database) (label : Name) : Type 0 where
   pub position : ℕ
   pub stmt : Stmt
   pub carries : Carries S position stmt label
   pub other : IsFalse (is_assertion stmt)
 
--- the fault of a label that stands after others
+-- the fault of a label that follows `earlier` ones
 abbrev pub IsWrong : Database → List Name → Name → ExtractFault → Type 0
 IsWrong S earlier label NoLabel = HasNoLabel S label
 IsWrong S earlier label NotAssertion = NamesHypothesis S label
 IsWrong S earlier label SameLabel = NamesAssertion S label × (has_name label earlier ≡ true)
 IsWrong S earlier label Memory = ⊥
 
--- the label is not wrong
+-- the label names an assertion, and is not among the earlier ones
 abbrev pub IsRight : Database → List Name → Name → Type 0
 IsRight S earlier label = NamesAssertion S label × (has_name label earlier ≡ false)
 
@@ -41,12 +41,12 @@ abbrev pub IsJudged : Database → List Name → Name → Option ExtractFault �
 IsJudged S earlier label None = IsRight S earlier label
 IsJudged S earlier label (Some fault) = IsWrong S earlier label fault
 
--- no label of a list that stands after others is wrong
+-- no label of a list that follows `earlier` ones is wrong
 abbrev pub AreRight : Database → List Name → List Name → Type 0
 AreRight S earlier [] = Unit {0}
 AreRight S earlier (label ∷ labels) = IsRight S earlier label × AreRight S (earlier ++ label ∷ []) labels
 
--- the fault of the first wrong label of a list that stands after others
+-- the fault of the first wrong label of a list that follows `earlier` ones
 abbrev pub IsFirstWrong : Database → List Name → List Name → ExtractFault → Type 0
 IsFirstWrong S earlier [] fault = ⊥
 IsFirstWrong S earlier (label ∷ labels) fault =

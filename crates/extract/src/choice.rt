@@ -14,52 +14,52 @@ struct Block {
     open: usize,
     /// The number of `$f`, `$e` and `$d` that are active before it.
     active: usize,
-    /// Whether an assertion in it is taken.
+    /// Whether the extract takes an assertion in it.
     used: bool,
 }
 
-/// The records of a symbol: positions, 0 for none.
+/// The statements that concern a symbol: positions, 0 for none.
 #[derive(Drop)]
 struct SymbolRecord {
     /// Its last declaration.
     declared: usize,
     /// Its active `$f`.
     float: usize,
-    /// An active `$e` that is taken and has it.
+    /// An active `$e` that is taken and contains it.
     given_by: usize,
-    /// The last assertion that is taken and has it as a variable, in its expression or in its proof.
+    /// The last taken assertion that has it as a variable, in its expression or in its proof.
     variable_of: usize,
 }
 
-/// The records of a walk from the first statement to the last. A statement that is marked is taken.
+/// The state of a walk from the first statement to the last. The extract takes the statements that are marked.
 #[derive(Drop)]
 struct Choice<'a> {
     alloc: Global,
     library: &'a Library,
     marks: Vec<bool>,
-    /// The symbols that were declared.
+    /// The symbols declared so far.
     symbols: NameTable,
     /// The record of each symbol.
     records: Vec<SymbolRecord>,
     /// The positions of the active `$f`, `$e` and `$d`.
     active: Vec<usize>,
-    /// The number of these before the last assertion that is taken.
+    /// The number of these that precede the last taken assertion.
     passed: usize,
-    /// The variables of an assertion that no `$e` taken before it has.
+    /// The variables of an assertion that no `$e` taken before contains.
     own: Vec<usize>,
     /// The active `$d`.
     disjoint: DisjointLists,
-    /// The positions of `$d` that are to be taken.
+    /// The positions of `$d` to take.
     due: Vec<usize>,
     blocks: Vec<Block>,
 }
 
-/// Returns for each statement whether it is taken: the assertions of the labels, all that their proofs name, the hypotheses of
-/// these, the `$d` that have two of their variables, the declarations of the symbols of all these, and the blocks in which an
-/// assertion is taken.
+/// Returns for each statement whether the extract takes it: the assertions of the labels, all that their proofs cite, the
+/// hypotheses of these, the `$d` with two of their variables, the declarations of the symbols of all these, and the blocks in
+/// which an assertion is taken.
 ///
-/// Cost: the statements, each `$e` and `$d` once; for each assertion that is taken its own expression and proof, and the
-/// active `$d` that `DisjointLists::find` goes over; for each variable of a `$e` that is taken the active `$d` that have it.
+/// Cost: the statements, each `$e` and `$d` once; for each taken assertion its own expression and proof, and the active `$d`
+/// that `DisjointLists::find` visits; for each variable of a taken `$e` the active `$d` that contain it.
 pub(crate) fn choose(
     alloc: Global,
     library: &Library,
@@ -155,7 +155,7 @@ impl<'a> Choice<'a> {
         }
     }
 
-    /// Removes the record that the `$e` at a position has a symbol.
+    /// Removes the record that the `$e` at a position contains a symbol.
     fn take_back(&mut self, position: usize, name: &[u8]) {
         let Some(code) = self.symbols.find(name) else {
             return;
@@ -263,7 +263,7 @@ impl<'a> Choice<'a> {
         Ok(())
     }
 
-    /// Takes the active `$e` that were not passed yet, and records their variables.
+    /// Takes the active `$e` after those passed already, and records their variables.
     fn essentials(&mut self) -> Result<(), AllocError> {
         for index in self.passed..self.active.len() {
             let Some(position) = self.active.get(index).copied() else {
@@ -317,7 +317,7 @@ impl<'a> Choice<'a> {
         }
     }
 
-    /// Takes the hypotheses that a proof names.
+    /// Takes the hypotheses that a proof cites.
     fn hypotheses_of_proof(&mut self, at: usize, proof: &Words) -> Result<(), AllocError> {
         for token in proof.iter() {
             if token == b")".as_slice() {
@@ -330,7 +330,7 @@ impl<'a> Choice<'a> {
         Ok(())
     }
 
-    /// Takes a hypothesis that the proof of the assertion at a position names.
+    /// Takes a hypothesis that the proof of the assertion at a position cites.
     fn hypothesis(&mut self, at: usize, position: usize) -> Result<(), AllocError> {
         match statement_at(self.library.statements(), position) {
             Some(Stmt::Float { variable, .. }) => {
@@ -346,7 +346,7 @@ impl<'a> Choice<'a> {
         Ok(())
     }
 
-    /// Records a variable of the assertion at a position, once, unless an active `$e` that is taken has it.
+    /// Records a variable of the assertion at a position, once, unless an active, taken `$e` contains it.
     fn note_variable(&mut self, at: usize, name: &[u8]) -> Result<(), AllocError> {
         let Some(code) = self.symbols.find(name) else {
             return Ok(());

@@ -1,12 +1,12 @@
-//! The statements that assertions rest on: those that their proofs name, and those that the proofs of these name.
+//! The statements that assertions rest on: those that their proofs cite, and those that the proofs of these cite.
 use frame::Frames;
 use library::Library;
 use mm_lex::Words;
 use mm_read::Stmt;
 use std::alloc::{AllocError, Global};
 
-/// Returns for each statement whether it is marked: if it has one of the labels, or the proof of a marked statement names it.
-/// A proof names earlier statements, so the walk goes from the last statement to the first.
+/// Returns for each statement whether it is marked: if it has one of the labels, or the proof of a marked statement cites it.
+/// A proof cites only earlier statements, so the statements are visited from the last to the first.
 pub(crate) fn named(
     alloc: Global,
     library: &Library,
@@ -28,7 +28,7 @@ pub(crate) fn named(
     Ok(marks)
 }
 
-/// Marks the statements that a proof names: by all tokens of a normal proof, by those in the parentheses of a compressed one.
+/// Marks the statements that a proof cites: all tokens of a normal proof, those in the parentheses of a compressed proof.
 fn mark_named(frames: &Frames, proof: &Words, marks: &mut [bool]) {
     for token in proof.iter() {
         if token == b")".as_slice() {
@@ -38,7 +38,7 @@ fn mark_named(frames: &Frames, proof: &Words, marks: &mut [bool]) {
     }
 }
 
-/// Marks the statement at a position, counted from 1, if one stands there.
+/// Marks the statement at a position, counted from 1, if there is one.
 pub(crate) fn mark(marks: &mut [bool], position: Option<usize>) {
     if let Some(position) = position {
         if position > 0 && position <= marks.len() {

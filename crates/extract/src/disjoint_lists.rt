@@ -1,4 +1,4 @@
-//! The active `$d` of a walk over the statements, and which of them have two variables of an assertion.
+//! The active `$d` of a walk over the statements, and which of them contain two variables of an assertion.
 use crate::cited::is_marked;
 use std::alloc::{AllocError, Global};
 
@@ -6,36 +6,36 @@ use std::alloc::{AllocError, Global};
 #[derive(Clone, Copy)]
 struct DisjointList {
     position: usize,
-    /// The number of its variables that are given.
+    /// The number of its given variables.
     given: usize,
     /// The last assertion whose variables were counted in it.
     counted_for: usize,
-    /// The number of variables that were counted for that assertion.
+    /// The number of variables counted for that assertion.
     count: usize,
 }
 
-/// The active `$d` of a symbol.
+/// The active `$d` that contain a symbol.
 #[derive(Drop)]
 struct ListsOfSymbol {
-    /// Their indexes, ascending, without some of the `$d` that are taken.
+    /// Their indexes, ascending; `$d` that are taken may be missing.
     indexes: Vec<usize>,
     /// Whether the symbol is given.
     given: bool,
-    /// The number of indexes that were looked at for an assertion that is taken.
+    /// The number of indexes that were visited for a taken assertion.
     compared: usize,
-    /// The `time` of `DisjointLists` at which they were looked at.
+    /// The `time` of `DisjointLists` at which they were visited.
     time: usize,
 }
 
-/// The active `$d`, as a stack. A variable is given while an active `$e` that is taken has it.
+/// The active `$d`, as a stack. A variable is given while an active, taken `$e` contains it.
 #[derive(Drop)]
 pub(crate) struct DisjointLists {
     lists: Vec<DisjointList>,
     /// The lists of each symbol, by its number.
     symbols: Vec<ListsOfSymbol>,
-    /// The number of lists that the last assertion that is taken has looked at.
+    /// The number of lists that were visited for the last taken assertion.
     passed: usize,
-    /// The number of times that a variable was given.
+    /// How many times a variable became given.
     time: usize,
 }
 
@@ -103,9 +103,9 @@ impl DisjointLists {
         self.passed = self.passed.min(self.lists.len());
     }
 
-    /// Makes a variable given, and appends the positions of the `$d` that have it and another given variable.
+    /// Makes a variable given, and appends the positions of the `$d` that contain it and another given variable.
     ///
-    /// Cost: the `$d` that have it.
+    /// Cost: the number of `$d` that contain it.
     pub(crate) fn give(&mut self, code: usize, due: &mut Vec<usize>) -> Result<(), AllocError> {
         self.time = self.time.saturating_add(1);
         if let Some(symbol) = self.symbols.get_mut(code) {
@@ -122,7 +122,7 @@ impl DisjointLists {
 
     /// Makes a variable no longer given.
     ///
-    /// Cost: the `$d` that have it.
+    /// Cost: the number of `$d` that contain it.
     pub(crate) fn take_back(&mut self, code: usize) {
         if let Some(symbol) = self.symbols.get_mut(code) {
             symbol.given = false;
@@ -136,11 +136,11 @@ impl DisjointLists {
         }
     }
 
-    /// Appends the positions of the `$d` that are not marked and have two variables of the assertion at a position: its own,
-    /// each listed once, and those that are given.
+    /// Appends the positions of the `$d` that are not marked and contain two variables of the assertion at a position: those in
+    /// `own`, each listed once, and the given ones.
     ///
-    /// Cost: the `$d` that have an own variable, times a logarithm; for the variable with the most `$d`, only those that were
-    /// not looked at since a variable was last given.
+    /// Cost: the number of `$d` that contain a variable of `own`, times a logarithm; for the variable with the most `$d`, only
+    /// those not visited since a variable last became given.
     pub(crate) fn find(
         &mut self,
         at: usize,
@@ -161,7 +161,7 @@ impl DisjointLists {
         Ok(())
     }
 
-    /// Returns the variable with the most `$d` among those that are not given, or `usize::MAX` if all are.
+    /// Returns the variable of `own` with the most `$d` among those that are not given, or `usize::MAX` if all are given.
     fn most(&self, own: &[usize]) -> usize {
         let mut most = usize::MAX;
         for code in own {
@@ -172,8 +172,8 @@ impl DisjointLists {
         most
     }
 
-    /// Counts a variable of the assertion at a position in the `$d` that have it. In each `$d` that is met the variable `most`
-    /// is counted too, if the `$d` has it.
+    /// Counts a variable of the assertion at a position in the `$d` that contain it. In each `$d` that is visited, the variable
+    /// `most` is counted too, if the `$d` contains it.
     fn count_for(
         &mut self,
         at: usize,
@@ -195,8 +195,8 @@ impl DisjointLists {
         Ok(())
     }
 
-    /// Counts one more variable of the assertion at a position in a `$d`, if `counts`; appends the position of the `$d` if it
-    /// has two. The first call for an assertion begins with those that are given, and one more if `more`.
+    /// Counts one more variable of the assertion at a position in a `$d`, if `counts`, and appends the position of the `$d` if
+    /// the count is 2 or more. The first call for an assertion starts from the given variables, plus one if `more`.
     fn meet(
         &mut self,
         at: usize,
@@ -219,7 +219,7 @@ impl DisjointLists {
         Ok(())
     }
 
-    /// Removes the marked `$d` from those of a symbol, from a place on, and records that all were looked at.
+    /// Removes the marked `$d` from those of a symbol, from index `from` on, and records that all were visited.
     fn forget_taken(&mut self, code: usize, from: usize, marks: &[bool]) {
         let mut kept = from;
         for place in from..self.count(code) {
@@ -277,7 +277,7 @@ impl DisjointLists {
         }
     }
 
-    /// Returns the number of these that were looked at since the last variable was given.
+    /// Returns the number of these that were visited since a variable last became given.
     fn compared(&self, code: usize) -> usize {
         match self.symbols.get(code) {
             Some(symbol) if symbol.time == self.time => symbol.compared,
@@ -298,7 +298,7 @@ impl DisjointLists {
         }
     }
 
-    /// Returns whether a `$d` is among those of a symbol.
+    /// Returns whether a `$d` is recorded for a symbol.
     fn has(&self, code: usize, index: usize) -> bool {
         match self.symbols.get(code) {
             Some(symbol) => symbol.indexes.binary_search(&index).is_ok(),

@@ -14,12 +14,12 @@ use library::{Entry, Library, Submission};
 use mm_read::push_line;
 use std::alloc::{AllocError, Global};
 
-/// Returns good statements of the library, in the export form: the assertions of these labels with all that their proofs use,
-/// and little else.
+/// Returns the text of good statements of the library, as `export` writes them: the assertions of these labels with all that
+/// their proofs use, and few others.
 ///
 /// Errors: `NoLabel`, `NotAssertion` or `SameLabel` for the first wrong label, even if every allocation fails; else `Memory`.
-/// Cost: that of judging the proofs taken, a pass over the rules of all statements, and a comparison of each label with each
-/// assertion and each earlier label. Source: Metamath, 4.2.
+/// Cost: that of verifying the proofs of the extract, a pass over the rules of all statements, and a comparison of each
+/// label with each assertion and each earlier label. Source: Metamath, 4.2.
 pub fn extract(alloc: Global, library: &Library, labels: &[&str]) -> Result<Vec<u8>, ExtractFault>
     ensures extract { IfOk result (λ text. IsExtract library.now.replica.statements (map (λ label. label.now) labels.now) text.items) }
     ensures wrong { (fault : Fault) → IsFirstWrong library.now.replica.statements [] (map (λ label. label.now) labels.now) fault → result ≡ Err fault }
@@ -40,7 +40,7 @@ fn taken(alloc: Global, library: &Library, labels: &[&str]) -> Result<Vec<u8>, A
     taken_by(alloc, library, labels, &mut part)
 }
 
-/// Returns that text, given an empty library: it takes the chosen statements, and stays empty if they are not good.
+/// Returns that text. The chosen statements are added to `part`, an empty library, which stays empty if they are not good.
 fn taken_by(
     alloc: Global,
     library: &Library,

@@ -8,7 +8,7 @@ pub enum ExtractFault {
     NoLabel,
     /// The statement with the label is a hypothesis.
     NotAssertion,
-    /// The label stands earlier in the list.
+    /// The label occurs earlier in the list.
     SameLabel,
     /// An allocation failed.
     Memory,

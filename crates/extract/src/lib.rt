@@ -1,8 +1,8 @@
-//! A database of some assertions of a library, with what they need and little else.
+//! Extracts some assertions of a library as a smaller database, with what they need and little else.
 //!
-//! The crate above calls `extract`: the result reads as good statements of the library, in their order, and has each named
-//! assertion with its hypotheses and its mandatory pairs. No clause says which statements are chosen: a second library judges
-//! the choice, `database_parts` compares it with the whole, and if anything is missing the whole is returned.
+//! `extract` returns a text that reads as good statements of the library, in their order, and has each named assertion with
+//! its mandatory hypotheses and disjoint variables. No clause says which statements are chosen: a second library verifies
+//! them, `database_parts` compares it with the whole library, and if anything is missing the whole library is returned.
 //!
 //! Reading order: `fault`, `wanted` (the labels), `cited`, `disjoint_lists` and `choice` (the statements), `extraction`.
 #![tactic(auto)]

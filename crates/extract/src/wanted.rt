@@ -1,4 +1,4 @@
-//! The labels of the assertions that are wanted.
+//! Checks the labels of the assertions to extract.
 ghost use Rattle.std.specs.Prelude.{◌≡◌, ◌≤◌, [], map, length, Some, None};
 ghost use Rattle.mm_read.specs.declared.stmt.Stmt.{Stmt as Statement};
 ghost use Rattle.scope.specs.Active.{bares, stmt_at, is_assertion};
@@ -11,7 +11,7 @@ use database_parts::is_among;
 use frame::{Frames, is_assertion};
 use mm_read::Stmt;
 
-/// Returns the fault of the first label that no assertion has or that stands earlier in the list; `None` if no label is
+/// Returns the fault of the first label that no assertion has or that occurs earlier in the list; `None` if no label is
 /// wrong. Does not allocate.
 pub(crate) fn first_wrong(
     frames: &Frames,
@@ -34,7 +34,7 @@ pub(crate) fn first_wrong(
     None
 }
 
-/// Returns the fault of a label that stands after others, if it is wrong.
+/// Returns the fault of a label that follows `earlier` ones, if it is wrong.
 fn wrong(
     frames: &Frames,
     statements: &[Stmt],
@@ -59,7 +59,7 @@ fn wrong(
     }
 }
 
-/// Returns whether an assertion stands at the position.
+/// Returns whether the statement at the position is an assertion.
 fn is_assertion_at(statements: &[Stmt], at: usize) -> bool
     requires { (1 ≤ at) × (at ≤ length statements.now) }
     ensures { (s : Statement) → stmt_at statements.now at ≡ Some s → result ≡ is_assertion s }

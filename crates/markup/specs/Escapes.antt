@@ -1,6 +1,6 @@
--- Bytes of a database as text of a page, and as text between quotes of a picture.
+-- Bytes of a database, escaped for an HTML page and for a quoted string of the DOT language.
 -- Source: HTML, character references; the DOT language of Graphviz, quoted strings.
--- The code adds byte by byte.
+-- The code appends byte by byte.
 use Rattle.std.specs.Prelude.{◌≡◌, ℕ, ◌==◌, Bool, true, false, ◌||◌, if◌then◌else◌, List, [], ◌∷◌, ◌++◌, codes, flat_map}
 
 -- `&`, `<`, `>` and `"`
@@ -17,7 +17,7 @@ html_byte b = if is_markup b then reference b else b ∷ []
 abbrev pub html_text : List ℕ → List ℕ
 html_text text = flat_map html_byte text
 
--- the escaped text reads as the text: each reference as its byte, each byte that is none of the four as itself
+-- the escaped text reads as the text: each reference as its byte, any byte but these four as itself
 pub data ReadsAs : List ℕ → List ℕ → Type 0 where
   reads_none : ReadsAs [] []
   reads_plain : (b : ℕ) (written text : List ℕ) → is_markup b ≡ false → ReadsAs written text → ReadsAs (b ∷ written) (b ∷ text)

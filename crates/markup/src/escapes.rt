@@ -1,4 +1,4 @@
-//! Bytes of a database inside a page, and inside the quotes of a picture.
+//! Escapes bytes for an HTML page, and for a quoted string of the DOT language.
 ghost use Rattle.std.specs.Prelude.{◌≡◌, ◌++◌, OnOk};
 ghost use Rattle.markup.specs.Escapes.{html_byte, html_text, ReadsAs, quoted_byte, quoted_text};
 
@@ -7,7 +7,7 @@ use std::alloc::AllocError;
 /// Appends the bytes as text of a page, so that none of them is read as markup: `&`, `<`, `>` and `"` become character
 /// references.
 ///
-/// Errors: an allocation fails. Cost: the bytes.
+/// Errors: an allocation fails. Cost: the number of bytes.
 pub fn push_html(page: &mut Vec<u8>, bytes: &[u8]) -> Result<(), AllocError>
     ensures written { OnOk result (page.new.items ≡ page.old.items ++ html_text bytes.now) }
     ensures reads { ReadsAs (html_text bytes.now) bytes.now }
@@ -34,9 +34,9 @@ fn push_html_byte(page: &mut Vec<u8>, byte: u8) -> Result<(), AllocError>
     }
 }
 
-/// Appends the bytes as text between quotes of the DOT language: with a `\` before each `"` and `\`.
+/// Appends the bytes as the inside of a quoted string of the DOT language: with a `\` before each `"` and `\`.
 ///
-/// Errors: an allocation fails. Cost: the bytes.
+/// Errors: an allocation fails. Cost: the number of bytes.
 pub fn push_quoted(picture: &mut Vec<u8>, bytes: &[u8]) -> Result<(), AllocError>
     ensures { OnOk result (picture.new.items ≡ picture.old.items ++ quoted_text bytes.now) }
 {

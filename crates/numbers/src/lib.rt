@@ -1,4 +1,4 @@
-//! Decimal numbers: read from a word, and appended to a text.
+//! Parses decimal numbers from words, and appends them to a text.
 #![tactic(auto)]
 
 mod number;

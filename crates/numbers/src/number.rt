@@ -25,7 +25,7 @@ pub fn parse_number(word: &[u8]) -> Option<u64>
     Some(value)
 }
 
-/// Appends a digit to a value. Returns `None` if the byte is no digit or the result does not fit.
+/// Returns ten times a value plus a digit, or `None` if the byte is no digit or the result exceeds `u64`.
 fn with_digit(value: u64, digit: u8) -> Option<u64>
     ensures { MatchOption result
         (is_ascii_digit digit ≡ true → 2 ^ 64 ≤ value * 10 + (digit - 48))
@@ -40,7 +40,7 @@ fn with_digit(value: u64, digit: u8) -> Option<u64>
 
 /// Appends the digits of a number, without leading zeros.
 ///
-/// Errors: an allocation fails; the text is then not specified.
+/// Errors: an allocation fails; the text is then unspecified.
 pub fn push_number(text: &mut Vec<u8>, number: u64) -> Result<(), AllocError>
     ensures { OnOk result (text.new.items ≡ text.old.items ++ decimal number) }
 {

@@ -18,7 +18,7 @@ expr_cell expr = codes "<td>" ++ html_text (spaced expr) ++ codes "\n"
 abbrev pub index_cells : List ℕ → Name → Expr → ℕ → List ℕ
 index_cells kind label expr position = kind_cell kind ++ page_link label position ++ expr_cell expr
 
--- the row of the statement at a place from 0, if it is an assertion
+-- the row of the statement at this place, counted from 0, if it is an assertion
 abbrev pub index_row : ℕ → Stmt → List ℕ
 index_row place (Axiom label expr) = index_cells (codes "axiom") label expr (place + 1)
 index_row place (Prove label expr proof) = index_cells (codes "theorem") label expr (place + 1)

@@ -4,14 +4,14 @@
 use Rattle.std.specs.Prelude.{ℕ, ◌==◌, Bool, ◌&&◌, if◌then◌else◌, List, [], ◌++◌, codes, decimal, flat_map, get_or, Option, Some, None}
 use Rattle.proof_pages.specs.Words.{Name, Stmt, Database, is_assertion, stmt_at, name_at, label_or_none, html_text, file_name}
 
--- a variable of the first class, and of another
+-- a variable of the first class, and a variable of another class
 abbrev pub first_html : Name → List ℕ
 first_html name = codes "<var>" ++ html_text name ++ codes "</var>"
 
 abbrev pub variable_html : ℕ → Name → List ℕ
 variable_html class name = codes "<var class=\"k" ++ decimal class ++ codes "\">" ++ html_text name ++ codes "</var>"
 
--- a name in the colour of its class; 0 is no class
+-- a name in the colour of its class; class 0 has no colour
 abbrev pub coloured : ℕ → Name → List ℕ
 coloured class name = if class == 0 then html_text name else if class == 1 then first_html name else variable_html class name
 
@@ -22,14 +22,14 @@ symbol_html names classes symbol = codes " " ++ coloured (get_or classes symbol 
 abbrev pub expr_html : List Name → List ℕ → List ℕ → List ℕ
 expr_html names classes expr = flat_map (symbol_html names classes) expr
 
--- the start of a link to the file of the assertion that has this label and stands at this position
+-- the start of a link to the file of the assertion with this label at this position
 unfoldable pub link_start : Name → ℕ → List ℕ
 link_start label position = codes "<a href=\"" ++ file_name label position ++ codes "\">"
 
 abbrev pub page_link : Name → ℕ → List ℕ
 page_link label position = link_start label position ++ html_text label ++ codes "</a>"
 
--- the label of the statement at a position; the label of an assertion is a link, if labels are linked
+-- the label of the statement at a position, as a link if it is an assertion and labels are linked
 abbrev pub label_html : Bool → ℕ → Stmt → List ℕ
 label_html linked position s =
     if linked && is_assertion s then page_link (label_or_none (Some s)) position else html_text (label_or_none (Some s))

@@ -1,4 +1,4 @@
--- The steps of a proof as a picture for Graphviz.
+-- The steps of a proof as a graph in the DOT language.
 -- Source: the DOT language of Graphviz.
 -- The code adds each part to the end of a buffer.
 use Rattle.std.specs.Prelude.{ℕ, List, [], ◌∷◌, ◌++◌, codes, flat_map}
@@ -8,12 +8,12 @@ use Rattle.proof_pages.specs.StepLines.{number_text, texts_from}
 abbrev pub quoted_symbol : List Name → ℕ → List ℕ
 quoted_symbol names symbol = codes " " ++ quoted_text (name_at names symbol)
 
--- the symbols between quotes, a space between two
+-- the symbols of an expression, escaped for quotes and separated by spaces
 abbrev pub quoted_expr : List Name → List ℕ → List ℕ
 quoted_expr names [] = []
 quoted_expr names (symbol ∷ symbols) = quoted_text (name_at names symbol) ++ flat_map (quoted_symbol names) symbols
 
--- an arrow from a step that is taken
+-- an arrow from a step that is taken to the step at this place
 abbrev pub arrow_line : ℕ → ℕ → List ℕ
 arrow_line place taken = number_text taken ++ codes " -> " ++ number_text place ++ codes ";\n"
 

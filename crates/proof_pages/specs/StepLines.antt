@@ -4,14 +4,14 @@
 use Rattle.std.specs.Prelude.{ℕ, suc, ◌+◌, List, [], ◌∷◌, ◌++◌, codes, decimal, flat_map}
 use Rattle.proof_pages.specs.Words.{Name, Database, stmt_at, name_at, label_or_none, Row}
 
--- a place from 0 as a number from 1
+-- the number of the step at a place: places count from 0, numbers from 1
 abbrev pub number_text : ℕ → List ℕ
 number_text place = decimal (place + 1)
 
 abbrev pub behind_comma : ℕ → List ℕ
 behind_comma place = codes "," ++ number_text place
 
--- the numbers of the steps that are taken, or `-`
+-- the numbers of the steps that are taken, or `-` if there are none
 abbrev pub taken_text : List ℕ → List ℕ
 taken_text [] = codes "-"
 taken_text (place ∷ places) = number_text place ++ flat_map behind_comma places
@@ -23,12 +23,12 @@ symbol_text names symbol = codes " " ++ name_at names symbol
 abbrev pub expr_text : List Name → List ℕ → List ℕ
 expr_text names expr = flat_map (symbol_text names) expr
 
--- number, numbers taken, label, expression
+-- its number, the numbers of the steps that it takes, the label of the statement that it cites, its expression
 abbrev pub step_line : Database → List Name → ℕ → Row → List ℕ
 step_line S names place row =
     number_text place ++ codes " " ++ taken_text row.step.taken ++ codes " " ++ label_or_none (stmt_at S row.step.position) ++ expr_text names row.expr ++ codes "\n"
 
--- the texts of a list of things, one after another; the first thing stands at this place
+-- the concatenated texts of the elements of a list, the first of which has this place
 abbrev pub texts_from : {A : Type 0} → (ℕ → A → List ℕ) → ℕ → List A → List ℕ
 texts_from text place [] = []
 texts_from text place (thing ∷ things) = text place thing ++ texts_from text (suc place) things

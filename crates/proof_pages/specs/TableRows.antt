@@ -6,7 +6,7 @@ use Rattle.proof_pages.specs.Words.{Name, Database, Row}
 use Rattle.proof_pages.specs.StepLines.{number_text}
 use Rattle.proof_pages.specs.Notations.{expr_html, cited_html}
 
--- a link to the row of a step, after a space; the ids of the rows of one table begin with the same mark
+-- a link to the row of a step, after a space; the ids of the rows of one table share this prefix
 unfoldable pub link_html : List ℕ → ℕ → List ℕ
 link_html mark place = codes " <a href=\"#" ++ mark ++ number_text place ++ codes "\">" ++ number_text place ++ codes "</a>"
 

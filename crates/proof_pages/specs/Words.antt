@@ -1,4 +1,4 @@
--- The words in which this crate is stated, passed on from one place.
+-- The definitions of other crates that this crate's specifications use, re-exported.
 pub use Rattle.file_names.specs.FileNames.{file_name}
 pub use Rattle.markup.specs.Escapes.{html_text, quoted_text}
 pub use Rattle.mm_lex.specs.Alphabet.{Name}

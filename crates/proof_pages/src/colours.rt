@@ -3,14 +3,14 @@ use frame::Frames;
 use mm_read::Stmt;
 use std::alloc::{AllocError, Global};
 
-/// The class of each symbol, by number, and the typecode of each class.
+/// The CSS class of each symbol, and the typecode of each class.
 #[derive(Drop)]
 pub(crate) struct Colours {
-    /// The class of each symbol by its number, 0 if it has none.
+    /// The class of each symbol, indexed by symbol number; 0 if it has none.
     pub classes: Vec<u32>,
     /// The typecode of each class, in the order of the classes from 1.
     pub constants: Vec<u32>,
-    /// The class of the variables of each typecode by its number, 0 if it has none yet.
+    /// The class of the variables of each typecode, indexed by symbol number; 0 if it has none yet.
     typecodes: Vec<u32>,
 }
 
@@ -26,7 +26,7 @@ impl Colours {
 
     /// Gives the variable of the statement at a position the class of its typecode, if that statement is a `$f`.
     ///
-    /// Errors: an allocation fails. Cost: constant, except that tables grow to the greatest number of a symbol.
+    /// Errors: an allocation fails. Cost: constant, except that tables grow to the greatest symbol number.
     pub fn note(
         &mut self,
         statements: &[Stmt],

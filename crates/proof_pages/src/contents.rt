@@ -6,14 +6,14 @@ use steps::ProofTable;
 /// The contents of the page of an assertion.
 #[derive(Drop)]
 pub struct PageContents<'a> {
-    /// The statements of the frames.
+    /// All statements of the database.
     pub statements: &'a [Stmt],
     pub frames: &'a Frames,
     /// The position of the assertion.
     pub at: usize,
     /// The steps of its proof, if it has one.
     pub proof: Option<ProofSteps<'a>>,
-    /// The statements that the page refers to.
+    /// The axioms, theorems and description that the page shows besides.
     pub neighbours: Neighbours<'a>,
 }
 
@@ -26,7 +26,7 @@ pub struct ProofSteps<'a> {
     pub essential: &'a ProofTable,
 }
 
-/// The surroundings of an assertion in its database.
+/// The axioms that an assertion rests on, the theorems that cite it, and its description.
 #[derive(Drop)]
 pub struct Neighbours<'a> {
     /// The positions of the axioms that it rests on, ascending.

@@ -9,6 +9,6 @@ pub struct Draft<'a> {
     pub notation: Notation<'a>,
     /// The positions of the mandatory hypotheses.
     pub hypotheses: &'a [u32],
-    /// Whether all steps are shown, and not only the essential ones.
+    /// Whether all steps are shown besides the essential ones.
     pub is_whole: bool,
 }

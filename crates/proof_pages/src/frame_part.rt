@@ -20,7 +20,7 @@ pub fn push_frame(alloc: Global, page: &mut Vec<u8>, draft: &Draft<'_>) -> Resul
     push_legend(page, &draft.notation)
 }
 
-/// Appends the `$e`, and the `$f` folded.
+/// Appends the `$e` as a table, and the `$f` in a collapsed section.
 fn push_hypotheses(alloc: Global, page: &mut Vec<u8>, draft: &Draft<'_>) -> Result<(), AllocError> {
     if draft.hypotheses.is_empty() {
         return Ok(());
@@ -31,7 +31,7 @@ fn push_hypotheses(alloc: Global, page: &mut Vec<u8>, draft: &Draft<'_>) -> Resu
     push_floating(page, &draft.notation, &parted.others)
 }
 
-/// Appends the `$f`, folded.
+/// Appends the `$f` in a collapsed section.
 fn push_floating(
     page: &mut Vec<u8>,
     notation: &Notation<'_>,

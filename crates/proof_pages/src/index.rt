@@ -19,8 +19,8 @@ pub const INDEX_START: &[u8] =
 /// Writes the index of a site: a row for each assertion, in order, with its kind, its label as a link
 /// to its page, and its expression.
 ///
-/// Errors: `Memory`, `Output`; some of it may be written then. Cost: the size of the index; at most
-/// 64 KiB and one row are held back.
+/// Errors: `Memory`, `Output`; part of it may be written then. Cost: the size of the index; buffers at
+/// most 64 KiB and one row.
 pub fn write_index<W: Write>(
     alloc: Global,
     out: &mut W,

@@ -1,7 +1,8 @@
-//! A proof for people: its steps as lines, as a picture for Graphviz, and as a page, alone or among the pages of a site.
+//! Writes proofs for readers: the steps as lines of text, as a graph in the DOT language of Graphviz, and as an HTML
+//! page, alone or as part of a site.
 //!
-//! Every byte of a database goes into a page by `push_html` of `markup`, and into a picture by its `push_quoted`; only the
-//! name of a file, which `file_names` makes of a label, stands in a link as it is.
+//! Every byte of a database is escaped: by `push_html` of `markup` in a page, by its `push_quoted` in a graph. Only a
+//! file name in a link needs no escape: `file_names` makes it from the label.
 //!
 //! Reading order: `step_lines`, `picture`, `writing`; `notation`, `rows`; `contents`, `colours`, `draft`,
 //! `parted`, `style`, `opening`, `frame_part`, `proof_part`, `page`, `index`.

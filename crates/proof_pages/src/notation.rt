@@ -11,12 +11,12 @@ use mm_read::Stmt;
 use numbers::push_number;
 use std::alloc::AllocError;
 
-/// The form in which the symbols and the labels of a database stand on a page.
+/// How a page shows the symbols and the labels of a database.
 #[derive(Drop)]
 pub(crate) struct Notation<'a> {
     /// The statements of the database.
     pub statements: &'a [Stmt],
-    /// Their frames, which have the symbols by number.
+    /// Their frames, which have the name of each symbol number.
     pub frames: &'a Frames,
     /// The colours of the variables.
     pub colours: &'a Colours,
@@ -24,7 +24,7 @@ pub(crate) struct Notation<'a> {
     pub is_linked: bool,
 }
 
-/// Appends a name in the colour of its class; 0 is no class.
+/// Appends a name in the colour of its class; class 0 has no colour.
 pub fn push_coloured(page: &mut Vec<u8>, class: u32, name: &[u8]) -> Result<(), AllocError>
     ensures { OnOk result (page.new.items ≡ page.old.items ++ coloured class name.now) }
 {
@@ -120,8 +120,8 @@ pub fn push_page_link(page: &mut Vec<u8>, label: &[u8], position: usize) -> Resu
     page.extend_from_slice(b"</a>")
 }
 
-/// Appends the label of the statement at a position; the label of an assertion as a link, if labels
-/// are linked.
+/// Appends the label of the statement at a position, as a link if it is an assertion and labels are
+/// linked.
 pub fn push_label(
     page: &mut Vec<u8>,
     is_linked: bool,
@@ -138,8 +138,8 @@ pub fn push_label(
     }
 }
 
-/// Appends the label of the statement at a position, if one stands there; the label of an assertion as
-/// a link to its page, if labels are linked.
+/// Appends the label of the statement at a position, if there is one: as a link to its page if it is an
+/// assertion and labels are linked.
 ///
 /// Errors: an allocation fails. Cost: the size of the label.
 pub(crate) fn push_cited(

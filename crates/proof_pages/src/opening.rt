@@ -17,7 +17,7 @@ fn push_head(page: &mut Vec<u8>, title: &[u8], is_linked: bool) -> Result<(), Al
     page.extend_from_slice(b"</h1>\n")
 }
 
-/// Appends the style: a link to the sheet of a site, or the sheet itself.
+/// Appends the style: a link to the style sheet of the site, or the style sheet itself.
 fn push_style(page: &mut Vec<u8>, is_linked: bool) -> Result<(), AllocError> {
     if is_linked {
         return page.extend_from_slice(b"<link rel=\"stylesheet\" href=\"style.css\">\n");
@@ -61,7 +61,7 @@ fn push_way(page: &mut Vec<u8>, draft: &Draft<'_>) -> Result<(), AllocError> {
     page.extend_from_slice(b". <a href=\"index.html\">All statements</a></p>\n")
 }
 
-/// Appends the description as it stands, if there is one.
+/// Appends the description, escaped, if there is one.
 fn push_description(page: &mut Vec<u8>, description: Option<&[u8]>) -> Result<(), AllocError> {
     match description {
         Some(text) => {

@@ -14,12 +14,12 @@ use frame::Frames;
 use std::alloc::{AllocError, Global};
 use std::io::Write;
 
-/// Writes a page that stands alone: the assertion with its description, if `contents` has one, its hypotheses and its
-/// disjoint variables; its essential steps, all steps if `is_whole`, the axioms that it rests on, and the theorems
-/// that cite it.
+/// Writes the page of an assertion as a file of its own: the assertion with its description, if `contents` has one,
+/// its hypotheses and its disjoint variables; its essential steps, also all steps if `is_whole`, the axioms that it
+/// rests on, and the theorems that cite it.
 ///
-/// Errors: `Memory`, `Output`; some of the page may be written then. Cost: the size of the page, and the number of all
-/// steps; at most 64 KiB and one part of the page are held back.
+/// Errors: `Memory`, `Output`; part of the page may be written then. Cost: the size of the page, and the number of all
+/// steps; buffers at most 64 KiB and one part of the page.
 pub fn write_page<W: Write>(
     alloc: Global,
     out: &mut W,
@@ -31,8 +31,8 @@ pub fn write_page<W: Write>(
     write_contents(alloc, out, contents, false, is_whole)
 }
 
-/// Writes the page of an assertion among the pages of a site: the page of `write_page` with the
-/// essential steps alone, its kind, and links to the style sheet, to the index and to the pages of
+/// Writes the page of an assertion as part of a site: the page of `write_page` with only the
+/// essential steps, and with its kind and links to the style sheet, to the index and to the pages of
 /// the assertions that it names.
 ///
 /// Errors and cost: those of `write_page`.

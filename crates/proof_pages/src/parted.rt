@@ -1,4 +1,4 @@
-//! Positions split into those that are shown first and the others.
+//! Positions split by a test, for the part of a page that is shown and the part that is collapsed.
 use frame::Frames;
 use mm_read::Stmt;
 use std::alloc::{AllocError, Global};
@@ -8,7 +8,7 @@ use std::alloc::{AllocError, Global};
 pub struct Parted {
     /// The positions that pass the test.
     pub first: Vec<u32>,
-    /// The positions that do not.
+    /// The positions that do not pass it.
     pub others: Vec<u32>,
 }
 
@@ -30,7 +30,7 @@ impl Parted {
     }
 }
 
-/// Splits positions into those of `$e` and the others.
+/// Splits positions into those of `$e` and all others.
 pub fn part_essential(
     alloc: Global,
     statements: &[Stmt],
@@ -51,7 +51,7 @@ fn is_essential_at(statements: &[Stmt], position: usize) -> bool {
     matches!(&statements[position - 1], Stmt::Ess { .. })
 }
 
-/// Splits positions into those of statements that have the typecode of the statement at `at`, and the
+/// Splits positions into those of statements with the typecode of the statement at `at`, and all
 /// others.
 pub fn part_by_typecode(
     alloc: Global,
@@ -76,7 +76,7 @@ fn typecode_at(frames: &Frames, position: usize) -> Option<u32> {
     }
 }
 
-/// Returns the expression of the statement at a position, by numbers, or an empty one if it has none.
+/// Returns the symbol numbers of the expression of the statement at a position, none if it has no expression.
 pub fn expr_at(frames: &Frames, position: usize) -> &[u32] {
     if position == 0 || position > frames.len() {
         return &[];

@@ -1,4 +1,4 @@
-//! A step in a picture for Graphviz.
+//! A step as a node of a graph in the DOT language of Graphviz.
 ghost use Rattle.std.specs.Prelude.{◌≡◌, ◌<◌, ◌++◌, length, get_or, flat_map, OnOk};
 ghost use Rattle.steps.specs.Rows.{no_row};
 ghost use Rattle.proof_pages.specs.Pictures.{quoted_symbol, quoted_expr, arrow_line, node_line, node_text, picture_head};
@@ -9,7 +9,7 @@ use markup::push_quoted;
 use std::alloc::AllocError;
 use steps::ProofTable;
 
-/// Appends the first line of the picture of a theorem.
+/// Appends the first line of the graph of a theorem.
 pub fn push_head(text: &mut Vec<u8>, label: &[u8]) -> Result<(), AllocError>
     ensures { OnOk result (text.new.items ≡ text.old.items ++ picture_head label.now) }
 {
@@ -38,7 +38,7 @@ fn push_quoted_others(
     Ok(())
 }
 
-/// Appends the symbols of an expression as text between quotes, with a space between two.
+/// Appends the symbols of an expression, escaped for quotes and separated by spaces.
 fn push_quoted_expr(text: &mut Vec<u8>, frames: &Frames, expr: &[u32]) -> Result<(), AllocError>
     ensures { OnOk result (text.new.items ≡ text.old.items ++ quoted_expr frames.now.names expr.now) }
 {

@@ -9,7 +9,7 @@ use std::alloc::{AllocError, Global};
 use std::io::Write;
 use steps::ProofTable;
 
-/// Writes the proof and the axioms that it rests on, if there is a proof; the end may be held back.
+/// Writes the proof and the axioms that it rests on, if there is a proof; the end may stay buffered.
 pub fn write_proof<W: Write>(
     alloc: Global,
     out: &mut W,
@@ -26,7 +26,7 @@ pub fn write_proof<W: Write>(
     }
 }
 
-/// Writes the essential steps, and all steps folded if the page is to have them.
+/// Writes the essential steps, and all steps in a collapsed section if the page is to have them.
 fn write_tables<W: Write>(
     out: &mut W,
     page: &mut Vec<u8>,
@@ -43,7 +43,7 @@ fn write_tables<W: Write>(
     Ok(())
 }
 
-/// Writes the steps as a table; the end may be held back.
+/// Writes the steps as a table; the end may stay buffered.
 fn write_steps<W: Write>(
     out: &mut W,
     page: &mut Vec<u8>,
@@ -62,7 +62,7 @@ fn write_steps<W: Write>(
     Ok(())
 }
 
-/// Appends the axioms of the theorem's own typecode, and the others folded.
+/// Appends the axioms of the theorem's own typecode, and the others in a collapsed section.
 fn push_axioms(alloc: Global, page: &mut Vec<u8>, draft: &Draft<'_>) -> Result<(), AllocError> {
     let contents = draft.contents;
     let axioms = part_by_typecode(
@@ -76,7 +76,7 @@ fn push_axioms(alloc: Global, page: &mut Vec<u8>, draft: &Draft<'_>) -> Result<(
     push_syntax(page, &draft.notation, &axioms.others)
 }
 
-/// Appends the axioms of other typecodes, folded, if there are any.
+/// Appends the axioms of other typecodes in a collapsed section, if there are any.
 fn push_syntax(
     page: &mut Vec<u8>,
     notation: &Notation<'_>,

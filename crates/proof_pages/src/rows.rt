@@ -53,7 +53,7 @@ fn push_taken(
     page.extend_from_slice(b"<td>")
 }
 
-/// Appends a label and an expression, and ends the row.
+/// Appends the label of the cited statement and the expression, and ends the row.
 pub fn push_row_rest(
     page: &mut Vec<u8>,
     notation: &Notation<'_>,
@@ -70,8 +70,8 @@ pub fn push_row_rest(
     page.extend_from_slice(b"\n")
 }
 
-/// Appends the step at a place as a row: its number, links to the rows of the steps that it takes, its label, its
-/// expression. The ids of the rows of one table begin with the same mark.
+/// Appends the step at a place as a row: its number, links to the rows of the steps that it takes, the label of
+/// the statement that it cites, its expression. The ids of the rows of one table share the prefix `mark`.
 ///
 /// Errors: an allocation fails. Cost: the size of the row.
 pub(crate) fn push_html_step(
@@ -115,7 +115,7 @@ fn push_items(
     Ok(())
 }
 
-/// Appends a list of labels: of the statement at a position, and of those at others.
+/// Appends a list of labels: of the statement at `first`, then of those at `others`.
 fn push_list(
     page: &mut Vec<u8>,
     notation: &Notation<'_>,
@@ -131,7 +131,7 @@ fn push_list(
     page.extend_from_slice(b"</ul>\n")
 }
 
-/// Appends the labels of the statements at these positions as a list, or that there are none.
+/// Appends the labels of the statements at these positions as a list, or the text "None".
 ///
 /// Errors: an allocation fails. Cost: the size of the list.
 pub(crate) fn push_labels(

@@ -23,7 +23,7 @@ pub fn label_at(frames: &Frames, position: usize) -> &[u8]
     }
 }
 
-/// Appends the number of the step at a place, which is one greater.
+/// Appends the number of the step at a place: the place plus one.
 pub fn push_place(text: &mut Vec<u8>, place: usize) -> Result<(), AllocError>
     ensures { OnOk result (text.new.items ≡ text.old.items ++ number_text place) }
 {
@@ -47,7 +47,7 @@ fn push_others(text: &mut Vec<u8>, places: &[usize]) -> Result<(), AllocError>
     Ok(())
 }
 
-/// Appends the numbers of the steps that are taken, or `-`.
+/// Appends the numbers of the steps that are taken, or `-` if there are none.
 fn push_taken(text: &mut Vec<u8>, places: &[usize]) -> Result<(), AllocError>
     ensures { OnOk result (text.new.items ≡ text.old.items ++ taken_text places.now) }
 {
@@ -77,7 +77,8 @@ fn push_expr(text: &mut Vec<u8>, frames: &Frames, expr: &[u32]) -> Result<(), Al
     Ok(())
 }
 
-/// Appends the step at a place as a line: its number, the numbers of the steps that it takes, its label, its expression.
+/// Appends the step at a place as a line: its number, the numbers of the steps that it takes, the label of the
+/// statement that it cites, its expression.
 ///
 /// Errors: an allocation fails. Cost: the size of the line.
 pub(crate) fn push_step(

@@ -1,4 +1,4 @@
-//! Writes a proof step by step, so that a long one needs little more memory than its table.
+//! Writes a proof step by step, so that a long proof needs little more memory than its table.
 ghost use Rattle.std.specs.Prelude.{◌≡◌, [], codes, OnOk};
 ghost use Rattle.std.specs.Io.KnownBytes.{Appends};
 ghost use Rattle.proof_pages.specs.StepLines.{step_line, texts_from};
@@ -12,7 +12,7 @@ use std::alloc::{AllocError, Global};
 use std::io::Write;
 use steps::ProofTable;
 
-/// Why a proof was not written to its end.
+/// The error of a writing function.
 #[derive(Debug, Drop, PartialEq, Eq)]
 pub enum WriteFault {
     /// An allocation failed.
@@ -27,10 +27,10 @@ impl From<AllocError> for WriteFault {
     }
 }
 
-/// The number of bytes that are held back before they are written.
+/// The size of the buffer, in bytes, at which it is written.
 const PART: usize = 65_536;
 
-/// Writes the text that is held back, if it has 64 KiB, and clears it.
+/// Writes the buffered text and clears the buffer, if it has at least 64 KiB.
 pub(crate) fn write_part<W: Write>(out: &mut W, text: &mut Vec<u8>) -> Result<(), WriteFault>
     ensures { OnOk result (Wrote (W.contents out.old) (W.contents out.new) text.new.items text.old.items) }
 {
@@ -42,7 +42,7 @@ pub(crate) fn write_part<W: Write>(out: &mut W, text: &mut Vec<u8>) -> Result<()
     Ok(())
 }
 
-/// Writes the text that is held back.
+/// Writes the buffered text.
 pub(crate) fn write_rest<W: Write>(out: &mut W, text: &[u8]) -> Result<(), WriteFault>
     ensures { OnOk result (Appends (W.contents out.old) (W.contents out.new) text.now) }
 {
@@ -52,10 +52,11 @@ pub(crate) fn write_rest<W: Write>(out: &mut W, text: &[u8]) -> Result<(), Write
     }
 }
 
-/// Writes the steps, a line a step: its number, the numbers of the steps that it takes, its label, its expression.
+/// Writes a line for each step: its number, the numbers of the steps that it takes, the label of the statement that
+/// it cites, its expression.
 ///
-/// Errors: `Memory`, `Output`; some lines may be written then. Cost: the size of the lines; at most 64 KiB and one line are
-/// held back.
+/// Errors: `Memory`, `Output`; some lines may be written then. Cost: the size of the lines; buffers at most 64 KiB and
+/// one line.
 pub fn write_plain<W: Write>(
     alloc: Global,
     out: &mut W,
@@ -73,7 +74,7 @@ pub fn write_plain<W: Write>(
     write_rest(out, &text)
 }
 
-/// Writes the steps as a picture for Graphviz.
+/// Writes the steps as a graph in the DOT language of Graphviz.
 ///
 /// Errors and cost: those of `write_plain`.
 pub fn write_dot<W: Write>(

@@ -1,7 +1,7 @@
-//! The runs of bytes that are not white, in any text.
+//! Finds the runs of bytes that are not white space, in any text.
 //!
-//! `mm_lex` goes over the runs of a text without a bad byte; here a text may have any bytes, as an
-//! argument of a command line may.
+//! `mm_lex` finds the runs of a text of allowed bytes only; here a text may contain any bytes, as a
+//! command-line argument may.
 #![tactic(auto)]
 
 mod run;

@@ -1,4 +1,4 @@
--- The block of a statement: its place and number, its description, its frame if it is an assertion, and itself.
+-- The block of a statement: its line, column and number, its description, its frame if it is an assertion, and the statement.
 -- Source: this project's command `show`.
 -- The code appends each part to a buffer.
 use Rattle.std.specs.Prelude.{ℕ, List, [], ◌++◌, map, codes, decimal, Option, Some, None}
@@ -9,11 +9,11 @@ use Rattle.places.specs.declared.lines_and_columns.Position.{Position}
 use Rattle.statement_blocks.specs.Filled.{filled}
 use Rattle.statement_blocks.specs.Lines.{statement_line, frame_if}
 
--- LINE:COLUMN
+-- line and column, as LINE:COLUMN
 abbrev pub place_text : Position → List ℕ
 place_text place = decimal place.line ++ codes ":" ++ decimal place.column
 
--- .. and the number of the statement, as a line
+-- a line with that place and the number of the statement
 abbrev pub place_line : Position → ℕ → List ℕ
 place_line place at = place_text place ++ codes ": " ++ decimal at ++ codes "\n"
 

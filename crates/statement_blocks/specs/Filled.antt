@@ -1,15 +1,15 @@
--- Words filled into lines of at most 78 bytes; a longer word has its own line.
+-- Words wrapped into lines of at most 78 bytes; a longer word has its own line.
 -- Source: this project's command `show`.
 -- The code goes from word to word.
 use Rattle.std.specs.Prelude.{ℕ, Bool, ◌+◌, ◌==◌, nat_le, List, [], ◌∷◌, ◌++◌, length, codes, if◌then◌else◌}
 use Rattle.mm_lex.specs.Alphabet.{Name}
 use Rattle.statement_blocks.specs.declared.filling.TheConstants.{WIDTH}
 
--- the word fits into a line of `column` bytes, after a space
+-- a space and the word still fit into a line of `column` bytes
 abbrev pub fits : ℕ → Name → Bool
 fits column w = nat_le (column + 1 + length w) WIDTH
 
--- the bytes before a word: none at the beginning of a line, a space if the word fits, else the end of the line
+-- the bytes before a word: none at the beginning of a line, a space if the word fits, else a line feed
 abbrev pub gap : ℕ → Name → List ℕ
 gap column w = if column == 0 then [] else if fits column w then codes " " else codes "\n"
 
@@ -17,7 +17,7 @@ gap column w = if column == 0 then [] else if fits column w then codes " " else 
 abbrev pub column_after : ℕ → Name → ℕ
 column_after column w = if column == 0 then length w else if fits column w then column + 1 + length w else length w
 
--- the words, from a line on that has `column` bytes
+-- the words, appended to a line that has `column` bytes already
 abbrev pub filled_from : ℕ → List Name → List ℕ
 filled_from column [] = if column == 0 then [] else codes "\n"
 filled_from column (w ∷ ws) = gap column w ++ w ++ filled_from (column_after column w) ws

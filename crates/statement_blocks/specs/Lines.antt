@@ -15,11 +15,11 @@ use Rattle.frame.specs.FrameOf.{hypotheses, mandatory_groups}
 abbrev pub labelled : Name → List ℕ → List ℕ → List ℕ
 labelled label keyword symbols = label ++ keyword ++ symbols
 
--- the count of a proof's tokens, and the end of the line
+-- the number of a proof's tokens, and the end of the line
 abbrev pub proof_note : List Name → List ℕ
 proof_note proof = codes " (proof of " ++ decimal (length proof) ++ codes " tokens)\n"
 
--- a statement that has a label, without its proof
+-- the line of a statement that has a label, without its proof
 abbrev pub statement_line : Stmt → List ℕ
 statement_line (Float label constant variable) = labelled label (codes " $f ") constant ++ labelled (codes " ") variable (codes "\n")
 statement_line (Ess label expr) = labelled label (codes " $e ") (spaced expr) ++ codes "\n"
@@ -27,7 +27,7 @@ statement_line (Axiom label expr) = labelled label (codes " $a ") (spaced expr) 
 statement_line (Prove label expr proof) = labelled label (codes " $p ") (spaced expr) ++ proof_note proof
 statement_line s = []
 
--- the statement at a position, if one stands there
+-- the line of a statement, if there is one
 abbrev pub line_if : Option Stmt → List ℕ
 line_if None = []
 line_if (Some s) = statement_line s
@@ -48,13 +48,13 @@ abbrev pub frame_lines : Database → ℕ → Stmt → List ℕ
 frame_lines S at s =
     flat_map (line_at S) (hypotheses (before (bares S) at) s) ++ flat_map group_line (mandatory_groups (before (bares S) at) s)
 
--- a variable of a group by its number, for the private functions of `frame_lines`
+-- a variable of a group, given by its symbol number; for the private functions of `frame_lines`
 abbrev pub number_text : List Name → ℕ → List ℕ
 number_text names n = codes " " ++ name_at names n
 
 abbrev pub numbers_line : List Name → List ℕ → List ℕ
 numbers_line names group = codes "$d" ++ flat_map (number_text names) group ++ codes "\n"
 
--- the frame of an assertion; no line for another statement
+-- the frame of an assertion; nothing for any other statement
 abbrev pub frame_if : Database → ℕ → Stmt → List ℕ
 frame_if S at s = if is_assertion s then frame_lines S at s else []

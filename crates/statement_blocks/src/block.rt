@@ -13,11 +13,11 @@ use numbers::push_number;
 use places::Position;
 use std::alloc::{AllocError, Global};
 
-/// Appends the block of a statement: its place and its number, its description, its mandatory
-/// hypotheses and disjoint variables if it is an assertion, and itself without its proof.
+/// Appends the block of a statement: its line, column and number, its description, its mandatory
+/// hypotheses and disjoint variables if it is an assertion, and the statement without its proof.
 ///
 /// Errors: an allocation fails. Cost: the size of the block and of the description, and of the active
-/// `$d` if they are many.
+/// `$d` if there are many.
 pub fn push_block(alloc: Global, text: &mut Vec<u8>, shown: &Shown<'_>) -> Result<(), AllocError>
     requires { IsShown shown.now }
     ensures { OnOk result (text.new.items ≡ text.old.items ++ block_text shown.now.statements.now
@@ -30,7 +30,7 @@ pub fn push_block(alloc: Global, text: &mut Vec<u8>, shown: &Shown<'_>) -> Resul
     push_statement(text, shown.statement)
 }
 
-/// Appends the place of a statement and its number.
+/// Appends the line, the column and the number of a statement.
 fn push_place(text: &mut Vec<u8>, place: Position, at: usize) -> Result<(), AllocError>
     ensures { OnOk result (text.new.items ≡ text.old.items ++ place_line place at) }
 {

@@ -1,4 +1,4 @@
-//! Words filled into lines.
+//! Wraps words into lines.
 ghost use Rattle.std.specs.Prelude.{◌≡◌, ◌++◌, [], map, OnOk};
 ghost use Rattle.mm_lex.specs.Alphabet.{runs, word};
 ghost use Rattle.statement_blocks.specs.Filled.{fits, gap, column_after, filled, filled_from};
@@ -6,10 +6,10 @@ ghost use Rattle.statement_blocks.specs.Filled.{fits, gap, column_after, filled,
 use runs::next_run;
 use std::alloc::AllocError;
 
-/// The most bytes of a line.
+/// The maximum number of bytes in a line.
 pub(crate) const WIDTH: usize = 78;
 
-/// Appends the words of a text in lines of at most 78 bytes; a longer word has its own line.
+/// Appends the words of a text, wrapped into lines of at most 78 bytes; a longer word has its own line.
 ///
 /// Cost: the size of the text.
 pub(crate) fn push_filled(lines: &mut Vec<u8>, text: &[u8]) -> Result<(), AllocError>
@@ -28,7 +28,7 @@ pub(crate) fn push_filled(lines: &mut Vec<u8>, text: &[u8]) -> Result<(), AllocE
     push_end(lines, column)
 }
 
-/// Appends the end of a line of `column` bytes, unless it is empty.
+/// Appends a line feed after a line of `column` bytes, unless the line is empty.
 fn push_end(lines: &mut Vec<u8>, column: usize) -> Result<(), AllocError>
     ensures { OnOk result (lines.new.items ≡ lines.old.items ++ filled_from column []) }
 {
@@ -39,7 +39,7 @@ fn push_end(lines: &mut Vec<u8>, column: usize) -> Result<(), AllocError>
     }
 }
 
-/// Appends the space or the end of the line that comes before a word, in a line of `column` bytes.
+/// Appends the space or the line feed that precedes a word, in a line of `column` bytes.
 fn push_gap(lines: &mut Vec<u8>, column: usize, word: &[u8]) -> Result<(), AllocError>
     ensures { OnOk result (lines.new.items ≡ lines.old.items ++ gap column word.now) }
 {
@@ -63,7 +63,7 @@ fn column_after(column: usize, word: &[u8]) -> usize
     }
 }
 
-/// Returns whether a word fits into a line of `column` bytes, after a space.
+/// Returns whether a space and a word still fit into a line of `column` bytes.
 fn fits(column: usize, word: &[u8]) -> bool
     ensures { result ≡ fits column word.now }
 {

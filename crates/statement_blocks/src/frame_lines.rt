@@ -12,9 +12,9 @@ use frame::{FrameBuffers, Frames};
 use mm_read::Stmt;
 use std::alloc::{AllocError, Global};
 
-/// Appends the mandatory hypotheses and the disjoint variables of an assertion.
+/// Appends the mandatory hypotheses of an assertion and its mandatory variables in each active `$d`.
 ///
-/// Cost: the size of its frame, and of the active `$d` if they are many.
+/// Cost: the size of its frame, and of the active `$d` if there are many.
 pub(crate) fn push_frame(
     alloc: Global,
     text: &mut Vec<u8>,
@@ -46,7 +46,7 @@ fn push_hypotheses(
     Ok(())
 }
 
-/// Appends the statement at a position, if one stands there.
+/// Appends the statement at a position, if there is one.
 fn push_at(text: &mut Vec<u8>, statements: &[Stmt], position: usize) -> Result<(), AllocError>
     ensures { OnOk result (text.new.items ≡ text.old.items ++ line_at statements.now position) }
 {

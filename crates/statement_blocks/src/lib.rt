@@ -1,4 +1,5 @@
-//! A statement as a block of lines for people: its place, its description, its frame, and itself.
+//! Shows a statement as a block of lines: its place in the text, its description, its frame, and the
+//! statement itself.
 //!
 //! Reading order: `shown`, `statement_line`, `frame_lines`, `filling` (a description in lines of at most
 //! 78 bytes), `block`.

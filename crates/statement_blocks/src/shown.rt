@@ -1,12 +1,12 @@
-//! A statement that is shown.
+//! The input of a block.
 use frame::Frames;
 use mm_read::Stmt;
 use places::Position;
 
-/// A statement that is shown, with all that its block is made of.
+/// A statement to show, with everything that its block is made of.
 #[derive(Drop)]
 pub struct Shown<'a> {
-    /// All statements.
+    /// All statements of the database.
     pub statements: &'a [Stmt],
     /// Their frames.
     pub frames: &'a Frames,

@@ -7,8 +7,8 @@ use mm_read::Stmt;
 use numbers::push_number;
 use std::alloc::AllocError;
 
-/// Appends a statement without its proof as a line: its label, its keyword and its symbols, with one
-/// space between two, and for a `$p` the count of its proof's tokens. Appends nothing for a statement
+/// Appends a statement without its proof as a line: its label, its keyword and its symbols, separated
+/// by single spaces, and for a `$p` the number of its proof's tokens. Appends nothing for a statement
 /// without a label.
 pub(crate) fn push_statement(text: &mut Vec<u8>, statement: &Stmt) -> Result<(), AllocError>
     ensures { OnOk result (text.new.items ≡ text.old.items ++ statement_line statement.now) }
@@ -53,7 +53,7 @@ fn push_labelled(
     text.extend_from_slice(symbols)
 }
 
-/// Appends the count of a proof's tokens, and ends the line.
+/// Appends the number of a proof's tokens, and ends the line.
 fn push_proof_note(text: &mut Vec<u8>, proof: &Words) -> Result<(), AllocError>
     ensures { OnOk result (text.new.items ≡ text.old.items ++ proof_note proof.now) }
 {
