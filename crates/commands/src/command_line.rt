@@ -10,7 +10,7 @@ use crate::request::{
 use crate::weights::{WorkerCount, parse_weights};
 use clap::error::ErrorKind;
 use clap::{ArgMatches, Error};
-use finding::Sought;
+use finding::SearchQuery;
 use numbers::parse_number;
 use patterns::{BadPattern, Pattern, SearchWords};
 use std::alloc::{AllocError, Global};
@@ -124,17 +124,17 @@ fn labels<'a>(alloc: Global, options: &ArgMatches<'a>) -> Result<Vec<&'a str>, A
 }
 
 /// Returns the search that the options of `find` give.
-fn sought<'a>(alloc: Global, options: &ArgMatches<'a>) -> Result<Sought<'a>, WordsFault> {
+fn sought<'a>(alloc: Global, options: &ArgMatches<'a>) -> Result<SearchQuery<'a>, WordsFault> {
     let text = options.get_str("pattern").unwrap_or("");
     if options.get_flag("words") {
         return match SearchWords::new(text) {
-            Some(words) => Ok(Sought::Words(words)),
+            Some(words) => Ok(SearchQuery::Words(words)),
             None => Err(invalid(alloc, "a word is wanted")),
         };
     }
     match Pattern::parse(alloc, text) {
-        Ok(pattern) if options.get_flag("hypotheses") => Ok(Sought::WithHypotheses(pattern)),
-        Ok(pattern) => Ok(Sought::Pattern(pattern)),
+        Ok(pattern) if options.get_flag("hypotheses") => Ok(SearchQuery::WithHypotheses(pattern)),
+        Ok(pattern) => Ok(SearchQuery::Pattern(pattern)),
         Err(BadPattern::Word(_)) => Err(invalid(
             alloc,
             "a word of a pattern is $?, $* or a symbol, which has no $",

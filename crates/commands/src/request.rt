@@ -1,6 +1,6 @@
 //! Requests of a command line.
 use crate::weights::WorkerCount;
-use finding::Sought;
+use finding::SearchQuery;
 use std::alloc::AllocError;
 use synod::Weights;
 
@@ -101,7 +101,7 @@ pub enum Question<'a> {
     /// `show`: the statements with the labels, each as a block of lines.
     Show(Vec<&'a str>),
     /// `find`: the assertions that match a search.
-    Find(Sought<'a>),
+    Find(SearchQuery<'a>),
 }
 
 /// A question about the proof of a `$p`.

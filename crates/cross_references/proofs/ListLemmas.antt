@@ -1,5 +1,5 @@
 -- Lists that positions are added to.
-use Rattle.cross_references.proofs.Words.{◌≡◌, ◌≢◌, ◌⊎◌, ◌↔◌, ℕ, zero, suc, ◌+◌, ◌-◌, ◌<◌, ◌≤◌, List, [], ◌∷◌, ◌++◌, length, take, get_or, slice_set, Some, slice_get, Result, Ok, Err, OnOk, sym, ◌∙◌, ap, subst, refl, arith, inl, inr, take_all, cases_eq, cases_lt, take_more, get_or_past, get_or-set_other, get_or-set_same, length-set, slice_get-get_or, Ascends, AreAbove, In, AreThose, HasMore, OfSome, in-place, place-in, last-in, last-out, those-by, Rises, IsIn, AreThosePassing, AreRounds}
+use Rattle.cross_references.proofs.Words.{◌≡◌, ◌≢◌, ◌⊎◌, ◌↔◌, ℕ, zero, suc, ◌+◌, ◌-◌, ◌<◌, ◌≤◌, List, [], ◌∷◌, ◌++◌, length, take, get_or, slice_set, Some, slice_get, Result, Ok, Err, OnOk, sym, ◌∙◌, ap, subst, refl, arith, inl, inr, take_all, cases_eq, cases_lt, take_more, get_or_past, get_or-set_other, get_or-set_same, length-set, slice_get-get_or, Ascends, AreAbove, In, AreThose, HasMore, OfSome, in-place, place-in, last-in, last-out, those-by, Rises, IsIn, AreThosePassing, IsRoundTable}
 
 pub has-nothing : (P : ℕ → Type 0) (list : List ℕ) → ((p : ℕ) → P p → ⊥) → HasMore P list list
 has-nothing P list none = record { stays = λ p i. i; all = λ p q. absurd (none p q); only = λ p i. inl i }
@@ -131,7 +131,7 @@ on-ok (Ok v) f h = f h
 on-ok (Err e) f h = tt
 
 -- a position that was added in this round is there
-pub has_already : (list rounds : List ℕ) (round position : ℕ) → AreRounds list rounds round → get_or rounds position 0 ≡ round → HasMore (λ p. p ≡ position) list list
+pub has_already : (list rounds : List ℕ) (round position : ℕ) → IsRoundTable list rounds round → get_or rounds position 0 ≡ round → HasMore (λ p. p ≡ position) list list
 has_already list rounds round position are here = record {
   stays = λ p i. i;
   all = λ p e. subst (λ q. In q list) (sym e) (are.among position here);
@@ -142,7 +142,7 @@ pub has_pushed : (position : ℕ) (old new : List ℕ) → new ≡ old ++ positi
 has_pushed position old new is = has-one position old new is
 
 -- one more position, and its round
-pub rounds_more : (list rounds new news : List ℕ) (round position : ℕ) → AreRounds list rounds round → new ≡ list ++ position ∷ [] → news ≡ slice_set rounds position round → AreRounds new news round
+pub rounds_more : (list rounds new news : List ℕ) (round position : ℕ) → IsRoundTable list rounds round → new ≡ list ++ position ∷ [] → news ≡ slice_set rounds position round → IsRoundTable new news round
 rounds_more list rounds new news round position are is set = record {
   some = are.some;
   past = λ k. past k (cases_eq k position);

@@ -1,5 +1,5 @@
 -- The steps of the pass over the statements.
-use Rattle.cross_references.proofs.Words.{◌≡◌, ◌⊎◌, ◌↔◌, ℕ, zero, suc, ◌+◌, ◌-◌, ◌<◌, ◌≤◌, Bool, true, false, IsTrue, List, [], ◌∷◌, ◌++◌, length, map, take, drop, get_or, replicate, slice_set, Some, sym, ◌∙◌, ap, subst, refl, arith, inl, inr, take_all, length-append, append-nil, cases_eq, cases_lt, Vec, drop_all, get_or-map, map-append, map-set, get_or-set_other, get_or-set_same, get_or_append_left, get_or_past, length-map, length-set, length-replicate, Ascends, has_position, In, AreThose, HasMore, OfSome, last-in, last-out, those-by, in-has, has-in, Good, Cites, RestsOn, directly, through, Uses, IsAxiomAt, IsUser, is_axiom, cites-below, Database, Stmt, stmt_at, stands-within, AreThosePassing, AreListsOf, AreReferences, lists_of, Gives, AreWithin, HaveUser, AreDone}
+use Rattle.cross_references.proofs.Words.{◌≡◌, ◌⊎◌, ◌↔◌, ℕ, zero, suc, ◌+◌, ◌-◌, ◌<◌, ◌≤◌, Bool, true, false, IsTrue, List, [], ◌∷◌, ◌++◌, length, map, take, drop, get_or, replicate, slice_set, Some, sym, ◌∙◌, ap, subst, refl, arith, inl, inr, take_all, length-append, append-nil, cases_eq, cases_lt, Vec, drop_all, get_or-map, map-append, map-set, get_or-set_other, get_or-set_same, get_or_append_left, get_or_past, length-map, length-set, length-replicate, Ascends, has_position, In, AreThose, HasMore, OfSome, last-in, last-out, those-by, in-has, has-in, Good, Cites, RestsOn, directly, through, Uses, IsAxiomAt, IsUser, is_axiom, cites-below, Database, Stmt, stmt_at, stands-within, AreThosePassing, AreListsOf, AreReferences, lists_of, Gives, AreWithin, HaveUserAdded, AreDone}
 use Rattle.cross_references.proofs.ListLemmas.{has-as, has-both, in-more, more-in, next-apart, those-passing, ascends-last}
 
 -- what is cited stands before
@@ -71,7 +71,7 @@ module _ (S : Database) (n k : ℕ) (old new : List ℕ) (are : AreThose (CiteUp
         | inr apart ↦ (let h = u.0 in omega (arith, h, apart), u.1)
       ]))
 
-users-next : (S : Database) (n k : ℕ) (cited : List ℕ) (old new : List (List ℕ)) → AreThose (Cites S (suc n)) cited → HaveUser (suc n) cited old new
+users-next : (S : Database) (n k : ℕ) (cited : List ℕ) (old new : List (List ℕ)) → AreThose (Cites S (suc n)) cited → HaveUserAdded (suc n) cited old new
     → AreThose (CiteUpto S n k) (get_or old k []) → AreThose (CiteUpto S (suc n) k) (get_or new k [])
 users-next S n k cited old new those have are = by (has_position (suc k) cited) refl
   where
@@ -86,7 +86,7 @@ users-next S n k cited old new those have are = by (has_position (suc k) cited) 
 
 -- one list more has the user
 pub user-pushed : (at : ℕ) (positions : List ℕ) (i p : ℕ) (first old new : List (List ℕ)) → Ascends positions → i < length positions → p ≡ get_or positions i 0 → 0 < p → p ≤ length first
-    → new ≡ slice_set old (p - 1) (get_or old (p - 1) [] ++ at ∷ []) → HaveUser at (take i positions) first old → HaveUser at (take (i + 1) positions) first new
+    → new ≡ slice_set old (p - 1) (get_or old (p - 1) [] ++ at ∷ []) → HaveUserAdded at (take i positions) first old → HaveUserAdded at (take (i + 1) positions) first new
 user-pushed at positions i zero first old new asc h is some within set have = absurd (omega (arith, some))
 user-pushed at positions i (suc m) first old new asc h is some within set have = record {
   count = ap length made ∙ (length-set old m (get_or old m [] ++ at ∷ []) ∙ have.count);
@@ -120,11 +120,11 @@ user-pushed at positions i (suc m) first old new asc h is some within set have =
         elsewhere k (λ e. none (more-in positions i (suc k) h (inr (ap suc e ∙ is))))
         ∙ have.others k (λ before. none (more-in positions i (suc k) h (inl before)))
 
-pub user-none : (at : ℕ) (lists : List (List ℕ)) → HaveUser at [] lists lists
+pub user-none : (at : ℕ) (lists : List (List ℕ)) → HaveUserAdded at [] lists lists
 user-none at lists = record { count = refl; those = λ k i. absurd i; others = λ k none. refl }
 
-pub user-all : (at : ℕ) (positions : List ℕ) (i : ℕ) (old new : List (List ℕ)) → length positions ≤ i → HaveUser at (take i positions) old new → HaveUser at positions old new
-user-all at positions i old new h have = subst (λ ps. HaveUser at ps old new) (take_all i positions h) have
+pub user-all : (at : ℕ) (positions : List ℕ) (i : ℕ) (old new : List (List ℕ)) → length positions ≤ i → HaveUserAdded at (take i positions) old new → HaveUserAdded at positions old new
+user-all at positions i old new h have = subst (λ ps. HaveUserAdded at ps old new) (take_all i positions h) have
 
 -- ---- all statements
 
@@ -162,7 +162,7 @@ module _ (S : Database) where
   }
 
   pub done-next : (n m : ℕ) (axioms users new news : List (List ℕ)) (cited list : List ℕ) → Good S → m ≡ suc n → n < length S → AreThose (Cites S (suc n)) cited
-      → HaveUser (suc n) cited users news → AreThose (OfSome (Gives S axioms) cited) list → new ≡ axioms ++ list ∷ [] → AreDone S n axioms users → AreDone S m new news
+      → HaveUserAdded (suc n) cited users news → AreThose (OfSome (Gives S axioms) cited) list → new ≡ axioms ++ list ∷ [] → AreDone S n axioms users → AreDone S m new news
   done-next n m axioms users new news cited list good is h those have given more done =
       subst (λ q. AreDone S q new news) (sym is) (subst (λ l. AreDone S (suc n) l news) (sym more) (record {
         within = omega (arith, h);
@@ -246,11 +246,11 @@ lent-lists n s old same all =
 
 -- ---- what the calls say, in the words of the pass
 
-pub have-as : (at m : ℕ) (ps qs : List ℕ) (lent old new : List (Vec ℕ)) → m ≡ at → ps ≡ qs → lent ≡ old → HaveUser m ps (lists_of lent) (lists_of new) → HaveUser at qs (lists_of old) (lists_of new)
+pub have-as : (at m : ℕ) (ps qs : List ℕ) (lent old new : List (Vec ℕ)) → m ≡ at → ps ≡ qs → lent ≡ old → HaveUserAdded m ps (lists_of lent) (lists_of new) → HaveUserAdded at qs (lists_of old) (lists_of new)
 have-as at m ps qs lent old new same is all have =
-    subst (λ a. HaveUser a qs (lists_of old) (lists_of new)) same
-    (subst (λ (l : List ℕ). HaveUser m l (lists_of old) (lists_of new)) is
-    (subst (λ (us : List (Vec ℕ)). HaveUser m ps (lists_of us) (lists_of new)) all have))
+    subst (λ a. HaveUserAdded a qs (lists_of old) (lists_of new)) same
+    (subst (λ (l : List ℕ). HaveUserAdded m l (lists_of old) (lists_of new)) is
+    (subst (λ (us : List (Vec ℕ)). HaveUserAdded m ps (lists_of us) (lists_of new)) all have))
 
 pub given-as : (S T : Database) (ps qs list : List ℕ) (lent axioms : List (Vec ℕ)) → T ≡ S → ps ≡ qs → lent ≡ axioms → AreThose (OfSome (Gives T (lists_of lent)) ps) list → AreThose (OfSome (Gives S (lists_of axioms)) qs) list
 given-as S T ps qs list lent axioms same is all given =

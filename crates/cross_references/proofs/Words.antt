@@ -1,5 +1,5 @@
 -- The words in which this crate is proved, passed on from one place.
-pub use Rattle.cross_references.specs.Passes.{AreDone, AreRounds, AreWithin, Gives, HaveUser, listed_place, lists_of}
+pub use Rattle.cross_references.specs.Passes.{AreDone, IsRoundTable, AreWithin, Gives, HaveUserAdded, listed_place, lists_of}
 pub use Rattle.cross_references.specs.References.{AreListsOf, AreReferences, AreThosePassing}
 pub use Rattle.entries.specs.PositionSets.{AreAbove, Ascends, has_position}
 pub use Rattle.frame.proofs.AscendingLists.{in-place, place-in}

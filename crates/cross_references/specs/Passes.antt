@@ -16,7 +16,7 @@ listed_place None = []
 listed_place (Some position) = position ∷ []
 
 -- each position was last added in this round, in an earlier one or never; those added in this round are in the list
-pub record AreRounds (list rounds : List ℕ) (round : ℕ) : Type 0 where
+pub record IsRoundTable (list rounds : List ℕ) (round : ℕ) : Type 0 where
   pub some : 0 < round
   pub past : (k : ℕ) → get_or rounds k 0 ≤ round
   pub among : (k : ℕ) → get_or rounds k 0 ≡ round → In k list
@@ -30,7 +30,7 @@ abbrev pub AreWithin : ℕ → List ℕ → Type 0
 AreWithin count positions = (p : ℕ) → In p positions → (0 < p) × (p ≤ count)
 
 -- the user at `at` was added to the lists of exactly these positions
-pub record HaveUser (at : ℕ) (positions : List ℕ) (old new : List (List ℕ)) : Type 0 where
+pub record HaveUserAdded (at : ℕ) (positions : List ℕ) (old new : List (List ℕ)) : Type 0 where
   pub count : length new ≡ length old
   pub those : (k : ℕ) → In (suc k) positions → get_or new k [] ≡ get_or old k [] ++ at ∷ []
   pub others : (k : ℕ) → (In (suc k) positions → ⊥) → get_or new k [] ≡ get_or old k []

@@ -19,13 +19,13 @@ pub struct Collector {
 
 impl Model for Collector {
     ghost use Rattle.std.specs.Prelude.{List, ℕ};
-    ghost use Rattle.cross_references.specs.Passes.{AreRounds};
+    ghost use Rattle.cross_references.specs.Passes.{IsRoundTable};
 
     ghost Value = { List ℕ };
 
     ghost view = { λ a. a.list.items };
 
-    ghost invariant = { λ a. AreRounds a.list.items a.rounds.items a.round };
+    ghost invariant = { λ a. IsRoundTable a.list.items a.rounds.items a.round };
 }
 
 impl Collector {
@@ -56,7 +56,7 @@ impl Collector {
     pub fn add(&mut self, position: usize) -> Result<(), AllocError>
         ensures { OnOk result (HasMore (λ p. p ≡ position) self.old self.new) }
     {
-        if is_noted(&self.rounds, position, self.round) {
+        if is_collected(&self.rounds, position, self.round) {
             return Ok(());
         }
         self.list.push(position)?;
@@ -85,7 +85,7 @@ impl Collector {
 }
 
 /// Returns whether a position was added in this round.
-fn is_noted(rounds: &Vec<usize>, position: usize, round: usize) -> bool
+fn is_collected(rounds: &Vec<usize>, position: usize, round: usize) -> bool
     ensures { result ≡ true → get_or rounds.now.items position 0 ≡ round }
 {
     position < rounds.len() && rounds[position] == round

@@ -5,7 +5,7 @@ ghost use Rattle.frame.specs.Stored.Hypotheses.{AreThose, HasMore, OfSome};
 ghost use Rattle.library.specs.Good.{Good};
 ghost use Rattle.library.specs.Uses.{Cites, Uses, is_axiom};
 ghost use Rattle.cross_references.specs.References.{AreReferences};
-ghost use Rattle.cross_references.specs.Passes.{lists_of, Gives, AreWithin, HaveUser, AreDone};
+ghost use Rattle.cross_references.specs.Passes.{lists_of, Gives, AreWithin, HaveUserAdded, AreDone};
 
 use crate::citations::cited_at;
 use crate::collector::Collector;
@@ -65,7 +65,7 @@ fn empty_lists(alloc: Global, count: usize) -> Result<Vec<Vec<usize>>, AllocErro
 fn add_user(users: &mut [Vec<usize>], cited: &[usize], at: usize) -> Result<(), AllocError>
     requires ascends { Ascends cited.now }
     requires within { AreWithin (length users.old) cited.now }
-    ensures { OnOk result (HaveUser at cited.now (lists_of users.old) (lists_of users.new)) }
+    ensures { OnOk result (HaveUserAdded at cited.now (lists_of users.old) (lists_of users.new)) }
 {
     for position in cited {
         push_user(users, *position, at)?;
@@ -98,13 +98,13 @@ fn axioms_at(
 {
     collector.begin()?;
     for position in cited {
-        add_given(statements, axioms, *position, collector)?;
+        add_axioms_of(statements, axioms, *position, collector)?;
     }
     collector.ordered()
 }
 
 /// Collects the position if the statement there is a `$a`, and the positions of the `$a` that the statement rests on.
-fn add_given(
+fn add_axioms_of(
     statements: &[Stmt],
     axioms: &[Vec<usize>],
     position: usize,

@@ -1,2 +1,2 @@
-pub mod SideBySideLemmas
+pub mod ParallelLemmas
 pub mod SameLemmas

@@ -43,11 +43,11 @@ pub fn is_extract(
         part: Scope::new(alloc),
         next: 0,
     };
-    is_walk(alloc, whole, part, labels, &mut walk)
+    walk_to_end(alloc, whole, part, labels, &mut walk)
 }
 
 /// Walks over both lists from the start. Returns whether no difference is found up to the end of both.
-fn is_walk(
+fn walk_to_end(
     alloc: Global,
     whole: &[Stmt],
     part: &[Stmt],
@@ -84,14 +84,14 @@ fn advance(
 {
     let statement = &whole[index];
     let wanted = is_wanted(statement, labels);
-    if !is_at(part, walk.next, statement) {
+    if !has_at(part, walk.next, statement) {
         return if wanted {
             Ok(false)
         } else {
             accepts(&mut walk.whole, statement)
         };
     }
-    if !agrees(alloc, whole, part, walk, wanted, statement)? {
+    if !has_same_frame(alloc, whole, part, walk, wanted, statement)? {
         return Ok(false);
     }
     pass_both(walk, statement, walk.next + 1)
@@ -135,7 +135,7 @@ fn is_wanted(statement: &Stmt, labels: &[&str]) -> bool
 }
 
 /// Returns whether the statement at an index is equal to this one.
-fn is_at(statements: &[Stmt], index: usize, statement: &Stmt) -> bool
+fn has_at(statements: &[Stmt], index: usize, statement: &Stmt) -> bool
     ensures stands { result ≡ true → slice_get statements.now index ≡ Some statement.now }
     ensures within { result ≡ true → index < length statements.now }
 {
@@ -146,7 +146,7 @@ fn is_at(statements: &[Stmt], index: usize, statement: &Stmt) -> bool
 }
 
 /// Returns whether a statement that is next in both lists has the same frame in both, if it is a wanted assertion.
-fn agrees(
+fn has_same_frame(
     alloc: Global,
     whole: &[Stmt],
     part: &[Stmt],
@@ -170,19 +170,19 @@ fn same_frame(whole: &[Stmt], part: &[Stmt], one: &Frame, other: &Frame) -> bool
     ensures positions { result ≡ true → map (stmt_at whole.now) one.now.hypotheses ≡ map (stmt_at part.now) other.now.hypotheses }
     ensures groups { result ≡ true → one.now.groups ≡ other.now.groups }
 {
-    same_positions(whole, part, one.hypotheses(), other.hypotheses())
+    have_equal_at_each(whole, part, one.hypotheses(), other.hypotheses())
         && same_groups(one.groups(), other.groups())
 }
 
 /// Returns whether the statements at these positions of the two lists are equal.
-fn same_positions(whole: &[Stmt], part: &[Stmt], one: &[usize], other: &[usize]) -> bool
+fn have_equal_at_each(whole: &[Stmt], part: &[Stmt], one: &[usize], other: &[usize]) -> bool
     ensures { result ≡ true → map (stmt_at whole.now) one.now ≡ map (stmt_at part.now) other.now }
 {
     if one.len() != other.len() {
         return false;
     }
     for index in 0..one.len() {
-        if !same_place(whole, part, one[index], other[index]) {
+        if !have_equal_at(whole, part, one[index], other[index]) {
             return false;
         }
     }
@@ -190,14 +190,14 @@ fn same_positions(whole: &[Stmt], part: &[Stmt], one: &[usize], other: &[usize])
 }
 
 /// Returns whether there are statements at both positions and they are equal.
-fn same_place(whole: &[Stmt], part: &[Stmt], one: usize, other: usize) -> bool
+fn have_equal_at(whole: &[Stmt], part: &[Stmt], one: usize, other: usize) -> bool
     ensures { result ≡ true → stmt_at whole.now one ≡ stmt_at part.now other }
 {
     if one == 0 || other == 0 {
         return false;
     }
     match whole.get(one - 1) {
-        Some(statement) => is_at(part, other - 1, statement),
+        Some(statement) => has_at(part, other - 1, statement),
         None => false,
     }
 }

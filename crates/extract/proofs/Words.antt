@@ -1,5 +1,5 @@
 -- The words in which this crate is proved, passed on from one place.
-pub use Rattle.database_parts.proofs.SideBySideLemmas.{part-whole}
+pub use Rattle.database_parts.proofs.ParallelLemmas.{part-whole}
 pub use Rattle.database_parts.specs.Selected.{IsKept, IsPart}
 pub use Rattle.database_parts.specs.Walk.{AreKept, wanted}
 pub use Rattle.extract.specs.Extract.{IsExtract}

@@ -1,5 +1,5 @@
 -- The `$e` with a pattern that are kept, and the hypotheses of an assertion.
-use Rattle.finding.proofs.Words.{◌≡◌, ℕ, zero, suc, ◌+◌, ◌-◌, ◌<◌, ◌≤◌, Bool, true, false, ◌&&◌, nat_le, nat_lt, List, [], ◌∷◌, ◌++◌, length, take, drop, map, filter, Option, Some, None, slice_get, get_or, refl, ap, sym, ◌∙◌, subst, arith, inl, inr, length-append, lt-ltb, take-take, take-append-drop, ◌↔◌, ◌⊎◌, IsFalse, IsTrue, OnOk, Result, option_map, option_and_then, and_from, and_parts, both_ways, cases_lt, ltb-true, get_or-take, get_or_append_left, get_or_at, same_Some, slice_get-get_or, on_ok_weaker, Stmt, Ess, Database, active_from, bare, bares, before, is_active, is_essential, stays_open, stmt_at, stmt_at-bares, is_hypothesis_kind, hypotheses, is_hypothesis, In, IsActiveAt, active-members, members-active, active-stays, get-take, cut-here, drop-front, length-cut, stays_open-front, Part, AreKept, AreNoted, IsLeft, IsSomeHypothesis, Sought, WithHypotheses, HasIn, essential_expr, essential_at, SomeEssentialHas}
+use Rattle.finding.proofs.Words.{◌≡◌, ℕ, zero, suc, ◌+◌, ◌-◌, ◌<◌, ◌≤◌, Bool, true, false, ◌&&◌, nat_le, nat_lt, List, [], ◌∷◌, ◌++◌, length, take, drop, map, filter, Option, Some, None, slice_get, get_or, refl, ap, sym, ◌∙◌, subst, arith, inl, inr, length-append, lt-ltb, take-take, take-append-drop, ◌↔◌, ◌⊎◌, IsFalse, IsTrue, OnOk, Result, option_map, option_and_then, and_from, and_parts, both_ways, cases_lt, ltb-true, get_or-take, get_or_append_left, get_or_at, same_Some, slice_get-get_or, on_ok_weaker, Stmt, Ess, Database, active_from, bare, bares, before, is_active, is_essential, stays_open, stmt_at, stmt_at-bares, is_hypothesis_kind, hypotheses, is_hypothesis, In, IsActiveAt, active-members, members-active, active-stays, get-take, cut-here, drop-front, length-cut, stays_open-front, Part, AreMatchingEssentials, AreRecorded, IsTrimmedLength, IsActiveHypothesis, SearchQuery, WithHypotheses, HasPattern, essential_expr, essential_at, SomeEssentialHas}
 
 -- ---- one statement
 
@@ -9,14 +9,14 @@ record IsThere (S : Database) (i : ℕ) : Type 0 where
   pub stands : stmt_at (bares S) i ≡ Some stmt
   pub essential : is_essential stmt ≡ true
 
-there : (p : List Part) (S : Database) (i : ℕ) → HasIn p (essential_at S i) → IsThere S i
+there : (p : List Part) (S : Database) (i : ℕ) → HasPattern p (essential_at S i) → IsThere S i
 there p S i has = by (stmt_at S i) refl has
   where
-    of : (s : Stmt) → stmt_at S i ≡ Some s → HasIn p (essential_expr s) → IsThere S i
+    of : (s : Stmt) → stmt_at S i ≡ Some s → HasPattern p (essential_expr s) → IsThere S i
     of (Ess label expr) stands h = record { stmt = Ess label expr; stands = stmt_at-bares S i ∙ ap (option_map bare) stands; essential = refl }
     of s stands h = absurd h
 
-    by : (o : Option Stmt) → stmt_at S i ≡ o → HasIn p (option_and_then essential_expr o) → IsThere S i
+    by : (o : Option Stmt) → stmt_at S i ≡ o → HasPattern p (option_and_then essential_expr o) → IsThere S i
     by None stands h = absurd h
     by (Some s) stands h = of s stands h
 
@@ -79,24 +79,24 @@ active-listed F at i s in_list =
 -- ---- the `$e` with a pattern
 
 module _ (p : List Part) (S : Database) where
-  some-from : (i : ℕ) (positions : List ℕ) → In i positions → HasIn p (essential_at S i) → SomeEssentialHas p S positions
+  some-from : (i : ℕ) (positions : List ℕ) → In i positions → HasPattern p (essential_at S i) → SomeEssentialHas p S positions
   some-from i [] never has = absurd never
-  some-from i (q ∷ positions) (inl e) has = inl (subst (λ n. HasIn p (essential_at S n)) e has)
+  some-from i (q ∷ positions) (inl e) has = inl (subst (λ n. HasPattern p (essential_at S n)) e has)
   some-from i (q ∷ positions) (inr more) has = inr (some-from i positions more has)
 
-  some-to : (positions : List ℕ) → SomeEssentialHas p S positions → (i : ℕ) × In i positions × HasIn p (essential_at S i)
+  some-to : (positions : List ℕ) → SomeEssentialHas p S positions → (i : ℕ) × In i positions × HasPattern p (essential_at S i)
   some-to [] never = absurd never
   some-to (q ∷ positions) (inl has) = (q, inl refl, has)
   some-to (q ∷ positions) (inr more) = let r = some-to positions more in (r.0, inr r.1, r.2)
 
-  active-hypothesis : (at i : ℕ) → HasIn p (essential_at S i) → is_active (bares S) i at ≡ true → IsSomeHypothesis (bares S) at i
+  active-hypothesis : (at i : ℕ) → HasPattern p (essential_at S i) → is_active (bares S) i at ≡ true → IsActiveHypothesis (bares S) at i
   active-hypothesis at i has active = let t = there p S i has in (t.stmt, record { stands = t.stands; kind = kind-of t.stmt t.essential; active = active })
 
   -- none before the first statement
-  pub kept-none : AreKept p S 0 []
+  pub kept-none : AreMatchingEssentials p S 0 []
   kept-none = record { each = λ k lt. absurd (omega (arith, lt)); all = λ i le has active. absurd (none i le has) }
     where
-      none : (i : ℕ) → i ≤ 0 → HasIn p (essential_at S i) → ⊥
+      none : (i : ℕ) → i ≤ 0 → HasPattern p (essential_at S i) → ⊥
       none zero le has = has
       none (suc i) le has = omega (arith, le)
 
@@ -105,26 +105,26 @@ module _ (p : List Part) (S : Database) where
     earlier i lt active = subst (λ m. is_active (bares S) i m ≡ true) (sym next) (active-earlier (bares S) i at lt active)
 
     -- one statement more, which has it ..
-    pub kept-with : (s : Stmt) (list new : List ℕ) → stmt_at S at ≡ Some s → HasIn p (essential_expr s) → new ≡ list ++ at ∷ [] → AreKept p S n list → AreKept p S at new
-    kept-with s list new stands has pushed kept = subst (AreKept p S at) (sym pushed) (record { each = each; all = all })
+    pub kept-with : (s : Stmt) (list new : List ℕ) → stmt_at S at ≡ Some s → HasPattern p (essential_expr s) → new ≡ list ++ at ∷ [] → AreMatchingEssentials p S n list → AreMatchingEssentials p S at new
+    kept-with s list new stands has pushed kept = subst (AreMatchingEssentials p S at) (sym pushed) (record { each = each; all = all })
       where
-        here : HasIn p (essential_at S at)
-        here = subst (λ o. HasIn p (option_and_then essential_expr o)) (sym stands) has
+        here : HasPattern p (essential_at S at)
+        here = subst (λ o. HasPattern p (option_and_then essential_expr o)) (sym stands) has
 
         count : length (list ++ at ∷ []) ≡ length list + 1
         count = length-append list (at ∷ [])
 
-        each : (k : ℕ) → k < length (list ++ at ∷ []) → (get_or (list ++ at ∷ []) k 0 ≤ at) × HasIn p (essential_at S (get_or (list ++ at ∷ []) k 0))
+        each : (k : ℕ) → k < length (list ++ at ∷ []) → (get_or (list ++ at ∷ []) k 0 ≤ at) × HasPattern p (essential_at S (get_or (list ++ at ∷ []) k 0))
         each k lt = by (cases_lt k (length list))
           where
-            by : (k < length list) ⊎ (length list ≤ k) → (get_or (list ++ at ∷ []) k 0 ≤ at) × HasIn p (essential_at S (get_or (list ++ at ∷ []) k 0))
+            by : (k < length list) ⊎ (length list ≤ k) → (get_or (list ++ at ∷ []) k 0 ≤ at) × HasPattern p (essential_at S (get_or (list ++ at ∷ []) k 0))
             by (inl before) =
                 let e = kept.each k before in
                 let e0 = e.0 in
-                subst (λ i. (i ≤ at) × HasIn p (essential_at S i)) (sym (get_or_append_left list (at ∷ []) 0 k before)) (omega (arith, e0, next), e.1)
-            by (inr behind) = subst (λ i. (i ≤ at) × HasIn p (essential_at S i)) (sym (get_or_at list at [] 0 k (omega (arith, lt, behind, count)))) (omega arith, here)
+                subst (λ i. (i ≤ at) × HasPattern p (essential_at S i)) (sym (get_or_append_left list (at ∷ []) 0 k before)) (omega (arith, e0, next), e.1)
+            by (inr behind) = subst (λ i. (i ≤ at) × HasPattern p (essential_at S i)) (sym (get_or_at list at [] 0 k (omega (arith, lt, behind, count)))) (omega arith, here)
 
-        all : (i : ℕ) → i ≤ at → HasIn p (essential_at S i) → is_active (bares S) i (at + 1) ≡ true → (k : ℕ) × (k < length (list ++ at ∷ [])) × (get_or (list ++ at ∷ []) k 0 ≡ i)
+        all : (i : ℕ) → i ≤ at → HasPattern p (essential_at S i) → is_active (bares S) i (at + 1) ≡ true → (k : ℕ) × (k < length (list ++ at ∷ [])) × (get_or (list ++ at ∷ []) k 0 ≡ i)
         all i le h active = by (cases_lt i at)
           where
             by : (i < at) ⊎ (at ≤ i) → (k : ℕ) × (k < length (list ++ at ∷ [])) × (get_or (list ++ at ∷ []) k 0 ≡ i)
@@ -135,39 +135,39 @@ module _ (p : List Part) (S : Database) where
             by (inr ge) = (length list, omega (arith, count), get_or_at list at [] 0 (length list) refl ∙ (let e : at ≡ i = omega (arith, le, ge) in e))
 
     -- .. or has it not
-    pub kept-without : (s : Stmt) (list : List ℕ) → stmt_at S at ≡ Some s → (HasIn p (essential_expr s) → ⊥) → AreKept p S n list → AreKept p S at list
+    pub kept-without : (s : Stmt) (list : List ℕ) → stmt_at S at ≡ Some s → (HasPattern p (essential_expr s) → ⊥) → AreMatchingEssentials p S n list → AreMatchingEssentials p S at list
     kept-without s list stands lacks kept = record { each = each; all = all }
       where
-        each : (k : ℕ) → k < length list → (get_or list k 0 ≤ at) × HasIn p (essential_at S (get_or list k 0))
+        each : (k : ℕ) → k < length list → (get_or list k 0 ≤ at) × HasPattern p (essential_at S (get_or list k 0))
         each k lt = let e = kept.each k lt in let e0 = e.0 in (omega (arith, e0, next), e.1)
 
-        all : (i : ℕ) → i ≤ at → HasIn p (essential_at S i) → is_active (bares S) i (at + 1) ≡ true → (k : ℕ) × (k < length list) × (get_or list k 0 ≡ i)
+        all : (i : ℕ) → i ≤ at → HasPattern p (essential_at S i) → is_active (bares S) i (at + 1) ≡ true → (k : ℕ) × (k < length list) × (get_or list k 0 ≡ i)
         all i le h active = by (cases_lt i at)
           where
             by : (i < at) ⊎ (at ≤ i) → (k : ℕ) × (k < length list) × (get_or list k 0 ≡ i)
             by (inl lt) = kept.all i (omega (arith, lt, next)) h (earlier i lt active)
             by (inr ge) =
                 let e : i ≡ at = omega (arith, le, ge) in
-                absurd (lacks (subst (λ o. HasIn p (option_and_then essential_expr o)) stands (subst (λ m. HasIn p (essential_at S m)) e h)))
+                absurd (lacks (subst (λ o. HasPattern p (option_and_then essential_expr o)) stands (subst (λ m. HasPattern p (essential_at S m)) e h)))
 
     -- either
-    pub kept-one : {T E : Type 0} (s : Stmt) (list new : List ℕ) (has : Bool) (r : Result T E) → stmt_at S at ≡ Some s → IsTrue has ↔ HasIn p (essential_expr s)
-        → (IsTrue has → OnOk r (new ≡ list ++ at ∷ [])) → (IsFalse has → OnOk r (new ≡ list)) → AreKept p S n list → OnOk r (AreKept p S at new)
+    pub kept-one : {T E : Type 0} (s : Stmt) (list new : List ℕ) (has : Bool) (r : Result T E) → stmt_at S at ≡ Some s → IsTrue has ↔ HasPattern p (essential_expr s)
+        → (IsTrue has → OnOk r (new ≡ list ++ at ∷ [])) → (IsFalse has → OnOk r (new ≡ list)) → AreMatchingEssentials p S n list → OnOk r (AreMatchingEssentials p S at new)
     kept-one s list new true r stands is pushed same kept = on_ok_weaker r (λ e. kept-with s list new stands (is.0 refl) e kept) (pushed refl)
-    kept-one s list new false r stands is pushed same kept = on_ok_weaker r (λ e. subst (AreKept p S at) (sym e) (kept-without s list stands (λ h. both_ways false refl (is.1 h)) kept)) (same refl)
+    kept-one s list new false r stands is pushed same kept = on_ok_weaker r (λ e. subst (AreMatchingEssentials p S at) (sym e) (kept-without s list stands (λ h. both_ways false refl (is.1 h)) kept)) (same refl)
 
     -- what is left of them
-    module _ (old new : List ℕ) (left : IsLeft (bares S) at old (length new)) (front : new ≡ take (length new) old) where
+    module _ (old new : List ℕ) (left : IsTrimmedLength (bares S) at old (length new)) (front : new ≡ take (length new) old) where
       same : (k : ℕ) → k < length new → get_or new k 0 ≡ get_or old k 0
       same k lt = ap (λ l. get_or l k 0) front ∙ get_or-take (length new) old k 0 lt
 
-      pub kept-left : AreKept p S n old → AreKept p S n new
+      pub kept-left : AreMatchingEssentials p S n old → AreMatchingEssentials p S n new
       kept-left kept = record { each = each; all = all }
         where
-          each : (k : ℕ) → k < length new → (get_or new k 0 ≤ n) × HasIn p (essential_at S (get_or new k 0))
-          each k lt = let w = left.within in subst (λ i. (i ≤ n) × HasIn p (essential_at S i)) (sym (same k lt)) (kept.each k (omega (arith, lt, w)))
+          each : (k : ℕ) → k < length new → (get_or new k 0 ≤ n) × HasPattern p (essential_at S (get_or new k 0))
+          each k lt = let w = left.within in subst (λ i. (i ≤ n) × HasPattern p (essential_at S i)) (sym (same k lt)) (kept.each k (omega (arith, lt, w)))
 
-          all : (i : ℕ) → i ≤ n → HasIn p (essential_at S i) → is_active (bares S) i (n + 1) ≡ true → (k : ℕ) × (k < length new) × (get_or new k 0 ≡ i)
+          all : (i : ℕ) → i ≤ n → HasPattern p (essential_at S i) → is_active (bares S) i (n + 1) ≡ true → (k : ℕ) × (k < length new) × (get_or new k 0 ≡ i)
           all i le has active = by (kept.all i le has active)
             where
               by : (k : ℕ) × (k < length old) × (get_or old k 0 ≡ i) → (k : ℕ) × (k < length new) × (get_or new k 0 ≡ i)
@@ -175,10 +175,10 @@ module _ (p : List Part) (S : Database) where
                 where
                   at_place : (f.0 < length new) ⊎ (length new ≤ f.0) → (k : ℕ) × (k < length new) × (get_or new k 0 ≡ i)
                   at_place (inl lt) = (f.0, lt, same f.0 lt ∙ f.2)
-                  at_place (inr past) = absurd (left.gone f.0 past f.1 (subst (IsSomeHypothesis (bares S) at) (sym f.2) (active-hypothesis at i has (subst (λ m. is_active (bares S) i m ≡ true) next active))))
+                  at_place (inr past) = absurd (left.gone f.0 past f.1 (subst (IsActiveHypothesis (bares S) at) (sym f.2) (active-hypothesis at i has (subst (λ m. is_active (bares S) i m ≡ true) next active))))
 
       -- one is left just if an `$e` among the hypotheses has it
-      pub some-left : (s : Stmt) (is : Bool) → AreKept p S n old → IsTrue is ↔ (0 < length new) → IsTrue is ↔ SomeEssentialHas p S (hypotheses (before (bares S) at) s)
+      pub some-left : (s : Stmt) (is : Bool) → AreMatchingEssentials p S n old → IsTrue is ↔ (0 < length new) → IsTrue is ↔ SomeEssentialHas p S (hypotheses (before (bares S) at) s)
       some-left s is kept h = (λ yes. forward (h.0 yes), λ some. h.1 (back some))
         where
           forward : 0 < length new → SomeEssentialHas p S (hypotheses (before (bares S) at) s)
@@ -200,7 +200,7 @@ module _ (p : List Part) (S : Database) where
               omega (arith, f1)
 
 -- nothing is kept before the first statement
-pub noted_none : (sought : Sought) (S : Database) → AreNoted sought S 0 []
+pub noted_none : (sought : SearchQuery) (S : Database) → AreRecorded sought S 0 []
 noted_none (WithHypotheses p) S = kept-none p S
 noted_none sought S = tt
 
@@ -209,19 +209,19 @@ noted_none sought S = tt
 other-default : (list : List ℕ) (k d : ℕ) → k < length list → get_or list k 0 ≡ get_or list k d
 other-default list k d lt = same_Some (get_or list k 0) (get_or list k d) (sym (slice_get-get_or list k 0 lt) ∙ slice_get-get_or list k d lt)
 
-module _ (F : Database) (at : ℕ) (list : List ℕ) (left : ℕ) (within : left ≤ length list) (gone : (k : ℕ) → left ≤ k → k < length list → IsSomeHypothesis F at (get_or list k 0) → ⊥) where
-  pub left-none : left ≤ 0 → IsLeft F at list 0
+module _ (F : Database) (at : ℕ) (list : List ℕ) (left : ℕ) (within : left ≤ length list) (gone : (k : ℕ) → left ≤ k → k < length list → IsActiveHypothesis F at (get_or list k 0) → ⊥) where
+  pub left-none : left ≤ 0 → IsTrimmedLength F at list 0
   left-none none = record {
     within = omega arith;
     gone = λ k low lt. gone k (omega (arith, none)) lt;
     last = λ k e. absurd (omega (arith, e));
   }
 
-  pub gone-more : (d : ℕ) → 0 < left → (IsSomeHypothesis F at (get_or list (left - 1) d) → ⊥) → (k : ℕ) → left - 1 ≤ k → k < length list → IsSomeHypothesis F at (get_or list k 0) → ⊥
+  pub gone-more : (d : ℕ) → 0 < left → (IsActiveHypothesis F at (get_or list (left - 1) d) → ⊥) → (k : ℕ) → left - 1 ≤ k → k < length list → IsActiveHypothesis F at (get_or list k 0) → ⊥
   gone-more d some none k low lt hyp = by (cases_lt k left)
     where
       by : (k < left) ⊎ (left ≤ k) → ⊥
       by (inr past) = gone k past lt hyp
       by (inl before) =
           let place : left - 1 ≡ k = omega (arith, low, before, some) in
-          none (subst (IsSomeHypothesis F at) (other-default list k d lt ∙ sym (ap (λ m. get_or list m d) place)) hyp)
+          none (subst (IsActiveHypothesis F at) (other-default list k d lt ∙ sym (ap (λ m. get_or list m d) place)) hyp)

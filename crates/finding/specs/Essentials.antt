@@ -7,26 +7,26 @@ use Rattle.mm_read.specs.declared.stmt.Stmt.{Stmt}
 use Rattle.scope.specs.Active.{bares, is_active}
 use Rattle.frame.specs.Citations.{IsHypothesis}
 use Rattle.patterns.specs.Matches.{Part}
-use Rattle.finding.specs.declared.sought.Sought.{Sought}
-use Rattle.finding.specs.declared.sought.Sought.TheVariants.{WithHypotheses}
-use Rattle.finding.specs.Found.{HasIn, essential_at}
+use Rattle.finding.specs.declared.sought.SearchQuery.{SearchQuery}
+use Rattle.finding.specs.declared.sought.SearchQuery.TheVariants.{WithHypotheses}
+use Rattle.finding.specs.Found.{HasPattern, essential_at}
 
 -- the list has positions of `$e` with the pattern among the first n statements, and all of those that are active after them
-pub record AreKept (p : List Part) (S : Database) (n : ℕ) (list : List ℕ) : Type 0 where
-  pub each : (k : ℕ) → k < length list → (get_or list k 0 ≤ n) × HasIn p (essential_at S (get_or list k 0))
-  pub all : (i : ℕ) → i ≤ n → HasIn p (essential_at S i) → is_active (bares S) i (n + 1) ≡ true → (k : ℕ) × (k < length list) × (get_or list k 0 ≡ i)
+pub record AreMatchingEssentials (p : List Part) (S : Database) (n : ℕ) (list : List ℕ) : Type 0 where
+  pub each : (k : ℕ) → k < length list → (get_or list k 0 ≤ n) × HasPattern p (essential_at S (get_or list k 0))
+  pub all : (i : ℕ) → i ≤ n → HasPattern p (essential_at S i) → is_active (bares S) i (n + 1) ≡ true → (k : ℕ) × (k < length list) × (get_or list k 0 ≡ i)
 
 -- the list is such a list if hypotheses are searched for a pattern, and any list otherwise
-abbrev pub AreNoted : Sought → Database → ℕ → List ℕ → Type 0
-AreNoted (WithHypotheses p) S n list = AreKept p S n list
-AreNoted sought S n list = Unit {0}
+abbrev pub AreRecorded : SearchQuery → Database → ℕ → List ℕ → Type 0
+AreRecorded (WithHypotheses p) S n list = AreMatchingEssentials p S n list
+AreRecorded sought S n list = Unit {0}
 
 -- the statement at i is a hypothesis that is active at `at`
-abbrev pub IsSomeHypothesis : Database → ℕ → ℕ → Type 0
-IsSomeHypothesis F at i = (s : Stmt) × IsHypothesis F at i s
+abbrev pub IsActiveHypothesis : Database → ℕ → ℕ → Type 0
+IsActiveHypothesis F at i = (s : Stmt) × IsHypothesis F at i s
 
 -- how many of a list are left once those at its end that are no hypotheses active at `at` are removed
-pub record IsLeft (F : Database) (at : ℕ) (list : List ℕ) (left : ℕ) : Type 0 where
+pub record IsTrimmedLength (F : Database) (at : ℕ) (list : List ℕ) (left : ℕ) : Type 0 where
   pub within : left ≤ length list
-  pub gone : (k : ℕ) → left ≤ k → k < length list → IsSomeHypothesis F at (get_or list k 0) → ⊥
-  pub last : (k : ℕ) → suc k ≡ left → IsSomeHypothesis F at (get_or list k 0)
+  pub gone : (k : ℕ) → left ≤ k → k < length list → IsActiveHypothesis F at (get_or list k 0) → ⊥
+  pub last : (k : ℕ) → suc k ≡ left → IsActiveHypothesis F at (get_or list k 0)

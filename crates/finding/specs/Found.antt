@@ -11,8 +11,8 @@ use Rattle.scope.specs.Active.{bares, before, stmt_at, is_assertion}
 use Rattle.frame.specs.FrameOf.{hypotheses}
 use Rattle.patterns.specs.Matches.{Part, Matches}
 use Rattle.patterns.specs.Described.{HasWords}
-use Rattle.finding.specs.declared.sought.Sought.{Sought}
-use Rattle.finding.specs.declared.sought.Sought.TheVariants.{Pattern, WithHypotheses, Words}
+use Rattle.finding.specs.declared.sought.SearchQuery.{SearchQuery}
+use Rattle.finding.specs.declared.sought.SearchQuery.TheVariants.{Pattern, WithHypotheses, Words}
 
 -- the expression of an assertion
 abbrev pub assertion_expr : Stmt → Option Expr
@@ -29,14 +29,14 @@ abbrev pub essential_at : Database → ℕ → Option Expr
 essential_at S position = option_and_then essential_expr (stmt_at S position)
 
 -- there is an expression, and it has the pattern
-abbrev pub HasIn : List Part → Option Expr → Type 0
-HasIn p None = ⊥
-HasIn p (Some e) = Matches p e
+abbrev pub HasPattern : List Part → Option Expr → Type 0
+HasPattern p None = ⊥
+HasPattern p (Some e) = Matches p e
 
 -- one of the statements at these positions is an `$e` with the pattern
 abbrev pub SomeEssentialHas : List Part → Database → List ℕ → Type 0
 SomeEssentialHas p S [] = ⊥
-SomeEssentialHas p S (position ∷ positions) = HasIn p (essential_at S position) ⊎ SomeEssentialHas p S positions
+SomeEssentialHas p S (position ∷ positions) = HasPattern p (essential_at S position) ⊎ SomeEssentialHas p S positions
 
 -- the description of the statement at an index
 abbrev pub described : List ℕ → Option (Option Span) → List ℕ
@@ -48,11 +48,11 @@ abbrev pub description_at : List ℕ → List (Option Span) → ℕ → List ℕ
 description_at text descriptions index = described text (slice_get descriptions index)
 
 -- the assertion at an index matches
-abbrev pub Has : List ℕ → Database → List (Option Span) → Sought → ℕ → Stmt → Type 0
-Has text S descriptions (Pattern p) index s = HasIn p (assertion_expr s)
-Has text S descriptions (WithHypotheses p) index s = HasIn p (assertion_expr s) ⊎ SomeEssentialHas p S (hypotheses (before (bares S) (index + 1)) s)
+abbrev pub Has : List ℕ → Database → List (Option Span) → SearchQuery → ℕ → Stmt → Type 0
+Has text S descriptions (Pattern p) index s = HasPattern p (assertion_expr s)
+Has text S descriptions (WithHypotheses p) index s = HasPattern p (assertion_expr s) ⊎ SomeEssentialHas p S (hypotheses (before (bares S) (index + 1)) s)
 Has text S descriptions (Words ws) index s = HasWords (description_at text descriptions index) ws
 
 -- the statement at an index is an assertion that matches
-abbrev pub Counts : List ℕ → Database → List (Option Span) → Sought → ℕ → Stmt → Type 0
+abbrev pub Counts : List ℕ → Database → List (Option Span) → SearchQuery → ℕ → Stmt → Type 0
 Counts text S descriptions sought index s = IsTrue (is_assertion s) × Has text S descriptions sought index s

@@ -1,6 +1,6 @@
 //! Searches an expression for a pattern.
 ghost use Rattle.std.specs.Prelude.{◌≡◌, ◌↔◌, IfOk, IsTrue, map, option_map};
-ghost use Rattle.finding.specs.Found.{HasIn, assertion_expr, essential_expr};
+ghost use Rattle.finding.specs.Found.{HasPattern, assertion_expr, essential_expr};
 
 use mm_lex::Words;
 use mm_read::Stmt;
@@ -10,13 +10,13 @@ use std::alloc::{AllocError, Global};
 /// Returns whether there is an expression and it has the pattern.
 ///
 /// Errors: an allocation fails. Cost: at most the size of the expression times that of the pattern.
-pub(crate) fn has_in(
+pub(crate) fn has_pattern(
     alloc: Global,
     pattern: &Pattern<'_>,
     expr: Option<&Words>,
 ) -> Result<bool, AllocError>
     ensures { IfOk result (λ is. IsTrue is
-        ↔ HasIn pattern.now (option_map (λ e. e.now) expr.entry)) }
+        ↔ HasPattern pattern.now (option_map (λ e. e.now) expr.entry)) }
 {
     let Some(expr) = expr else {
         return Ok(false);

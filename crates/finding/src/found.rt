@@ -3,13 +3,13 @@ ghost use Rattle.std.specs.Prelude.{◌≡◌, ◌+◌, ◌++◌, ◌↔◌, ℕ
 ghost use Rattle.mm_read.specs.Statements.{Database};
 ghost use Rattle.scope.specs.Active.{bares, is_assertion, stmt_at};
 ghost use Rattle.mm_lex.specs.Alphabet.{word};
-ghost use Rattle.finding.specs.Essentials.{AreNoted};
+ghost use Rattle.finding.specs.Essentials.{AreRecorded};
 ghost use Rattle.finding.specs.Found.{Counts, Has, description_at};
 ghost use Rattle.finding.specs.Lines.{AreFoundLines, found_line, line_if};
 
-use crate::expressions::{assertion_expr, has_in};
-use crate::hypotheses::{has_active, note_essential};
-use crate::sought::{Searched, Sought};
+use crate::expressions::{assertion_expr, has_pattern};
+use crate::hypotheses::{record_essential, trim_to_active};
+use crate::sought::{SearchQuery, SearchedDatabase};
 use frame::is_assertion;
 use mm_lex::Span;
 use mm_read::Stmt;
@@ -23,8 +23,8 @@ use std::alloc::{AllocError, Global};
 #[tactic(auto, using(crate::proofs::HypothesesLemmas::noted_none))]
 pub fn found_lines(
     alloc: Global,
-    searched: &Searched<'_>,
-    sought: &Sought<'_>,
+    searched: &SearchedDatabase<'_>,
+    sought: &SearchQuery<'_>,
 ) -> Result<Vec<u8>, AllocError>
     requires { searched.now.frames.now.statements ≡ bares searched.now.statements.now }
     ensures { IfOk result (λ lines. AreFoundLines
@@ -45,40 +45,40 @@ pub fn found_lines(
 /// and the statement is an `$e` that has the pattern.
 fn note(
     alloc: Global,
-    sought: &Sought<'_>,
+    sought: &SearchQuery<'_>,
     essentials: &mut Vec<usize>,
     at: usize,
     statement: &Stmt,
 ) -> Result<(), AllocError>
     ensures { (S : Database) (n : ℕ) → n + 1 ≡ at → stmt_at S at ≡ Some statement.now
-        → AreNoted sought.now S n essentials.old.items
-        → OnOk result (AreNoted sought.now S at essentials.new.items) }
+        → AreRecorded sought.now S n essentials.old.items
+        → OnOk result (AreRecorded sought.now S at essentials.new.items) }
 {
     match sought {
-        Sought::WithHypotheses(pattern) => {
-            note_essential(alloc, pattern, essentials, at, statement)
+        SearchQuery::WithHypotheses(pattern) => {
+            record_essential(alloc, pattern, essentials, at, statement)
         }
-        Sought::Pattern(_) => Ok(()),
-        Sought::Words(_) => Ok(()),
+        SearchQuery::Pattern(_) => Ok(()),
+        SearchQuery::Words(_) => Ok(()),
     }
 }
 
 /// Returns whether the statement at an index is an assertion that matches.
 fn counts(
     alloc: Global,
-    searched: &Searched<'_>,
-    sought: &Sought<'_>,
+    searched: &SearchedDatabase<'_>,
+    sought: &SearchQuery<'_>,
     essentials: &mut Vec<usize>,
     index: usize,
     statement: &Stmt,
 ) -> Result<bool, AllocError>
     requires same { searched.now.frames.now.statements ≡ bares searched.now.statements.now }
     requires stands { stmt_at searched.now.statements.now (index + 1) ≡ Some statement.now }
-    requires noted { AreNoted sought.now searched.now.statements.now index essentials.old.items }
+    requires noted { AreRecorded sought.now searched.now.statements.now index essentials.old.items }
     ensures counts { IfOk result (λ is. IsTrue is ↔ Counts searched.now.text.now
         searched.now.statements.now searched.now.descriptions.now sought.now index
         statement.now) }
-    ensures noted { AreNoted sought.now searched.now.statements.now index essentials.new.items }
+    ensures noted { AreRecorded sought.now searched.now.statements.now index essentials.new.items }
 {
     if !is_assertion(statement) {
         return Ok(false);
@@ -89,8 +89,8 @@ fn counts(
 /// Returns whether the assertion at an index matches.
 fn has(
     alloc: Global,
-    searched: &Searched<'_>,
-    sought: &Sought<'_>,
+    searched: &SearchedDatabase<'_>,
+    sought: &SearchQuery<'_>,
     essentials: &mut Vec<usize>,
     index: usize,
     statement: &Stmt,
@@ -98,22 +98,22 @@ fn has(
     requires same { searched.now.frames.now.statements ≡ bares searched.now.statements.now }
     requires stands { stmt_at searched.now.statements.now (index + 1) ≡ Some statement.now }
     requires assertion { IsTrue (is_assertion statement.now) }
-    requires noted { AreNoted sought.now searched.now.statements.now index essentials.old.items }
+    requires noted { AreRecorded sought.now searched.now.statements.now index essentials.old.items }
     ensures has { IfOk result (λ is. IsTrue is ↔ Has searched.now.text.now
         searched.now.statements.now searched.now.descriptions.now sought.now index
         statement.now) }
-    ensures noted { AreNoted sought.now searched.now.statements.now index essentials.new.items }
+    ensures noted { AreRecorded sought.now searched.now.statements.now index essentials.new.items }
 {
     match sought {
-        Sought::Pattern(pattern) => has_in(alloc, pattern, assertion_expr(statement)),
-        Sought::WithHypotheses(pattern) => {
-            let own = has_in(alloc, pattern, assertion_expr(statement))?;
+        SearchQuery::Pattern(pattern) => has_pattern(alloc, pattern, assertion_expr(statement)),
+        SearchQuery::WithHypotheses(pattern) => {
+            let own = has_pattern(alloc, pattern, assertion_expr(statement))?;
             if own {
                 return Ok(true);
             }
-            Ok(has_active(searched.frames, index + 1, essentials))
+            Ok(trim_to_active(searched.frames, index + 1, essentials))
         }
-        Sought::Words(words) => Ok(words.are_in(description_at(
+        SearchQuery::Words(words) => Ok(words.are_in(description_at(
             searched.text,
             searched.descriptions,
             index,

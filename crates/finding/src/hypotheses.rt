@@ -2,9 +2,9 @@
 ghost use Rattle.std.specs.Prelude.{◌≡◌, ◌↔◌, ◌+◌, ◌++◌, ◌∷◌, [], ◌<◌, ◌≤◌, ℕ, length, take, IsFalse, IsTrue, OnOk, Some};
 ghost use Rattle.mm_read.specs.Statements.{Database};
 ghost use Rattle.scope.specs.Active.{stmt_at};
-ghost use Rattle.finding.specs.Essentials.{AreKept, IsLeft, IsSomeHypothesis};
+ghost use Rattle.finding.specs.Essentials.{AreMatchingEssentials, IsTrimmedLength, IsActiveHypothesis};
 
-use crate::expressions::{essential_expr, has_in};
+use crate::expressions::{essential_expr, has_pattern};
 use frame::{Frames, Meaning};
 use mm_read::Stmt;
 use patterns::Pattern;
@@ -13,8 +13,8 @@ use std::alloc::{AllocError, Global};
 /// Appends the position of a statement to those of the `$e` that have the pattern, if the statement
 /// is such an `$e`.
 ///
-/// Errors: an allocation fails. Cost: that of `has_in`.
-pub(crate) fn note_essential(
+/// Errors: an allocation fails. Cost: that of `has_pattern`.
+pub(crate) fn record_essential(
     alloc: Global,
     pattern: &Pattern<'_>,
     essentials: &mut Vec<usize>,
@@ -22,10 +22,10 @@ pub(crate) fn note_essential(
     statement: &Stmt,
 ) -> Result<(), AllocError>
     ensures { (S : Database) (n : ℕ) → n + 1 ≡ at → stmt_at S at ≡ Some statement.now
-        → AreKept pattern.now S n essentials.old.items
-        → OnOk result (AreKept pattern.now S at essentials.new.items) }
+        → AreMatchingEssentials pattern.now S n essentials.old.items
+        → OnOk result (AreMatchingEssentials pattern.now S at essentials.new.items) }
 {
-    let has = has_in(alloc, pattern, essential_expr(statement))?;
+    let has = has_pattern(alloc, pattern, essential_expr(statement))?;
     push_if(essentials, has, at)
 }
 
@@ -44,9 +44,9 @@ fn push_if(positions: &mut Vec<usize>, is: bool, at: usize) -> Result<(), AllocE
 /// whether any are left.
 ///
 /// Cost: the number of positions removed, and a constant.
-pub(crate) fn has_active(frames: &Frames, at: usize, positions: &mut Vec<usize>) -> bool
+pub(crate) fn trim_to_active(frames: &Frames, at: usize, positions: &mut Vec<usize>) -> bool
     requires place { (1 ≤ at) × (at ≤ length frames.now.statements) }
-    ensures left { IsLeft frames.now.statements at positions.old.items
+    ensures left { IsTrimmedLength frames.now.statements at positions.old.items
         (length positions.new.items) }
     ensures front { positions.new.items
         ≡ take (length positions.new.items) positions.old.items }
@@ -61,7 +61,7 @@ pub(crate) fn has_active(frames: &Frames, at: usize, positions: &mut Vec<usize>)
 /// `at` are removed.
 fn count_left(frames: &Frames, at: usize, positions: &[usize]) -> usize
     requires place { (1 ≤ at) × (at ≤ length frames.now.statements) }
-    ensures { IsLeft frames.now.statements at positions.now result }
+    ensures { IsTrimmedLength frames.now.statements at positions.now result }
 {
     let mut left = positions.len();
     while left > 0 {
@@ -76,7 +76,7 @@ fn count_left(frames: &Frames, at: usize, positions: &[usize]) -> usize
 /// Returns whether the statement at `position` is a hypothesis that is active at `at`.
 fn is_active(frames: &Frames, at: usize, position: usize) -> bool
     requires place { (1 ≤ at) × (at ≤ length frames.now.statements) }
-    ensures { IsTrue result ↔ IsSomeHypothesis frames.now.statements at position }
+    ensures { IsTrue result ↔ IsActiveHypothesis frames.now.statements at position }
 {
     match frames.meaning(at, position) {
         Meaning::Hypothesis(_) => true,

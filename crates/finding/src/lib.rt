@@ -12,4 +12,4 @@ mod hypotheses;
 mod sought;
 
 pub use found::found_lines;
-pub use sought::{Searched, Sought};
+pub use sought::{SearchQuery, SearchedDatabase};

@@ -6,7 +6,7 @@ use patterns::{Pattern, SearchWords};
 
 /// A pattern or words, and the part of an assertion in which they are searched for.
 #[derive(Drop)]
-pub enum Sought<'a> {
+pub enum SearchQuery<'a> {
     /// A pattern in the expression.
     Pattern(Pattern<'a>),
     /// A pattern in the expression, or in that of a mandatory `$e`.
@@ -17,7 +17,7 @@ pub enum Sought<'a> {
 
 /// A database that is searched.
 #[derive(Drop)]
-pub struct Searched<'a> {
+pub struct SearchedDatabase<'a> {
     /// The text from which the statements were read.
     pub text: &'a [u8],
     pub statements: &'a [Stmt],

@@ -1,5 +1,5 @@
 //! The command `find`: the assertions that match a search.
-use finding::{Searched, Sought, found_lines};
+use finding::{SearchQuery, SearchedDatabase, found_lines};
 use library::Library;
 use mm_lex::Span;
 use places::descriptions;
@@ -10,10 +10,10 @@ pub fn found(
     alloc: Global,
     library: &Library,
     text: &[u8],
-    sought: &Sought<'_>,
+    sought: &SearchQuery<'_>,
 ) -> Result<Vec<u8>, AllocError> {
     let descriptions = descriptions_for(alloc, text, sought)?;
-    let searched = Searched {
+    let searched = SearchedDatabase {
         text,
         statements: library.statements(),
         frames: library.frames(),
@@ -26,10 +26,10 @@ pub fn found(
 fn descriptions_for(
     alloc: Global,
     text: &[u8],
-    sought: &Sought<'_>,
+    sought: &SearchQuery<'_>,
 ) -> Result<Vec<Option<Span>>, AllocError> {
     match sought {
-        Sought::Words(_) => descriptions(alloc, text),
+        SearchQuery::Words(_) => descriptions(alloc, text),
         _ => Ok(Vec::new(alloc)),
     }
 }

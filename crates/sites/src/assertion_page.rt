@@ -14,7 +14,7 @@ use steps::{essential_table, proof_table};
 
 /// The library and the tables that pages are made from.
 #[derive(Drop)]
-pub struct Contents<'a> {
+pub struct PageSources<'a> {
     pub site: &'a Site<'a>,
     pub references: CrossReferences,
     /// For each statement, in order, the span of its description in the text.
@@ -24,7 +24,7 @@ pub struct Contents<'a> {
 /// Appends the page of the assertion at an index, or nothing if the statement there is not an assertion.
 pub fn push_page(
     alloc: Global,
-    contents: &Contents<'_>,
+    contents: &PageSources<'_>,
     index: usize,
     page: &mut Vec<u8>,
 ) -> Result<(), SiteFault> {
@@ -38,7 +38,7 @@ pub fn push_page(
 /// Appends the page of the `$a` at a position.
 fn push_axiom(
     alloc: Global,
-    contents: &Contents<'_>,
+    contents: &PageSources<'_>,
     at: usize,
     page: &mut Vec<u8>,
 ) -> Result<(), SiteFault>
@@ -51,7 +51,7 @@ fn push_axiom(
 /// Appends the page of the `$p` with a label.
 fn push_theorem(
     alloc: Global,
-    contents: &Contents<'_>,
+    contents: &PageSources<'_>,
     label: &[u8],
     page: &mut Vec<u8>,
 ) -> Result<(), SiteFault> {
@@ -69,7 +69,7 @@ fn push_theorem(
 /// Appends the page of the assertion at a position, with the steps of its proof if it has one.
 fn write_assertion(
     alloc: Global,
-    contents: &Contents<'_>,
+    contents: &PageSources<'_>,
     at: usize,
     proof: Option<ProofSteps<'_>>,
     page: &mut Vec<u8>,
@@ -78,8 +78,8 @@ fn write_assertion(
         × HasAssertion (bares contents.now.site.now.library.now.replica.statements) at s }
 {
     let index = at.saturating_sub(1);
-    let axioms = numbers_at(alloc, contents.references.axioms.as_slice(), index)?;
-    let users = numbers_at(alloc, contents.references.users.as_slice(), index)?;
+    let axioms = positions_at(alloc, contents.references.axioms.as_slice(), index)?;
+    let users = positions_at(alloc, contents.references.users.as_slice(), index)?;
     let library = contents.site.library;
     let assertion = PageContents {
         statements: library.statements(),
@@ -96,7 +96,7 @@ fn write_assertion(
 }
 
 /// Returns the positions of the list at an index, or an empty list if there is none.
-fn numbers_at(alloc: Global, lists: &[Vec<usize>], index: usize) -> Result<Vec<u32>, AllocError> {
+fn positions_at(alloc: Global, lists: &[Vec<usize>], index: usize) -> Result<Vec<u32>, AllocError> {
     let mut numbers = Vec::new(alloc);
     if let Some(list) = lists.get(index) {
         for position in list {
@@ -107,7 +107,7 @@ fn numbers_at(alloc: Global, lists: &[Vec<usize>], index: usize) -> Result<Vec<u
 }
 
 /// Returns the description of the statement at an index, if it has one.
-fn described<'a>(contents: &'a Contents<'a>, index: usize) -> Option<&'a [u8]> {
+fn described<'a>(contents: &'a PageSources<'a>, index: usize) -> Option<&'a [u8]> {
     let Some(Some(span)) = contents.descriptions.as_slice().get(index) else {
         return None;
     };

@@ -7,7 +7,7 @@ use std::io::Write;
 const MANY: u64 = 5_000;
 
 /// Prints how many pages are written, after each tenth of them but the last, if they are many.
-pub fn note_progress<F: Write>(alloc: Global, faults: &mut F, written: u64, all: u64) {
+pub fn print_progress<F: Write>(alloc: Global, faults: &mut F, written: u64, all: u64) {
     let tenth = all / 10;
     if all < MANY || tenth == 0 || written % tenth != 0 || written == all {
         return;

@@ -3,8 +3,8 @@ ghost use Rattle.std.specs.Prelude.{◌≡◌, ℕ, ◌+◌, ◌<◌, ◌∷◌,
 ghost use Rattle.mm_read.specs.declared.stmt.Stmt.TheVariants.{Open};
 ghost use Rattle.sites.specs.SiteFiles.{WritesNamed, named_page, page_name, page_names, site_names};
 
-use crate::assertion_page::{Contents, push_page};
-use crate::progress::note_progress;
+use crate::assertion_page::{PageSources, push_page};
+use crate::progress::print_progress;
 use cross_references::cross_references;
 use file_names::{INDEX, STYLE, push_file_name};
 use folders::{Folder, FolderFault};
@@ -72,7 +72,7 @@ pub fn write_site<F: Write, S: Folder>(
     open_folder(path, folder)?;
     write_file(alloc, folder, STYLE.as_bytes(), style_sheet())?;
     write_pages(alloc, site, folder, faults)?;
-    write_list(alloc, site.library, folder)
+    write_index_page(alloc, site.library, folder)
 }
 
 /// Opens the folder at a path.
@@ -85,7 +85,11 @@ fn open_folder<S: Folder>(path: &str, folder: &mut S) -> Result<(), SiteFault> {
 }
 
 /// Writes the index of all assertions.
-fn write_list<S: Folder>(alloc: Global, library: &Library, folder: &mut S) -> Result<(), SiteFault>
+fn write_index_page<S: Folder>(
+    alloc: Global,
+    library: &Library,
+    folder: &mut S,
+) -> Result<(), SiteFault>
     ensures { OnOk result (WritesNamed S.gains folder.old (codes "index.html" ∷ []) folder.new) }
 {
     let mut page = Vec::new(alloc);
@@ -122,7 +126,7 @@ fn write_pages<F: Write, S: Folder>(
     ensures { OnOk result (WritesNamed S.gains folder.old
         (page_names 1 site.now.library.now.replica.statements) folder.new) }
 {
-    let contents = Contents {
+    let contents = PageSources {
         site,
         references: cross_references(alloc, site.library)?,
         descriptions: descriptions(alloc, site.text)?,
@@ -133,7 +137,7 @@ fn write_pages<F: Write, S: Folder>(
     for index in 0..statements.len() {
         if write_page(alloc, &contents, index, folder)? {
             written = written.saturating_add(1);
-            note_progress(alloc, faults, written, all);
+            print_progress(alloc, faults, written, all);
         }
     }
     Ok(())
@@ -142,7 +146,7 @@ fn write_pages<F: Write, S: Folder>(
 /// Writes the page of the assertion at an index. Returns whether the statement there is an assertion.
 fn write_page<S: Folder>(
     alloc: Global,
-    contents: &Contents<'_>,
+    contents: &PageSources<'_>,
     index: usize,
     folder: &mut S,
 ) -> Result<bool, SiteFault>

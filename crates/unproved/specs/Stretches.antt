@@ -15,14 +15,14 @@ pub record Within : Type 0 where
   pub end : ℕ
 
 -- these positions are in order, and the frames are those of the statements
-pub record IsStretch (frames S : Database) (front end : ℕ) : Type 0 where
+pub record IsRange (frames S : Database) (front end : ℕ) : Type 0 where
   pub same : frames ≡ bares S
   pub order : front ≤ end
   pub within : end ≤ length S
 
 -- the statement at that index of the range is proved, if it is a `$p`
-abbrev pub IsRightIn : Within → ℕ → Type 0
-IsRightIn stretch k = StandsProved stretch.statements (stretch.front + k + 1)
+abbrev pub IsProvedIn : Within → ℕ → Type 0
+IsProvedIn stretch k = StandsProved stretch.statements (stretch.front + k + 1)
 
 -- the answer is the index, in the range, of the first `$p` that is not proved
 abbrev pub IsLeastIn : Database → ℕ → ℕ → Option ℕ → Type 0

@@ -8,7 +8,7 @@ ghost use Rattle.library.specs.Good.{Good};
 ghost use Rattle.library.specs.LibraryOf.{holding};
 ghost use Rattle.unproved.specs.Unproved.{AreUnproved, CauseAt, IsEntered, IsWithin, as_axiom, assumed};
 
-use crate::search::{Search, find_all};
+use crate::search::{Search, find_unproved};
 use frame::Frames;
 use library::{Cause, Library};
 use mm_read::Stmt;
@@ -101,7 +101,7 @@ impl Entered {
             statements: self.statements.as_slice(),
             workers,
         };
-        find_all(&search)
+        find_unproved(&search)
     }
 
     /// Makes a library of the statements, with each unproved `$p` replaced by a `$a` that has the same label

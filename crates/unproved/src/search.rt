@@ -4,7 +4,7 @@ ghost use Rattle.scope.specs.Active.{bares};
 ghost use Rattle.unproved.specs.Stretches.{IsLeastIn};
 ghost use Rattle.unproved.specs.Unproved.{AreUnproved};
 
-use crate::stretch::Stretch;
+use crate::stretch::StatementRange;
 use frame::Frames;
 use mm_read::Stmt;
 use proof_code::is_unfinished;
@@ -13,10 +13,10 @@ use std::thread::Threads;
 use verify_pool::{Checkers, OpenGate, Workers, judge_all, judge_here};
 
 /// The largest number of statements in a stretch, whose proofs are judged in parallel.
-const STRETCH: usize = 2_048;
+const MOST_IN_RANGE: usize = 2_048;
 
 /// Fewer statements than this are judged on the calling thread: starting threads would cost more.
-const FEW: usize = 32;
+const FEWEST_FOR_THREADS: usize = 32;
 
 /// Statements with their frames, and the workers that judge them.
 #[derive(Drop)]
@@ -32,7 +32,9 @@ pub(crate) struct Search<'a, R: Threads + Sync> {
 ///
 /// Errors: an allocation fails. Cost: that of the proofs, divided among the workers, and once more
 /// that of the proofs that follow a wrong one in its stretch.
-pub(crate) fn find_all<R: Threads + Sync>(search: &Search<'_, R>) -> Result<Vec<usize>, AllocError>
+pub(crate) fn find_unproved<R: Threads + Sync>(
+    search: &Search<'_, R>,
+) -> Result<Vec<usize>, AllocError>
     requires { search.now.frames.now.statements ≡ bares search.now.statements.now }
     ensures { IfOk result (λ list.
         AreUnproved search.now.statements.now 0 (length search.now.statements.now) list.items) }
@@ -41,23 +43,23 @@ pub(crate) fn find_all<R: Threads + Sync>(search: &Search<'_, R>) -> Result<Vec<
     let mut list = Vec::new(search.alloc);
     let mut front = 0;
     while front < search.statements.len() {
-        let end = stretch_end(search.statements, front);
-        add_found(search, &mut checkers, front, end, &mut list)?;
+        let end = range_end(search.statements, front);
+        add_unproved(search, &mut checkers, front, end, &mut list)?;
         front = end;
     }
     Ok(list)
 }
 
 /// Returns the position of the last statement of the next stretch: that of the first `$p` with an
-/// unfinished proof, or else `front + STRETCH`, but at most that of the last statement of all.
-fn stretch_end(statements: &[Stmt], front: usize) -> usize
+/// unfinished proof, or else `front + MOST_IN_RANGE`, but at most that of the last statement of all.
+fn range_end(statements: &[Stmt], front: usize) -> usize
     requires { front < length statements.now }
     ensures later { front < result }
     ensures within { result ≤ length statements.now }
 {
-    let most = (statements.len() - front).min(STRETCH);
+    let most = (statements.len() - front).min(MOST_IN_RANGE);
     for (index, statement) in statements[front..front + most].iter().enumerate() {
-        if is_left_open(statement) {
+        if is_unfinished_proof(statement) {
             return front + index + 1;
         }
     }
@@ -65,7 +67,7 @@ fn stretch_end(statements: &[Stmt], front: usize) -> usize
 }
 
 /// Returns whether a statement is a `$p` with an unfinished proof.
-fn is_left_open(statement: &Stmt) -> bool {
+fn is_unfinished_proof(statement: &Stmt) -> bool {
     match statement {
         Stmt::Prove { proof, .. } => is_unfinished(proof),
         _ => false,
@@ -74,7 +76,7 @@ fn is_left_open(statement: &Stmt) -> bool {
 
 /// Appends the positions of the unproved `$p` after the first `front` statements, up to `end`. The
 /// workers find the first of them, and the calling thread the others.
-fn add_found<R: Threads + Sync>(
+fn add_unproved<R: Threads + Sync>(
     search: &Search<'_, R>,
     checkers: &mut Checkers,
     front: usize,
@@ -88,18 +90,18 @@ fn add_found<R: Threads + Sync>(
     ensures { OnOk result (AreUnproved search.now.statements.now 0 end list.new.items) }
 {
     let mut front = front;
-    let mut found = first_in(search, checkers, front, end, search.workers)?;
+    let mut found = first_unproved(search, checkers, front, end, search.workers)?;
     while let Some(index) = found {
         front = front + index + 1;
         list.push(front)?;
-        found = first_in(search, checkers, front, end, Workers::of(1))?;
+        found = first_unproved(search, checkers, front, end, Workers::of(1))?;
     }
     Ok(())
 }
 
 /// Returns the index, from 0 after the first `front` statements, of the first `$p` up to `end` that
 /// is not proved, or `None` if each is proved. One worker, or few statements, need no thread.
-fn first_in<R: Threads + Sync>(
+fn first_unproved<R: Threads + Sync>(
     search: &Search<'_, R>,
     checkers: &mut Checkers,
     front: usize,
@@ -111,13 +113,13 @@ fn first_in<R: Threads + Sync>(
     requires within { end ≤ length search.now.statements.now }
     ensures { IfOk result (IsLeastIn search.now.statements.now front end) }
 {
-    let stretch = Stretch {
+    let stretch = StatementRange {
         frames: search.frames,
         statements: search.statements,
         front,
         end,
     };
-    if end - front < FEW {
+    if end - front < FEWEST_FOR_THREADS {
         judge_here(checkers, &stretch)
     } else {
         judge_all(search.rt, checkers, &stretch, workers, &OpenGate)

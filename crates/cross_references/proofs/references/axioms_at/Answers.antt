@@ -2,13 +2,13 @@ use Rattle.cross_references.proofs.Words.{[], arith, refl, OfSome, on_ok, lists_
 use Rattle.cross_references.proofs.ListLemmas.{in-at, has-some-next, has-some-all, those-collected}
 use Rattle.cross_references.proofs.references.axioms_at.Goals as goal
 
-pub add_given-requires-clause-axioms : goal.add_given-requires-clause-axioms
-add_given-requires-clause-axioms c = c.requires.axioms _ (in-at c.args.cited.now c.loop-position.position-index (omega (arith, c.loop-position-test.true)))
+pub add_axioms_of-requires-clause-axioms : goal.add_axioms_of-requires-clause-axioms
+add_axioms_of-requires-clause-axioms c = c.requires.axioms _ (in-at c.args.cited.now c.loop-position.position-index (omega (arith, c.loop-position-test.true)))
 
 pub loop-position-preserved : goal.loop-position-preserved
 loop-position-preserved c =
-    has-some-next (Gives c.args.statements.now (lists_of c.args.axioms.now)) c.args.cited.now c.loop-position.position-index [] c.loop-position.collector c.add_given.new.collector
-    (omega (arith, c.loop-position-test.true)) c.loop-position.invariant c.in_ok-add_given.ensures
+    has-some-next (Gives c.args.statements.now (lists_of c.args.axioms.now)) c.args.cited.now c.loop-position.position-index [] c.loop-position.collector c.add_axioms_of.new.collector
+    (omega (arith, c.loop-position-test.true)) c.loop-position.invariant c.in_ok-add_axioms_of.ensures
 
 pub returns : goal.returns
 returns c =

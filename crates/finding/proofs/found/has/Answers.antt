@@ -1,4 +1,4 @@
-use Rattle.finding.proofs.Words.{◌+◌, List, ℕ, length, refl, sym, subst, ◌↔◌, IfOk, IsTrue, bares, AreKept, AreNoted, IsLeft, HasIn, Has}
+use Rattle.finding.proofs.Words.{◌+◌, List, ℕ, length, refl, sym, subst, ◌↔◌, IfOk, IsTrue, bares, AreMatchingEssentials, AreRecorded, IsTrimmedLength, HasPattern, Has}
 use Rattle.finding.proofs.FoundLemmas.{either_later}
 use Rattle.finding.proofs.HypothesesLemmas.{kept-left, some-left}
 use Rattle.finding.proofs.found.has.Goals as goal
@@ -6,8 +6,8 @@ use Rattle.finding.proofs.found.has.Goals as goal
 pub returns-in-Pattern-clause-has : goal.returns-in-Pattern-clause-has
 returns-in-Pattern-clause-has c =
     let s = c.args.searched.now in
-    subst (λ sought. IfOk c.has_in.result (λ is. IsTrue is ↔ Has s.text.now s.statements.now s.descriptions.now sought c.args.index c.args.statement.now)) (sym c.in-Pattern.is)
-    (subst (λ expr. IfOk c.has_in.result (λ is. IsTrue is ↔ HasIn c.in-Pattern.pattern expr)) c.assertion_expr.ensures c.has_in.ensures)
+    subst (λ sought. IfOk c.has_pattern.result (λ is. IsTrue is ↔ Has s.text.now s.statements.now s.descriptions.now sought c.args.index c.args.statement.now)) (sym c.in-Pattern.is)
+    (subst (λ expr. IfOk c.has_pattern.result (λ is. IsTrue is ↔ HasPattern c.in-Pattern.pattern expr)) c.assertion_expr.ensures c.has_pattern.ensures)
 
 pub returns-else-own : goal.returns-else-own
 returns-else-own c =
@@ -15,13 +15,13 @@ returns-else-own c =
     let S = s.statements.now in
     let p = c.in-WithHypotheses.pattern in
     let old : List ℕ = c.args.essentials.now.items in
-    let new : List ℕ = c.has_active.new.positions.items in
-    let kept : AreKept p S c.args.index old = subst (λ sought. AreNoted sought S c.args.index old) c.in-WithHypotheses.is c.requires.noted in
-    let left : IsLeft (bares S) (c.args.index + 1) old (length new) = subst (λ F. IsLeft F (c.args.index + 1) old (length new)) c.requires.same c.has_active.ensures.left in
-    let own = subst (λ expr. IsTrue c.in_ok-own-in-WithHypotheses.own ↔ HasIn p expr) c.assertion_expr-in-WithHypotheses.ensures c.in_ok-own-in-WithHypotheses.ensures in
-    let some = some-left p S c.args.index (c.args.index + 1) refl old new left c.has_active.ensures.front c.args.statement.now c.has_active.result kept c.has_active.ensures.some in
+    let new : List ℕ = c.trim_to_active.new.positions.items in
+    let kept : AreMatchingEssentials p S c.args.index old = subst (λ sought. AreRecorded sought S c.args.index old) c.in-WithHypotheses.is c.requires.noted in
+    let left : IsTrimmedLength (bares S) (c.args.index + 1) old (length new) = subst (λ F. IsTrimmedLength F (c.args.index + 1) old (length new)) c.requires.same c.trim_to_active.ensures.left in
+    let own = subst (λ expr. IsTrue c.in_ok-own-in-WithHypotheses.own ↔ HasPattern p expr) c.assertion_expr-in-WithHypotheses.ensures c.in_ok-own-in-WithHypotheses.ensures in
+    let some = some-left p S c.args.index (c.args.index + 1) refl old new left c.trim_to_active.ensures.front c.args.statement.now c.trim_to_active.result kept c.trim_to_active.ensures.some in
     record {
-      has = subst (λ sought. IsTrue c.has_active.result ↔ Has s.text.now S s.descriptions.now sought c.args.index c.args.statement.now) (sym c.in-WithHypotheses.is)
-          (either_later _ _ c.in_ok-own-in-WithHypotheses.own c.has_active.result c.if-own.false own some);
-      noted = subst (λ sought. AreNoted sought S c.args.index new) (sym c.in-WithHypotheses.is) (kept-left p S c.args.index (c.args.index + 1) refl old new left c.has_active.ensures.front kept);
+      has = subst (λ sought. IsTrue c.trim_to_active.result ↔ Has s.text.now S s.descriptions.now sought c.args.index c.args.statement.now) (sym c.in-WithHypotheses.is)
+          (either_later _ _ c.in_ok-own-in-WithHypotheses.own c.trim_to_active.result c.if-own.false own some);
+      noted = subst (λ sought. AreRecorded sought S c.args.index new) (sym c.in-WithHypotheses.is) (kept-left p S c.args.index (c.args.index + 1) refl old new left c.trim_to_active.ensures.front kept);
     }

@@ -1,6 +1,6 @@
 use Rattle.unproved.proofs.Words.{◌+◌, Some, subst, sym, IsLeastIn, AreUnproved}
 use Rattle.unproved.proofs.UnprovedLemmas.{all-found, least-more, least-within}
-use Rattle.unproved.proofs.search.add_found.Goals as goal
+use Rattle.unproved.proofs.search.add_unproved.Goals as goal
 
 pub loop-found-preserved : goal.loop-found-preserved
 loop-found-preserved g c =

@@ -1,5 +1,5 @@
 use Rattle.unproved.proofs.Words.{◌-◌, ◌≤◌, length, AreUnproved}
-use Rattle.unproved.proofs.search.find_all.Given as goal
+use Rattle.unproved.proofs.search.find_unproved.Given as goal
 
 abbrev pub invariant-loop-front : goal.invariant-loop-front
 invariant-loop-front g l = record {

@@ -120,14 +120,14 @@ module _ (S T : Database) (labels : List Name) (n k : ℕ) (W P : Database) (w :
 
   pub walk-both : (s : Stmt) (next : ℕ) (W' P' : Database) → n < length S → s ≡ get_or S n s → slice_get T k ≡ Some s → (wanted labels s ≡ true → IsSameFrame S T W P s)
       → next ≡ k + 1 → W' ≡ W ++ bare s ∷ [] → P' ≡ P ++ bare s ∷ [] → IsWalked S T labels (n + 1) next W' P'
-  walk-both s next W' P' less is met agrees at grown-whole grown-part =
+  walk-both s next W' P' less is met has_same_frame at grown-whole grown-part =
       let g = get-within T k s met in
       subst (λ m. IsWalked S T labels (n + 1) m W' P') (sym at)
       (record {
         whole_is = grown-whole ∙ (ap (λ A. A ++ bare s ∷ []) w.whole_is ∙ sym (taken-more S n s less is));
         part_is = grown-part ∙ (ap (λ A. A ++ bare s ∷ []) w.part_is ∙ sym (taken-more T k s g.0 g.1));
         part_of = subst (λ U. IsPart U (take (n + 1) S)) (sym (longer T k s g.0 g.1)) (subst (IsPart (take k T ++ s ∷ [])) (sym (longer S n s less is)) (part-take (take k T) (take n S) s w.part_of));
-        kept = kept-more S T labels n s w.kept (get-some S n s s less is) (λ want label c. kept-here s met (wanted-assertion labels s want) (agrees want) label c);
+        kept = kept-more S T labels n s w.kept (get-some S n s s less is) (λ want label c. kept-here s met (wanted-assertion labels s want) (has_same_frame want) label c);
       })
 
 pub walk-none : (S T : Database) (labels : List Name) (W P : Database) → W ≡ [] → P ≡ [] → IsWalked S T labels 0 0 W P

@@ -1,5 +1,5 @@
 use Rattle.unproved.proofs.Words.{◌-◌, ◌≤◌, IsLeastIn, AreUnproved}
-use Rattle.unproved.proofs.search.add_found.Given as goal
+use Rattle.unproved.proofs.search.add_unproved.Given as goal
 
 abbrev pub invariant-loop-found : goal.invariant-loop-found
 invariant-loop-found g l = record {

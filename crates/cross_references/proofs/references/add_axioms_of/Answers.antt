@@ -1,7 +1,7 @@
 use Rattle.cross_references.proofs.Words.{◌-◌, ◌∙◌, sym, arith, stands_index, lists_of}
 use Rattle.cross_references.proofs.ListLemmas.{on-ok}
 use Rattle.cross_references.proofs.PassLemmas.{given-more, list-at}
-use Rattle.cross_references.proofs.references.add_given.Goals as goal
+use Rattle.cross_references.proofs.references.add_axioms_of.Goals as goal
 
 pub returns : goal.returns
 returns c =
