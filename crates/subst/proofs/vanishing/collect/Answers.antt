@@ -32,7 +32,7 @@ loop-at-preserved c =
     let size = ap length c.symbols-symbols.ensures in
     let same = λ (j : ℕ). ap (λ xs. is_left a.images.now (get_or xs j 0)) (sym c.symbols-symbols.ensures) in
     let kept = symbol-kept a.images.now a.expr.now p c.requires l.at l.indexes.items c.get-group.result.now _ (omega (arith, size, c.loop-at-test.true)) l.invariant.0 (ap (λ gs. slice_get gs l.at) (sym c.groups-groups.ensures) ∙ c.get-group.ensures)
-        (same l.at ∙ l.invariant.3 c.loop-at-test.true) more in (
+    (same l.at ∙ l.invariant.3 c.loop-at-test.true) more in (
       symbols-passed a.images.now a.expr.now p c.requires (l.at + 1) (c.next_kept-at-in-loop-at.result - (l.at + 1)) c.next_kept-at-in-loop-at.result _ (omega (arith, found.within.0)) (omega (arith, size, found.within.1)) kept (λ j low high. same j ∙ found.passed j low high),
       omega (arith, ap length more, length-append l.indexes.items c.get-group.result.now, l.invariant.1),
       found.within.1,
