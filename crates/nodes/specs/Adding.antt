@@ -1,6 +1,6 @@
 -- The outcome of an entry at a node, as `Desk::add` returns it.
 -- Source: this project's profile.
--- The code releases the lock before it returns, so the definitions speak of some cell.
+-- The code releases the lock before it returns, so the definitions state that there is such a cell.
 use Rattle.std.specs.Prelude.{◌≡◌, ◌⊎◌, ℕ, Option}
 use Rattle.cluster.specs.Outcome.{IsOutcomeOf}
 use Rattle.library.specs.declared.entry.Entry.{Entry}

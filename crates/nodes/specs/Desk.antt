@@ -1,24 +1,24 @@
 -- The answers of a desk: those of the calls of a cluster on the values under the locks.
 -- Source: this project's profile.
--- The code releases the locks before it returns, so the definitions speak of some such values.
+-- The code releases the locks before it returns, so the definitions state that there are such values.
 use Rattle.std.specs.Prelude.{◌≡◌, ◌⊎◌, ℕ, List, [], ◌∷◌, Option, Result, Ok, Err}
 use Rattle.nodes.specs.Words.{Listed, Verdict, status, listed, Carried, Ahead, Event, Deliver, Restart, StepFault, Apart, Stopped, carried_size, SwitchView, Plays, Belongs, IsAhead, Cell, IsCell}
 
--- the assertions of the library of node k's cell
+-- the assertions of the library of some cell of node k
 pub record IsListed (k : ℕ) (list : List Listed) : Type 0 where
   pub cell : Cell
   pub at : cell.at ≡ k
   pub is_cell : IsCell cell
   pub lists : list ≡ listed cell.node.library.statements
 
--- the verdict of the library of node k's cell on the author's entry of that serial number
+-- the verdict of the library of some cell of node k on the author's entry of that serial number
 pub record IsStatus (k author serial : ℕ) (verdict : Option Verdict) : Type 0 where
   pub cell : Cell
   pub at : cell.at ≡ k
   pub is_cell : IsCell cell
   pub decides : verdict ≡ status cell.node.library.decided author serial
 
--- this is how the libraries of the cells of nodes j and k, of one switch, compare
+-- which library has more statements: that of a cell of node j or that of a cell of node k, both of one switch
 pub record IsCompared (j k : ℕ) (ahead : Ahead) : Type 0 where
   pub switch : SwitchView Carried
   pub one : Cell

@@ -1,6 +1,6 @@
--- The answers to questions at a desk about what a node has, and about the history.
+-- The answers to questions at a desk about the state of a node, and about the history.
 -- Source: this project's profile.
--- The code releases the lock before it returns, so the definitions speak of some cell, or of some switch.
+-- The code releases the lock before it returns, so the definitions state that there is such a cell or switch.
 use Rattle.std.specs.Prelude.{◌≡◌, ℕ, List, Some, IsOk}
 use Rattle.net.specs.NodeStates.{state_after}
 use Rattle.switch.specs.Switch.{is_down_at}

@@ -8,21 +8,21 @@ abbrev pub is_node : ℕ → Option ℕ → Bool
 is_node k None = false
 is_node k (Some j) = j == k
 
--- the event is node k's own: a delivery is of the node that its packet is addressed to
+-- the event is node k's own: a delivery is an event of the node that its packet is addressed to
 abbrev pub is_own : {V : Type 0} → World V → ℕ → Event V → Bool
 is_own w k e = is_node k (node_of w e)
 
--- the number of the events that are node k's own
+-- the number of events that are node k's own
 abbrev pub own_events : {V : Type 0} → World V → ℕ → List (Event V) → ℕ
 own_events w k [] = 0
 own_events w k (e ∷ es) = (if is_own w k e then 1 else 0) + own_events w k es
 
--- the counts of a number of nodes from node k on, in order
+-- the counts of this many nodes from node k on, in order
 abbrev pub own_counts : {V : Type 0} → World V → ℕ → ℕ → List (Event V) → List ℕ
 own_counts w k zero events = []
 own_counts w k (suc n) events = own_events w k events ∷ own_counts w (suc k) n events
 
--- the counts of the nodes from node k on, with one more at this node, if it is one of them
+-- the counts of the nodes from node k on, with one added at the node `at`, if it is one of them
 abbrev pub with_one : ℕ → Option ℕ → List ℕ → List ℕ
 with_one k at [] = []
 with_one k at (count ∷ counts) = (count + (if is_node k at then 1 else 0)) ∷ with_one (suc k) at counts

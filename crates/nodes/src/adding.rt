@@ -1,4 +1,4 @@
-//! Submitting an entry until its verdict is known at a node.
+//! Submitting an entry repeatedly until a verdict on it is known at a node.
 ghost use Rattle.std.specs.Prelude.{◌≡◌, ◌≤◌, ◌<◌, Err, IfErr, IfOk, IsErr, IsOkUnless};
 ghost use Rattle.net.specs.declared.fault.StepFault.TheVariants.{Apart, NoNode};
 ghost use Rattle.nodes.specs.Adding.{IsAddFault, IsOutcome};
@@ -22,10 +22,10 @@ const FIRST_WAIT: u64 = 1024;
 /// The greatest number of times that the wait doubles. So all waits together have fewer than 10,000,000 turns.
 const MOST_DOUBLINGS: u32 = 9;
 
-/// The number of turns from one question for the outcome to the next: each takes the lock that the node needs.
+/// The number of turns from one query for the outcome to the next: each takes the lock that the node needs.
 const TURNS_AN_ASK: u64 = 64;
 
-/// The golden ratio's fraction of 2^64: the fractions of its multiples lie far from one another.
+/// The golden ratio's fraction of 2^64: the fractions of its multiples are far from one another.
 const GOLDEN: u64 = 0x9E37_79B9_7F4A_7C15;
 
 impl<G: Gate, K: Keep<Carried>> Desk<G, K> {
@@ -33,11 +33,11 @@ impl<G: Gate, K: Keep<Carried>> Desk<G, K> {
     /// verdict, or `Repeat` if another entry was decided under this author and serial number; `None`
     /// if after 17 tries nothing is known there.
     ///
-    /// The first try begins a ballot at the node if it does not lead, each later one always: a slot
+    /// The first try begins a ballot if the node does not lead, and each later try does in any case: a slot
     /// whose packets were lost stays open until a ballot proposes it again, even at a node that
     /// leads, and every later slot waits for it. Up to the tenth, each try waits longer than the one
-    /// before it, and the waits of two nodes differ, so that two that begin ballots do not keep
-    /// stopping each other. An entry that is submitted several times is decided once.
+    /// before it, and the waits of two nodes differ, so that two proposers do not keep preempting
+    /// each other. An entry that is submitted several times is decided once.
     ///
     /// Errors: those of `submit` except `Busy`, and those of `begin`; `Apart` if the cell is not that
     /// of its node; `Memory`. After an error the entry may still be decided. Cost: at most 17 offers,
@@ -64,7 +64,7 @@ impl<G: Gate, K: Keep<Carried>> Desk<G, K> {
         self.outcome(rt, k, entry)
     }
 
-    /// Submits a copy of the entry at node `k`, unless too many values wait there.
+    /// Submits a copy of the entry at node `k`. It has no effect if too many values wait there.
     fn submit_again<R: Wait>(&self, rt: &R, k: u8, entry: &Entry) -> Result<(), StepFault>
         ensures { IfErr result (IsAddFault k entry.now) }
     {
@@ -83,7 +83,7 @@ impl<G: Gate, K: Keep<Carried>> Desk<G, K> {
         }
     }
 
-    /// Returns the outcome of the entry at node `k` once it is known, or after `turns` turns.
+    /// Returns the outcome of the entry at node `k` as soon as it is known, at the latest after `turns` turns.
     fn awaited<R: Wait>(
         &self,
         rt: &R,

@@ -1,4 +1,4 @@
-//! The desks, at which any thread may call.
+//! Desks: handles to a cluster, on which any thread may make calls.
 ghost use Rattle.std.specs.Prelude.{◌≡◌, ◌≤◌, ◌<◌, ◌⊎◌, ℕ, Ok, Err, IfOk, IfErr, OnOk, IsErrAnd, IsOkUnless};
 ghost use Rattle.net.specs.declared.event.Event.TheVariants.{Offer, Begin, Restart};
 ghost use Rattle.net.specs.declared.fault.StepFault.TheVariants.{NoNode, EventsSpent, Memory, Apart, Stopped};
@@ -15,7 +15,7 @@ use synod::Keep;
 use verify_pool::Gate;
 use world::Carried;
 
-/// A desk of a cluster, at which any thread may call. Its calls take the locks, and may wait for them. Contracts see the
+/// A handle to a cluster, on which any thread may make calls. The calls take the locks, and may wait for them. Contracts see the
 /// number of nodes.
 #[derive(Drop)]
 pub struct Desk<G: Gate, K: Keep<Carried>> {
@@ -52,7 +52,7 @@ impl<G: Gate, K: Keep<Carried>> Desk<G, K> {
         self.play(rt, Event::Begin(k))
     }
 
-    /// Plays an event under the switch's lock, and sends the hints of its posts.
+    /// Plays an event under the switch's lock, and sends the hints of the packets that it posts.
     fn play<R: Wait>(&self, rt: &R, event: Event<Carried>) -> Result<(), StepFault>
         ensures played { OnOk result ((count : ℕ) × IsPlayed event (Ok count)) }
         ensures refused { IfErr result (IsPlayFault event) }
@@ -68,7 +68,7 @@ impl<G: Gate, K: Keep<Carried>> Desk<G, K> {
         Ok(())
     }
 
-    /// Restarts node `k` with the record that its keep has.
+    /// Restarts node `k` from the record in its keep.
     ///
     /// Errors: `Stopped` once the cluster is stopped; if there is no such node, `EventsSpent` if no event is left and else
     /// `NoNode`; `Apart` if the cell is not that of its node; else those of `cluster::restart_on`. Cost: that of
@@ -113,7 +113,8 @@ impl<G: Gate, K: Keep<Carried>> Desk<G, K> {
         Ok(list_on(&node.cell)?)
     }
 
-    /// Returns the verdict of node `k`'s library on the author's entry of that serial number, if it is decided there.
+    /// Returns the verdict of node `k`'s library on the author's entry of that serial number, or `None` if it is not
+    /// decided there.
     ///
     /// Errors: `NoNode`; else `Apart` if the cell is not that of its node. Cost: that of `Library::status`.
     pub fn status<R: Wait>(
@@ -134,7 +135,7 @@ impl<G: Gate, K: Keep<Carried>> Desk<G, K> {
         Ok(node.cell.library().status(author, serial))
     }
 
-    /// Returns which of two nodes has the library with more statements.
+    /// Returns which of two nodes has the library with more statements, if one has.
     ///
     /// Errors: `NoNode`; else `Apart` if one of the two cells does not belong to the switch, or is not that of its node.
     /// Cost: the size of the entries that both nodes took over, each compared with one of the log.
@@ -158,7 +159,7 @@ impl<G: Gate, K: Keep<Carried>> Desk<G, K> {
     }
 }
 
-/// Returns the answer for the two nodes in the other order.
+/// Returns the same answer with the two nodes in the other order.
 fn turned(ahead: Ahead) -> Ahead
     ensures { (j k : ℕ) → IsCompared j k ahead → IsCompared k j result }
 {

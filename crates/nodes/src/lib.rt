@@ -1,8 +1,8 @@
 //! The nodes of a cluster as threads of one process.
 //!
-//! The contract that the crate above uses is that of `crates/cluster`: under its locks each thread makes one event of the
-//! shared history, or applies one entry to its own library. A call that waits for a lock promises something only if it
-//! returns. By the type of a `Report` its counts add up.
+//! The crate above uses contracts in the terms of `crates/cluster`: under the locks, each thread plays one event of the
+//! shared history, or applies one entry to its own library. A contract of a call that waits for a lock holds only if the
+//! call returns. By the type of a `Report`, its counts add up to its total. A hint is the number of a posted packet.
 //!
 //! Read `weather`, `shared_switch` and `shared_cell` (what the switch's and a node's lock guard), `shared_nodes` (the locks),
 //! `node_loop` (a node's thread), then `node_threads`, `desk`, `questions`, `adding` and `report`.

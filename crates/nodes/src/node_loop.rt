@@ -10,7 +10,7 @@ use synod::Keep;
 use verify_pool::Gate;
 use world::Carried;
 
-/// The most hints that a node takes at once: each lock is taken once for all of them.
+/// The largest number of hints that a node takes at once: each lock is taken once for all of them.
 const MOST_HINTS: usize = 32;
 
 /// Takes the waiting hints, up to `MOST_HINTS` at once, until the channel ends.
@@ -30,7 +30,7 @@ pub(crate) fn run_node<
             .chain(hints.try_iter(&rt))
             .take(MOST_HINTS)
         {
-            // A hint whose allocation fails is a lost packet.
+            // A hint for which an allocation fails is a lost packet.
             match weather.turn(number) {
                 Fate::Pass => {
                     let _ = packets.push(number);

@@ -1,4 +1,4 @@
-//! The node threads, from start to stop.
+//! The threads of the nodes, from start to stop.
 ghost use Rattle.std.specs.Prelude.{◌≡◌, ◌⊎◌, length, vec_len, IfOk, IfErr, IsOkUnless};
 ghost use Rattle.std.specs.Arc.{arc_value};
 ghost use Rattle.std.specs.List.{AllByRecursion};
@@ -148,7 +148,7 @@ fn channels(
 impl<G: Gate, K: Keep<Carried>> Cluster<G, K> {
     /// Starts the thread of node `k`.
     ///
-    /// Errors: no thread can be started; nothing has changed then.
+    /// Errors: no thread can be started; nothing changes then.
     fn add<
         W: Weather + Send + Drop + 'static,
         R: Threads + Wait + Copy + Send + Sync + Drop + 'static,
@@ -208,7 +208,7 @@ impl<G: Gate, K: Keep<Carried>> Cluster<G, K> {
 
     /// Ends the channels, joins the threads, and counts each node's events.
     ///
-    /// Errors: `Stopped` if the cluster was stopped before; else `Memory`, and the cluster goes on. Cost: one pass over the
+    /// Errors: `Stopped` if the cluster was stopped before; else `Memory`, and the cluster keeps running. Cost: one pass over the
     /// history.
     pub fn stop<R: Threads + Wait>(&mut self, rt: &R) -> Result<Report, StepFault>
         ensures report { IfOk result (λ report. (switch : SwitchView Carried) × IsReport switch self.old report.handled.items) }

@@ -1,4 +1,4 @@
-//! Questions at a desk: about what a node has, and about the history.
+//! Questions at a desk: about the state of a node, and about the history.
 ghost use Rattle.std.specs.Prelude.{◌≡◌, ◌≤◌, ◌<◌, ◌⊎◌, Err, IfErr, IfOk, IsOkUnless};
 ghost use Rattle.std.specs.Fn.{FnOnceReturnsAt};
 ghost use Rattle.net.specs.declared.fault.StepFault.TheVariants.{Apart, Memory, NoNode};
@@ -17,16 +17,16 @@ use world::Carried;
 /// The state of a node and of its cell.
 #[derive(Clone, Copy, PartialEq, Eq)]
 pub struct NodeStanding {
-    /// The state that it reports.
+    /// The state that the node reports.
     pub state: NodeState,
     /// The number of entries of its log that were applied.
     pub applied: u32,
-    /// Whether it is down, since a call of its keep failed.
+    /// Whether it is down because a call of its keep failed.
     pub is_down: bool,
 }
 
 impl<G: Gate, K: Keep<Carried>> Desk<G, K> {
-    /// Asks the question of node `k`'s cell, and returns its answer. The node waits meanwhile, so
+    /// Calls `question` on node `k`'s cell, and returns the answer. The node waits meanwhile, so
     /// the question should not print.
     ///
     /// Errors: `NoNode`; else `Apart` if the cell is not that of its node. Cost: that of the question.

@@ -1,10 +1,10 @@
-//! The cell under a node's lock, and when an entry is tried again for which an allocation failed.
+//! The cell under a node's lock, and the time at which an entry is tried again after a failed allocation.
 ghost use Rattle.std.specs.Prelude.{◌≡◌};
 
 use cluster::NodeCell;
 
-/// A node's cell. An entry for which an allocation failed is tried again at the 1st, 2nd, 4th, 8th, .. packet after that,
-/// since each try costs as much as the whole entry.
+/// A node's cell. An entry for which an allocation failed is tried again at the 1st, 2nd, 4th, 8th, .. packet after
+/// that, since each try costs as much as the whole entry.
 #[derive(Drop)]
 pub(crate) struct SharedCell {
     pub cell: NodeCell,
@@ -15,7 +15,7 @@ pub(crate) struct SharedCell {
 }
 
 impl SharedCell {
-    /// Wraps a cell whose next entry was not tried yet.
+    /// Wraps a cell whose next entry has not been tried yet.
     pub fn new(cell: NodeCell) -> Self
         ensures { result.cell ≡ cell }
     {
@@ -36,14 +36,14 @@ impl SharedCell {
         self.packets >= self.due
     }
 
-    /// Postpones the next entry, for which an allocation failed, until twice as many packets came.
+    /// Postpones the next entry, for which an allocation failed, until twice as many packets have arrived.
     pub fn postpone(&mut self)
         ensures { self.new.cell ≡ self.old.cell }
     {
         self.due = self.packets.saturating_mul(2).max(1);
     }
 
-    /// Forgets what was postponed: the next entry is another one, or the node was restarted.
+    /// Ends the postponement: the next entry is another one, or the node was restarted.
     pub fn try_at_once(&mut self)
         ensures { self.new.cell ≡ self.old.cell }
     {

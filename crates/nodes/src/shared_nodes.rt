@@ -17,8 +17,8 @@ use synod::Keep;
 use verify_pool::{Gate, LightGate, Place, Workers};
 use world::Carried;
 
-/// The locks of a cluster. A node's lock is taken before the switch's, and of two nodes' locks that of the lower number
-/// first; the senders' lock is never taken while the switch's is held. The lock of heavy proofs is taken under one node's
+/// The locks of a cluster. A node's lock is taken before the switch's, and that of a lower node number before that of a
+/// higher one; the senders' lock is never taken while the switch's is held. The lock of heavy proofs is taken under one node's
 /// lock, and none under it.
 #[derive(Drop)]
 pub(crate) struct SharedNodes<G: Gate, K: Keep<Carried>> {
@@ -29,7 +29,7 @@ pub(crate) struct SharedNodes<G: Gate, K: Keep<Carried>> {
     pub cells: Vec<Mutex<SharedCell>>,
     /// The sending ends of the nodes' channels; none once the cluster is stopped.
     pub senders: Mutex<Vec<Sender<u64>>>,
-    /// Held by the node that applies an entry with a heavy proof, so that one node at a time has the room that it needs.
+    /// Held by the node that applies an entry with a heavy proof, so that one node at a time has the memory for it.
     pub heavy: Mutex<()>,
 }
 
@@ -61,9 +61,9 @@ impl<G: Gate, K: Keep<Carried>> SharedNodes<G, K> {
         }
     }
 
-    /// Delivers packets at node `k` one after another, takes over the new entries of its log, sends the hints of the posts,
-    /// and applies the entries. If an allocation fails, an entry is taken over at a later hint, and applied at a later one
-    /// at which it is due.
+    /// Delivers packets at node `k` one after another, takes over the new entries of its log, sends the hints of the packets
+    /// posted, and applies the entries. If an allocation fails, the entry is taken over at a later hint, or applied at a later
+    /// hint at which it is due.
     pub fn handle<R: Threads + Wait + Sync>(&self, rt: &R, k: u8, packets: &[u64])
     where
         G: Sync,
@@ -133,15 +133,15 @@ impl<G: Gate, K: Keep<Carried>> SharedNodes<G, K> {
     }
 }
 
-/// Returns whether the cell is node `k`'s and belongs to the switch: two locks share no fact, so this is tested while both are
-/// held.
+/// Returns whether the cell is node `k`'s and belongs to the switch. No fact relates values under two locks, so this is tested
+/// while both are held.
 fn is_at<K: Keep<Carried>>(cell: &NodeCell, k: u8, switch: &Switch<Carried, K>) -> bool
     ensures { IsTrue result → (cell.now.at ≡ k) × Belongs cell.now switch.now }
 {
     cell.at() == k && belongs(cell, switch)
 }
 
-/// Takes over the further entries of the node's log, as far as allocations succeed.
+/// Takes over the next entries of the node's log, as far as allocations succeed.
 fn take_all<K: Keep<Carried>>(cell: &mut NodeCell, switch: &Switch<Carried, K>) {
     for _entry in 0..SLOTS {
         match take_on(cell, switch) {

@@ -1,4 +1,4 @@
-//! The switch under its lock, and the hints of its posts.
+//! The switch under its lock, and the hints of the packets that it posts.
 ghost use Rattle.std.specs.Prelude.{◌≡◌, ◌⊎◌};
 ghost use Rattle.net.specs.declared.event.Event.TheVariants.{Restart};
 ghost use Rattle.net.specs.declared.fault.StepFault.TheVariants.{EventsSpent, NoNode};
@@ -11,7 +11,7 @@ use std::mem;
 use synod::Keep;
 use world::Carried;
 
-/// The number of a packet that was posted, and its receiver.
+/// A hint that a packet was posted: its receiver and its number.
 #[derive(Clone, Copy)]
 pub(crate) struct Hint {
     pub node: u8,
@@ -43,7 +43,7 @@ impl<K: Keep<Carried>> SharedSwitch<K> {
     }
 
     /// Restarts the cell's node. Returns the hints of the packets by which it asks the other nodes, `others` in number.
-    /// The packets of the event that the node owed, if it was down, have no hint: they are lost.
+    /// If the node was down, the packets of the event that it owed have no hint: they are lost.
     ///
     /// Errors and cost: those of `cluster::restart_on`.
     pub fn restart(
@@ -59,8 +59,8 @@ impl<K: Keep<Carried>> SharedSwitch<K> {
         Ok(self.hints(alloc, count.saturating_sub(others), count))
     }
 
-    /// Delivers packets one after another. Returns the hints of the packets that these deliveries post. A delivery that is
-    /// refused posts nothing.
+    /// Delivers packets one after another. Returns the hints of the packets that these deliveries post. A refused
+    /// delivery posts nothing.
     pub fn deliver_all(&mut self, alloc: Global, packets: &[u64]) -> Vec<Hint>
         ensures { DeliversAll self.old.switch self.new.switch packets.now }
     {

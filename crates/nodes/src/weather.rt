@@ -1,15 +1,15 @@
-//! The weather: how the network treats hints.
+//! The weather: whether the network delivers, loses, repeats or delays a hint.
 
-/// The fate of a hint on its way.
+/// The fate of a hint in the network.
 #[derive(Clone, Copy, PartialEq, Eq, Debug)]
 pub enum Fate {
     /// Its packet is delivered.
     Pass,
-    /// It is lost.
+    /// Its packet is lost.
     Drop,
     /// Its packet is delivered twice.
     Twice,
-    /// It is appended to the hints that wait now.
+    /// It is delayed: appended to the hints that wait now.
     Later,
 }
 
