@@ -10,11 +10,11 @@ use Rattle.commands.specs.declared.node_question.LabelQuestion.TheVariants.{Trac
 use Rattle.printed.specs.Counted.{counted_text}
 use Rattle.printed.specs.Trees.{label_line, tree_lines}
 
--- a word, the count of the labels, and a line for each
+-- a line of a word and the count of the labels, and a line for each label
 abbrev pub labels_text : List ℕ → List Name → List ℕ
 labels_text word labels = counted_text word (flat_map label_line labels)
 
--- the answer to the question about the label; nothing is said of the answers to `show` and `proof`
+-- the answer to the question about the label; the answers to `show` and `proof` are not specified
 abbrev pub IsLabelAnswer : Database → LabelQuestion → Name → List ℕ → Type 0
 IsLabelAnswer S Trace label text =
     (labels : List Name) × IsTrace S label labels × (text ≡ labels_text (codes "trace") labels)

@@ -65,7 +65,7 @@ pub fn write_answer<O: Write>(
     }
 }
 
-/// Returns the line `proved N`, with the number of `$p`.
+/// Returns the line `proved N`, where N is the number of `$p`.
 fn proved(alloc: Global, statements: &[Stmt]) -> Result<Vec<u8>, AllocError> {
     let mut line = Vec::from_slice(alloc, b"proved ")?;
     push_number(&mut line, count_of_proofs(statements) as u64)?;
@@ -73,7 +73,7 @@ fn proved(alloc: Global, statements: &[Stmt]) -> Result<Vec<u8>, AllocError> {
     Ok(line)
 }
 
-/// Returns the line `proved N of N`, with the number of `$p`.
+/// Returns the line `proved N of N`, where N is the number of `$p`.
 fn all_proved(alloc: Global, statements: &[Stmt]) -> Result<Vec<u8>, AllocError> {
     let mut line = Vec::new(alloc);
     push_proved(&mut line, statements, 0)?;

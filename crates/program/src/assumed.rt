@@ -1,4 +1,4 @@
-//! Questions about a database whose `$p` without a right proof are taken as `$a`.
+//! Questions about a database in which each `$p` that is not proved is taken as a `$a`.
 
 use crate::databases::answer_good;
 use crate::fault::Fault;
@@ -15,11 +15,11 @@ use std::thread::Threads;
 use unproved::Entered;
 use verify_pool::Workers;
 
-/// How many labels are named at most.
+/// The greatest count of labels that are named.
 const MOST_NAMED: usize = 10;
 
 /// Prints the answer about the statements of a text, each `$p` that is not proved taken as a `$a`;
-/// returns the exit status. How many these are and the first labels go to `faults`.
+/// returns the exit status. The count of these `$p` and the first of their labels go to `faults`.
 ///
 /// The library is leaked: the end of the process frees all of it at once.
 pub fn answer_assuming<R: AllocGlobal + Threads + Sync, O: Write, F: Write>(
@@ -36,8 +36,8 @@ pub fn answer_assuming<R: AllocGlobal + Threads + Sync, O: Write, F: Write>(
     answered
 }
 
-/// Returns a library of the statements of a text, each `$p` that is not proved taken as a `$a`. How
-/// many these are and the first labels go to `faults`.
+/// Returns a library of the statements of a text, each `$p` that is not proved taken as a `$a`. The
+/// count of these `$p` and the first of their labels go to `faults`.
 pub fn assume_unproved<R: AllocGlobal + Threads + Sync, F: Write>(
     rt: &R,
     entered: Entered,
@@ -85,7 +85,7 @@ fn assumed_line(
     Ok(line)
 }
 
-/// Returns the label of the `$p` at a position, or no byte if none stands there.
+/// Returns the label of the `$p` at a position, or an empty label if there is no `$p`.
 fn label_at(statements: &[Stmt], at: usize) -> &[u8] {
     match statements.get(at.saturating_sub(1)) {
         Some(Stmt::Prove { label, .. }) => label.as_bytes(),

@@ -38,7 +38,7 @@ pub fn run<
     }
 }
 
-/// Does what is asked for, and returns the exit status.
+/// Carries out a request, and returns the exit status.
 fn answer<
     R: AllocGlobal + Threads + Wait + Copy + Send + Sync + Drop + 'static,
     I: Read,

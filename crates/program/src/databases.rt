@@ -1,4 +1,4 @@
-//! A database: read, judged and asked.
+//! Commands about a database: they read and check it, and answer the question.
 use crate::answers::write_answer;
 use crate::each_proof::{answer_bearing, bears_unproved, may_be_unfinished};
 use crate::fault::Fault;
@@ -16,8 +16,8 @@ use std::mem::forget;
 use std::thread::Threads;
 use verify_pool::{OpenGate, Workers};
 
-/// Prints the outline of a database, and returns the exit status. The reason of a refusal goes to
-/// `faults`, with the name of the file before its places.
+/// Prints the outline of a database, and returns the exit status. The reason for a refusal goes to
+/// `faults`, with the name of the file before each line and column.
 pub fn print_outline<I: Read, O: Write, F: Write>(
     alloc: Global,
     name: Option<&str>,
@@ -99,7 +99,7 @@ pub fn judge<R: Threads + Sync>(
 }
 
 /// Prints the answer about a library, and returns the exit status. `text` has the same statements,
-/// in order. The reason of a refusal goes to `faults`.
+/// in order. The reason for a refusal goes to `faults`.
 pub fn answer_good<O: Write, F: Write>(
     alloc: Global,
     library: &Library,
@@ -127,7 +127,7 @@ fn note_emptiness<F: Write>(library: &Library, question: &Question<'_>, faults: 
 }
 
 /// Prints the answer about a text that is refused: the refusal, unless a `$p` is not proved and the
-/// question is answered nevertheless.
+/// question is answered even then.
 fn answer_refused<R: AllocGlobal + Threads + Sync, O: Write, F: Write>(
     rt: &R,
     asked: &Asked<'_>,

@@ -1,4 +1,4 @@
-//! Questions about a text whose `$p` need not be proved.
+//! Questions that are answered even if some `$p` of a text are not proved.
 ghost use Rattle.std.specs.Prelude.{length};
 ghost use Rattle.std.specs.List.{All};
 ghost use Rattle.unproved.specs.Unproved.{IsWithin};
@@ -22,7 +22,7 @@ use std::thread::Threads;
 use unproved::Entered;
 use verify_pool::Workers;
 
-/// How many lines are explained at most.
+/// The greatest count of lines that are explained.
 const MOST_EXPLAINED: usize = 100;
 
 /// Returns whether a question is answered even if some `$p` are not proved.
@@ -30,9 +30,9 @@ pub fn bears_unproved(asked: &Asked<'_>) -> bool {
     asked.assumes || matches!(asked.question, Question::CheckEach)
 }
 
-/// Returns whether a byte `?` stands outside the comments of a text, so that a proof may be
-/// unfinished. No answer depends on this: such a text is just not judged whole before its proofs are
-/// judged one by one.
+/// Returns whether a text has a byte `?` outside its comments, so that a proof may be unfinished. No
+/// answer depends on this: it only saves checking the whole text before its proofs are checked one by
+/// one.
 ///
 /// Cost: the size of the text.
 pub fn may_be_unfinished(text: &[u8]) -> bool {
@@ -49,7 +49,7 @@ pub fn may_be_unfinished(text: &[u8]) -> bool {
 }
 
 /// Answers a question that is answered even if some `$p` are not proved; returns the exit status, or
-/// `None` if the text is too long, does not read or breaks a rule.
+/// `None` if the text is too long, cannot be parsed or breaks a rule.
 pub fn answer_bearing<R: AllocGlobal + Threads + Sync, O: Write, F: Write>(
     rt: &R,
     asked: &Asked<'_>,
@@ -67,8 +67,8 @@ pub fn answer_bearing<R: AllocGlobal + Threads + Sync, O: Write, F: Write>(
     Ok(Some(status))
 }
 
-/// Returns the statements of a text with their frames, or `None` if it is too long, does not read or
-/// breaks a rule.
+/// Returns the statements of a text with their frames, or `None` if it is too long, cannot be parsed
+/// or breaks a rule.
 pub fn enter_text<R: AllocGlobal + Threads + Sync>(
     rt: &R,
     text: NamedText<'_>,
@@ -83,8 +83,8 @@ pub fn enter_text<R: AllocGlobal + Threads + Sync>(
     }
 }
 
-/// Prints a line for each `$p` of a text that is not proved and how many are proved, and explains the
-/// first lines on `faults`; returns the exit status.
+/// Prints a line for each `$p` of a text that is not proved and the count of those that are, and
+/// explains the first lines on `faults`; returns the exit status.
 ///
 /// The statements are leaked: the end of the process frees all of them at once.
 fn print_each<R: AllocGlobal + Threads + Sync, O: Write, F: Write>(
@@ -99,7 +99,7 @@ fn print_each<R: AllocGlobal + Threads + Sync, O: Write, F: Write>(
     printed
 }
 
-/// Prints these lines and reasons for the statements of a text.
+/// Prints these lines and explanations for the statements of a text.
 fn print_unproved<R: AllocGlobal + Threads + Sync, O: Write, F: Write>(
     rt: &R,
     text: NamedText<'_>,

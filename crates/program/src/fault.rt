@@ -23,7 +23,7 @@ pub enum Fault {
     /// An allocation failed; no other variant says so.
     #[error("refused Memory")]
     Memory(#[from(alloc)] AllocError),
-    /// A question on a label has no answer.
+    /// A question about a label has no answer.
     #[error("refused {0:?}")]
     Ask(AskFault),
     /// Assertions cannot be extracted.
@@ -35,10 +35,10 @@ pub enum Fault {
     /// A picture has no room for the steps of a run.
     #[error("refused TooLarge")]
     LongRun,
-    /// A line is none of its command's. `number` is that of the first, from 1; empty lines count.
+    /// A line is bad. `number` is that of the first bad line, counted from 1 with the empty lines.
     #[error("bad line {number}")]
     BadLine { number: usize },
-    /// A line of a session is none of `serve`'s. `wanted` says what may stand there.
+    /// A line of a session is bad. `wanted` is the form of the line that its verb begins, or all verbs.
     #[error("bad line {number}: {wanted}")]
     NoLine { number: usize, wanted: &'static str },
     /// A write failed: nothing more is printed.
@@ -89,7 +89,7 @@ impl Fault {
         }
     }
 
-    /// Writes the sentence of this fault to `faults`, if it has one and it can be written.
+    /// Writes the sentence of this fault to `faults`, if it has one. Ignores a failed write.
     fn tell<F: Write>(&self, faults: &mut F) {
         let words = match self {
             Fault::Input => b"standard input cannot be read\n".as_slice(),

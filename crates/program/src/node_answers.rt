@@ -54,7 +54,7 @@ fn usage_answer(alloc: Global, library: &Library, label: &[u8]) -> Result<Vec<u8
     Ok(counted_labels(alloc, b"usage", labels.as_slice())?)
 }
 
-/// Returns a word, the count of the labels, and a line for each.
+/// Returns a line of a word and the count of the labels, and a line for each label.
 fn counted_labels(alloc: Global, word: &[u8], labels: &[Word]) -> Result<Vec<u8>, AllocError>
     ensures { IfOk result (λ text. text.items ≡ labels_text word.now labels.now) }
 {
@@ -72,7 +72,7 @@ fn tree_answer(alloc: Global, library: &Library, label: &[u8]) -> Result<Vec<u8>
     Ok(counted(alloc, b"tree", lines.as_slice())?)
 }
 
-/// Returns a word, the count of the lines, and the lines.
+/// Returns a line of a word and the count of the lines, and the lines.
 fn counted(alloc: Global, word: &[u8], lines: &[u8]) -> Result<Vec<u8>, AllocError>
     ensures { IfOk result (λ text. text.items ≡ counted_text word.now lines.now) }
 {
@@ -95,7 +95,7 @@ fn written_answer(
     };
     let mut lines = Vec::new(alloc);
     match write_answer(alloc, library, text, &question, &mut lines) {
-        // A list of bytes takes each write for which an allocation succeeds.
+        // A write to a list of bytes fails only if an allocation fails.
         Err(Fault::Output) => return Err(Fault::Memory(AllocError)),
         Err(fault) => return Err(fault),
         Ok(()) => {}
@@ -103,8 +103,8 @@ fn written_answer(
     Ok(counted(alloc, asked.kind.verb(), lines.as_slice())?)
 }
 
-/// Returns the text in which places are counted, empty if the answer has no places: the export of the
-/// library, since its texts are not kept.
+/// Returns the text to which printed lines and columns refer: the export of the library, since its
+/// texts are not kept. Returns an empty text if the answer prints none.
 fn text_of(alloc: Global, library: &Library, kind: LabelQuestion) -> Result<Vec<u8>, AllocError> {
     match kind {
         LabelQuestion::Show => library.export(),

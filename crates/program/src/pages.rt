@@ -17,9 +17,9 @@ use std::mem::forget;
 use std::thread::Threads;
 use unproved::Entered;
 
-/// Writes a page of each assertion of a database into the folder that is asked for, a list of them
-/// and a style sheet; returns the exit status. The reason of a refusal goes to `faults`, and so does
-/// the progress if there are many pages.
+/// Writes a site into the folder of the request: a page for each assertion of a database, a list of
+/// them and a style sheet; returns the exit status. The reason for a refusal goes to `faults`, and so
+/// does the progress if there are many pages.
 ///
 /// The library is leaked: the end of the process frees all of it at once.
 pub fn print_pages<R: AllocGlobal + Threads + Sync, I: Read, O: Write, F: Write, S: Folder>(
@@ -38,7 +38,7 @@ pub fn print_pages<R: AllocGlobal + Threads + Sync, I: Read, O: Write, F: Write,
     answered
 }
 
-/// The writers of the answer and of reasons.
+/// The writers of answers and of reasons.
 #[derive(Drop)]
 struct Streams<'a, O, F> {
     output: &'a mut O,
@@ -116,7 +116,7 @@ fn assume_and_print<R: AllocGlobal + Threads + Sync, O: Write, F: Write, S: Fold
 }
 
 /// Writes the files of the site of a library that was read from a text, and returns the exit status.
-/// The name of a file that cannot be written goes to the faults, and so does the progress.
+/// The name of a file that cannot be written goes to `faults`, and so does the progress.
 fn print_site<O: Write, F: Write, S: Folder>(
     alloc: Global,
     library: &Library,

@@ -9,7 +9,7 @@ use std::alloc::{AllocError, Global};
 use std::io::{Read, Write};
 use synod::Weights;
 
-/// Reads a script, makes its run, prints the picture of some steps, and returns the exit status.
+/// Reads a script, takes its steps, prints the picture of some of them, and returns the exit status.
 /// A line that is refused leaves no mark, and questions are not answered.
 ///
 /// Errors: `Input`; `BadLine`; `LongRun`; `Memory`, before anything is printed; `Output`.
@@ -25,7 +25,7 @@ pub fn print_picture<I: Read, O: Write>(
     print_run(alloc, weights, &mut run, lines, part_of(steps), output)
 }
 
-/// Makes the steps of a script, and prints the picture of a part of the run.
+/// Takes the steps of a script, and prints the picture of a part of the run.
 fn print_run<O: Write>(
     alloc: Global,
     weights: Weights,
@@ -52,7 +52,7 @@ fn at_most(number: u64) -> usize {
     usize::try_from(number).unwrap_or(usize::MAX)
 }
 
-/// Makes the steps of a script, and returns the picture of a part of the run.
+/// Takes the steps of a script, and returns the picture of a part of the run.
 fn picture_of(
     alloc: Global,
     weights: Weights,
@@ -68,7 +68,7 @@ fn picture_of(
     Ok(draw(alloc, weights, run, part)?)
 }
 
-/// Makes the step of a line, if it has one.
+/// Takes the step of a line, if it has one.
 fn make(run: &mut Run, line: PlayLine) -> Result<(), StepFault> {
     match line {
         PlayLine::Node(line) => make_node_line(run, line),
@@ -78,7 +78,7 @@ fn make(run: &mut Run, line: PlayLine) -> Result<(), StepFault> {
     }
 }
 
-/// Makes the step of a line that `serve` has too.
+/// Takes the step of a line that `serve` has too.
 fn make_node_line(run: &mut Run, line: NodeLine) -> Result<(), StepFault> {
     match line {
         NodeLine::Offer(offered) => run.step(Event::Offer(offered.node, offered.entry)),

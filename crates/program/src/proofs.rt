@@ -23,11 +23,11 @@ struct Proof<'a> {
     frames: &'a Frames,
     /// The position of the `$p`.
     at: usize,
-    /// All its steps.
+    /// All steps of its proof.
     steps: &'a ProofTable,
 }
 
-/// Writes the steps of the proof of a label, in the form that is asked for.
+/// Writes the steps of the proof of a label, in the form of the request.
 ///
 /// Errors: those of `Library::items`; `Output`; `Memory` if an allocation fails, perhaps after some
 /// steps.
@@ -50,7 +50,7 @@ pub fn write_proof<O: Write>(
     print(output, b"")
 }
 
-/// Writes the steps that are asked for, in the form that is asked for.
+/// Writes all steps or the essential ones, in the form of the request.
 fn write_steps<O: Write>(
     alloc: Global,
     proof: &Proof<'_>,
@@ -123,7 +123,7 @@ fn write_theorem<O: Write>(
     Ok(())
 }
 
-/// Returns the neighbours of a theorem, without its description.
+/// Returns the axioms and the users of a theorem for its page, without a description.
 fn neighbours_of<'a>(axioms: &'a [u32], users: &'a [u32]) -> Neighbours<'a> {
     Neighbours {
         axioms,

@@ -7,7 +7,7 @@ use library::{AskFault, Library};
 use mm_read::Stmt;
 use std::io::Write;
 
-/// Prints the line of a question that is refused, and the reason on `faults`; returns the exit
+/// Prints the line for a question that is refused, and the reason on `faults`; returns the exit
 /// status.
 ///
 /// Errors: the output cannot be written.
@@ -23,7 +23,7 @@ pub fn print_refused<O: Write, F: Write>(
     Ok(1)
 }
 
-/// Writes why the label of a question is refused; nothing for any other fault.
+/// Writes why the label of a question is refused. Writes nothing for any other fault.
 fn write_reason<F: Write>(
     library: &Library,
     question: &Question<'_>,
@@ -65,7 +65,7 @@ fn write_kind<F: Write>(library: &Library, label: &[u8], faults: &mut F) -> Resu
     Ok(faults.write_all(kind_of(library, label))?)
 }
 
-/// Returns the label for which a question is refused; an empty one if it has none.
+/// Returns the label for which a question is refused, or an empty label if it has none.
 fn refused_label<'a>(library: &Library, question: &Question<'a>, fault: &Fault) -> &'a [u8] {
     match question {
         Question::Tree(label) => label,
@@ -95,7 +95,7 @@ fn first_refused<'a>(library: &Library, labels: &[&'a str], fault: &Fault) -> &'
     b""
 }
 
-/// Returns the keyword of the statement with a label, or no byte if there is none.
+/// Returns the keyword of the statement with a label, or an empty text if there is no statement.
 fn kind_of(library: &Library, label: &[u8]) -> &'static [u8] {
     let Some(at) = library.frames().position(label) else {
         return b"";

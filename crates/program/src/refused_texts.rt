@@ -9,7 +9,7 @@ use printed::{first_broken_rule, push_verdict};
 use std::alloc::{AllocError, Global};
 use std::io::Write;
 
-/// Prints the line of a text that is refused, and the reason on `faults`; returns the exit status.
+/// Prints the line for a text that is refused, and the reason on `faults`; returns the exit status.
 ///
 /// If an allocation for the reason fails, only the line is printed.
 pub fn print_refusal<O: Write, F: Write>(
@@ -26,7 +26,7 @@ pub fn print_refusal<O: Write, F: Write>(
     Ok(1)
 }
 
-/// Returns the line of a database that is refused.
+/// Returns the line for a database that is refused.
 fn refusal_line(alloc: Global, cause: Cause) -> Result<Vec<u8>, AllocError> {
     let mut line = Vec::new(alloc);
     push_verdict(&mut line, Verdict::Refused(cause))?;
@@ -34,7 +34,8 @@ fn refusal_line(alloc: Global, cause: Cause) -> Result<Vec<u8>, AllocError> {
     Ok(line)
 }
 
-/// Returns the fault to explain for a cause; `None` for `NotChartered`, which is no fault of a text.
+/// Returns the fault to explain for a cause, or `None` for `NotChartered`, which is no fault of a
+/// text.
 pub fn fault_of(cause: Cause) -> Option<DatabaseFault> {
     match cause {
         Cause::TooLong => Some(DatabaseFault::TooLong),

@@ -6,10 +6,11 @@ use std::alloc::Global;
 use std::io::{Read, Write};
 use std::vec::IntoIter;
 
-/// The bytes that the answer of an event or a verdict needs at most.
+/// The capacity in bytes that is reserved for an answer. That to an event needs no more, nor does a
+/// verdict.
 const ANSWER_ROOM: usize = 128;
 
-/// Nodes that answer the lines of a script.
+/// Nodes that answer the lines of a script or a session.
 pub trait Answers<L> {
     /// Carries out a line, and appends its answer to a text.
     ///
@@ -17,7 +18,7 @@ pub trait Answers<L> {
     fn answer(&mut self, line: L, text: &mut Vec<u8>) -> Result<(), Fault>;
 }
 
-/// A source of the lines of a script.
+/// A source of the lines of a script or a session.
 pub trait Source<L> {
     /// Returns the next line, or `None` at the end.
     ///

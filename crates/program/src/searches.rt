@@ -22,7 +22,8 @@ pub fn found(
     found_lines(alloc, &searched, sought)
 }
 
-/// Returns the places of the descriptions of a text, or an empty list if the search reads none.
+/// Returns the places of the descriptions of a text, or an empty list if the search does not read
+/// descriptions.
 fn descriptions_for(
     alloc: Global,
     text: &[u8],

@@ -24,7 +24,7 @@ use std::sync::Wait;
 use std::thread;
 use std::thread::Threads;
 
-/// For how many turns `settle` waits at most.
+/// The greatest number of turns that `settle` waits.
 const MOST_TURNS: u32 = 10_000_000;
 
 /// `settle` asks once in this many turns, since each ask takes the lock that the node needs.
@@ -46,7 +46,7 @@ pub fn serve<
 }
 
 /// Starts the nodes, prints the answers to the lines, and stops the nodes; returns the exit status.
-/// Every thread is joined, also after a write that failed.
+/// Every thread is joined, even if a write fails.
 fn serve_lines<
     R: AllocGlobal + Threads + Wait + Copy + Send + Sync + Drop + 'static,
     S: Source<ServedLine>,
@@ -122,7 +122,7 @@ fn answer_serve_line<R: Wait>(
     }
 }
 
-/// Submits an entry at a node until its verdict is known there, and returns the verdict; `None` if
+/// Submits an entry at a node until its verdict is known there, and returns the verdict, or `None` if
 /// it is not known after the tries of `Desk::add`.
 fn added<R: Wait>(rt: &R, desk: &NodesDesk, offered: &Offered) -> Result<Option<Verdict>, StepFault>
     ensures outcome { IfOk result (IsOutcome offered.now.node offered.now.entry) }
@@ -173,7 +173,7 @@ fn push_node_list<R: Wait>(
     Ok(())
 }
 
-/// Returns the verdict of the node's library on the entry, if it is decided there.
+/// Returns the verdict of the node's library on the entry, or `None` if it is not decided there.
 fn status<R: Wait>(rt: &R, desk: &NodesDesk, at: EntryAt) -> Result<Option<Verdict>, StepFault>
     ensures status { IfOk result (IsStatus at.node at.author at.serial) }
     ensures no_node { desk.now ≤ at.node → result ≡ Err NoNode }
@@ -182,7 +182,7 @@ fn status<R: Wait>(rt: &R, desk: &NodesDesk, at: EntryAt) -> Result<Option<Verdi
     desk.status(rt, at.node, at.author, at.serial)
 }
 
-/// Returns the status as soon as it is known; `None` if it is not known after `MOST_TURNS` turns.
+/// Returns the verdict as soon as it is known, or `None` if it is not known after `MOST_TURNS` turns.
 fn settled<R: Wait>(rt: &R, desk: &NodesDesk, at: EntryAt) -> Result<Option<Verdict>, StepFault>
     ensures status { IfOk result (IsStatus at.node at.author at.serial) }
     ensures no_node { desk.now ≤ at.node → result ≡ Err NoNode }

@@ -16,7 +16,7 @@ use synod::{Keep, Weights};
 use verify_pool::{OpenGate, Workers};
 use world::Carried;
 
-/// How often a cluster is asked again to stop while an allocation fails.
+/// How often at most a cluster is asked again to stop after a failed allocation.
 const MOST_RETRIES: u32 = 1000;
 
 /// The nodes of one process, each with a keep in memory.
@@ -28,7 +28,8 @@ pub type NodesDesk = Desk<OpenGate, MemoryKeep<Carried>>;
 /// Starts a node for each weight, with the weather that the seed draws, or a clear one without a
 /// seed. Each thread passes the gate at once.
 ///
-/// Errors: `Memory` if an allocation fails or a thread cannot be started; then no thread runs on.
+/// Errors: `Memory` if an allocation fails or a thread cannot be started; then no thread is left
+/// running.
 pub fn start_nodes<R: Threads + Wait + Copy + Send + Sync + Drop + 'static>(
     rt: &R,
     alloc: Global,
@@ -74,7 +75,7 @@ fn keeps(alloc: Global, count: u8) -> Result<Vec<MemoryKeep<Carried>>, AllocErro
 /// Stops the nodes and joins their threads. If the allocation of their report fails, they are asked
 /// again.
 ///
-/// Errors: those of the last time that they were asked.
+/// Errors: those of the last attempt.
 pub fn stop_nodes<R: Threads + Wait>(rt: &R, nodes: &mut Nodes) -> Result<(), StepFault>
     ensures { nodes.new ≡ nodes.old }
 {

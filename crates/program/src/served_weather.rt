@@ -5,7 +5,7 @@ use drawn_weather::DrawnWeather;
 use nodes::{Fate, Weather};
 use std::alloc::{AllocError, Global};
 
-/// A weather that loses, repeats and delays nothing, or one that a seed draws.
+/// A weather that loses, repeats and delays nothing, or one that is drawn from a seed.
 #[derive(Drop)]
 pub enum ServedWeather {
     /// Each packet is delivered.
@@ -23,7 +23,7 @@ impl Weather for ServedWeather {
     }
 }
 
-/// Returns a weather for each of `nodes` nodes, clear without a seed.
+/// Returns a weather for each of `nodes` nodes. Without a seed all are clear.
 pub fn weathers(
     alloc: Global,
     nodes: u8,

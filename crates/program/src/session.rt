@@ -111,7 +111,7 @@ impl<'a, I: Read> Session<'a, I> {
         }
     }
 
-    /// Appends the following lines that are the text of the line, if it gives its text there.
+    /// Appends the lines that are the text of the line, if it has its text on the lines that follow.
     fn read_text(&mut self) -> Result<(), Fault> {
         let line = self.text.len();
         match text_end(first_line(self.text.as_slice())) {
@@ -147,8 +147,8 @@ impl<'a, I: Read> Session<'a, I> {
         Ok(())
     }
 
-    /// Appends the next line with its line feed, which the last may lack. Returns false if the input
-    /// has ended.
+    /// Appends the next line with its line feed, which the last may lack. Returns `false` if the
+    /// input has ended.
     fn read_line(&mut self) -> Result<bool, Fault>
         ensures { OnOk result (vec_len self.old.text ≤ vec_len self.new.text) }
     {

@@ -11,7 +11,7 @@ use std::alloc::{AllocError, Global};
 /// A text, and the ends of its statements.
 #[derive(Drop)]
 struct Written<'a> {
-    /// The name of the file, which stands before each place.
+    /// The name of the file, which is printed before each line and column.
     name: Option<&'a str>,
     text: &'a [u8],
     /// The offset after the last token of each statement, in order.
@@ -56,7 +56,7 @@ fn positions(alloc: Global, library: &Library, labels: &[&str]) -> Result<Vec<us
     Ok(positions)
 }
 
-/// Returns the offset after the last token of each statement of a text that reads.
+/// Returns the offset after the last token of each statement of a text that was parsed.
 ///
 /// Cost: the size of the text.
 fn ends(alloc: Global, text: &[u8]) -> Result<Vec<usize>, AllocError> {
@@ -73,7 +73,7 @@ fn ends(alloc: Global, text: &[u8]) -> Result<Vec<usize>, AllocError> {
     Ok(ends)
 }
 
-/// Returns the byte after the `$` at an offset, if the two stand alone between white bytes.
+/// Returns the byte after the `$` at an offset, if the two have white space before and after them.
 fn keyword(text: &[u8], at: usize) -> Option<u8> {
     let begins = match at.checked_sub(1) {
         Some(before) => is_white(text, before),
@@ -86,7 +86,7 @@ fn keyword(text: &[u8], at: usize) -> Option<u8> {
     }
 }
 
-/// Returns whether a white byte or the end of the text stands at an offset.
+/// Returns whether an offset has white space, or is at or after the end of the text.
 fn is_white(text: &[u8], at: usize) -> bool {
     match text.get(at) {
         Some(byte) => byte.is_ascii_whitespace(),
@@ -94,7 +94,7 @@ fn is_white(text: &[u8], at: usize) -> bool {
     }
 }
 
-/// Appends the block of the statement at a position, if one stands there.
+/// Appends the block of the statement at a position, if there is one.
 fn push_shown(
     alloc: Global,
     blocks: &mut Vec<u8>,
@@ -133,7 +133,7 @@ fn begin(written: &Written<'_>, at: usize) -> usize {
 }
 
 /// Returns the text of the statement at a position with all comments before it, from `begin`, where
-/// the previous statement ends. Read alone, this part has the same description.
+/// the previous statement ends. Parsed alone, this part has the same description.
 fn part<'a>(written: &Written<'a>, begin: usize, at: usize) -> &'a [u8] {
     match written.ends.get(at.saturating_sub(1)) {
         Some(end) => written.text.get(begin..*end).unwrap_or(b""),

@@ -7,15 +7,15 @@ use std::io::{ErrorKind, Read, Write};
 /// How many bytes a read asks for.
 const PART: usize = 65_536;
 
-/// Reads a database: the whole input, or one byte more than a text may have.
+/// Reads a database: the whole input, or its first bytes, one more than a text may have.
 pub fn read_text<I: Read>(alloc: Global, input: &mut I) -> Result<Vec<u8>, Fault> {
     read_at_most(alloc, input, MOST_BYTES + 1)
 }
 
 /// Reads the whole input, or its first `most` bytes.
 ///
-/// Room for a text is reserved first, if allocation succeeds: what is read then stays where it is,
-/// and pages that stay empty cost nothing.
+/// Reserves room for the longest text first, if allocation succeeds, so that no byte is moved later;
+/// pages of memory that stay unused cost nothing.
 pub fn read_at_most<I: Read>(alloc: Global, input: &mut I, most: usize) -> Result<Vec<u8>, Fault> {
     let mut text = Vec::new(alloc);
     let _ = text.reserve(most.min(MOST_BYTES));

@@ -1,5 +1,5 @@
-//! Why an entry is refused at a node: the entry is judged again after exactly the statements that
-//! stood when it was decided.
+//! Why a node refused an entry: the entry is checked again after exactly the statements that the
+//! library had when it was decided.
 use crate::fault::Fault;
 use crate::refused_texts::fault_of;
 use bytes::Bytes;
@@ -24,18 +24,18 @@ pub enum Decision {
     Refused(RefusedEntry),
 }
 
-/// An entry that was refused, and what stood when it was.
+/// A refused entry, and the texts and statements that the library had then.
 #[derive(Drop)]
 pub struct RefusedEntry {
     cause: Cause,
     entry: Entry,
     /// The texts that were added before it, in order.
     added: Vec<Bytes>,
-    /// The statements of the library, a line each. Those of `added` come first.
+    /// The statements of the library now, a line for each. Those of `added` are first.
     export: Vec<u8>,
 }
 
-/// Returns what a library decided on an entry. `entries` are those that it applied, in order.
+/// Returns the decision of a library on an entry. `entries` are those that it applied, in order.
 ///
 /// Errors: an allocation fails. Cost: the size of the library, and the count of the entries.
 pub fn decided(
@@ -63,7 +63,7 @@ pub fn decided(
                 export: library.export()?,
             }));
         }
-        // A later entry under the same number is a repeat, which adds nothing.
+        // A later entry with the same author and serial number is a repeat, which adds nothing.
         if earlier.insert((entry.author(), entry.serial()))? {
             push_added(&mut added, library, entry)?;
         }
@@ -82,7 +82,7 @@ fn push_added(added: &mut Vec<Bytes>, library: &Library, entry: &Entry) -> Resul
     Ok(())
 }
 
-/// Appends why the entry is refused: `why`, the count of the lines, and the lines. There are none
+/// Appends why the entry is refused: `why`, the count of the lines, and the lines. There are no lines
 /// if it was added; if nothing is decided, the answer is `unknown`.
 ///
 /// Errors: an allocation fails. Cost: that of `explanation::explain_behind`, and of reading the
@@ -110,7 +110,7 @@ fn reason(alloc: Global, refused: &RefusedEntry) -> Result<Vec<u8>, AllocError> 
     }
 }
 
-/// Returns the explanation of a text that is refused, with the places in that text.
+/// Returns the explanation of a text that is refused, with lines and columns of that text.
 fn explanation(
     alloc: Global,
     refused: &RefusedEntry,
@@ -135,7 +135,7 @@ fn tells_statement(fault: DatabaseFault) -> bool {
     )
 }
 
-/// Returns the fault with its statement counted after `count` others.
+/// Returns the fault with `count` added to the number of its statement.
 fn behind(fault: DatabaseFault, count: usize) -> DatabaseFault {
     match fault {
         DatabaseFault::Rule { statement, rule } => DatabaseFault::Rule {
@@ -178,8 +178,8 @@ fn first_lines(lines: &[u8], count: usize) -> &[u8] {
     lines.get(..len).unwrap_or(lines)
 }
 
-/// Returns the line that says that the charter does not name the author, at the statement that is
-/// refused for that.
+/// Returns the line that says that the charter does not name the author, with the place of the
+/// statement that is refused.
 fn not_chartered(
     alloc: Global,
     text: &[u8],
