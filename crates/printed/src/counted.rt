@@ -1,4 +1,5 @@
-//! Answers of several lines, which begin with their line count, and the entries that a node learned.
+//! Answers of several lines, which begin with their line count, and the entries that a node
+//! learned.
 ghost use Rattle.std.specs.Prelude.{◌≡◌, ◌++◌, OnOk};
 ghost use Rattle.printed.specs.Counted.{counted_text, learned_text, line_feeds_of};
 

@@ -1,6 +1,6 @@
 //! The texts that the program prints of databases, verdicts, packets, libraries and derivations.
-//! Each `push_` call appends a text to an answer. Unless its comment says otherwise, it fails only if
-//! an allocation fails, and its cost is the size of the text. After a failure the answer is not
+//! Each `push_` call appends a text to an answer. Unless its comment says otherwise, it fails only
+//! if an allocation fails, and its cost is the size of the text. After a failure the answer is not
 //! specified.
 //!
 //! Crates above use the clause of each call: the appended text is exactly that of a definition in
