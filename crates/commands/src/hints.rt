@@ -38,8 +38,8 @@ pub(crate) fn push_hint(
     push_files(alloc, words, text)
 }
 
-/// Returns whether the word at an index may be the name of a file: it is not an option, and it is the
-/// last word or has a full stop or a slash.
+/// Returns whether the word at an index may be the name of a file: it is not an option, and it is
+/// the last word or has a full stop or a slash.
 fn may_be_file(words: &[&str], place: usize) -> bool {
     match words.get(place) {
         Some(word) => { !word.starts_with('-') && (place + 1 == words.len() || is_file_name(word)) }
@@ -63,7 +63,8 @@ fn without<'a>(alloc: Global, words: &[&'a str], place: usize) -> Result<Vec<&'a
     Ok(others)
 }
 
-/// Returns the kind of text that the request of these words reads, or `None` if they are no request.
+/// Returns the kind of text that the request of these words reads, or `None` if they are no
+/// request.
 fn source_of(alloc: Global, words: &[&str]) -> Option<Source> {
     match matches_of(alloc, words) {
         Ok(matches) => match matches.subcommand() {

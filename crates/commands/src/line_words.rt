@@ -102,8 +102,8 @@ impl<'a> Pieces<'a, SPACE> {
         Some(NodePair { first, second })
     }
 
-    /// Returns the three remaining words as `K AUTHOR SERIAL`, or `None` unless exactly three numbers
-    /// are left.
+    /// Returns the three remaining words as `K AUTHOR SERIAL`, or `None` unless exactly three
+    /// numbers are left.
     pub fn only_entry(mut self) -> Option<EntryAt>
         ensures { result ≡ one_entry self.entry }
     {

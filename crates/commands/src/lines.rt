@@ -59,7 +59,8 @@ impl<'a> Lines<'a> {
     }
 
     /// Takes the lines up to the first that is `word` alone, and returns those before it, each with
-    /// its line feed. Returns `None` if there is no such line; the lines left are then not specified.
+    /// its line feed. Returns `None` if there is no such line; the lines left are then not
+    /// specified.
     pub(crate) fn take_lines(&mut self, word: &[u8]) -> Option<&'a [u8]>
         ensures { MatchOption result
             (lines_before word.now self.old.lines ≡ None)
@@ -72,8 +73,8 @@ impl<'a> Lines<'a> {
         Some(taken.text)
     }
 
-    /// Takes `count` bytes and the line feed that follows them, and returns the bytes. Returns `None`
-    /// if no line feed follows; the lines left are then not specified.
+    /// Takes `count` bytes and the line feed that follows them, and returns the bytes. Returns
+    /// `None` if no line feed follows; the lines left are then not specified.
     pub(crate) fn take_bytes(&mut self, count: u64) -> Option<&'a [u8]>
         ensures { MatchOption result
             (bytes_before count self.old.lines ≡ None)

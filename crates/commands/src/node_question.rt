@@ -38,8 +38,8 @@ impl LabelQuestion {
         }
     }
 
-    /// Returns the same question about the label, as the command for a database asks it. For `show` a
-    /// label that is not UTF-8 is replaced by the empty label; no statement has either.
+    /// Returns the same question about the label, as the command for a database asks it. For `show`
+    /// a label that is not UTF-8 is replaced by the empty label; no statement has either.
     ///
     /// Errors: an allocation fails.
     pub fn about(self, alloc: Global, label: &[u8]) -> Result<Question<'_>, AllocError> {

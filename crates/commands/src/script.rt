@@ -30,8 +30,8 @@ pub enum ScriptFault {
 pub trait Line: Sized + Drop {
     ghost use Rattle.std.specs.Prelude.{ℕ, List, Option};
 
-    /// The line that these bytes are by definition, given the lines that follow, and how many of those
-    /// are its text; `None` if they are not a line of the command.
+    /// The line that these bytes are by definition, given the lines that follow, and how many of
+    /// those are its text; `None` if they are not a line of the command.
     ghost said: { List ℕ → List (List ℕ) → Option (Self × ℕ) };
 
     /// Parses the bytes between two line feeds as a line, and takes the lines of its text.

@@ -21,8 +21,9 @@ pub enum TextForm {
     Bytes,
 }
 
-/// Returns the form of the text that a verb gives, if it is one of three verbs: `rest` for a text on
-/// the line, `lines` for one on the lines that follow, `bytes` for one of a given number of bytes.
+/// Returns the form of the text that a verb gives, if it is one of three verbs: `rest` for a text
+/// on the line, `lines` for one on the lines that follow, `bytes` for one of a given number of
+/// bytes.
 pub(crate) fn form_of(verb: &[u8], rest: &[u8], lines: &[u8], bytes: &[u8]) -> Option<TextForm>
     ensures { result ≡ form_by rest.now lines.now bytes.now verb.now }
 {
@@ -91,8 +92,8 @@ impl<'a> Pieces<'a, LINE_FEED> {
         Some(taken)
     }
 
-    /// Takes `count` bytes and the line feed that follows them, and returns the bytes. Returns `None`
-    /// if no line feed follows.
+    /// Takes `count` bytes and the line feed that follows them, and returns the bytes. Returns
+    /// `None` if no line feed follows.
     pub fn take_bytes(&mut self, count: u64) -> Option<Taken<'a>>
         ensures text { MatchOption result
             (bytes_before count self.old ≡ None)
