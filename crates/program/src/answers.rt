@@ -22,8 +22,8 @@ use std::io::Write;
 
 /// Writes the answer to a question about a library. `text` has the same statements, in order.
 ///
-/// Errors: those of the question, before anything is written; `Output` if a write fails; `Memory` if
-/// an allocation fails, perhaps after some steps of a proof.
+/// Errors: those of the question, before anything is written; `Output` if a write fails; `Memory`
+/// if an allocation fails, perhaps after some steps of a proof.
 pub fn write_answer<O: Write>(
     alloc: Global,
     library: &Library,

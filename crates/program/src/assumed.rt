@@ -48,8 +48,8 @@ pub fn assume_unproved<R: AllocGlobal + Threads + Sync, F: Write>(
     entered.assume(unproved.as_slice())
 }
 
-/// Prints how many theorems are taken as axioms and the labels of the first, if there are any and if
-/// allocation succeeds.
+/// Prints how many theorems are taken as axioms and the labels of the first, if there are any and
+/// if allocation succeeds.
 fn tell_assumed<F: Write>(alloc: Global, entered: &Entered, unproved: &[usize], faults: &mut F) {
     if unproved.is_empty() {
         return;

@@ -13,13 +13,13 @@ use std::io::{Read, Write};
 use std::sync::Wait;
 use std::thread::Threads;
 
-/// Runs the command of these words, without the program's own name, and returns the exit status. The
-/// files that `pages` writes go into a folder that `folder` opens.
+/// Runs the command of these words, without the program's own name, and returns the exit status.
+/// The files that `pages` writes go into a folder that `folder` opens.
 ///
-/// The status is 0 if all is good (the version too), 1 after a refusal (of the input, of a line, out
-/// of memory) or a failed write, 2 for a bad command line, help, bad weights or a bad script. Answers,
-/// refusals and the bad lines of scripts go to `output`; all else that is printed (help, the text of
-/// a bad command line, explanations, notes, the progress of `pages`) goes to `faults`.
+/// The status is 0 if all is good (the version too), 1 after a refusal (of the input, of a line,
+/// out of memory) or a failed write, 2 for a bad command line, help, bad weights or a bad script.
+/// Answers, refusals and the bad lines of scripts go to `output`; all else that is printed (help,
+/// the text of a bad command line, explanations, notes, the progress of `pages`) goes to `faults`.
 pub fn run<
     R: AllocGlobal + Threads + Wait + Copy + Send + Sync + Drop + 'static,
     I: Read,

@@ -44,8 +44,8 @@ pub fn print_outline<I: Read, O: Write, F: Write>(
 
 /// Prints the answer to a question about a database, and returns the exit status.
 ///
-/// `Workers::offered` threads read the text and check its proofs; no answer depends on their number.
-/// The library is leaked: the end of the process frees all of it at once.
+/// `Workers::offered` threads read the text and check its proofs; no answer depends on their
+/// number. The library is leaked: the end of the process frees all of it at once.
 pub fn ask<R: AllocGlobal + Threads + Sync, I: Read, O: Write, F: Write>(
     rt: &R,
     asked: &Asked<'_>,

@@ -30,9 +30,9 @@ pub fn bears_unproved(asked: &Asked<'_>) -> bool {
     asked.assumes || matches!(asked.question, Question::CheckEach)
 }
 
-/// Returns whether a text has a byte `?` outside its comments, so that a proof may be unfinished. No
-/// answer depends on this: it only saves checking the whole text before its proofs are checked one by
-/// one.
+/// Returns whether a text has a byte `?` outside its comments, so that a proof may be unfinished.
+/// No answer depends on this: it only saves checking the whole text before its proofs are checked
+/// one by one.
 ///
 /// Cost: the size of the text.
 pub fn may_be_unfinished(text: &[u8]) -> bool {
@@ -48,8 +48,8 @@ pub fn may_be_unfinished(text: &[u8]) -> bool {
     false
 }
 
-/// Answers a question that is answered even if some `$p` are not proved; returns the exit status, or
-/// `None` if the text is too long, cannot be parsed or breaks a rule.
+/// Answers a question that is answered even if some `$p` are not proved; returns the exit status,
+/// or `None` if the text is too long, cannot be parsed or breaks a rule.
 pub fn answer_bearing<R: AllocGlobal + Threads + Sync, O: Write, F: Write>(
     rt: &R,
     asked: &Asked<'_>,
@@ -67,8 +67,8 @@ pub fn answer_bearing<R: AllocGlobal + Threads + Sync, O: Write, F: Write>(
     Ok(Some(status))
 }
 
-/// Returns the statements of a text with their frames, or `None` if it is too long, cannot be parsed
-/// or breaks a rule.
+/// Returns the statements of a text with their frames, or `None` if it is too long, cannot be
+/// parsed or breaks a rule.
 pub fn enter_text<R: AllocGlobal + Threads + Sync>(
     rt: &R,
     text: NamedText<'_>,

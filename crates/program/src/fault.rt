@@ -38,7 +38,8 @@ pub enum Fault {
     /// A line is bad. `number` is that of the first bad line, counted from 1 with the empty lines.
     #[error("bad line {number}")]
     BadLine { number: usize },
-    /// A line of a session is bad. `wanted` is the form of the line that its verb begins, or all verbs.
+    /// A line of a session is bad. `wanted` is the form of the line that its verb begins, or all
+    /// verbs.
     #[error("bad line {number}: {wanted}")]
     NoLine { number: usize, wanted: &'static str },
     /// A write failed: nothing more is printed.

@@ -18,8 +18,8 @@ use std::thread::Threads;
 use unproved::Entered;
 
 /// Writes a site into the folder of the request: a page for each assertion of a database, a list of
-/// them and a style sheet; returns the exit status. The reason for a refusal goes to `faults`, and so
-/// does the progress if there are many pages.
+/// them and a style sheet; returns the exit status. The reason for a refusal goes to `faults`, and
+/// so does the progress if there are many pages.
 ///
 /// The library is leaked: the end of the process frees all of it at once.
 pub fn print_pages<R: AllocGlobal + Threads + Sync, I: Read, O: Write, F: Write, S: Folder>(
@@ -71,8 +71,8 @@ fn judge_and_print<R: AllocGlobal + Threads + Sync, O: Write, F: Write, S: Folde
     }
 }
 
-/// Writes the pages of a text that is refused, each `$p` that is not proved taken as a `$a`, if that
-/// is asked for; else prints the refusal.
+/// Writes the pages of a text that is refused, each `$p` that is not proved taken as a `$a`, if
+/// that is asked for; else prints the refusal.
 fn print_refused<R: AllocGlobal + Threads + Sync, O: Write, F: Write, S: Folder>(
     rt: &R,
     asked: SiteQuestion<'_>,
@@ -115,8 +115,8 @@ fn assume_and_print<R: AllocGlobal + Threads + Sync, O: Write, F: Write, S: Fold
     answered
 }
 
-/// Writes the files of the site of a library that was read from a text, and returns the exit status.
-/// The name of a file that cannot be written goes to `faults`, and so does the progress.
+/// Writes the files of the site of a library that was read from a text, and returns the exit
+/// status. The name of a file that cannot be written goes to `faults`, and so does the progress.
 fn print_site<O: Write, F: Write, S: Folder>(
     alloc: Global,
     library: &Library,

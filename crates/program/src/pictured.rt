@@ -9,8 +9,8 @@ use std::alloc::{AllocError, Global};
 use std::io::{Read, Write};
 use synod::Weights;
 
-/// Reads a script, takes its steps, prints the picture of some of them, and returns the exit status.
-/// A line that is refused leaves no mark, and questions are not answered.
+/// Reads a script, takes its steps, prints the picture of some of them, and returns the exit
+/// status. A line that is refused leaves no mark, and questions are not answered.
 ///
 /// Errors: `Input`; `BadLine`; `LongRun`; `Memory`, before anything is printed; `Output`.
 pub fn print_picture<I: Read, O: Write>(

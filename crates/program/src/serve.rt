@@ -122,8 +122,8 @@ fn answer_serve_line<R: Wait>(
     }
 }
 
-/// Submits an entry at a node until its verdict is known there, and returns the verdict, or `None` if
-/// it is not known after the tries of `Desk::add`.
+/// Submits an entry at a node until its verdict is known there, and returns the verdict, or `None`
+/// if it is not known after the tries of `Desk::add`.
 fn added<R: Wait>(rt: &R, desk: &NodesDesk, offered: &Offered) -> Result<Option<Verdict>, StepFault>
     ensures outcome { IfOk result (IsOutcome offered.now.node offered.now.entry) }
     ensures no_node { desk.now ≤ offered.now.node → IsErr result }
@@ -182,7 +182,8 @@ fn status<R: Wait>(rt: &R, desk: &NodesDesk, at: EntryAt) -> Result<Option<Verdi
     desk.status(rt, at.node, at.author, at.serial)
 }
 
-/// Returns the verdict as soon as it is known, or `None` if it is not known after `MOST_TURNS` turns.
+/// Returns the verdict as soon as it is known, or `None` if it is not known after `MOST_TURNS`
+/// turns.
 fn settled<R: Wait>(rt: &R, desk: &NodesDesk, at: EntryAt) -> Result<Option<Verdict>, StepFault>
     ensures status { IfOk result (IsStatus at.node at.author at.serial) }
     ensures no_node { desk.now ≤ at.node → result ≡ Err NoNode }

@@ -111,7 +111,8 @@ impl<'a, I: Read> Session<'a, I> {
         }
     }
 
-    /// Appends the lines that are the text of the line, if it has its text on the lines that follow.
+    /// Appends the lines that are the text of the line, if it has its text on the lines that
+    /// follow.
     fn read_text(&mut self) -> Result<(), Fault> {
         let line = self.text.len();
         match text_end(first_line(self.text.as_slice())) {

@@ -82,8 +82,8 @@ fn push_added(added: &mut Vec<Bytes>, library: &Library, entry: &Entry) -> Resul
     Ok(())
 }
 
-/// Appends why the entry is refused: `why`, the count of the lines, and the lines. There are no lines
-/// if it was added; if nothing is decided, the answer is `unknown`.
+/// Appends why the entry is refused: `why`, the count of the lines, and the lines. There are no
+/// lines if it was added; if nothing is decided, the answer is `unknown`.
 ///
 /// Errors: an allocation fails. Cost: that of `explanation::explain_behind`, and of reading the
 /// texts that were added before.
