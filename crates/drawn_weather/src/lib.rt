@@ -7,8 +7,8 @@ use nodes::{Fate, Weather};
 use rand_core::utils::NextWord;
 use rand_pcg::Pcg32;
 
-/// How many numbers a fate is drawn from. `Drop`, `Twice` and `Later` have one number each, so about
-/// one hint in four does not pass.
+/// How many numbers a fate is drawn from. `Drop`, `Twice` and `Later` have one number each, so
+/// about one hint in four does not pass.
 const FATES: u32 = 12;
 
 /// A weather that loses, repeats or delays about one hint in four, chosen by a generator.
@@ -18,8 +18,8 @@ pub struct DrawnWeather {
 }
 
 impl DrawnWeather {
-    /// Creates the weather of a node. Weathers with the same seed and node draw the same fates; each
-    /// node has its own stream of the generator.
+    /// Creates the weather of a node. Weathers with the same seed and node draw the same fates;
+    /// each node has its own stream of the generator.
     pub fn new(seed: u64, node: u8) -> DrawnWeather {
         DrawnWeather {
             generator: Pcg32::new(seed, u64::from(node)),
