@@ -30,8 +30,8 @@ impl From<io::Error> for FolderFault {
 
 /// A folder that files are written into.
 pub trait Folder {
-    /// Relates the folder before a file is written, the name and the bytes of the file, and the folder
-    /// after it. The default says nothing.
+    /// Relates the folder before a file is written, the name and the bytes of the file, and the
+    /// folder after it. The default says nothing.
     ghost gains: { Self → List ℕ → List ℕ → Self → Type 0 } = { λ _ _ _ _. ⊤ };
 
     /// Opens the folder at a path. A folder of the file system is created if it does not exist.
@@ -42,7 +42,8 @@ pub trait Folder {
     /// Writes a file with this name and these bytes into the folder. A folder of the file system
     /// replaces a file of that name; a folder in memory keeps both.
     ///
-    /// Errors: `Memory`, `Refused`. After an error no file of that name holds a part of these bytes.
+    /// Errors: `Memory`, `Refused`. After an error no file of that name holds a part of these
+    /// bytes.
     fn write(&mut self, name: &str, bytes: &[u8]) -> Result<(), FolderFault>
         ensures { OnOk result (gains self.old name.now bytes.now self.new) };
 }

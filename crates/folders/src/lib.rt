@@ -1,6 +1,7 @@
 //! Files written into a folder, each completely or not at all.
 //!
-//! Reading order: `folder` (the trait), `memory_folder` (in memory), `system_folder` (of the file system).
+//! Reading order: `folder` (the trait), `memory_folder` (in memory), `system_folder` (of the file
+//! system).
 #![tactic(auto)]
 
 mod folder;
