@@ -21,7 +21,7 @@ abbrev pub by_first : {L : Type 0} → (List ℕ → Words → Option L) → Wor
 by_first by [] = None
 by_first by (verb ∷ ws) = by verb ws
 
--- a line by its verb, which is its first word, and the words after it, each after a space
+-- a line by its verb, which is its first word, and the words after it, with a space between words
 abbrev pub line_by : {L : Type 0} → (List ℕ → Words → Option L) → List ℕ → Option L
 line_by by line = by_first by (split_at SPACE line)
 

@@ -1,4 +1,4 @@
-//! Hints for command lines that name a file, although files are read from standard input.
+//! Hints for command lines that name a file: commands read standard input instead.
 use crate::grammar::matches_of;
 use std::alloc::{AllocError, Global};
 
