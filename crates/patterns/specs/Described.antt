@@ -1,12 +1,12 @@
--- Words that a description has, whatever the case of its letters.
+-- Words that a description contains, ignoring ASCII case.
 -- Source: this project's command `find --words`.
--- The code compares the word with the bytes at each place.
+-- The code compares the word with the bytes at each offset.
 use Rattle.std.specs.Prelude.{◌≡◌, ℕ, List, ◌++◌}
 use Rattle.std.specs.List.{AllByRecursion}
 use Rattle.std.specs.Str.{str_to_ascii_lowercase}
 use Rattle.mm_lex.specs.Alphabet.{Name}
 
--- the word is a contiguous part of the text, if the letters A to Z count as a to z
+-- the text contains the word, ignoring ASCII case
 pub record HasPart (text : List ℕ) (w : Name) : Type 0 where
   pub before : List ℕ
   pub part : List ℕ
@@ -14,6 +14,6 @@ pub record HasPart (text : List ℕ) (w : Name) : Type 0 where
   pub whole : text ≡ before ++ (part ++ after)
   pub same : str_to_ascii_lowercase part ≡ str_to_ascii_lowercase w
 
--- the text has all of the words
+-- the text contains each of the words
 abbrev pub HasWords : List ℕ → List Name → Type 0
 HasWords text ws = AllByRecursion (HasPart text) ws

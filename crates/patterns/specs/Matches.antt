@@ -1,6 +1,6 @@
 -- Patterns of symbols, and the expressions that they match.
 -- Source: this project's form of the patterns of `search` in the program metamath; no symbol has a `$`.
--- The code goes once from left to right; here an expression is written out as what the parts stand for.
+-- The code goes once from left to right; here an expression is split into the symbols that each part matches.
 use Rattle.std.specs.Prelude.{◌≡◌, List, [], ◌∷◌, ◌++◌, codes, if◌then◌else◌}
 use Rattle.mm_lex.specs.Alphabet.{Name, name_eq}
 
@@ -10,18 +10,18 @@ pub data Part : Type 0 where
   one : Part
   many : Part
 
--- the part that a word of the pattern is
+-- a word of the pattern as a part
 abbrev pub part_of : Name → Part
 part_of w = if name_eq w (codes "$?") then one else if name_eq w (codes "$*") then many else symbol w
 
--- the parts stand for these symbols, from the first to the last
+-- the parts match exactly these symbols, in order
 abbrev pub StandsFor : List Part → List Name → Type 0
 StandsFor [] e = e ≡ []
 StandsFor (symbol s ∷ p) e = (rest : List Name) × (e ≡ s ∷ rest) × StandsFor p rest
 StandsFor (one ∷ p) e = (any : Name) × (rest : List Name) × (e ≡ any ∷ rest) × StandsFor p rest
 StandsFor (many ∷ p) e = (any : List Name) × (rest : List Name) × (e ≡ any ++ rest) × StandsFor p rest
 
--- they stand for a contiguous part of the expression
+-- the parts match a contiguous run of the symbols of the expression
 pub record Matches (p : List Part) (e : List Name) : Type 0 where
   pub before : List Name
   pub part : List Name

@@ -1,6 +1,6 @@
--- Why the words of an argument are no pattern.
+-- Which words are a pattern, and the error for those that are not.
 -- Source: this project's command `find`; no symbol has a `$`.
--- The code looks for a word that is no part before it makes any.
+-- The code looks for a word that is no part before it makes any part.
 use Rattle.std.specs.Prelude.{◌≡◌, Bool, not, ◌&&◌, ◌||◌, IsTrue, IsFalse, List, Some, None, codes}
 use Rattle.std.specs.List.{find, list_any}
 use Rattle.mm_lex.specs.Alphabet.{Name, name_eq, has_byte}
@@ -11,15 +11,15 @@ use Rattle.patterns.specs.declared.pattern.BadPattern.TheVariants.{Word, NoSymbo
 abbrev pub is_symbol_word : Name → Bool
 is_symbol_word w = not (has_byte 36 w)
 
--- a word with `$`, and neither `$?` nor `$*`
+-- a word that has a `$` and is neither `$?` nor `$*`
 abbrev pub is_unknown : Name → Bool
 is_unknown w = has_byte 36 w && not (name_eq w (codes "$?") || name_eq w (codes "$*"))
 
--- each word is a part, and one at least a symbol
+-- each word is a part, and at least one is a symbol
 abbrev pub ArePattern : List Name → Type 0
 ArePattern ws = (find is_unknown ws ≡ None) × IsTrue (list_any is_symbol_word ws)
 
--- why they are refused: the first unknown word, else that none is a symbol; `Memory` only if they are a pattern
+-- the error: the first unknown word if there is one, else that no word is a symbol; `Memory` only if the words are a pattern
 abbrev pub IsRefusal : List Name → BadPattern → Type 0
 IsRefusal ws (Word w) = find is_unknown ws ≡ Some w.now
 IsRefusal ws NoSymbol = (find is_unknown ws ≡ None) × IsFalse (list_any is_symbol_word ws)

@@ -1,4 +1,4 @@
--- The words of an argument: its runs of bytes that are not white.
+-- The words of an argument: its runs of bytes that are not white space.
 -- Source: this project's command lines.
 -- The code goes from one run to the next.
 use Rattle.std.specs.Prelude.{ℕ, List, map}
@@ -8,6 +8,6 @@ use Rattle.mm_lex.specs.Comments.{runs_after}
 abbrev pub words_in : List ℕ → List Name
 words_in text = map (word text) (runs text)
 
--- the words that begin at a place or after it
+-- the words that begin at or after an offset
 abbrev pub words_after : List ℕ → ℕ → List Name
 words_after text at = map (word text) (runs_after text at)

@@ -1,7 +1,7 @@
-//! Searches: patterns of symbols in expressions, and words in descriptions.
+//! Searches expressions for patterns of symbols, and descriptions for words.
 //!
-//! Reading order: `words` (the words of an argument), `part` and `pattern` (a pattern, made of its words),
-//! `matching` (whether a pattern is in an expression), `search_words` (words in a description).
+//! Reading order: `words` (the words of an argument), `part` and `pattern` (a pattern, parsed from words),
+//! `matching` (whether an expression matches a pattern), `search_words` (words in a description).
 #![tactic(auto)]
 
 mod matching;

@@ -1,14 +1,14 @@
-//! Whether a pattern matches a contiguous part of an expression.
+//! Matches a pattern with a contiguous run of the symbols of an expression.
 //!
-//! Between two `$*` each part stands for one symbol. The first place at which symbols begin with such
-//! parts leaves the most for the parts after them, so no other place is tried.
+//! Between two `$*` each part matches exactly one symbol. The first index at which the symbols match
+//! these parts leaves the most symbols for the parts after them, so no other index is tried.
 ghost use Rattle.std.specs.Prelude.{◌≡◌, ◌↔◌, ◌+◌, ◌≤◌, IfSome, IsTrue, map, length};
 ghost use Rattle.patterns.specs.Matches.{Matches};
 ghost use Rattle.patterns.specs.Segments.{part_view, is_many, segment_len, may_be, begins_with, IsFirstPlace};
 
 use crate::part::Part;
 
-/// Tells whether the parts match a contiguous part of the symbols. Does not allocate.
+/// Returns whether the parts match a contiguous run of the symbols. Does not allocate.
 ///
 /// Cost: at most the number of symbols times the number of parts.
 pub(crate) fn is_in(parts: &[Part], symbols: &[&[u8]]) -> bool
@@ -32,7 +32,7 @@ pub(crate) fn is_in(parts: &[Part], symbols: &[&[u8]]) -> bool
     }
 }
 
-/// Returns how many parts come before the first `$*`.
+/// Returns the number of parts before the first `$*`.
 fn segment_len(parts: &[Part]) -> usize
     ensures count { result ≡ segment_len parts.now }
     ensures within { result ≤ length parts.now }
@@ -45,14 +45,14 @@ fn segment_len(parts: &[Part]) -> usize
     parts.len()
 }
 
-/// Tells whether the part is `$*`.
+/// Returns whether the part is `$*`.
 fn is_many(part: &Part) -> bool
     ensures { result ≡ is_many part.now }
 {
     matches!(part, Part::Many)
 }
 
-/// Returns the first index from which the symbols match the parts of the segment, one each.
+/// Returns the first index from which the symbols match the parts of the segment, one symbol each.
 fn first_place(segment: &[Part], symbols: &[&[u8]]) -> Option<usize>
     ensures first { IsFirstPlace segment.now (map (λ s. s.now) symbols.now) result }
     ensures room { IfSome result (λ place. place + length segment.now ≤ length symbols.now) }
@@ -69,7 +69,7 @@ fn first_place(segment: &[Part], symbols: &[&[u8]]) -> Option<usize>
     }
 }
 
-/// Returns whether the first symbols match the parts, one each.
+/// Returns whether the first symbols match the parts, one symbol each.
 fn begins_with(segment: &[Part], symbols: &[&[u8]]) -> bool
     ensures { result ≡ begins_with segment.now (map (λ s. s.now) symbols.now) }
 {
@@ -84,7 +84,7 @@ fn begins_with(segment: &[Part], symbols: &[&[u8]]) -> bool
     true
 }
 
-/// Tells whether the part may stand for this one symbol.
+/// Returns whether the part matches this one symbol.
 fn may_be(part: &Part, symbol: &[u8]) -> bool
     ensures { result ≡ may_be part.now symbol.now }
 {

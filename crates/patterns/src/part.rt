@@ -7,6 +7,6 @@ pub(crate) enum Part<'a> {
     Symbol(&'a [u8]),
     /// `$?`: any one symbol.
     One,
-    /// `$*`: any number of symbols, also none.
+    /// `$*`: any number of symbols, including none.
     Many,
 }

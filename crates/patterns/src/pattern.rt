@@ -10,10 +10,10 @@ use crate::words::{first_unknown, has_symbol, parts_of};
 use std::alloc::{AllocError, Global};
 use std::marker::Model;
 
-/// Why a text is no pattern.
+/// The error of parsing a pattern.
 #[derive(Clone, Copy, Debug, Drop)]
 pub enum BadPattern<'a> {
-    /// This word, the first such, has a `$` and is neither `$?` nor `$*`.
+    /// The first word that has a `$` and is neither `$?` nor `$*`.
     Word(&'a [u8]),
     /// No word is a symbol.
     NoSymbol,
@@ -38,11 +38,11 @@ impl<'a> Model for Pattern<'a> {
 }
 
 impl<'a> Pattern<'a> {
-    /// Parses a pattern: words between white bytes. `$?` matches any one symbol, `$*` any number of
+    /// Parses a pattern: words separated by white space. `$?` matches any one symbol, `$*` any number of
     /// symbols, and any other word the symbol that it spells.
     ///
-    /// Errors: `Word`, the first word that has a `$` and is neither `$?` nor `$*`; else `NoSymbol`; both
-    /// even if every allocation fails; else `Memory`. Cost: the size of the text. Source: `search` of the program metamath.
+    /// Errors: `Word` with the first word that has a `$` and is neither `$?` nor `$*`; else `NoSymbol`;
+    /// both even if every allocation fails; else `Memory`. Cost: the size of the text. Source: `search` of the program metamath.
     pub fn parse(alloc: Global, text: &'a str) -> Result<Pattern<'a>, BadPattern<'a>>
         ensures parts { IfOk result (λ parts. parts ≡ map part_of (words_in text.now)) }
         ensures pattern { IfOk result (λ _. ArePattern (words_in text.now)) }
@@ -63,7 +63,7 @@ impl<'a> Pattern<'a> {
 
     /// Returns whether the pattern matches a contiguous run of the symbols. Does not allocate.
     ///
-    /// Cost: at most the number of symbols times the number of parts, also with `$*`.
+    /// Cost: at most the number of symbols times the number of parts, even with `$*`.
     pub fn is_in(&self, symbols: &[&[u8]]) -> bool
         ensures { IsTrue result ↔ Matches self.now (map (λ s. s.now) symbols.now) }
     {

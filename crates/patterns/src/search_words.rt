@@ -1,4 +1,4 @@
-//! Words in a description.
+//! Searches descriptions for words.
 ghost use Rattle.std.specs.Prelude.{◌≡◌, ◌↔◌, ◌≤◌, [], length, take, IsTrue, MatchOption};
 ghost use Rattle.std.specs.Str.{str_to_ascii_lowercase};
 ghost use Rattle.patterns.specs.Words.{words_in};
@@ -7,7 +7,7 @@ ghost use Rattle.patterns.specs.Described.{HasPart, HasWords};
 use crate::words::next_word;
 use std::marker::Model;
 
-/// Words that are sought in descriptions, at least one. Contracts see their list.
+/// One or more words to search for in descriptions. Contracts see their list.
 #[derive(Drop)]
 pub struct SearchWords<'a> {
     text: &'a [u8],
@@ -75,7 +75,7 @@ fn has_part(text: &[u8], word: &[u8]) -> bool
     false
 }
 
-/// Tells whether the text begins with the word, whatever the case of the letters A to Z.
+/// Returns whether the text begins with the word, ignoring ASCII case.
 fn begins_alike(text: &[u8], word: &[u8]) -> bool
     ensures { IsTrue result ↔ (str_to_ascii_lowercase (take (length word.now) text.now)
         ≡ str_to_ascii_lowercase word.now) }

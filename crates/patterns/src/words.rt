@@ -1,4 +1,4 @@
-//! The words of an argument, and what they are as parts of a pattern.
+//! Splits an argument into words, and turns words into parts of a pattern.
 ghost use Rattle.std.specs.Prelude.{◌≡◌, ◌<◌, ◌≤◌, [], ◌∷◌, map, IfOk, IfSome, MatchOption, length, option_map};
 ghost use Rattle.std.specs.List.{find, list_any};
 ghost use Rattle.mm_lex.specs.Alphabet.{has_byte};
@@ -11,7 +11,7 @@ use crate::part::Part;
 use runs::next_run;
 use std::alloc::{AllocError, Global};
 
-/// A word of a text, and the place after it.
+/// A word of a text, and the offset after it.
 #[derive(Clone, Copy, Drop)]
 pub(crate) struct PlacedWord<'a> {
     pub word: &'a [u8],
@@ -35,7 +35,7 @@ pub(crate) fn next_word(text: &[u8], at: usize) -> Option<PlacedWord<'_>>
     }
 }
 
-/// Returns the first word with a `$` that is neither `$?` nor `$*`.
+/// Returns the first word that has a `$` and is neither `$?` nor `$*`.
 pub(crate) fn first_unknown(text: &[u8]) -> Option<&[u8]>
     ensures { option_map (λ w. w.now) result ≡ find is_unknown (words_in text.now) }
 {
@@ -49,7 +49,7 @@ pub(crate) fn first_unknown(text: &[u8]) -> Option<&[u8]>
     None
 }
 
-/// Tells whether some word is a symbol.
+/// Returns whether some word is a symbol.
 pub(crate) fn has_symbol(text: &[u8]) -> bool
     ensures { result ≡ list_any is_symbol_word (words_in text.now) }
 {
@@ -89,14 +89,14 @@ fn part_of(word: &[u8]) -> Part<'_>
     }
 }
 
-/// Tells whether a word has a `$` and is neither `$?` nor `$*`.
+/// Returns whether a word has a `$` and is neither `$?` nor `$*`.
 fn is_unknown(word: &[u8]) -> bool
     ensures { result ≡ is_unknown word.now }
 {
     !is_symbol_word(word) && !(word == b"$?".as_slice() || word == b"$*".as_slice())
 }
 
-/// Tells whether a word has no `$`.
+/// Returns whether a word has no `$`.
 fn is_symbol_word(word: &[u8]) -> bool
     ensures { result ≡ is_symbol_word word.now }
 {
