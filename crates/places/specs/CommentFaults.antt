@@ -1,5 +1,5 @@
--- Faults of comments, and where a comment begins; the first token of the statement in which a token stands.
--- Source: Metamath, 4.1.2 (comments do not nest) and 4.1 (each statement ends with `$.`, but for `${` and `$}`).
+-- The kinds of comment faults, and the first token of the statement that contains a token.
+-- Source: Metamath, 4.1.2 (comments do not nest) and 4.1 (each statement but `${` and `$}` ends with `$.`).
 -- The code looks only at the text up to the fault.
 use Rattle.std.specs.Prelude.{ℕ, ◌-◌, ◌<◌, ◌≤◌, List, IsTrue, IsFalse, take, slice_index_or, []}
 use Rattle.mm_lex.specs.declared.span.Span.{Span}
@@ -10,7 +10,7 @@ use Rattle.places.specs.declared.comments.CommentFault.{CommentFault}
 use Rattle.places.specs.declared.comments.CommentFault.TheVariants.{Stray, Inside, Unclosed}
 use Rattle.places.specs.Places.{ends}
 
--- a `$)` outside a comment; a `$(` before which a comment is open, from `outer` on; a `$(` before which no comment is open
+-- a `$)` outside a comment; a `$(` inside a comment that begins at `outer`; a `$(` outside comments
 abbrev pub IsCommentCase : List ℕ → ℕ → CommentFault → Type 0
 IsCommentCase text offset Stray = IsStrayCloser text (runs text) offset
 IsCommentCase text offset (Inside outer) = IsCommentFault (take offset text) outer

@@ -1,30 +1,30 @@
--- The descriptions of the statements of a text: each the last comment between the previous statement and its first token.
+-- The descriptions of the statements of a text: the last comment between the previous statement and the first token of each.
 -- Source: Metamath, 4.4 (a description is the comment right before the label).
--- The code goes once over the runs; here the text is cut at its comments, and each token has the comment right before it.
+-- The code goes once over the runs; here the text is cut at its comments, and each token is paired with the comment right before it.
 use Rattle.std.specs.Prelude.{◌≡◌, ℕ, List, [], ◌∷◌, ◌++◌, length, drop, flat_map, Option, Some, None}
 use Rattle.mm_lex.specs.declared.span.Span.{Span}
 use Rattle.mm_lex.specs.Alphabet.{runs}
 use Rattle.mm_lex.specs.Tokens.{Part, Cuts}
 use Rattle.mm_read.specs.Statements.{Database, stmt_tokens}
 
--- the place of the contents of a comment, between its delimiters
+-- the span of the contents of a comment, between its delimiters
 abbrev pub contents : Part → Span
 contents p = record { start = p.begin.end; end = p.end.start }
 
--- the comment right before each of these tokens: before the first of them this one, before the others none
+-- the comment right before each of these tokens: `comment` for the first of them, none for the others
 abbrev pub comments_before : Option Span → List Span → List (Option Span)
 comments_before comment [] = []
 comments_before comment (t ∷ tokens) = comment ∷ comments_before None tokens
 
--- the same for the tokens after a comment
+-- the comment right before each of the tokens that follow a comment
 abbrev pub comments_in : Part → List (Option Span)
 comments_in p = comments_before (Some (contents p)) p.after
 
--- the same for all tokens of a text
+-- the comment right before each token of a text
 abbrev pub comments_of : List Span → List Part → List (Option Span)
 comments_of first parts = comments_before None first ++ flat_map comments_in parts
 
--- the first of a list, if it has one
+-- the first element of a list, or none if it is empty
 abbrev pub first_of : List (Option Span) → Option Span
 first_of [] = None
 first_of (comment ∷ comments) = comment

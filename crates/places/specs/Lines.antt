@@ -11,7 +11,7 @@ line_feed = 10
 abbrev pub line_of : List ℕ → ℕ → ℕ
 line_of text offset = 1 + count_by (λ b. b == line_feed) (take offset text)
 
--- the line of the offset begins here: at the first byte or after a line feed, and no line feed stands between
+-- the line of the offset begins at `start`: the first byte or right after a line feed, with no line feed between it and the offset
 pub record BeginsLine (text : List ℕ) (offset start : ℕ) : Type 0 where
   pub before : start ≤ offset
   pub after : 0 < start → slice_index text (start - 1) ≡ line_feed

@@ -1,6 +1,6 @@
--- The place of a token of a statement in a text that reads as statements.
+-- The span of a token of a statement in a text that reads as statements.
 -- Source: Metamath, 4.1 and appendix E.
--- The code passes the tokens that end a statement; here the earlier statements are written out.
+-- The code counts the tokens that end a statement; here the tokens of the earlier statements are counted.
 use Rattle.std.specs.Prelude.{◌≡◌, ℕ, zero, suc, ◌+◌, ◌-◌, ◌≤◌, Bool, ◌||◌, if◌then◌else◌, List, [], ◌∷◌, length, take, Some, slice_get, codes}
 use Rattle.mm_lex.specs.declared.span.Span.{Span}
 use Rattle.mm_lex.specs.Alphabet.{Name, name_eq}
@@ -16,11 +16,11 @@ pub record HasToken (S : Database) (statement token : ℕ) : Type 0 where
   pub first : 1 ≤ token
   pub within : token ≤ length (stmt_tokens stmt)
 
--- the index of that token in the text: those of earlier statements stand before it
+-- the index of that token in the text: the tokens of the earlier statements precede it
 abbrev pub index_of : Database → ℕ → ℕ → ℕ
 index_of S statement token = length (tokens_of (take (statement - 1) S)) + (token - 1)
 
--- the token of the statement stands here
+-- the token of the statement has this span
 pub record IsPlaceOf (text : List ℕ) (S : Database) (statement token : ℕ) (place : Span) : Type 0 where
   pub tokens : List Span
   pub are : AreTokens text tokens

@@ -34,7 +34,7 @@ IsWaiting (Inside start begins) = Unit {0}
 IsWaiting (Outside None begins) = begins ≡ false
 IsWaiting (Outside (Some last) begins) = ⊥
 
--- a walk that waits goes on from the later place as from the first
+-- a waiting walk finds the same descriptions from `later` on as from `at` on
 pub record PassesDull (text : List ℕ) (at later : ℕ) : Type 0 where
   pub order : at ≤ later
   pub within : later ≤ length text

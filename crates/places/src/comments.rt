@@ -1,4 +1,4 @@
-//! Faults of comments.
+//! The kinds of comment faults.
 ghost use Rattle.mm_lex.specs.TextFaults.{IsCommentFault};
 ghost use Rattle.places.specs.CommentFaults.{IsCommentCase};
 
@@ -7,15 +7,15 @@ use mm_lex::{LexFault, count_tokens};
 /// A fault of the comments of a text.
 #[derive(Clone, Copy, Debug, Drop, PartialEq, Eq)]
 pub enum CommentFault {
-    /// A `$)` stands outside a comment.
+    /// A `$)` outside a comment.
     Stray,
-    /// A `$(` stands inside the comment that begins at the offset `outer`.
+    /// A `$(` inside the comment that begins at the offset `outer`.
     Inside { outer: usize },
-    /// The comment is never closed.
+    /// A comment that is never closed.
     Unclosed,
 }
 
-/// Returns what is wrong at the offset at which the text's comments are at fault.
+/// Returns the kind of the comment fault at an offset.
 ///
 /// Does not allocate. Cost: the size of the text before the offset.
 pub fn comment_fault(text: &[u8], offset: usize) -> CommentFault

@@ -25,14 +25,14 @@ enum Walk {
     },
     /// Outside comments.
     Outside {
-        /// The contents of the last comment after the last token.
+        /// The contents of the last comment since the last token.
         last: Option<Span>,
         /// Whether the next token begins a statement.
         begins: bool,
     },
 }
 
-/// Returns the place of the description of each statement, in order, of a text that reads as
+/// Returns the span of the description of each statement, in order, of a text that reads as
 /// statements: the contents of the last comment between the previous statement and its first token,
 /// or `None` if there is no comment.
 ///
@@ -57,7 +57,7 @@ pub fn descriptions(alloc: Global, text: &[u8]) -> Result<Vec<Option<Span>>, All
     Ok(list)
 }
 
-/// Returns an offset from which the walk goes on as from `at`, after runs that change nothing in it.
+/// Returns an offset from which the walk continues as from `at`: skips runs that do not change it.
 ///
 /// Does not allocate. Cost: the bytes up to the next `$`.
 fn goes_on_at(text: &[u8], at: usize, walk: Walk) -> usize
@@ -83,7 +83,7 @@ fn is_waiting(walk: Walk) -> bool
     }
 }
 
-/// Returns the offset of the run that has the next `$`, or of the last run if there is no `$`.
+/// Returns the offset of the run that contains the next `$`, or of the last run if there is no `$`.
 fn dull_end(text: &[u8], at: usize) -> usize
     requires { at ≤ length text.now }
     ensures { PassesDull text.now at result }
@@ -93,7 +93,7 @@ fn dull_end(text: &[u8], at: usize) -> usize
     at + white_end(plain)
 }
 
-/// Returns how many bytes stand before the first `$`, or all if there is none.
+/// Returns the number of bytes before the first `$`, or of all bytes if there is none.
 fn count_plain(text: &[u8]) -> usize
     ensures within { result ≤ length text.now }
     ensures plain { (k : ℕ) → k < result → slice_index text.now k ≡ 36 → ⊥ }

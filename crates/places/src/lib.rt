@@ -1,9 +1,9 @@
-//! Finds places in a text.
+//! Finds lines, columns, tokens, comment faults and descriptions in a text.
 //!
-//! `line_and_column` returns the line and the column of an offset. `place_of` returns the place of a token of a statement in a
-//! text that reads as statements, `statement_at` the first token of the statement in which a token stands. `comment_fault`
-//! returns what is wrong with a comment. `descriptions` returns the place of the comment that describes each statement. Read
-//! `lines_and_columns`, `place`, `comments`, `description`.
+//! `line_and_column` returns the line and the column of an offset. `place_of` returns the span of a token of a statement in
+//! a text that reads as statements, `statement_at` the first token of the statement that contains a token. `comment_fault`
+//! returns the kind of a comment fault. `descriptions` returns the span of the comment that describes each statement.
+//! Reading order: `lines_and_columns`, `place`, `comments`, `description`.
 #![tactic(auto)]
 
 mod comments;

@@ -11,7 +11,9 @@ pub struct Position {
     pub column: usize,
 }
 
-/// Returns the line and the column of an offset. Cost: the size of the text before it.
+/// Returns the line and the column of an offset.
+///
+/// Cost: the size of the text before it.
 pub fn line_and_column(text: &[u8], offset: usize) -> Position
     requires { offset ≤ length text.now }
     ensures line { result.line ≡ line_of text.now offset }
@@ -32,7 +34,7 @@ fn line_at(text: &[u8], offset: usize) -> usize
     memchr_iter(b'\n', &text[..offset]).count() + 1
 }
 
-/// Returns the offset at which the line of an offset begins.
+/// Returns the offset at which the line that contains `offset` begins.
 fn line_start(text: &[u8], offset: usize) -> usize
     requires { offset ≤ length text.now }
     ensures { BeginsLine text.now offset result }

@@ -1,4 +1,4 @@
-//! The places of tokens.
+//! Finds the tokens of statements.
 ghost use Rattle.std.specs.Prelude.{◌≡◌, ℕ, ◌+◌, ◌-◌, ◌≤◌, IfOk, IfSome, IsSomeAnd, Some, slice_get, length};
 ghost use Rattle.std.specs.List.{All};
 ghost use Rattle.mm_lex.specs.Alphabet.{word};
@@ -11,8 +11,8 @@ ghost use Rattle.places.specs.CommentFaults.{BeginsStatement};
 use mm_lex::{LexFault, Span, tokens};
 use std::alloc::Global;
 
-/// Returns the place of a token of a statement, both counted from 1, in a text that reads as statements; `None` if too few
-/// tokens are there.
+/// Returns the span of a token of a statement, both counted from 1, in a text that reads as statements; `None` if there are
+/// too few tokens.
 ///
 /// Errors: those of `mm_lex::tokens`. Cost: the size of the text.
 pub fn place_of(
@@ -31,8 +31,8 @@ pub fn place_of(
     Ok(place_within(text, spans.as_slice(), statement, token))
 }
 
-/// Returns the place of a token of a statement, both counted from 1, or `None` if too few tokens are there. `spans` are the
-/// places of the text's tokens.
+/// Returns the span of a token of a statement, both counted from 1, or `None` if there are too few tokens. `spans` are those
+/// of the text's tokens.
 ///
 /// Cost: the number of tokens before it.
 pub fn place_within(text: &[u8], spans: &[Span], statement: usize, token: usize) -> Option<Span>
@@ -45,7 +45,7 @@ pub fn place_within(text: &[u8], spans: &[Span], statement: usize, token: usize)
     rest.get(token - 1).copied()
 }
 
-/// Returns the index in `spans` of the first token of a statement, counted from 1, or the count of tokens if there are fewer
+/// Returns the index in `spans` of the first token of a statement, counted from 1, or the number of tokens if there are fewer
 /// statements.
 ///
 /// Cost: the number of tokens before it.
@@ -74,7 +74,7 @@ pub(crate) fn ends(word: &[u8]) -> bool
     word == b"$.".as_slice() || word == b"${".as_slice() || word == b"$}".as_slice()
 }
 
-/// Returns the index in `spans` of the first token of the statement in which the token at index `token` stands.
+/// Returns the index in `spans` of the first token of the statement that contains the token at index `token`.
 ///
 /// Cost: the number of tokens before that.
 pub fn statement_at(text: &[u8], spans: &[Span], token: usize) -> usize
