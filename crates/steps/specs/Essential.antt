@@ -1,5 +1,5 @@
--- The steps that a mathematician reads: the last, and those that a kept step takes for a `$e`.
--- Metamath, 4.2.6: of the hypotheses of an assertion, a `$f` gives the type of a variable, and a `$e` is a premise.
+-- The essential steps, those that a mathematician reads: the last, and those that a kept step takes for a `$e`.
+-- Metamath, 4.2.6: a `$f` states the type of a variable, and a `$e` is a premise.
 -- The code marks the steps from the last to the first, and lists the marked ones from the first to the last.
 use Rattle.std.specs.Prelude.{◌≡◌, ◌↔◌, ℕ, suc, Bool, false, if◌then◌else◌, List, [], ◌∷◌, length, map, get_or, Option, Some, None, slice_get}
 use Rattle.steps.specs.Words.{IsStrictlyIncreasing, Stmt, Database, stmt_at, before, is_essential, hypotheses}
@@ -11,7 +11,7 @@ abbrev pub is_premise : Option Stmt → Bool
 is_premise None = false
 is_premise (Some s) = is_essential s
 
--- the places that are taken for a `$e`, among those that are taken for these hypotheses
+-- the places taken for a `$e`, among the places taken for these hypotheses
 abbrev pub for_premises : Database → List ℕ → List ℕ → List ℕ
 for_premises S [] taken = []
 for_premises S (p ∷ ps) [] = []
@@ -25,7 +25,7 @@ mandatory S a (Some s) = hypotheses (before S a) s
 abbrev pub essential_of : Database → Step → List ℕ
 essential_of S step = for_premises S (mandatory S step.position (stmt_at S step.position)) step.taken
 
--- the number stands in the list
+-- the list contains the number
 abbrev pub IsIn : ℕ → List ℕ → Type 0
 IsIn k ks = (i : ℕ) × (slice_get ks i ≡ Some k)
 
@@ -34,13 +34,13 @@ pub data IsEssential (S : Database) (steps : List Step) : ℕ → Type 0 where
   is_last : {k : ℕ} → length steps ≡ suc k → IsEssential S steps k
   is_taken : {k : ℕ} → (j : ℕ) (step : Step) → IsEssential S steps j → slice_get steps j ≡ Some step → IsIn k (essential_of S step) → IsEssential S steps k
 
--- the new row is the old one, and takes those that it takes for a `$e`, by their numbers among the kept ones
+-- the new row is the old one, but takes only what that takes for a `$e`, by the numbers among the kept steps
 pub record IsRenumbered (S : Database) (kept : List ℕ) (old new : Row) : Type 0 where
   pub position : new.step.position ≡ old.step.position
   pub taken : map (slice_get kept) new.step.taken ≡ map (λ k. Some k) (essential_of S old.step)
   pub expr : new.expr ≡ old.expr
 
--- the new rows are those that are kept, in order, numbered anew
+-- the new rows are the kept ones, in order, renumbered
 pub record AreEssential (S : Database) (old new : List Row) : Type 0 where
   pub kept : List ℕ
   pub in_order : IsStrictlyIncreasing kept

@@ -1,15 +1,15 @@
 -- The steps of a list of items.
--- Metamath, 4.2.6 and appendix B: a citation gives a result of those that it takes; a result that stands already is not given again.
--- The code finds a step again in an ordered map; here it stands in the list, or it does not.
+-- Metamath, 4.2.6 and appendix B: a citation concludes a result from those that it takes; equal steps are one step.
+-- The code finds equal steps with an ordered map; here a step is in the list or not.
 use Rattle.std.specs.Prelude.{◌≡◌, ℕ, zero, suc, List, [], ◌∷◌, ◌++◌, length, Some, slice_get}
 use Rattle.steps.specs.Words.{Name, Stmt, Database, before, hypotheses, Carries, IsHypothesis, Item, Cite, Recall, Mark, IsCitable}
 
--- the position that is cited, and the steps whose results it takes, by their places in the table from 0
+-- the position of the cited statement, and the steps whose results it takes, by their places in the table, counted from 0
 pub record Step : Type 0 where
   pub position : ℕ
   pub taken : List ℕ
 
--- the steps so far, and the places of the steps of the results on the stack, and of those that were marked
+-- the steps so far, the places of the steps whose results are on the stack, and of those whose results were marked
 pub record Progress : Type 0 where
   pub steps : List Step
   pub stack : List ℕ
@@ -18,12 +18,12 @@ pub record Progress : Type 0 where
 abbrev pub progress : List Step → List ℕ → List ℕ → Progress
 progress steps stack saved = record { steps = steps; stack = stack; saved = saved }
 
--- the step stands at place n: it stood there already, or it stands nowhere and comes last
+-- the step is at place n: it was there already, or it was nowhere and is appended
 pub data IsPlaced (old : List Step) (step : Step) (new : List Step) (n : ℕ) : Type 0 where
   stands : slice_get old n ≡ Some step → new ≡ old → IsPlaced old step new n
   comes_last : ((k : ℕ) → slice_get old k ≡ Some step → ⊥) → n ≡ length old → new ≡ old ++ step ∷ [] → IsPlaced old step new n
 
--- the citation of a label makes this step of the results above `below`
+-- the citation of a label makes this step from the results above `below`
 pub data Makes (S : Database) (at : ℕ) (label : Name) (stack below : List ℕ) (step : Step) : Type 0 where
   of_hypothesis : (s : Stmt) → Carries S step.position s label → IsHypothesis S at step.position s → step.taken ≡ [] → stack ≡ below → Makes S at label stack below step
   of_assertion : (s : Stmt) → Carries S step.position s label → IsCitable S at step.position s → length step.taken ≡ length (hypotheses (before S step.position) s)
@@ -46,7 +46,7 @@ abbrev pub RecordsItems : Database → ℕ → Progress → List Item → Progre
 RecordsItems S at old [] new = old ≡ new
 RecordsItems S at old (item ∷ items) new = (next : Progress) × RecordsItem S at old item next × RecordsItems S at next items new
 
--- these are the steps of the items, and the one result that is left is that of the last step
+-- these are the steps of the items, and the one result left on the stack is that of the last step
 pub record AreSteps (S : Database) (at : ℕ) (items : List Item) (steps : List Step) : Type 0 where
   pub end : Progress
   pub root : ℕ

@@ -1,5 +1,5 @@
--- The derivation that a table of steps unfolds to: each step over the derivations of the steps that it takes.
--- Metamath, 4.2.6: a proof is a tree of citations; a table has each of its parts once.
+-- The derivation that a table of steps unfolds to: each step applied to the derivations of the steps that it takes.
+-- Metamath, 4.2.6: a proof is a tree of citations; a table has each subtree once.
 -- The code never unfolds a table, since a tree may be as large as two to the number of its steps.
 use Rattle.std.specs.Prelude.{Bool, false, if◌then◌else◌, List, [], ◌∷◌, ◌++◌, length, map, Option, Some, None, ◌-◌}
 use Rattle.steps.specs.Words.{Stmt, Database, stmt_at, is_assertion, Derivation, hyp, apply, from_list, pick}
@@ -13,7 +13,7 @@ has_assertion (Some s) = is_assertion s
 abbrev pub citation_over : Database → List Derivation → Step → Derivation
 citation_over S ts step = if has_assertion (stmt_at S step.position) then apply step.position (from_list (map (pick ts) step.taken)) else hyp step.position
 
--- the derivations of steps, after those that stand already
+-- the derivations of these steps, appended to those of the earlier steps
 abbrev pub unfolded_behind : Database → List Derivation → List Step → List Derivation
 unfolded_behind S ts [] = ts
 unfolded_behind S ts (step ∷ steps) = unfolded_behind S (ts ++ citation_over S ts step ∷ []) steps

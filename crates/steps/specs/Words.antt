@@ -1,4 +1,4 @@
--- The words in which this crate is stated, passed on from one place.
+-- The definitions of other crates that this crate's specifications use, re-exported.
 pub use Rattle.entries.specs.declared.assertion_view.AssertionView.{AssertionView}
 pub use Rattle.entries.specs.declared.assertion_view.Hypothesis.{Hypothesis}
 pub use Rattle.entries.specs.declared.assertion_view.Hypothesis.TheVariants.{Essential, Float}

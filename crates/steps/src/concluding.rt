@@ -1,4 +1,4 @@
-//! The conclusion that an assertion draws from the results that it takes.
+//! Computes the conclusion of a cited assertion from the results that it takes.
 ghost use Rattle.std.specs.Prelude.{◌≡◌, ℕ, ◌++◌, [], List, Some, OnOk, IfOk, IfSome, length, map, get_or, slice_get};
 ghost use Rattle.entries.specs.declared.assertion_view.Hypothesis.TheVariants.{Float};
 ghost use Rattle.entries.specs.SymbolPlaces.{ArePlacesOf};
@@ -13,7 +13,7 @@ use subst::{Buffer, ImageRanges, Remaining, SYMBOLS_LIMIT, SymbolRange, place_be
 use verify::read_off;
 
 /// Returns the symbols of an expression whose images are not empty, if `standing` is given and they are at most a quarter of the
-/// expression; otherwise the expression. Substituting in either gives the same.
+/// expression; otherwise the expression. Substituting in either gives the same result.
 ///
 /// Errors: an allocation fails. Cost: the distinct symbols of the expression, and the symbols that are returned.
 fn shortened<'a>(
@@ -34,8 +34,8 @@ fn shortened<'a>(
     }
 }
 
-/// Appends to the symbols the conclusion of the assertion from the results at these places, and returns where it lies.
-/// `standing` tells where the symbols of its expression stand.
+/// Appends to the buffer the conclusion of the assertion from the results in these ranges, and returns its range.
+/// `standing` states where the symbols of the assertion's expression are.
 ///
 /// Errors: an allocation fails, or the expressions exceed `SYMBOLS_LIMIT` symbols. Cost: one look at each result, the symbols
 /// written, and the symbols of the expression, or only its distinct ones if `standing` is given.

@@ -1,4 +1,4 @@
-//! The essential steps: the last, and those that are taken for a `$e`.
+//! Selects the essential steps: the last, and those that an essential step takes for a `$e`.
 ghost use Rattle.std.specs.Prelude.{◌≡◌, suc, ◌<◌, ◌≤◌, [], IfOk, OnOk, length, map, get_or};
 ghost use Rattle.frame.specs.Below.{AreBelow};
 ghost use Rattle.steps.specs.Rows.{no_row, steps_of, AreRows};
@@ -12,7 +12,7 @@ use entries::{Hypotheses, Hypothesis};
 use frame::{Frames, Meaning};
 use std::alloc::{AllocError, Global};
 
-/// Returns the places that are taken for a `$e`.
+/// Returns those of the taken places that are taken for a `$e`.
 fn premises_among(
     alloc: Global,
     hypotheses: &Hypotheses<'_>,
@@ -106,7 +106,7 @@ fn last_marked(alloc: Global, count: usize) -> Result<Vec<bool>, AllocError>
     Ok(marks)
 }
 
-/// Returns for each step whether it is kept: the last, and those that a kept step takes for a `$e`. A step takes
+/// Returns for each step whether it is kept: the last is, and each that a kept step takes for a `$e`. A step takes
 /// only earlier steps, so the steps are visited from the last to the first.
 fn marks_of(
     alloc: Global,
@@ -127,7 +127,7 @@ fn marks_of(
     Ok(marks)
 }
 
-/// Returns the number of a place.
+/// Returns the new number of the step at a place.
 fn number_at(numbers: &[usize], place: usize) -> usize
     requires { place < length numbers.now }
     ensures { result ≡ get_or numbers.now place 0 }
@@ -135,7 +135,7 @@ fn number_at(numbers: &[usize], place: usize) -> usize
     numbers[place]
 }
 
-/// Returns the numbers of these places.
+/// Returns the new numbers of the steps at these places.
 fn renumbered(alloc: Global, list: &[usize], numbers: &[usize]) -> Result<Vec<usize>, AllocError>
     requires { AreBelow (length numbers.now) list.now }
     ensures { IfOk result (λ taken. taken.items ≡ map (λ k. get_or numbers.now k 0) list.now) }
@@ -147,10 +147,11 @@ fn renumbered(alloc: Global, list: &[usize], numbers: &[usize]) -> Result<Vec<us
     Ok(taken)
 }
 
-/// Returns the essential steps of a table of the `$p` at a position: the last, and for each kept step those that it takes for a
-/// `$e`. They are renumbered, and each row lists only kept steps.
+/// Returns the essential steps of a table of the `$p` at a position: the last, and each step that a kept step takes for a
+/// `$e`. They are renumbered, and each row takes only kept steps.
 ///
-/// Errors: an allocation fails. Cost: the table's own size; long lists of an assertion that it cites are made twice. Source: Metamath, 4.2.6.
+/// Errors: an allocation fails. Cost: the size of the table; long lists of a cited assertion are made twice.
+/// Source: Metamath, 4.2.6.
 pub fn essential_table(
     alloc: Global,
     frames: &Frames,
@@ -167,7 +168,7 @@ pub fn essential_table(
     Ok(kept)
 }
 
-/// Keeps the steps that are marked.
+/// Returns the table of the marked steps.
 fn keep_marked(
     alloc: Global,
     frames: &Frames,

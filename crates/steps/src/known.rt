@@ -1,11 +1,11 @@
-//! Finds a step again by what it cites and what it takes.
+//! Finds equal steps: a map from a step's cited position and taken places to its own place.
 ghost use Rattle.std.specs.Prelude.{◌≡◌, ◌≢◌, ℕ, ◌∷◌, List, None, Some, IfOk, OnOk};
 ghost use Rattle.steps.specs.Stored.Drafted.{place_of};
 
 use std::alloc::{AllocError, Global};
 use std::collections::BTreeMap;
 
-/// Returns the position that is cited, followed by the places of the steps that are taken.
+/// Returns the key of a step: the cited position, followed by the places of the steps that it takes.
 pub fn key(alloc: Global, position: usize, taken: &[usize]) -> Result<Vec<usize>, AllocError>
     ensures { IfOk result (λ key. key.items ≡ position ∷ taken.now) }
 {
@@ -15,7 +15,7 @@ pub fn key(alloc: Global, position: usize, taken: &[usize]) -> Result<Vec<usize>
     Ok(key)
 }
 
-/// Returns the place of the step with that key, if there is one.
+/// Returns the place of the step with this key, if there is one.
 pub fn find(known: &BTreeMap<Vec<usize>, usize>, key: &[usize]) -> Option<usize>
     ensures { result ≡ place_of known.now key.now }
 {

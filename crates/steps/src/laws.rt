@@ -2,12 +2,12 @@
 
 ghost use Rattle.steps.specs.Laws.{TakeEarlier, StandOnce};
 
-/// Each step takes earlier ones.
+/// Each step takes only earlier steps.
 pub fn take_earlier()
     ensures { TakeEarlier }
 {}
 
-/// No step stands twice.
+/// No two steps of a table are equal.
 pub fn stand_once()
     ensures { StandOnce }
 {}

@@ -1,5 +1,5 @@
-//! The mandatory hypotheses of assertions with long lists, each listed once for a table. An assertion has long lists if
-//! `Frames::cited` returns `None` for it.
+//! The mandatory hypotheses of assertions with long lists, listed once for each assertion of a table. An assertion has long
+//! lists if `Frames::cited` returns `None` for it.
 ghost use Rattle.std.specs.Prelude.{◌≡◌, [], false, map, is_some, Some, IfOk, IfSome, OnOk};
 ghost use Rattle.mm_read.specs.declared.stmt.Stmt.{Stmt as Statement};
 ghost use Rattle.scope.specs.Active.{stmt_at};
@@ -57,7 +57,7 @@ impl HypothesisList {
         })
     }
 
-    /// Returns the parts of the assertion, whose expression is given, without its groups.
+    /// Returns a view of the assertion with this expression, without its groups of disjoint variables.
     fn view<'a>(&'a self, conclusion: &'a [u32]) -> AssertionView<'a>
         ensures typecodes { result.typecodes.now ≡ self.now.typecodes }
         ensures required { result.hypotheses ≡ self.now.required }
@@ -83,14 +83,14 @@ fn copy_hypotheses(hypotheses: &Hypotheses<'_>, required: &mut Vec<u32>) -> Resu
     Ok(())
 }
 
-/// The lists that a table keeps: those of each assertion with long lists that is cited.
+/// The lists of each cited assertion that has long lists, for one table.
 ///
-/// A citation takes a result for each mandatory hypothesis, and each item adds one result at most. So the lists of the assertions
+/// A citation takes a result for each mandatory hypothesis, and each item adds at most one result. So the lists of the assertions
 /// that a right proof cites have at most as many hypotheses as the proof has items.
 #[derive(Drop)]
 pub struct LongLists {
     alloc: Global,
-    /// The parts of the assertion that is listed now.
+    /// Buffers for the frame of the assertion that is being listed.
     buffers: FrameBuffers,
     /// The index of the list of the assertion at a position. It is only a hint: `find` checks the list at that index.
     indexes: BTreeMap<usize, usize>,
@@ -142,8 +142,8 @@ impl LongLists {
         Ok(index)
     }
 
-    /// Returns the index of the list of the assertion at a position, which is made if it is not kept yet; any index if its parts are
-    /// few.
+    /// Returns the index of the list of the assertion at a position, which is made if it is not kept yet; any index if the
+    /// assertion has no long lists.
     ///
     /// Errors: an allocation fails. Cost: log n for n lists, and once for each assertion that of `Frames::fill_buffers`.
     pub fn index_of(
@@ -166,8 +166,8 @@ impl LongLists {
         }
     }
 
-    /// Returns the parts of the assertion at a position: those that are handed in if they are few, else the list at an index, without
-    /// groups.
+    /// Returns a view of the assertion at a position: the one that is given, if it has no long lists, else one of the list at an
+    /// index, without groups of disjoint variables.
     pub fn parts<'a>(
         &'a self,
         frames: &'a Frames,

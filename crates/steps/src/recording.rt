@@ -1,4 +1,4 @@
-//! One item of a right proof.
+//! Records the effect of one item of a right proof.
 ghost use Rattle.std.specs.Prelude.{suc, ◌<◌, ◌≤◌, List, OnOk, length};
 ghost use Rattle.mm_lex.specs.Alphabet.{Name};
 ghost use Rattle.mm_read.specs.declared.stmt.Stmt.{Stmt as Statement};
@@ -27,7 +27,7 @@ fn mark(frames: &Frames, at: usize, draft: &mut TableDraft) -> Result<(), AllocE
     Ok(())
 }
 
-/// Pushes the result that was marked as number `k` from 0.
+/// Pushes the marked result number `k`, counted from 0.
 fn recall(frames: &Frames, at: usize, k: usize, draft: &mut TableDraft) -> Result<(), AllocError>
     requires draft { IsDraft frames.now.statements at frames.now.names draft.old }
     requires can { CanDo frames.now.statements at frames.now.names draft.old (Recall (suc k)) }

@@ -16,7 +16,7 @@ use std::alloc::{AllocError, Global};
 use std::marker::Model;
 use subst::{Buffer, SYMBOLS_LIMIT, place_between, symbols_at};
 
-/// The steps of a proof without duplicates, each after those that it takes. Contracts see the list of rows.
+/// The steps of a proof without duplicates, each after the steps that it takes. Contracts see the list of rows.
 #[derive(Drop)]
 pub struct ProofTable {
     placed: Vec<PlacedStep>,
@@ -69,14 +69,14 @@ impl ProofTable {
         Ok(())
     }
 
-    /// Returns how many steps there are.
+    /// Returns the number of steps.
     pub fn len(&self) -> usize
         ensures { result ≡ length self.now }
     {
         self.placed.len()
     }
 
-    /// Returns the position that the step at a place, from 0, cites.
+    /// Returns the position of the statement that the step at a place cites; places count from 0.
     pub fn position(&self, place: usize) -> usize
         requires { place < length self.now }
         ensures { result ≡ (get_or self.now place no_row).step.position }
@@ -101,10 +101,10 @@ impl ProofTable {
     }
 }
 
-/// Returns the steps of the items of a right proof of the `$p` at that position, with what each concludes.
+/// Returns the steps of the items of a right proof of the `$p` at that position, with the expression of each.
 ///
-/// Errors: an allocation fails. Cost: that of the proof, and of looking each citation up among the steps. There is no limit on
-/// the steps. Long lists of an assertion that it cites are made once.
+/// Errors: an allocation fails. Cost: that of the proof, and of finding each citation among the steps. There is no limit on
+/// the number of steps. Long lists of a cited assertion are made once.
 /// Source: Metamath, 4.2.6 and appendix B.
 pub fn proof_table(
     alloc: Global,

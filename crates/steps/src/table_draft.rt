@@ -1,4 +1,4 @@
-//! A table that is being made, by the citations of a proof.
+//! Builds a table from the citations of a proof.
 ghost use Rattle.std.specs.Prelude.{◌≡◌, ℕ, ◌<◌, ◌≤◌, ◌∷◌, [], List, Some, OnOk, IfSome, length, map, get_or, slice_get};
 ghost use Rattle.mm_lex.specs.Alphabet.{Name};
 ghost use Rattle.mm_read.specs.declared.stmt.Stmt.{Stmt as Statement};
@@ -16,18 +16,18 @@ use std::alloc::{AllocError, Global};
 use std::collections::BTreeMap;
 use subst::{Buffer, ImageRanges, Remaining, SYMBOLS_LIMIT, SymbolRange, place_between};
 
-/// A step, and where its expression lies.
+/// A step, and the range of its expression in the buffer.
 #[derive(Drop)]
 pub struct PlacedStep {
-    /// The position that is cited.
+    /// The position of the cited statement.
     pub position: usize,
     /// The places in the table of the steps whose results it takes.
     pub taken: Vec<usize>,
-    /// Where its expression lies.
+    /// The range of its expression.
     pub place: SymbolRange,
 }
 
-/// The steps so far, and buffers.
+/// The steps so far, with the stack, the marked results and buffers.
 #[derive(Drop)]
 pub struct TableDraft {
     pub placed: Vec<PlacedStep>,
@@ -107,7 +107,7 @@ pub fn cite_hypothesis(
     )
 }
 
-/// Returns where the expression of the step at a place lies.
+/// Returns the range of the expression of the step at a place.
 fn place_at(placed: &[PlacedStep], number: usize) -> SymbolRange
     requires { number < length placed.now }
     ensures { result ≡ place_in placed.now number }
@@ -115,7 +115,7 @@ fn place_at(placed: &[PlacedStep], number: usize) -> SymbolRange
     placed[number].place
 }
 
-/// Fills the list with the places of the expressions of these steps.
+/// Fills the list with the ranges of the expressions of these steps.
 fn fill_places(
     placed: &[PlacedStep],
     taken: &[usize],

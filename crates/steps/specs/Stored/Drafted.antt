@@ -1,4 +1,4 @@
--- The table that the code keeps while it goes over the items.
+-- The table that the code builds while it goes over the items.
 -- Source: this project's form of a table of steps.
 -- The code keeps all expressions in one buffer, and finds a step by its position and those that it takes.
 use Rattle.std.specs.Prelude.{◌≡◌, ◌≢◌, ℕ, zero, suc, ◌≤◌, ◌⊎◌, List, [], ◌∷◌, ◌++◌, length, map, get_or, Option, Some, None, slice_get}
@@ -8,7 +8,7 @@ use Rattle.steps.specs.declared.table_draft.TableDraft.{TableDraft}
 use Rattle.steps.specs.StepTable.{Step, Progress, progress, RecordsItem}
 use Rattle.steps.specs.Rows.{Row, no_row, steps_of, expr_in, AreRows}
 
--- ---- steps found again
+-- ---- finding equal steps
 
 abbrev pub key_of : Step → List ℕ
 key_of step = step.position ∷ step.taken
@@ -52,15 +52,15 @@ pub record IsTied (names : List Name) (d : TableDraft) (st : State) : Type 0 whe
 abbrev pub CanDo : Database → ℕ → List Name → TableDraft → Item → Type 0
 CanDo S at names old item = (st : State) × (next : State) × IsTied names old st × Steps S at st item next
 
--- where a run does the item, it was recorded, and the results of the run are the expressions of the rows
+-- if a run does the item, it was recorded, and the results of the run are the expressions of the rows
 abbrev pub IsDone : Database → ℕ → List Name → TableDraft → Item → TableDraft → Type 0
 IsDone S at names old item new = (st next : State) → IsTied names old st → Steps S at st item next → RecordsItem S at (progress_of old) item (progress_of new) × IsTied names new next
 
--- the code of the row at a place
+-- the symbol numbers of the expression of the row at a place
 abbrev pub codes_in : TableDraft → ℕ → List ℕ
 codes_in d k = (get_or (rows_of d) k no_row).expr
 
--- where the expression of the step at a place lies
+-- the range of the expression of the step at a place
 abbrev pub place_in : List PlacedStep → ℕ → SymbolRange
 place_in [] k = record { start = 0; end = 0 }
 place_in (p ∷ ps) zero = p.place
@@ -72,7 +72,7 @@ pub record AreHeld (d : TableDraft) : Type 0 where
 
 -- ---- the steps that a change adds
 
--- a step was added, and its result put on top
+-- a step was appended, and its result pushed
 pub record Adds (old new : TableDraft) (step : PlacedStep) : Type 0 where
   pub placed : new.placed.items ≡ old.placed.items ++ step ∷ []
   pub symbols : new.symbols ≡ old.symbols
@@ -81,7 +81,7 @@ pub record Adds (old new : TableDraft) (step : PlacedStep) : Type 0 where
   pub own : place_of new.known (step.position ∷ step.taken.items) ≡ Some (length old.placed.items)
   pub others : (x : List ℕ) → x ≢ step.position ∷ step.taken.items → place_of new.known x ≡ place_of old.known x
 
--- a step that was there, in place of the results above `below`
+-- an equal step was there; its result replaces those above `below`
 pub record Finds (old new : TableDraft) (step : Step) (below : List ℕ) : Type 0 where
   pub place : ℕ
   pub found : place_of old.known (key_of step) ≡ Some place
@@ -91,7 +91,7 @@ pub record Finds (old new : TableDraft) (step : Step) (below : List ℕ) : Type 
   pub placed : new.placed.items ≡ old.placed.items
   pub known : new.known ≡ old.known
 
--- a step that was not there, with its expression, in place of the results above `below`
+-- no equal step was there; the step is appended with its expression, and its result replaces those above `below`
 pub record Makes (old new : TableDraft) (step : Step) (below e : List ℕ) : Type 0 where
   pub made : PlacedStep
   pub is_position : made.position ≡ step.position
@@ -110,7 +110,7 @@ abbrev pub GivesHypothesis : TableDraft → TableDraft → ℕ → List ℕ → 
 GivesHypothesis old new position e =
     let step : Step = record { position = position; taken = [] } in Finds old new step old.stack.items ⊎ Makes old new step old.stack.items e
 
--- an assertion takes as many results as it has hypotheses, and its images are read off them
+-- an assertion takes as many results as it has mandatory hypotheses, which determine the images of its variables
 abbrev pub GivesAssertion : TableDraft → TableDraft → ℕ → AssertionView → Type 0
 GivesAssertion old new position cited =
     let n = length cited.hypotheses in

@@ -1,15 +1,15 @@
--- The mandatory hypotheses of assertions that a table lists once.
+-- The mandatory hypotheses of assertions with long lists, listed once for each assertion of a table.
 -- Metamath, 4.2.6: a citation of an assertion needs results for its mandatory hypotheses.
--- The code keeps no groups of variables: a table is made of a right proof, whose disjoint variable conditions were checked.
+-- The code keeps no groups of disjoint variables: a table is made of a right proof, whose disjoint variable conditions were checked.
 use Rattle.std.specs.Prelude.{◌≡◌, ℕ, ◌<◌, List, [], ◌∷◌, length, map, slice_get, Some}
 use Rattle.steps.specs.Words.{Name, Stmt, Database, stmt_at, before, decode, Hypothesis, AssertionView, AreRequired, IsViewOf, AllBelow, hypotheses, mandatory_groups}
 
--- ---- parts whose groups may be missing
+-- ---- views whose groups may be missing
 
 abbrev pub with_groups : AssertionView → List (List ℕ) → AssertionView
 with_groups c groups = record { typecodes = c.typecodes; hypotheses = c.hypotheses; conclusion = c.conclusion; groups = groups }
 
--- with its groups, these are the parts of the assertion s at a
+-- with some groups, c is the view of the assertion s at a
 abbrev pub HasPartsOf : Database → List Name → ℕ → Stmt → AssertionView → Type 0
 HasPartsOf S names a s c = (groups : List (List ℕ)) × IsViewOf S names a s (with_groups c groups)
 
@@ -21,13 +21,13 @@ pub record Listed : Type 0 where
   pub typecodes : List ℕ
   pub required : List Hypothesis
 
--- they were made of these parts
+-- they are copied from this view
 pub record AreMadeOf (position : ℕ) (c : AssertionView) (l : Listed) : Type 0 where
   pub at : l.position ≡ position
   pub heads_same : l.typecodes ≡ c.typecodes.now
   pub asked_same : l.required ≡ c.hypotheses
 
--- they are those of the assertion s at their position, which has some groups
+-- they are those of the assertion s at their position, whose groups of disjoint variables have symbol numbers
 pub record AreListsOf (S : Database) (names : List Name) (l : Listed) (s : Stmt) : Type 0 where
   pub asked_of : AreRequired S names (hypotheses (before S l.position) s) l.typecodes l.required
   pub groups : List (List ℕ)
@@ -38,7 +38,7 @@ abbrev pub AreKept : Database → List Name → List Listed → Type 0
 AreKept S names [] = Unit {0}
 AreKept S names (l ∷ ls) = ((s : Stmt) → stmt_at S l.position ≡ Some s → AreListsOf S names l s) × AreKept S names ls
 
--- the list of the assertion at a position stands at the index i
+-- the list of the assertion at a position has the index i
 pub record IsAt (ls : List Listed) (i position : ℕ) : Type 0 where
   pub within : i < length ls
   pub there : (l : Listed) → slice_get ls i ≡ Some l → l.position ≡ position

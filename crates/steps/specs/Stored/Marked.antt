@@ -1,13 +1,13 @@
--- The marks that the code keeps while it finds the essential steps: one at each step.
+-- The marks that the code keeps while it finds the essential steps: one for each step.
 -- Source: this project's form of a table of steps.
--- The definition leads from the last step to those that it takes; a marked step is one that was reached.
+-- The definition goes from the last step to those that it takes; the code marks the steps that it reaches.
 use Rattle.std.specs.Prelude.{◌≡◌, ◌↔◌, ◌⊎◌, ℕ, zero, suc, ◌-◌, ◌≤◌, Bool, true, false, if◌then◌else◌, List, [], ◌∷◌, ◌++◌, length, map, replicate, get_or, Some, slice_get, slice_set}
 use Rattle.steps.specs.Words.{Database, Hypothesis, Float, Essential}
 use Rattle.steps.specs.StepTable.{Step}
 use Rattle.steps.specs.Rows.{Row, row, no_row}
 use Rattle.steps.specs.Essential.{essential_of, IsIn, IsEssential}
 
--- the places that are taken for a `$e`, among those that are taken for these hypotheses
+-- the places taken for a `$e`, among the places taken for these hypotheses
 abbrev pub taken_by : List Hypothesis → List ℕ → List ℕ
 taken_by [] taken = []
 taken_by (h ∷ hs) [] = []
@@ -23,17 +23,17 @@ HasMark marks k = get_or marks k false ≡ true
 abbrev pub mark_last : ℕ → List Bool
 mark_last n = slice_set (replicate n false) (n - 1) true
 
--- each of these places is marked besides
+-- each of these places is marked, too
 abbrev pub mark_each : List ℕ → List Bool → List Bool
 mark_each [] marks = marks
 mark_each (k ∷ ks) marks = mark_each ks (slice_set marks k true)
 
--- these places were marked, and no other
+-- these places were marked, and no others
 pub record MarksMore (old new : List Bool) (ks : List ℕ) : Type 0 where
   pub count : length new ≡ length old
   pub each : (k : ℕ) → HasMark new k ↔ (HasMark old k ⊎ IsIn k ks)
 
--- the steps from `from` on were looked at: what the marked ones of them take for a `$e` is marked
+-- the steps from `from` on were visited: each step that a marked one of them takes for a `$e` is marked
 pub record AreMarkedFrom (S : Database) (steps : List Step) (from : ℕ) (marks : List Bool) : Type 0 where
   pub count : length marks ≡ length steps
   pub sound : (k : ℕ) → HasMark marks k → IsEssential S steps k
@@ -52,15 +52,15 @@ abbrev pub marked_before : List Bool → ℕ → List ℕ
 marked_before marks zero = []
 marked_before marks (suc k) = if get_or marks k false then marked_before marks k ++ k ∷ [] else marked_before marks k
 
--- the number of a marked place
+-- the new number of a marked place
 abbrev pub number_of : List Bool → ℕ → ℕ
 number_of marks k = length (marked_before marks k)
 
--- the numbers of the places before k
+-- the new numbers of the places before k
 pub record AreNumbers (marks : List Bool) (k : ℕ) (numbers : List ℕ) : Type 0 where
   pub count : length numbers ≡ k
   pub each : (j : ℕ) → suc j ≤ k → get_or numbers j 0 ≡ number_of marks j
 
--- the row that is kept of the row at k
+-- the row at k, renumbered
 abbrev pub kept_row : Database → List Row → List Bool → ℕ → Row
 kept_row S rows marks k = row (get_or rows k no_row).step.position (map (number_of marks) (essential_of S (get_or rows k no_row).step)) (get_or rows k no_row).expr
