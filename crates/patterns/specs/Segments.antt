@@ -6,7 +6,7 @@ use Rattle.patterns.specs.declared.part.Part.{Part}
 use Rattle.patterns.specs.declared.part.Part.TheVariants.{Symbol, One, Many}
 use Rattle.patterns.specs.Matches as m
 
--- what contracts see of a part
+-- the view of a part in contracts
 abbrev pub part_view : Part → m.Part
 part_view (Symbol s) = m.symbol s.now
 part_view One = m.one
