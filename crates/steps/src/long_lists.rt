@@ -142,7 +142,7 @@ impl LongLists {
         Ok(index)
     }
 
-    /// Returns the index of the list of the assertion at a position, which is made if it is not kept yet; any index if
+    /// Returns the index of the list of the assertion at a position, which is made if there is none yet; any index if
     /// `are_few`.
     ///
     /// Errors: an allocation fails. Cost: log n for n lists, and once for each assertion that of `Frames::fill_buffers`.
@@ -166,8 +166,8 @@ impl LongLists {
         }
     }
 
-    /// Returns a view of the assertion at a position: `few` if it is given, else a view of the list at an index, without groups of
-    /// disjoint variables.
+    /// Returns a view of the assertion at a position: `few` if it is given, else a view of the list at an index, without
+    /// groups of disjoint variables.
     pub fn parts<'a>(
         &'a self,
         frames: &'a Frames,
