@@ -4,7 +4,7 @@
 use anyhow::Result;
 use bytes::Bytes;
 use cluster::{MemoryKeep, apply_on, begin_on, cells, compare_on, deliver_on, offer_on, take_on};
-use explanation::{DatabaseFault, explain_behind};
+use explanation::{DatabaseFault, explain_after};
 use library::{Cause, Entry, Library, Submission, Verdict};
 use std::alloc::Global;
 use synod::Weights;
@@ -42,7 +42,7 @@ fn apply_two(rt: &HostRuntime) -> Result<()> {
             whole.extend_from_slice(text)?;
             let statement = library.statements().len().saturating_add(statement);
             let fault = DatabaseFault::Proof { statement };
-            let lines = explain_behind(rt.alloc(), whole.as_slice(), before, fault)?;
+            let lines = explain_after(rt.alloc(), whole.as_slice(), before, fault)?;
             print!(rt; "{}", str::from_utf8(lines.as_slice())?)?;
         }
     }

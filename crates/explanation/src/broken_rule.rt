@@ -1,5 +1,5 @@
 //! Statements that break a rule.
-use crate::statement_symbols::{label_of, symbol_at, symbols_before};
+use crate::statement_symbols::{first_symbol_token, label_of, symbol_at};
 use crate::text_tokens::TextTokens;
 use crate::written_lines::Page;
 use mm_read::{ReadFault, Stmt, read};
@@ -28,7 +28,7 @@ pub(crate) fn explain_rule(
 ) {
     match read(alloc, text) {
         Ok(statements) => explain_read(alloc, page, text, statements.as_slice(), statement, rule),
-        Err(ReadFault::Memory) => page.refuse(),
+        Err(ReadFault::Memory) => page.fail(),
         Err(_) => {}
     }
 }
@@ -116,6 +116,7 @@ fn explain_violation(
 /// Writes that a `$c` stands in a block, or that a `$}` closes none.
 fn explain_alone(page: &mut Page<'_>, broken: &Broken<'_>) {
     push_start(page, broken, broken.statement, 1);
+    // G1: a `$c` stands in the outermost block. The other rule that a whole statement breaks is G10: a `$}` closes a block.
     if broken.rule == Rule::G1 {
         return page.push(
             b"this $c stands inside a block; constants are declared outside all blocks\n",
@@ -126,13 +127,15 @@ fn explain_alone(page: &mut Page<'_>, broken: &Broken<'_>) {
 
 /// Writes the place of a symbol of the statement, and the symbol.
 fn push_symbol(page: &mut Page<'_>, broken: &Broken<'_>, stmt: &Stmt, symbol: usize) {
-    let token = symbols_before(stmt).saturating_add(symbol);
+    let token = first_symbol_token(stmt).saturating_add(symbol);
     push_start(page, broken, broken.statement, token);
     page.push(symbol_at(stmt, symbol));
 }
 
 fn explain_symbol(page: &mut Page<'_>, broken: &Broken<'_>, stmt: &Stmt, symbol: usize) {
     push_symbol(page, broken, stmt, symbol);
+    // G5: each symbol of an expression is a constant or an active variable. G6: the first is a constant. G9: each variable has
+    // an active `$f`. Else the symbol is to be an active variable: the second of a `$f` (G7), or one of a `$d` (G8).
     match broken.rule {
         Rule::G5 => page.push(b" is neither a constant nor an active variable\n"),
         Rule::G6 => page.push(b" is no constant, and an expression begins with a constant\n"),
@@ -150,7 +153,7 @@ fn explain_twice(
 ) {
     push_symbol(page, broken, stmt, second);
     page.push(b" stands twice in this statement\n  first at ");
-    let token = symbols_before(stmt).saturating_add(first);
+    let token = first_symbol_token(stmt).saturating_add(first);
     push_token_place(page, broken, broken.statement, token);
     page.push(b"\n");
 }
@@ -178,14 +181,14 @@ fn push_other(page: &mut Page<'_>, broken: &Broken<'_>, name: &[u8], other: usiz
         page.push(b"\n");
         return;
     };
-    let (words, token) = told(stmt, name);
-    page.push(words);
+    let (message, token) = told(stmt, name);
+    page.push(message);
     page.push(b"\n  at ");
     push_token_place(page, broken, other, token);
     page.push(b"\n");
 }
 
-/// Returns the words for the use that a statement makes of a name, and the number of the token that has it, from 1.
+/// Returns the message for the use that a statement makes of a name, and the number of the token that has it, from 1.
 fn told(stmt: &Stmt, name: &[u8]) -> (&'static [u8], usize) {
     match stmt {
         Stmt::Const(names) => (

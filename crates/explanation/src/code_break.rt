@@ -1,7 +1,7 @@
-//! Writes the rule of proof code that the tokens of a proof break, in words.
+//! Explains which rule of proof code the tokens of a proof break.
 
 use crate::item_spots::{Spot, letter_spot};
-use crate::statement_symbols::word_at;
+use crate::statement_symbols::token_at;
 use crate::theorem::Theorem;
 use crate::written_lines::Page;
 use explain::{CodeBreak, LetterFault};
@@ -39,16 +39,16 @@ pub(crate) fn explain_break(page: &mut Page<'_>, theorem: &Theorem<'_>, broken: 
 /// Writes that a listed label is that of a mandatory hypothesis.
 fn push_mandatory(page: &mut Page<'_>, theorem: &Theorem<'_>, token: usize) {
     push_unread(page, theorem, Spot { token, byte: 0 });
-    page.push(word_at(theorem.proof, token));
+    page.push(token_at(theorem.proof, token));
     page.push(b" is a mandatory hypothesis of ");
     page.push(theorem.label);
     page.push(b" and may not be listed\n");
 }
 
-/// Writes the place at which the tokens cannot be read, and the words that say why.
-fn push_break(page: &mut Page<'_>, theorem: &Theorem<'_>, spot: Spot, words: &[u8]) {
+/// Writes the place at which the tokens cannot be read, and the message that says why.
+fn push_break(page: &mut Page<'_>, theorem: &Theorem<'_>, spot: Spot, message: &[u8]) {
     push_unread(page, theorem, spot);
-    page.push(words);
+    page.push(message);
     page.push(b"\n");
 }
 
@@ -58,7 +58,7 @@ fn push_unread(page: &mut Page<'_>, theorem: &Theorem<'_>, spot: Spot) {
     page.push(b" cannot be read\n  ");
 }
 
-/// Returns the words for a token that is no label.
+/// Returns the message for a token that is no label.
 fn no_label(proof: &Words) -> &'static [u8] {
     if is_compressed(proof) {
         b"this token is no label, and no ) stands before it"
@@ -67,7 +67,7 @@ fn no_label(proof: &Words) -> &'static [u8] {
     }
 }
 
-/// Returns the words for a fault of the letters.
+/// Returns the message for a fault of the letters.
 fn of_letters(fault: LetterFault) -> &'static [u8] {
     match fault {
         LetterFault::NotLetter => b"this is no letter of a compressed proof",

@@ -48,11 +48,11 @@ pub fn explain_refusal(
 }
 
 /// Returns the lines that say why a text is refused after the statements of a library, at most 65,536 bytes. The first
-/// `before` bytes of `text` write these statements, a line each; places are counted in the rest. The number in `fault` counts
+/// `before` bytes of `text` are the export form of these statements; places are counted in the rest. The number in `fault` counts
 /// from the first statement of the library.
 ///
 /// Errors and cost: those of `explain_refusal`.
-pub fn explain_behind(
+pub fn explain_after(
     alloc: Global,
     text: &[u8],
     before: usize,

@@ -3,7 +3,7 @@
 //! `explain_refusal` returns the lines of an explanation, at most 65,536 bytes; it is called only after
 //! a refusal and reads the text again. `explain_unproved` returns them for one `$p` of statements that
 //! the caller has read. The explanation rests on the clauses of `places`, `rule_violation` and `explain`;
-//! the words have no contract.
+//! its messages have no contract.
 //!
 //! Reading order: `explained_refusal`, `written_lines`, `text_fault`, `shape_fault`, `broken_rule` with
 //! `statement_symbols`; `proof` with `text_tokens`, `theorem`, `item_spots`, `step_fault`, `expressions`
@@ -24,6 +24,6 @@ mod text_tokens;
 mod theorem;
 mod written_lines;
 
-pub use explained_refusal::{DatabaseFault, explain_behind, explain_refusal, explain_unproved};
+pub use explained_refusal::{DatabaseFault, explain_after, explain_refusal, explain_unproved};
 pub use text_tokens::TextTokens;
 pub use written_lines::MOST_BYTES;

@@ -6,7 +6,7 @@ ghost use Rattle.verify.specs.Right.{IsProvable};
 use crate::code_break::explain_break;
 use crate::expressions::push_expression;
 use crate::item_spots::{spot_of, step_of};
-use crate::statement_symbols::word_at;
+use crate::statement_symbols::token_at;
 use crate::step_fault::push_fault;
 use crate::text_tokens::TextTokens;
 use crate::theorem::Theorem;
@@ -22,7 +22,7 @@ use unproved::Entered;
 pub(crate) fn explain_proof(alloc: Global, page: &mut Page<'_>, text: &[u8], statement: usize) {
     match read(alloc, text) {
         Ok(statements) => explain_wrong(alloc, page, text, statements, statement),
-        Err(ReadFault::Memory) => page.refuse(),
+        Err(ReadFault::Memory) => page.fail(),
         Err(_) => {}
     }
 }
@@ -162,6 +162,6 @@ fn push_step(page: &mut Page<'_>, items: &Items, item: usize) {
         return;
     }
     page.push(b", which cites ");
-    page.push(word_at(parts.labels, number - 1));
+    page.push(token_at(parts.labels, number - 1));
     page.push(b"\n");
 }

@@ -3,26 +3,26 @@ ghost use Rattle.std.specs.Prelude.{◌≤◌, length};
 ghost use Rattle.std.specs.List.{All};
 ghost use Rattle.mm_lex.specs.Tokens.{IsWordAt};
 
-use crate::written_lines::{Page, word};
+use crate::written_lines::{Page, token_in};
 use mm_lex::{LexFault, Span, tokens};
 use mm_read::{ReadFault, read};
 use places::statement_at;
 use std::alloc::Global;
 
-/// Writes the token that fits nowhere, what may stand in its place, and where its statement begins.
+/// Writes the token that is misplaced, what may stand in its place, and where its statement begins.
 pub(crate) fn explain_shape(alloc: Global, page: &mut Page<'_>, text: &[u8]) {
     match read(alloc, text) {
         Err(ReadFault::Shape { token }) => explain_among(alloc, page, text, token),
-        Err(ReadFault::Memory) => page.refuse(),
+        Err(ReadFault::Memory) => page.fail(),
         _ => {}
     }
 }
 
-/// Writes the explanation for the token that fits nowhere, given its number from 1.
+/// Writes the explanation for the token that is misplaced, given its number from 1.
 fn explain_among(alloc: Global, page: &mut Page<'_>, text: &[u8], token: usize) {
     match tokens(alloc, text) {
         Ok(spans) => explain_misfit(page, text, spans.as_slice(), token.saturating_sub(1)),
-        Err(LexFault::Memory) => page.refuse(),
+        Err(LexFault::Memory) => page.fail(),
         Err(_) => {}
     }
 }
@@ -45,7 +45,7 @@ fn explain_token(page: &mut Page<'_>, text: &[u8], spans: &[Span], index: usize)
     match spans.get(index) {
         Some(span) => {
             page.push_place(text, span.start);
-            push_misfit(page, expected, word(text, *span), start == index);
+            push_misfit(page, expected, token_in(text, *span), start == index);
         }
         None => {
             page.push_place(text, text.len());
@@ -84,20 +84,20 @@ fn push_misfit(page: &mut Page<'_>, expected: &[u8], token: &[u8], begins: bool)
     }
 }
 
-/// Returns the words for what may follow these tokens of a statement.
+/// Returns the part of the message for what may follow these tokens of a statement.
 fn what_may_stand(text: &[u8], before: &[Span]) -> &'static [u8] {
     let Some(first) = before.get(0) else {
         return b"a label, $c, $v, $d, ${ or $}";
     };
-    match word(text, *first) {
+    match token_in(text, *first) {
         b"$c" => symbols_or_end(before.len(), 2),
         b"$v" => symbols_or_end(before.len(), 2),
         b"$d" => symbols_or_end(before.len(), 3),
-        _ => behind_label(text, before),
+        _ => after_label(text, before),
     }
 }
 
-/// Returns the words for a symbol, and for the end too if there are enough tokens.
+/// Returns the part of the message for a symbol, and for the end too if there are enough tokens.
 fn symbols_or_end(len: usize, enough: usize) -> &'static [u8] {
     if len < enough {
         b"a symbol"
@@ -106,26 +106,26 @@ fn symbols_or_end(len: usize, enough: usize) -> &'static [u8] {
     }
 }
 
-/// Returns the words for what may follow these tokens, the first of which is a label.
-fn behind_label(text: &[u8], before: &[Span]) -> &'static [u8] {
+/// Returns the part of the message for what may follow these tokens, the first of which is a label.
+fn after_label(text: &[u8], before: &[Span]) -> &'static [u8] {
     let Some(key) = before.get(1) else {
         return b"$f, $e, $a or $p";
     };
-    match word(text, *key) {
+    match token_in(text, *key) {
         b"$f" => match before.len() {
             2 => b"a constant",
             3 => b"a variable",
             _ => b"$.",
         },
-        b"$p" => behind_provable(text, before),
+        b"$p" => within_provable(text, before),
         _ => symbols_or_end(before.len(), 3),
     }
 }
 
-/// Returns the words for what may follow these tokens of a `$p`.
-fn behind_provable(text: &[u8], before: &[Span]) -> &'static [u8] {
+/// Returns the part of the message for what may follow these tokens of a `$p`.
+fn within_provable(text: &[u8], before: &[Span]) -> &'static [u8] {
     for span in before {
-        if word(text, *span) == b"$=".as_slice() {
+        if token_in(text, *span) == b"$=".as_slice() {
             return b"a token of the proof or $.";
         }
     }

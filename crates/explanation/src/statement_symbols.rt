@@ -14,8 +14,8 @@ pub(crate) fn label_of(stmt: &Stmt) -> &[u8] {
     }
 }
 
-/// Returns the number of the token of a statement that is its first symbol, from 1.
-pub(crate) fn symbols_before(stmt: &Stmt) -> usize {
+/// Returns the number of the token, from 1, that is the first symbol of a statement.
+pub(crate) fn first_symbol_token(stmt: &Stmt) -> usize {
     match stmt {
         Stmt::Const(_) => 2,
         Stmt::Var(_) => 2,
@@ -27,9 +27,9 @@ pub(crate) fn symbols_before(stmt: &Stmt) -> usize {
 /// Returns the symbol at an index, from 0, or an empty one if there is none.
 pub(crate) fn symbol_at(stmt: &Stmt, index: usize) -> &[u8] {
     match stmt {
-        Stmt::Const(names) => word_at(names, index),
-        Stmt::Var(names) => word_at(names, index),
-        Stmt::Disj(names) => word_at(names, index),
+        Stmt::Const(names) => token_at(names, index),
+        Stmt::Var(names) => token_at(names, index),
+        Stmt::Disj(names) => token_at(names, index),
         Stmt::Float {
             constant,
             variable,
@@ -41,14 +41,14 @@ pub(crate) fn symbol_at(stmt: &Stmt, index: usize) -> &[u8] {
                 variable.as_bytes()
             }
         }
-        Stmt::Ess { expr, .. } => word_at(expr, index),
-        Stmt::Axiom { expr, .. } => word_at(expr, index),
-        Stmt::Prove { expr, .. } => word_at(expr, index),
+        Stmt::Ess { expr, .. } => token_at(expr, index),
+        Stmt::Axiom { expr, .. } => token_at(expr, index),
+        Stmt::Prove { expr, .. } => token_at(expr, index),
         _ => b"",
     }
 }
 
-/// Returns the word at an index, from 0, or an empty one if there is none.
-pub(crate) fn word_at(words: &Words, index: usize) -> &[u8] {
-    words.iter().nth(index).unwrap_or(b"")
+/// Returns the token at an index, from 0, or an empty one if there is none.
+pub(crate) fn token_at(tokens: &Words, index: usize) -> &[u8] {
+    tokens.iter().nth(index).unwrap_or(b"")
 }

@@ -12,7 +12,7 @@ pub(crate) fn explain_text(alloc: Global, page: &mut Page<'_>, text: &[u8]) {
         Ok(_) => {}
         Err(LexFault::Text { offset }) => explain_byte(page, text, offset),
         Err(LexFault::Comment { offset }) => explain_comment(page, text, offset),
-        Err(LexFault::Memory) => page.refuse(),
+        Err(LexFault::Memory) => page.fail(),
     }
 }
 

@@ -13,13 +13,14 @@ pub const MOST_BYTES: usize = 65_536;
 /// The last line of an explanation that is cut.
 const CUT: &[u8] = b"\n  the explanation is cut here: it has more than 65536 bytes\n";
 
-/// The lines of an explanation, or nothing if an allocation failed. Keeps one byte more than `MOST_BYTES`, and drops the rest.
+/// The lines of an explanation, or none once it has failed. Keeps one byte more than `MOST_BYTES`, and drops the rest.
 #[derive(Drop)]
 pub(crate) struct Page<'a> {
     lines: Vec<u8>,
     /// The name of the file that stands before each place, if there is one.
     name: Option<&'a str>,
-    is_refused: bool,
+    /// Whether an allocation failed, or a call on which the explanation rests returned an error.
+    has_failed: bool,
     /// The number of bytes of the text, before the part that is explained, that are statements of a library, a line each.
     before: usize,
 }
@@ -29,23 +30,23 @@ impl<'a> Page<'a> {
         Page {
             lines: Vec::new(alloc),
             name,
-            is_refused: false,
+            has_failed: false,
             before,
         }
     }
 
     /// Returns the lines, at most 65,536 bytes. If more were pushed, the last line says so.
     ///
-    /// Errors: an allocation failed.
+    /// Errors: the explanation has failed.
     pub(crate) fn into_lines(self) -> Result<Vec<u8>, AllocError>
         ensures { IfOk result (λ lines. length lines.items ≤ MOST_BYTES) }
     {
         let Page {
             mut lines,
-            is_refused,
+            has_failed,
             ..
         } = self;
-        if is_refused {
+        if has_failed {
             return Err(AllocError);
         }
         if lines.len() > MOST_BYTES {
@@ -55,28 +56,28 @@ impl<'a> Page<'a> {
         Ok(lines)
     }
 
-    /// Records that an allocation failed.
-    pub(crate) fn refuse(&mut self) {
-        self.is_refused = true;
+    /// Records that the explanation has failed: no lines are returned then.
+    pub(crate) fn fail(&mut self) {
+        self.has_failed = true;
     }
 
-    /// Returns the value of an answer, or `None` for an error, which it records as a failed allocation.
+    /// Returns the value of an answer, or `None` for an error. After any error, of whatever kind, the explanation has failed.
     pub(crate) fn value_of<T, E: Drop>(&mut self, answer: Result<T, E>) -> Option<T> {
         match answer {
             Ok(value) => Some(value),
             Err(_) => {
-                self.refuse();
+                self.fail();
                 None
             }
         }
     }
 
     /// Appends bytes, as many as fit; the rest is dropped.
-    pub(crate) fn push(&mut self, words: &[u8]) {
+    pub(crate) fn push(&mut self, bytes: &[u8]) {
         let room = (MOST_BYTES + 1).saturating_sub(self.lines.len());
-        let kept = words.get(..room).unwrap_or(words);
+        let kept = bytes.get(..room).unwrap_or(bytes);
         if self.lines.extend_from_slice(kept).is_err() {
-            self.refuse();
+            self.fail();
         }
     }
 
@@ -110,9 +111,9 @@ impl<'a> Page<'a> {
 }
 
 /// Returns the token at a place, empty if the place is not in the text.
-pub(crate) fn word(text: &[u8], span: Span) -> &[u8] {
+pub(crate) fn token_in(text: &[u8], span: Span) -> &[u8] {
     match text.get(span.start..span.end) {
-        Some(word) => word,
+        Some(token) => token,
         None => b"",
     }
 }

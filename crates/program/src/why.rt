@@ -4,7 +4,7 @@ use crate::fault::Fault;
 use crate::refused_texts::fault_of;
 use bytes::Bytes;
 use commands::EntryAt;
-use explanation::{DatabaseFault, explain_behind};
+use explanation::{DatabaseFault, explain_after};
 use library::{Cause, Entry, Library, Verdict};
 use mm_read::{ReadFault, read};
 use numbers::push_number;
@@ -85,7 +85,7 @@ fn push_added(added: &mut Vec<Bytes>, library: &Library, entry: &Entry) -> Resul
 /// Appends why the entry is refused: `why`, the count of the lines, and the lines. There are no
 /// lines if it was added; if nothing is decided, the answer is `unknown`.
 ///
-/// Errors: an allocation fails. Cost: that of `explanation::explain_behind`, and of reading the
+/// Errors: an allocation fails. Cost: that of `explanation::explain_after`, and of reading the
 /// texts that were added before.
 pub fn push_why(alloc: Global, text: &mut Vec<u8>, decision: &Decision) -> Result<(), AllocError> {
     match decision {
@@ -124,7 +124,12 @@ fn explanation(
     let before = first_lines(refused.export.as_slice(), count);
     let mut whole = Vec::from_slice(alloc, before)?;
     whole.extend_from_slice(text)?;
-    explain_behind(alloc, whole.as_slice(), before.len(), behind(fault, count))
+    explain_after(
+        alloc,
+        whole.as_slice(),
+        before.len(),
+        counted_after(fault, count),
+    )
 }
 
 /// Returns whether a fault names a statement.
@@ -135,8 +140,8 @@ fn tells_statement(fault: DatabaseFault) -> bool {
     )
 }
 
-/// Returns the fault with `count` added to the number of its statement.
-fn behind(fault: DatabaseFault, count: usize) -> DatabaseFault {
+/// Returns the fault with its statement counted after `count` others.
+fn counted_after(fault: DatabaseFault, count: usize) -> DatabaseFault {
     match fault {
         DatabaseFault::Rule { statement, rule } => DatabaseFault::Rule {
             statement: statement.saturating_add(count),
