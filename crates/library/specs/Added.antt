@@ -42,7 +42,7 @@ Adds pre post =
     (a : Added) (tables' : MutBor Tables) (steps' : MutBor StepCounts) (checkers' : MutBor Checkers)
     → post T tables steps checkers a tables' steps' checkers' → IsAdded tables.now tables'.now T.now a × IsCounted steps.now steps'.now T.now)
 
--- the tables are those of the statements S, after those that follow the first ones were added, or this rule is broken
+-- the tables have the statements S, of which those after the first ones were added now, or this rule is broken
 pub record IsAddedAfter (S : Database) (front : ℕ) (tables : Tables) (a : Added) : Type 0 where
   pub found : IfOk a.broken (λ broken. broken ≡ first_broken 1 (take front S) (drop front S))
   pub rules_are : a.broken ≡ Ok None → tables.rules.statements ≡ bares S

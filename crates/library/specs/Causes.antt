@@ -27,7 +27,7 @@ pub record IsFirstUnproved (L T : Database) (n : ℕ) (s : Stmt) : Type 0 where
   pub unproved : ¬ IsProved (L ++ T) (length L + n)
   pub earlier : (m : ℕ) (r : Stmt) → m < n → IsProvable T m r → IsProved (L ++ T) (length L + m)
 
--- why the statements T may not follow L: the least rule broken, or the least `$p` that is not proved
+-- why the statements T are not good after L: the least rule broken, or the least `$p` that is not proved
 abbrev pub IsFault : Database → Database → Cause → Type 0
 IsFault L T (Rule n rule) = first_broken 1 L T ≡ Some (n, rule)
 IsFault L T (Proof n) =

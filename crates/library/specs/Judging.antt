@@ -31,13 +31,13 @@ pub record IsKnown (S : Database) (front known : ℕ) : Type 0 where
   pub within : known ≤ length S
   pub proved : (at : ℕ) → front < at → at ≤ known → StandsProved S at
 
--- the statements T may follow L, or this is why they may not
+-- the statements T are good after L, or this is why they are not
 abbrev pub IsJudged : Database → Database → Option Cause → Type 0
 IsJudged L T None =
     (first_broken 1 L T ≡ None) × ((n : ℕ) (s : Stmt) → IsProvable T n s → IsProved (L ++ T) (length L + n))
 IsJudged L T (Some cause) = IsFault L T cause
 
--- the tables are those of the statements, which are good and marked
+-- the tables have these statements, which are good, and which the rules have marked, to roll back to
 pub record IsChecked (S : Database) (tables : Tables) : Type 0 where
   pub shaped : AreShaped S
   pub good : Good S
@@ -56,7 +56,7 @@ ReadsTexts returns =
     (text : List ℕ) (r : Result (Vec Stmt Global) ReadFault) → returns text r
     → IfOk r (λ statements. Reads text statements.items) × IfErr r (IsReadFault text)
 
--- the statements of a text that may be judged, or the cause of its refusal, whatever statements are before them
+-- the statements of a text that is to be judged, or a cause of refusal that does not depend on earlier statements
 abbrev pub IsReading : Option (List ℕ) → Submission → Result (Vec Stmt Global) Cause → Type 0
 IsReading charter submission (Ok statements) = IsAllowed charter submission statements.items
 IsReading charter submission (Err cause) = (L : Database) → IsCause L charter submission cause

@@ -19,7 +19,7 @@ pub record NamesNoProof (S : Database) (label : Name) : Type 0 where
   pub carries : Carries S position stmt label
   pub other : IsFalse (is_provable stmt)
 
--- the `$p` of the label stands at j
+-- the `$p` with the label is at position j
 pub record NamesProof (S : Database) (label : Name) (j : ℕ) : Type 0 where
   pub stmt : Stmt
   pub carries : Carries S j stmt label
@@ -33,7 +33,7 @@ IsTrace S label labels = (j : ℕ) × NamesProof S label j × AreLabelsOf S (Use
 abbrev pub IsUsage : Database → Name → Bool → List Name → Type 0
 IsUsage S label all labels = (a : ℕ) × (s : Stmt) × Carries S a s label × AreLabelsOf S (IsUser S all a) labels
 
--- the `$p` of the label stands at j, and its tokens write these items, which are right
+-- the `$p` with the label is at position j, and its tokens write these items, which are right
 pub record IsProofOf (S : Database) (label : Name) (j : ℕ) (items : List Item) : Type 0 where
   pub named : NamesProof S label j
   pub written : HasItems S j items

@@ -43,7 +43,7 @@ pub record Marks (Passes : ℕ → Type 0) (old new : List Bool) : Type 0 where
   pub sound : (a : ℕ) → IsMarked new a → IsMarked old a ⊎ Passes a
   pub whole : (a : ℕ) → a ≤ length old → Passes a → IsMarked new a
 
--- a `$a` stands there, and is marked
+-- a `$a` is at that position, and is marked
 abbrev pub IsMarkedAxiom : Database → List Bool → ℕ → Type 0
 IsMarkedAxiom S marks a = IsMarked marks a × IsAxiomAt S a
 

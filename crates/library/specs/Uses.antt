@@ -30,7 +30,7 @@ abbrev pub is_axiom : Stmt → Bool
 is_axiom (Axiom label expr) = true
 is_axiom s = false
 
--- a `$a` stands there
+-- a `$a` is at that position
 pub record IsAxiomAt (S : Database) (a : ℕ) : Type 0 where
   pub stmt : Stmt
   pub stands : stmt_at S a ≡ Some stmt

@@ -13,7 +13,7 @@ pub struct PageContents<'a> {
     pub at: usize,
     /// The steps of its proof, if it has one.
     pub proof: Option<ProofSteps<'a>>,
-    /// The axioms, theorems and description that the page shows besides.
+    /// The axioms, citing theorems and description that the page shows.
     pub neighbours: Neighbours<'a>,
 }
 

@@ -10,7 +10,7 @@ use Rattle.verify.specs.Right.{IsProvable, IsRight}
 use Rattle.verify_pool.specs.declared.job.Job.{Job}
 use Rattle.verify_pool.specs.Least.{IsBefore}
 
--- a `$p` stands at the job's position
+-- a `$p` is at the job's position
 abbrev pub IsJob : Database → Job → Type 0
 IsJob S job = (s : Stmt) × IsProvable S job.at s
 
@@ -35,7 +35,7 @@ IsRightAt S jobs k = (job : Job) → slice_get jobs k ≡ Some job → IsRightJo
 abbrev pub AreRightBefore : Database → List Job → Option ℕ → Type 0
 AreRightBefore S jobs answer = (k : ℕ) (job : Job) → IsBefore k answer → slice_get jobs k ≡ Some job → IsRightJob S job
 
--- a job stands at index i, and is not right
+-- there is a job of index i, and it is not right
 pub record IsBadAt (S : Database) (jobs : List Job) (i : ℕ) : Type 0 where
   pub job : Job
   pub stands : slice_get jobs i ≡ Some job

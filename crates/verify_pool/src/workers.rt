@@ -27,7 +27,7 @@ impl Model for Workers {
 }
 
 impl Workers {
-    /// Returns `count` workers, where the caller knows that `count` is 1 to 16.
+    /// Returns `count` workers, given that `count` is 1 to 16.
     pub fn of(count: usize) -> Workers
         requires { (1 ≤ count) × (count ≤ MOST_WORKERS) }
         ensures { result ≡ count }
