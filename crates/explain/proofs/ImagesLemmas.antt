@@ -32,9 +32,9 @@ other_number a b ne = by (nat_eq b a) refl
 
 -- with the image at i before the last ones, its index is that of its variable
 module _ (all : List Image) (i : ℕ) (d : Image) (inside : i < length all) (x : ℕ) where
-  behind : (old : Option ℕ) → nat_eq x (get_or all i d).variable ≡ false → IsPlaced all (drop (suc i) all) x old → IsPlaced all (get_or all i d ∷ drop (suc i) all) x old
-  behind None t h = ap (λ b. cond b (get_or all i d).symbols.now (code_image (code_images (drop (suc i) all)) x)) t ∙ h
-  behind (Some k) t h = (h.0, h.1, ap (λ b. cond b (get_or all i d).symbols.now (code_image (code_images (drop (suc i) all)) x)) t ∙ h.2)
+  placed_after : (old : Option ℕ) → nat_eq x (get_or all i d).variable ≡ false → IsPlaced all (drop (suc i) all) x old → IsPlaced all (get_or all i d ∷ drop (suc i) all) x old
+  placed_after None t h = ap (λ b. cond b (get_or all i d).symbols.now (code_image (code_images (drop (suc i) all)) x)) t ∙ h
+  placed_after (Some k) t h = (h.0, h.1, ap (λ b. cond b (get_or all i d).symbols.now (code_image (code_images (drop (suc i) all)) x)) t ∙ h.2)
 
   pub placed_more : (old new : Option ℕ) → IsPlaced all (drop (suc i) all) x old → new ≡ cond (is_eq (nat_cmp (get_or all i d).variable x)) (Some i) old → IsPlaced all (drop i all) x new
   placed_more old new h e =
@@ -43,7 +43,7 @@ module _ (all : List Image) (i : ℕ) (d : Image) (inside : i < length all) (x :
       (⊎_elim
       (λ same. subst (IsPlaced all (image ∷ drop (suc i) all) x) (sym (e ∙ ap (λ b. cond b (Some i) old) (same_key image.variable x same)))
       (image, slice_get-get_or all i d inside, ap (λ b. cond b image.symbols.now (code_image (code_images (drop (suc i) all)) x)) (same_number image.variable x same)))
-      (λ ne. subst (IsPlaced all (image ∷ drop (suc i) all) x) (sym (e ∙ ap (λ b. cond b (Some i) old) (other_key image.variable x ne))) (behind old (other_number image.variable x ne) h))
+      (λ ne. subst (IsPlaced all (image ∷ drop (suc i) all) x) (sym (e ∙ ap (λ b. cond b (Some i) old) (other_key image.variable x ne))) (placed_after old (other_number image.variable x ne) h))
       (cases_eq image.variable x))
 
 -- the image at an index
@@ -67,17 +67,17 @@ prefix_none symbols image rest differ e =
     both_ways (bytes_eq (take (length image) symbols) image) differ
     ((bytes_eq-Decides (take (length image) symbols) image).1 (ap (take (length image)) e ∙ take-append_seam image rest))
 
-pub behind_some : (symbols image : List ℕ) (r : Option (Bor (List ℕ)))
+pub after_image_some : (symbols image : List ℕ) (r : Option (Bor (List ℕ)))
     → MatchOption r (bytes_eq (take (length image) symbols) image ≡ false) (λ x. (bytes_eq (take (length image) symbols) image ≡ true) × (x.now ≡ drop (length image) symbols) × (length x.now + length image ≡ length symbols))
     → IfSome r (λ rest. symbols ≡ image ++ rest.now)
-behind_some symbols image None h = tt
-behind_some symbols image (Some x) h = prefix_some symbols image x.now h.0 h.1
+after_image_some symbols image None h = tt
+after_image_some symbols image (Some x) h = prefix_some symbols image x.now h.0 h.1
 
-pub behind_none : (symbols image : List ℕ) (r : Option (Bor (List ℕ)))
+pub after_image_none : (symbols image : List ℕ) (r : Option (Bor (List ℕ)))
     → MatchOption r (bytes_eq (take (length image) symbols) image ≡ false) (λ x. (bytes_eq (take (length image) symbols) image ≡ true) × (x.now ≡ drop (length image) symbols) × (length x.now + length image ≡ length symbols))
     → IfNone r ((rest : List ℕ) → symbols ≡ image ++ rest → ⊥)
-behind_none symbols image None h = λ rest e. prefix_none symbols image rest h e
-behind_none symbols image (Some x) h = tt
+after_image_none symbols image None h = λ rest e. prefix_none symbols image rest h e
+after_image_none symbols image (Some x) h = tt
 
 -- where symbols are a list and others, they are the list if no others are there
 pub nothing_left : (applied whole rest : List ℕ) → whole ≡ applied ++ rest → (b : Bool) → b ≡ (length rest == 0) → (b ≡ true) ↔ (whole ≡ applied)

@@ -4,7 +4,7 @@ pub use Rattle.entries.specs.declared.assertion_view.Hypothesis.TheVariants.{Ess
 pub use Rattle.explain.specs.Breaks.{AreBroken, BeginsWith, Breaks, IsAllowed, IsEnd, IsFirst, IsLetterBreak, IsListing, IsNotLabel, IsOver, fails, joined, marks_in, place_in}
 pub use Rattle.explain.specs.CitationFaults.{AllFit, BeginsOther, IsFloat, IsMismatch, IsOther, IsOtherConstant, IsSaid, StartsOther, asks}
 pub use Rattle.explain.specs.DisjointViolations.{AreShared, IsViolation, IsViolationIn, IsViolationWith, is_kept, is_other_disjoint}
-pub use Rattle.explain.specs.Explained.{Gives, named_behind, of_assertion, of_hypothesis}
+pub use Rattle.explain.specs.Explained.{Gives, named_after, of_assertion, of_hypothesis}
 pub use Rattle.explain.specs.FirstFault.{Fails, FailsAt, FailsCited, IsFirstFault, RunsWell}
 pub use Rattle.explain.specs.ImagePlaces.{IsPlaced}
 pub use Rattle.explain.specs.LettersBefore.{IsReadTo, zeros}

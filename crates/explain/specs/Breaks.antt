@@ -17,7 +17,7 @@ fails mandatory test.Unfinished token = has_byte question_mark token
 fails mandatory test.NotLabel token = not (is_label token)
 fails mandatory test.NotListed token = not (is_label token) || has_name token mandatory
 
--- the first of the words that fails the test, its index, and those after it
+-- the first of the tokens that fails the test, its index, and those after it
 pub record IsFirst (test : Name → Bool) (words : List Name) (index : ℕ) (word : Name) (rest : List Name) : Type 0 where
   pub front : List Name
   pub whole : words ≡ front ++ word ∷ rest
@@ -50,29 +50,29 @@ BeginsWith P (letter ∷ letters) = P letter
 abbrev pub IsOther : ℕ → Type 0
 IsOther letter = IsFalse (is_first letter) × IsFalse (is_last letter) × (letter ≢ 90)
 
--- no letter of the word yet, or a word that begins so has a number up to the limit
+-- no letter of the letter group yet, or a group that begins so has a number up to the limit
 abbrev pub IsAllowed : ℕ → List ℕ → Type 0
 IsAllowed limit begun = (begun ≡ []) ⊎ ((word : Name) × (n : ℕ) × IsNumber (begun ++ word) n × (n ≤ limit))
 
--- a letter A to Y such that every word beginning with `begun` and this letter has a number greater than the limit
+-- a letter A to Y such that every letter group beginning with `begun` and this letter has a number greater than the limit
 abbrev pub IsOver : ℕ → List ℕ → ℕ → Type 0
 IsOver limit begun letter = IsTrue (is_first letter || is_last letter) × ((word : Name) (n : ℕ) → IsNumber (begun ++ letter ∷ word) n → limit < n)
 
--- after the items, with letters U to Y of a word that is begun, the rest breaks the rule
+-- after the items, with letters U to Y of a letter group that is begun, the rest breaks the rule
 abbrev pub Breaks : LetterFault → ℕ → List Item → List ℕ → List ℕ → Type 0
 Breaks NotLetter limit items begun rest = BeginsWith IsOther rest
 Breaks NotEnded limit items begun rest = (begun ≢ []) × IsEnd rest
 Breaks EarlyMark limit items begun rest = (items ≡ []) × (begun ≡ []) × BeginsWith (λ letter. letter ≡ 90) rest
 Breaks TooGreat limit items begun rest = BeginsWith (IsOver limit begun) rest
 
--- the place of the fault: the letter itself, or where the word begins
+-- the place of the fault: the letter itself, or where the letter group begins
 abbrev pub place_in : LetterFault → ℕ → ℕ → ℕ
 place_in NotLetter front begun = front + begun
 place_in NotEnded front begun = front
 place_in EarlyMark front begun = front
 place_in TooGreat front begun = front
 
--- the letters before a word write items, letters U to Y may begin the word, and the rest breaks a rule
+-- the letters before a letter group write items, letters U to Y may begin the group, and the rest breaks a rule
 pub record IsLetterBreak (labels : List Name) (letters : List ℕ) (broken : LetterBreak) : Type 0 where
   pub front : List ℕ
   pub items : List Item
@@ -87,7 +87,7 @@ pub record IsLetterBreak (labels : List Name) (letters : List ℕ) (broken : Let
 
 -- ---- tokens
 
--- this word, at this index, is the first of the tokens after `(` that is no label or is a mandatory one
+-- this token, at this index, is the first of those after `(` that is no label or is a mandatory one
 pub record IsListing (tokens mandatory : List Name) (index : ℕ) (word : Name) (rest : List Name) : Type 0 where
   pub words : List Name
   pub whole : tokens ≡ begin ∷ words

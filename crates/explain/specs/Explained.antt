@@ -11,8 +11,8 @@ pub data Gives (S : Database) (at i : ℕ) (s : Stmt) (stack below : List Expr) 
   of_assertion : (σ : Images) → IsInstance S at i s σ → stack ≡ below ++ premises S i s σ → e ≡ applied σ (expr_of s) → Gives S at i s stack below e
 
 -- the results, by name, after those that are kept for labels
-abbrev pub named_behind : Numbered → ℕ → HeldResults → State
-named_behind f labels results = named f.names (behind labels results.results)
+abbrev pub named_after : Numbered → ℕ → HeldResults → State
+named_after f labels results = named f.names (behind labels results.results)
 
 -- every result that a citation of the statement at i gives makes the proof too heavy
 abbrev pub CannotCite : Numbered → ℕ → ℕ → HeldResults → Type 0

@@ -10,7 +10,7 @@ zeros [] = 0
 zeros (zero ∷ numbers) = suc (zeros numbers)
 zeros (suc n ∷ numbers) = zeros numbers
 
--- before the letter at an index stand whole words and marks up to `begin`, and letters U to Y that come to `digits`
+-- before the letter at an index stand whole letter groups and marks up to `begin`, and letters U to Y that come to `digits`
 pub record IsReadTo (labels : ℕ) (letters : List ℕ) (index limit digits begin : ℕ) : Type 0 where
   pub numbers : List ℕ
   pub front : List ℕ

@@ -12,11 +12,11 @@ use crate::why::{LetterBreak, LetterFault};
 /// The state before a letter.
 #[derive(Clone, Copy, Drop)]
 pub(crate) struct Front {
-    /// The greatest number that a word may have here.
+    /// The greatest number that a letter group may have here.
     limit: usize,
-    /// The value of the letters U to Y of the word that is begun.
+    /// The value of the letters U to Y of the letter group that is begun.
     digits: usize,
-    /// The index at which that word begins, or the next one.
+    /// The index at which that letter group begins, or the next one.
     begin: usize,
 }
 
@@ -102,7 +102,7 @@ impl Front {
         }
     }
 
-    /// Returns the fault of the word that is begun.
+    /// Returns the fault of the letter group that is begun.
     fn broken(self, fault: LetterFault) -> LetterBreak
         ensures letter { result.letter ≡ self.begin }
         ensures fault { result.fault ≡ fault }

@@ -109,9 +109,9 @@ fn listed_break(
     }
 }
 
-/// Returns the first of the words with this fault, and its index. Consumes the words up to it.
+/// Returns the first of the tokens with this fault, and its index. Consumes the tokens up to it.
 ///
-/// Cost: the words; for `NotListed` times the logarithm of the number of mandatory labels if their names are given, else times
+/// Cost: the tokens; for `NotListed` times the logarithm of the number of mandatory labels if their names are given, else times
 /// that number.
 fn first_of<'a>(
     words: &mut WordIter<'a>,
@@ -146,7 +146,7 @@ fn fails(token: &[u8], mandatory: &Words, names: Option<&BTreeSet<&[u8]>>, test:
     }
 }
 
-/// Returns the letters of the words, joined.
+/// Returns the letters of the tokens, joined.
 fn join(alloc: Global, words: &mut WordIter<'_>) -> Result<Vec<u8>, AllocError>
     ensures { IfOk result (λ letters. letters.items ≡ joined words.old) }
 {

@@ -8,7 +8,7 @@ ghost use Rattle.frame.specs.AtPosition.{AreLegal};
 ghost use Rattle.explain.specs.Stored.Vectors.{AreSymbols, AreImages, CountIs, codes, named};
 ghost use Rattle.explain.specs.CitationFaults.{IsSaid, IsMismatch, FitsAll, AreReadOff};
 ghost use Rattle.scope.specs.Active.{before, stmt_at};
-ghost use Rattle.explain.specs.Explained.{CannotCite, named_behind};
+ghost use Rattle.explain.specs.Explained.{CannotCite, named_after};
 ghost use Rattle.explain.specs.FirstFault.{FailsAt};
 ghost use Rattle.explain.specs.WrongResults.{AreTaken, IsWrong};
 ghost use Rattle.subst.specs.declared.buffer.TheConstants.{SYMBOLS_LIMIT};
@@ -36,7 +36,7 @@ pub fn cite(
     requires results { AllBelow (length frames.now.names) results.now.results.stack }
     requires stuck { CannotCite frames.now at statement results.now }
     ensures { (labels : ℕ) (s : Statement) → stmt_at frames.now.statements statement ≡ Some s
-        → IfOk result (FailsAt frames.now.statements frames.now.names at (named_behind frames.now labels results.now) statement s) }
+        → IfOk result (FailsAt frames.now.statements frames.now.names at (named_after frames.now labels results.now) statement s) }
 {
     match frames.meaning(at, statement) {
         Meaning::Hypothesis(_) => Ok(Fault::Heavy),
@@ -62,7 +62,7 @@ fn cite_assertion(
     requires results { AllBelow (length frames.now.names) results.now.results.stack }
     requires stuck { CannotCite frames.now at a results.now }
     ensures { (labels : ℕ) (s : Statement) → stmt_at frames.now.statements a ≡ Some s
-        → IfOk result (FailsAt frames.now.statements frames.now.names at (named_behind frames.now labels results.now) a s) }
+        → IfOk result (FailsAt frames.now.statements frames.now.names at (named_after frames.now labels results.now) a s) }
 {
     let mut mandatory = Vec::new(alloc);
     frames.mandatory(a, &mut mandatory)?;
@@ -91,7 +91,7 @@ fn cite_parts(
     requires results { AllBelow (length frames.now.names) results.now.results.stack }
     requires stuck { CannotCite frames.now at a results.now }
     ensures { (labels : ℕ) (s : Statement) → stmt_at frames.now.statements a ≡ Some s
-        → IfOk result (FailsAt frames.now.statements frames.now.names at (named_behind frames.now labels results.now) a s) }
+        → IfOk result (FailsAt frames.now.statements frames.now.names at (named_after frames.now labels results.now) a s) }
 {
     let there = results.len();
     let takes = mandatory.len();

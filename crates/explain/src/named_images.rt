@@ -96,7 +96,7 @@ fn list_images<'a>(
     let mut images = Vec::new(alloc);
     for k in 0..kinds.len() {
         if let Hypothesis::Float(variable) = kinds.get(k) {
-            let symbols = behind_first(results[k]);
+            let symbols = without_first(results[k]);
             images.push(Image { variable, symbols })?;
         }
     }
@@ -104,7 +104,7 @@ fn list_images<'a>(
 }
 
 /// Returns the symbols after the first one.
-fn behind_first(expr: &[u32]) -> &[u32]
+fn without_first(expr: &[u32]) -> &[u32]
     ensures { result.now ≡ drop 1 expr.now }
 {
     if expr.is_empty() {
@@ -155,7 +155,7 @@ pub fn agrees(images: &Images<'_>, expr: &[u32], symbols: &[u32]) -> bool
 {
     let mut rest = symbols;
     for symbol in expr {
-        match behind_image(images, *symbol, rest) {
+        match after_image(images, *symbol, rest) {
             Some(next) => rest = next,
             None => return false,
         }
@@ -164,7 +164,7 @@ pub fn agrees(images: &Images<'_>, expr: &[u32], symbols: &[u32]) -> bool
 }
 
 /// Returns the symbols after the image of a symbol, if they begin with that image.
-fn behind_image<'a>(images: &Images<'_>, symbol: u32, symbols: &'a [u32]) -> Option<&'a [u32]>
+fn after_image<'a>(images: &Images<'_>, symbol: u32, symbols: &'a [u32]) -> Option<&'a [u32]>
     ensures some { IfSome result (λ rest. symbols.entry.now ≡ code_image (code_images images.now) symbol ++ rest.now) }
     ensures none { IfNone result ((rest : List ℕ) → symbols.entry.now ≡ code_image (code_images images.now) symbol ++ rest → ⊥) }
 {

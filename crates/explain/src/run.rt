@@ -3,7 +3,7 @@ ghost use Rattle.std.specs.Prelude.{◌≡◌, ◌-◌, ◌<◌, ◌≤◌, leng
 ghost use Rattle.mm_read.specs.declared.stmt.Stmt.{Stmt as Statement};
 ghost use Rattle.scope.specs.Active.{stmt_at};
 ghost use Rattle.proof_code.specs.declared.item.Item.{Item};
-ghost use Rattle.explain.specs.Explained.{named_behind};
+ghost use Rattle.explain.specs.Explained.{named_after};
 ghost use Rattle.explain.specs.FirstFault.{Fails, IsEnd, IsFirstFault};
 ghost use Rattle.explain.specs.declared.reason.Fault.TheVariants.{Heavy, Unmarked};
 ghost use Rattle.verify.specs.Right.{IsProvable, IsRight};
@@ -62,7 +62,7 @@ fn fault_at(
     requires place { (1 ≤ at) × (at ≤ length frames.now.statements) }
     requires item { item < length items.now }
     requires stopped { IsStopped frames.now.statements at frames.now.names items.now item labels results.now.results }
-    ensures { (what : Item) → slice_get items.now item ≡ Some what → IfOk result (Fails frames.now.statements frames.now.names at (named_behind frames.now labels results.now) what) }
+    ensures { (what : Item) → slice_get items.now item ≡ Some what → IfOk result (Fails frames.now.statements frames.now.names at (named_after frames.now labels results.now) what) }
 {
     let parts = items.parts();
     let number = parts.numbers[item] as usize;

@@ -35,7 +35,8 @@ pub struct LetterBreak {
     pub fault: LetterFault,
 }
 
-/// A fault of the letters at an index; all letters before it write items, or begin the word in which it stands.
+/// A fault of the letters at an index; all letters before it write items, or begin the letter group in
+/// which it stands.
 #[derive(Clone, Copy, Debug, Drop)]
 pub enum LetterFault {
     /// The byte is none of A to Z.
@@ -44,6 +45,6 @@ pub enum LetterFault {
     NotEnded,
     /// A mark stands before any number.
     EarlyMark,
-    /// The word that begins here has a number greater than the count of labels and marks so far.
+    /// The letter group that begins here has a number greater than the count of labels and marks so far.
     TooGreat,
 }

@@ -8,13 +8,13 @@ use Rattle.proof_pages.specs.Words.{Name, Database, stmt_at, name_at, label_or_n
 abbrev pub number_text : ℕ → List ℕ
 number_text place = decimal (place + 1)
 
-abbrev pub behind_comma : ℕ → List ℕ
-behind_comma place = codes "," ++ number_text place
+abbrev pub after_comma : ℕ → List ℕ
+after_comma place = codes "," ++ number_text place
 
 -- the numbers of the steps that are taken, or `-` if there are none
 abbrev pub taken_text : List ℕ → List ℕ
 taken_text [] = codes "-"
-taken_text (place ∷ places) = number_text place ++ flat_map behind_comma places
+taken_text (place ∷ places) = number_text place ++ flat_map after_comma places
 
 -- a symbol after a space
 abbrev pub symbol_text : List Name → ℕ → List ℕ

@@ -3,7 +3,7 @@ ghost use Rattle.std.specs.Prelude.{◌≡◌, ◌<◌, ◌++◌, codes, length,
 ghost use Rattle.scope.specs.Active.{stmt_at};
 ghost use Rattle.verify.specs.Proves.{label_or_none};
 ghost use Rattle.steps.specs.Rows.{no_row};
-ghost use Rattle.proof_pages.specs.StepLines.{number_text, behind_comma, taken_text, symbol_text, expr_text, step_line};
+ghost use Rattle.proof_pages.specs.StepLines.{number_text, after_comma, taken_text, symbol_text, expr_text, step_line};
 
 use frame::Frames;
 use numbers::push_number;
@@ -31,18 +31,18 @@ pub fn push_place(text: &mut Vec<u8>, place: usize) -> Result<(), AllocError>
     push_number(text, number)
 }
 
-fn push_behind_comma(text: &mut Vec<u8>, place: usize) -> Result<(), AllocError>
-    ensures { OnOk result (text.new.items ≡ text.old.items ++ behind_comma place) }
+fn push_after_comma(text: &mut Vec<u8>, place: usize) -> Result<(), AllocError>
+    ensures { OnOk result (text.new.items ≡ text.old.items ++ after_comma place) }
 {
     text.extend_from_slice(b",")?;
     push_place(text, place)
 }
 
 fn push_others(text: &mut Vec<u8>, places: &[usize]) -> Result<(), AllocError>
-    ensures { OnOk result (text.new.items ≡ text.old.items ++ flat_map behind_comma places.now) }
+    ensures { OnOk result (text.new.items ≡ text.old.items ++ flat_map after_comma places.now) }
 {
     for place in places {
-        push_behind_comma(text, *place)?;
+        push_after_comma(text, *place)?;
     }
     Ok(())
 }

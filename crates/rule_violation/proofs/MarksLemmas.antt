@@ -129,9 +129,9 @@ got_before (x ∷ X) ys zero h = refl
 got_before (x ∷ X) ys (suc n) h = got_before X ys n (omega (arith, h))
 
 -- the first element after a list, by the length of that list
-got_behind : (X rest : List Name) (w : Name) → slice_get (X ++ w ∷ rest) (length X) ≡ Some w
-got_behind [] rest w = refl
-got_behind (x ∷ X) rest w = got_behind X rest w
+got_after : (X rest : List Name) (w : Name) → slice_get (X ++ w ∷ rest) (length X) ≡ Some w
+got_after [] rest w = refl
+got_after (x ∷ X) rest w = got_after X rest w
 
 -- a name that is met again, at a place of those before it, stands twice
 pub again : (X rest words : List Name) (w : Name) (first second : ℕ) → X ++ (w ∷ rest) ≡ words → second ≡ length X → first < second → name_at X first ≡ w → IsTwice words first second
@@ -139,7 +139,7 @@ again X rest words w first second split count low is = (
   low,
   record {
     name = w;
-    stands = ap (λ n. slice_get words n) count ∙ (ap (λ ws. slice_get ws (length X)) (sym split) ∙ got_behind X rest w);
+    stands = ap (λ n. slice_get words n) count ∙ (ap (λ ws. slice_get ws (length X)) (sym split) ∙ got_after X rest w);
     is = ap (λ ws. slice_get ws first) (sym split) ∙ (got_before X (w ∷ rest) first (omega (arith, low, count)) ∙ ap Some is);
   },
 )

@@ -1,21 +1,21 @@
 -- Active statements, searched from the end back, and the places of names in a list.
-use Rattle.rule_violation.proofs.Words.{◌≡◌, ℕ, zero, suc, ◌+◌, ◌-◌, ◌<◌, ◌≤◌, Bool, true, false, not, ◌&&◌, ◌||◌, cond, List, [], ◌∷◌, length, drop, get_or, refl, sym, ◌∙◌, ap, arith, Some, slice_get, add-one, nat_le, Option, None, MatchOption, is_some, or-true, list_any, drop-cons, Stmt, Open, Close, Const, Var, Disj, Float, Ess, Axiom, Prove, Database, stays_open, active_from, ◌==◌, and_parts, slice_get_read, any_passes_from_place, stmt_at, closed_by, closed_behind, IsAt, IsActiveAt}
+use Rattle.rule_violation.proofs.Words.{◌≡◌, ℕ, zero, suc, ◌+◌, ◌-◌, ◌<◌, ◌≤◌, Bool, true, false, not, ◌&&◌, ◌||◌, cond, List, [], ◌∷◌, length, drop, get_or, refl, sym, ◌∙◌, ap, arith, Some, slice_get, add-one, nat_le, Option, None, MatchOption, is_some, or-true, list_any, drop-cons, Stmt, Open, Close, Const, Var, Disj, Float, Ess, Axiom, Prove, Database, stays_open, active_from, ◌==◌, and_parts, slice_get_read, any_passes_from_place, stmt_at, closed_by, closed_in, IsAt, IsActiveAt}
 
 -- no block of depth d is closed where no more than d are
-pub stays_open-closed : (d : ℕ) (S : Database) → stays_open d S ≡ nat_le (closed_behind S) d
+pub stays_open-closed : (d : ℕ) (S : Database) → stays_open d S ≡ nat_le (closed_in S) d
 stays_open-closed d [] = sym (zero_le d)
   where
     zero_le : (d : ℕ) → nat_le 0 d ≡ true
     zero_le d = grind arith
-stays_open-closed d (Open ∷ S) = stays_open-closed (suc d) S ∙ one_less (closed_behind S) d
+stays_open-closed d (Open ∷ S) = stays_open-closed (suc d) S ∙ one_less (closed_in S) d
   where
     one_less : (n d : ℕ) → nat_le n (suc d) ≡ nat_le (n - 1) d
     one_less n d = grind arith
-stays_open-closed zero (Close ∷ S) = sym (none (closed_behind S))
+stays_open-closed zero (Close ∷ S) = sym (none (closed_in S))
   where
     none : (n : ℕ) → nat_le (suc n) 0 ≡ false
     none n = grind arith
-stays_open-closed (suc d) (Close ∷ S) = stays_open-closed d S ∙ both (closed_behind S) d
+stays_open-closed (suc d) (Close ∷ S) = stays_open-closed d S ∙ both (closed_in S) d
   where
     both : (n d : ℕ) → nat_le n d ≡ nat_le (suc n) (suc d)
     both n d = grind arith
@@ -55,7 +55,7 @@ pub closed_few : (n i h k : ℕ) (s : Stmt) → h ≡ i + 1 → n + h ≤ k → 
 closed_few n i h k s e few = omega (arith, step n s, e, few)
 
 module _ (S : Database) (i h : ℕ) (s : Stmt) (closed : ℕ) (t : Stmt → Bool) (inside : i < length S) (here : s ≡ get_or S i s) (next : h ≡ i + 1)
-    (behind : closed ≡ closed_behind (drop h S)) where
+    (counts : closed ≡ closed_in (drop h S)) where
   -- the next place as the successor of this one
   after_is : suc i ≡ h
   after_is = omega (arith, next)
@@ -66,11 +66,11 @@ module _ (S : Database) (i h : ℕ) (s : Stmt) (closed : ℕ) (t : Stmt → Bool
 
   -- the statement is active where nothing after it closes its block
   stays : stays_open 0 (drop h S) ≡ (closed == 0)
-  stays = stays_open-closed 0 (drop h S) ∙ (zero_closed (closed_behind (drop h S)) ∙ ap (λ n. n == 0) (sym behind))
+  stays = stays_open-closed 0 (drop h S) ∙ (zero_closed (closed_in (drop h S)) ∙ ap (λ n. n == 0) (sym counts))
 
   -- the count of closed blocks with this statement
-  pub closed_on : closed_by s closed ≡ closed_behind (drop i S)
-  closed_on = ap (closed_by s) behind ∙ ap closed_behind (sym opened)
+  pub closed_on : closed_by s closed ≡ closed_in (drop i S)
+  closed_on = ap (closed_by s) counts ∙ ap closed_in (sym opened)
 
   -- a statement that has it, where no block is closed later, is active and has it
   pub found_active : (closed == 0 && t s) ≡ true → IsActiveAt S (i + 1) t
@@ -111,8 +111,8 @@ pub none_active : (t : (ℕ × Stmt) → Bool) (S : Database) → list_any t (ac
 none_active t S = ap (λ T. list_any t (active_from (length S + 1) T)) (all_gone S)
 
 -- nothing is closed at the end
-pub none_closed : (S : Database) → closed_behind (drop (length S) S) ≡ 0
-none_closed S = ap closed_behind (all_gone S)
+pub none_closed : (S : Database) → closed_in (drop (length S) S) ≡ 0
+none_closed S = ap closed_in (all_gone S)
 
 -- the first that is found
 pub found_at : (S : Database) (i : ℕ) (s : Stmt) (t : Stmt → Bool) → slice_get S i ≡ Some s → t s ≡ true → IsAt S (i + 1) t
@@ -137,8 +137,8 @@ rest_empty t (x ∷ xs) zero h = absurd (omega (arith, h))
 rest_empty t (x ∷ xs) (suc i) h = rest_empty t xs i (omega (arith, h))
 
 -- the rest of a list, and its first
-pub behind : {A : Type 0} (xs rest : List A) (i : ℕ) (x : A) → x ∷ rest ≡ drop i xs → rest ≡ drop (i + 1) xs
-behind xs rest i x e = go xs i e ∙ ap (λ k. drop k xs) (sym (add-one i))
+pub rest_after : {A : Type 0} (xs rest : List A) (i : ℕ) (x : A) → x ∷ rest ≡ drop i xs → rest ≡ drop (i + 1) xs
+rest_after xs rest i x e = go xs i e ∙ ap (λ k. drop k xs) (sym (add-one i))
   where
     go : (xs : List _) (i : ℕ) → x ∷ rest ≡ drop i xs → rest ≡ drop (suc i) xs
     go [] zero e = cc

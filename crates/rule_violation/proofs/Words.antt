@@ -8,7 +8,7 @@ pub use Rattle.names.proofs.AddedNames.{has_name-append}
 pub use Rattle.names.proofs.CodesLemmas.{code-name, first-named, has-at, name_eq-comm, rest-named, unknown-number}
 pub use Rattle.names.specs.Codes.{AreDistinct, AreNamed, code_of, name_at}
 pub use Rattle.rule_violation.specs.Marks.{is_wrong_unseen, marked}
-pub use Rattle.rule_violation.specs.Search.{IsActiveAt, IsAt, closed_behind, closed_by, fails, meets}
+pub use Rattle.rule_violation.specs.Search.{IsActiveAt, IsAt, closed_in, closed_by, fails, meets}
 pub use Rattle.rule_violation.specs.Violates.{Among, IsLabelOf, IsRepeated, IsSymbolOf, IsTwice, Violates, typed_expr}
 pub use Rattle.rule_violation.specs.declared.symbol_search.Test.{Test}
 pub use Rattle.rule_violation.specs.declared.violation.RuleViolation.{RuleViolation}

@@ -39,9 +39,10 @@ closed_by Open n = n - 1
 closed_by Close n = suc n
 closed_by s n = n
 
-abbrev pub closed_behind : Database → ℕ
-closed_behind [] = 0
-closed_behind (s ∷ S) = closed_by s (closed_behind S)
+-- how many blocks that were open before these statements they close
+abbrev pub closed_in : Database → ℕ
+closed_in [] = 0
+closed_in (s ∷ S) = closed_by s (closed_in S)
 
 -- the faults of a symbol after S
 abbrev pub fails : Database → Test → Name → Bool

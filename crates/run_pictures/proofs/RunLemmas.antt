@@ -1,5 +1,5 @@
 -- A run whose world takes a step.
-use Rattle.run_pictures.proofs.Words.{◌≡◌, ℕ, false, List, [], ◌∷◌, ◌++◌, Option, Some, None, Result, Ok, Err, IfOk, IfSome, IsSomeAnd, OnErr, length, filter, sym, ◌∙◌, ap, Event, StepFault, Taken, with_event, world_of, packets_after, Entry, Verdict, Carried, carried_size, Replicas, new_replicas, next_entry, IsApplied, Step, Begun, ended_of, Reached, begun_of, is_event, learned_in, node_in, step_of, steps_of, IsRecorded, packets_of}
+use Rattle.run_pictures.proofs.Words.{◌≡◌, ℕ, false, List, [], ◌∷◌, ◌++◌, Option, Some, None, Result, Ok, Err, IfOk, IfSome, IsSomeAnd, OnErr, length, filter, sym, ◌∙◌, ap, Event, StepFault, Taken, with_event, world_of, packets_after, Entry, Verdict, Carried, carried_size, Replicas, new_replicas, next_entry, IsApplied, Step, StepStart, ended_of, Reached, step_start_of, is_event, learned_in, node_in, step_of, steps_of, IsRecorded, packets_of}
 use Rattle.world.specs.Replicas.{then_event}
 use Rattle.run_pictures.proofs.StepsLemmas.{next_is, one_more, none_more}
 
@@ -11,23 +11,23 @@ new_recorded world weights is = record {
 }
 
 -- the step that an event makes, by its parts
-pub step_is : (old new : Replicas) (e : Event Carried) (begun : Begun) (posted learned : ℕ) (step : Step)
-    → step ≡ ended_of begun posted learned
-    → begun ≡ begun_of (length old.taken.events) (world_of carried_size old.taken) e
+pub step_is : (old new : Replicas) (e : Event Carried) (start : StepStart) (posted learned : ℕ) (step : Step)
+    → step ≡ ended_of start posted learned
+    → start ≡ step_start_of (length old.taken.events) (world_of carried_size old.taken) e
     → new ≡ then_event old e
     → posted ≡ length (packets_after (world_of carried_size new.taken))
-    → learned ≡ learned_in (world_of carried_size new.taken) begun.node
+    → learned ≡ learned_in (world_of carried_size new.taken) start.node
     → step ≡ step_of (length old.taken.events) (world_of carried_size old.taken) e (world_of carried_size (with_event old.taken e))
-step_is old new e begun posted learned step ended begins taken counted learns =
+step_is old new e start posted learned step ended begins taken counted learns =
     let same : new.taken ≡ with_event old.taken e = ap (λ (r : Replicas). r.taken) taken in
     let reached : world_of carried_size new.taken ≡ world_of carried_size (with_event old.taken e) = ap (λ (t : Taken Carried). world_of carried_size t) same in
     let count : posted ≡ length (packets_after (world_of carried_size (with_event old.taken e))) = counted ∙ ap (λ (r : Reached). length (packets_after r)) reached in
     let more : learned ≡ learned_in (world_of carried_size (with_event old.taken e)) (node_in (world_of carried_size old.taken) e) =
-    learns ∙ (ap (λ (r : Reached). learned_in r begun.node) reached
-    ∙ ap (λ (b : Begun). learned_in (world_of carried_size (with_event old.taken e)) b.node) begins) in
-    ended ∙ (ap (λ (b : Begun). ended_of b posted learned) begins
-    ∙ (ap (λ (n : ℕ). ended_of (begun_of (length old.taken.events) (world_of carried_size old.taken) e) n learned) count
-    ∙ ap (λ (n : ℕ). ended_of (begun_of (length old.taken.events) (world_of carried_size old.taken) e) (length (packets_after (world_of carried_size (with_event old.taken e)))) n) more))
+    learns ∙ (ap (λ (r : Reached). learned_in r start.node) reached
+    ∙ ap (λ (b : StepStart). learned_in (world_of carried_size (with_event old.taken e)) b.node) begins) in
+    ended ∙ (ap (λ (b : StepStart). ended_of b posted learned) begins
+    ∙ (ap (λ (n : ℕ). ended_of (step_start_of (length old.taken.events) (world_of carried_size old.taken) e) n learned) count
+    ∙ ap (λ (n : ℕ). ended_of (step_start_of (length old.taken.events) (world_of carried_size old.taken) e) (length (packets_after (world_of carried_size (with_event old.taken e)))) n) more))
 
 -- an event is taken, and its step recorded
 pub event_recorded : (old new : Replicas) (steps more : List Step) (posted count : ℕ) (e : Event Carried) (step : Step)

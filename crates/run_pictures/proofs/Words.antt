@@ -6,12 +6,12 @@ pub use Rattle.net.specs.World.{all_happen, packets_after}
 pub use Rattle.net.specs.declared.event.Event.{Event}
 pub use Rattle.net.specs.declared.event.Event.TheVariants.{Begin, Deliver, Offer, Restart}
 pub use Rattle.net.specs.declared.fault.StepFault.{StepFault}
-pub use Rattle.run_pictures.specs.Begun.{ended_of}
+pub use Rattle.run_pictures.specs.StepStart.{ended_of}
 pub use Rattle.run_pictures.specs.Marks.{Packets, stump, stumps, stumps_from}
 pub use Rattle.run_pictures.specs.RunView.{IsRecorded, packets_of}
-pub use Rattle.run_pictures.specs.Steps.{Reached, act_of, begun_of, is_event, is_event_act, learned_in, node_in, step_of, steps_from, steps_of, then_event}
+pub use Rattle.run_pictures.specs.Steps.{Reached, act_of, step_start_of, is_event, is_event_act, learned_in, node_in, step_of, steps_from, steps_of, then_event}
 pub use Rattle.run_pictures.specs.declared.mark.Mark.{Mark}
-pub use Rattle.run_pictures.specs.declared.step.Begun.{Begun}
+pub use Rattle.run_pictures.specs.declared.step.StepStart.{StepStart}
 pub use Rattle.run_pictures.specs.declared.step.Step.{Step}
 pub use Rattle.std.proofs.Common.{ap, append-nil, append_assoc, arith, sym, ◌++◌, ◌-◌, ◌∙◌}
 pub use Rattle.std.proofs.lemmas.List.Elements.{filter-append}

@@ -1,4 +1,4 @@
-pub mod Begun
+pub mod StepStart
 pub mod Steps
 pub mod Marks
 pub mod RunView

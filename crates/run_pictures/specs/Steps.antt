@@ -14,9 +14,9 @@ use Rattle.world.specs.declared.carried.Carried.{Carried}
 use Rattle.world.specs.Carried.{carried_size}
 use Rattle.run_pictures.specs.declared.step.Step.{Step}
 use Rattle.run_pictures.specs.declared.step.Act.{Act}
-use Rattle.run_pictures.specs.declared.step.Begun.{Begun}
+use Rattle.run_pictures.specs.declared.step.StepStart.{StepStart}
 use Rattle.run_pictures.specs.declared.step.Act.TheVariants.{Offer as Offering, Begin as Beginning, Deliver as Delivering, Restart as Restarting, Apply as Applying}
-use Rattle.run_pictures.specs.Begun.{ended_of}
+use Rattle.run_pictures.specs.StepStart.{ended_of}
 
 -- the world after some events, or the fault that they meet
 abbrev pub Reached : Type 0
@@ -54,8 +54,8 @@ act_of index (Deliver number) = Delivering number
 act_of index (Restart k) = Restarting
 
 -- the step of the event at an index, from one world to the next
-abbrev pub begun_of : ℕ → Reached → Event Carried → Begun
-begun_of index before e = record {
+abbrev pub step_start_of : ℕ → Reached → Event Carried → StepStart
+step_start_of index before e = record {
   node = node_in before e;
   act = act_of index e;
   first_post = length (packets_after before);
@@ -63,7 +63,7 @@ begun_of index before e = record {
 }
 
 abbrev pub step_of : ℕ → Reached → Event Carried → Reached → Step
-step_of index before e reached = ended_of (begun_of index before e) (length (packets_after reached)) (learned_in reached (node_in before e))
+step_of index before e reached = ended_of (step_start_of index before e) (length (packets_after reached)) (learned_in reached (node_in before e))
 
 abbrev pub steps_from : ℕ → Reached → List (Event Carried) → List Step
 steps_from index r [] = []

@@ -21,7 +21,7 @@ pub enum Mark {
     Point { at: Spot },
     /// The line of a node breaks, since it restarts.
     Break { at: Spot },
-    /// The log of a node has more entries: from slot `first` on, before slot `end`.
+    /// The log of a node gained the entries of slots `first..end`.
     Learned { at: Spot, first: u32, end: u32 },
     /// A packet is delivered.
     Arrow { packet: u64, from: Origin, to: Spot },

@@ -7,9 +7,9 @@ use crate::step::Step;
 /// A part of a run: some of its steps, events and applications counted together from 0.
 #[derive(Clone, Copy, Debug, PartialEq, Eq)]
 pub struct Part {
-    /// The index of the first step.
+    /// The index of the first step of the part, from 0.
     pub from: usize,
-    /// The largest number of steps.
+    /// How many steps the part has; fewer if the run ends before.
     pub count: usize,
 }
 

@@ -6,12 +6,12 @@ ghost use Rattle.net.specs.declared.fault.StepFault.TheVariants.{Memory};
 ghost use Rattle.world.specs.Carried.{carried as carried_event, carried_size};
 ghost use Rattle.world.specs.Replicas.{new_replicas};
 ghost use Rattle.timelines.specs.declared.grid.TheConstants.{MOST_ROWS};
-ghost use Rattle.run_pictures.specs.Steps.{act_of, begun_of, is_event, learned_in, node_in, receiver_of, steps_of};
+ghost use Rattle.run_pictures.specs.Steps.{act_of, step_start_of, is_event, learned_in, node_in, receiver_of, steps_of};
 
 use crate::mark::Mark;
 use crate::marks::marks_of;
 use crate::part::{Part, shown};
-use crate::step::{Act, Begun, Step};
+use crate::step::{Act, Step, StepStart};
 use library::{Entry, Verdict};
 use net::{Event, StepFault};
 use std::alloc::{AllocError, Global};
@@ -71,11 +71,11 @@ impl Run {
         ensures same { OnErr result (self.new ≡ self.old) }
     {
         self.steps.reserve(1)?;
-        let begun = begun(&self.world, self.posted, &event)?;
+        let start = step_start(&self.world, self.posted, &event)?;
         let posted = self.world.step(event)?;
-        let learned = learned_at(&self.world, begun.node);
+        let learned = learned_at(&self.world, start.node);
         self.posted = posted;
-        self.steps.push_reserved(begun.ended(posted, learned));
+        self.steps.push_reserved(start.ended(posted, learned));
         Ok(())
     }
 
@@ -128,15 +128,15 @@ impl Run {
 /// Returns what is known of the step of an event before the event.
 ///
 /// Errors: `NoNode`, where there is no such node.
-fn begun(world: &World, posted: u64, event: &Event<Entry>) -> Result<Begun, StepFault>
+fn step_start(world: &World, posted: u64, event: &Event<Entry>) -> Result<StepStart, StepFault>
     requires { posted ≡ length (packets_after (world_of carried_size world.now.taken)) }
-    ensures begun { IfOk result (λ begun. begun
-        ≡ begun_of (length world.now.taken.events) (world_of carried_size world.now.taken) (carried_event event.now)) }
-    ensures node { IfOk result (λ begun. begun.node < length world.now.taken.weights) }
+    ensures start { IfOk result (λ start. start
+        ≡ step_start_of (length world.now.taken.events) (world_of carried_size world.now.taken) (carried_event event.now)) }
+    ensures node { IfOk result (λ start. start.node < length world.now.taken.weights) }
 {
     let node = node_of(world, event);
     let learned_before = world.state(node)?.learned;
-    Ok(Begun {
+    Ok(StepStart {
         node,
         act: act(event, world.history().len() as u64),
         first_post: posted,

@@ -1,6 +1,6 @@
 //! The steps of a run.
 ghost use Rattle.std.specs.Prelude.{◌≡◌};
-ghost use Rattle.run_pictures.specs.Begun.{ended_of};
+ghost use Rattle.run_pictures.specs.StepStart.{ended_of};
 
 use library::Verdict;
 
@@ -14,9 +14,9 @@ pub struct Step {
     pub first_post: u64,
     /// The number after that of the last packet that it posted; 0 for an application.
     pub end_post: u64,
-    /// How many entries the log of the node had before it.
+    /// How many entries the log of the node had before the step.
     pub learned_before: u32,
-    /// How many entries the log of the node has after it.
+    /// How many entries the log of the node has after the step.
     pub learned: u32,
 }
 
@@ -35,16 +35,16 @@ pub enum Act {
     Apply { slot: u32, verdict: Verdict },
 }
 
-/// A step as it is known before its event.
+/// What is known of a step before its event.
 #[derive(Clone, Copy)]
-pub(crate) struct Begun {
+pub(crate) struct StepStart {
     pub(crate) node: u8,
     pub(crate) act: Act,
     pub(crate) first_post: u64,
     pub(crate) learned_before: u32,
 }
 
-impl Begun {
+impl StepStart {
     /// Returns the step, by what is known after the event.
     pub(crate) fn ended(self, end_post: u64, learned: u32) -> Step
         ensures { result ≡ ended_of self end_post learned }

@@ -1,5 +1,5 @@
 -- The steps of items last_unfolded to the derivation that the items spell.
-use Rattle.steps.proofs.Words.{◌≡◌, ℕ, zero, suc, ◌+◌, ◌-◌, ◌<◌, Bool, true, false, if◌then◌else◌, List, [], ◌∷◌, ◌++◌, length, map, slice_get, Some, refl, sym, ◌∙◌, ap, subst, arith, length-append, length-map, map_push, map-append, map-at, Name, Stmt, Database, stmt_at, is_assertion, AreBelow, IsHypothesis, HasLabelsOnce, Item, Cite, Recall, Mark, Derivation, hyp, apply, from_list, Trees, trees, a_hypothesis, an_assertion, Grows, GrowsBy, pick, IsRight, Derives, not_both, leaves, map-pick, trees-same, get-front, Step, Progress, progress, IsPlaced, stands, comes_last, Makes, of_hypothesis, of_assertion, RecordsItem, RecordsItems, AreSteps, has_assertion, citation_over, unfolded_behind, unfolded, last_unfolded}
+use Rattle.steps.proofs.Words.{◌≡◌, ℕ, zero, suc, ◌+◌, ◌-◌, ◌<◌, Bool, true, false, if◌then◌else◌, List, [], ◌∷◌, ◌++◌, length, map, slice_get, Some, refl, sym, ◌∙◌, ap, subst, arith, length-append, length-map, map_push, map-append, map-at, Name, Stmt, Database, stmt_at, is_assertion, AreBelow, IsHypothesis, HasLabelsOnce, Item, Cite, Recall, Mark, Derivation, hyp, apply, from_list, Trees, trees, a_hypothesis, an_assertion, Grows, GrowsBy, pick, IsRight, Derives, not_both, leaves, map-pick, trees-same, get-front, Step, Progress, progress, IsPlaced, stands, comes_last, Makes, of_hypothesis, of_assertion, RecordsItem, RecordsItems, AreSteps, has_assertion, citation_over, unfolded_after, unfolded, last_unfolded}
 use Rattle.frame.proofs.PositionLemmas.{get-last}
 use Rattle.steps.proofs.SoundLemmas.{IsSound, record_item-sound, nothing-sound, below-split}
 
@@ -9,55 +9,55 @@ module _ (S : Database) where
   citation-same : (ts us : List Derivation) (step : Step) → map (pick ts) step.taken ≡ map (pick us) step.taken → citation_over S ts step ≡ citation_over S us step
   citation-same ts us step e = ap (λ ks. if has_assertion (stmt_at S step.position) then apply step.position (from_list ks) else hyp step.position) e
 
-  behind-snoc : (ts : List Derivation) (steps : List Step) (step : Step) → unfolded_behind S ts (steps ++ step ∷ []) ≡ unfolded_behind S ts steps ++ citation_over S (unfolded_behind S ts steps) step ∷ []
-  behind-snoc ts [] step = refl
-  behind-snoc ts (s ∷ steps) step = behind-snoc (ts ++ citation_over S ts s ∷ []) steps step
+  after-snoc : (ts : List Derivation) (steps : List Step) (step : Step) → unfolded_after S ts (steps ++ step ∷ []) ≡ unfolded_after S ts steps ++ citation_over S (unfolded_after S ts steps) step ∷ []
+  after-snoc ts [] step = refl
+  after-snoc ts (s ∷ steps) step = after-snoc (ts ++ citation_over S ts s ∷ []) steps step
 
-  behind-length : (ts : List Derivation) (steps : List Step) → length (unfolded_behind S ts steps) ≡ length ts + length steps
-  behind-length ts [] = omega arith
-  behind-length ts (s ∷ steps) =
-      let r = behind-length (ts ++ citation_over S ts s ∷ []) steps in
+  after-length : (ts : List Derivation) (steps : List Step) → length (unfolded_after S ts steps) ≡ length ts + length steps
+  after-length ts [] = omega arith
+  after-length ts (s ∷ steps) =
+      let r = after-length (ts ++ citation_over S ts s ∷ []) steps in
       let l = length-append ts (citation_over S ts s ∷ []) in
       omega (arith, r, l)
 
   unfolded-length : (steps : List Step) → length (unfolded S steps) ≡ length steps
-  unfolded-length steps = let r = behind-length [] steps in omega (arith, r)
+  unfolded-length steps = let r = after-length [] steps in omega (arith, r)
 
   -- the derivations that stood already
-  front-kept : (ts : List Derivation) (steps : List Step) (k : ℕ) → k < length ts → pick (unfolded_behind S ts steps) k ≡ pick ts k
+  front-kept : (ts : List Derivation) (steps : List Step) (k : ℕ) → k < length ts → pick (unfolded_after S ts steps) k ≡ pick ts k
   front-kept ts [] k l = refl
   front-kept ts (s ∷ steps) k l =
       let m = length-append ts (citation_over S ts s ∷ []) in
       front-kept (ts ++ citation_over S ts s ∷ []) steps k (omega (arith, l, m)) ∙ get-front ts (citation_over S ts s ∷ []) k (hyp 0) l
 
-  fronts-kept : (ts : List Derivation) (steps : List Step) (ks : List ℕ) → AreBelow (length ts) ks → map (pick (unfolded_behind S ts steps)) ks ≡ map (pick ts) ks
+  fronts-kept : (ts : List Derivation) (steps : List Step) (ks : List ℕ) → AreBelow (length ts) ks → map (pick (unfolded_after S ts steps)) ks ≡ map (pick ts) ks
   fronts-kept ts steps [] b = refl
-  fronts-kept ts steps (k ∷ ks) b = ap (λ t. t ∷ map (pick (unfolded_behind S ts steps)) ks) (front-kept ts steps k b.0) ∙ ap (λ r. pick ts k ∷ r) (fronts-kept ts steps ks b.1)
+  fronts-kept ts steps (k ∷ ks) b = ap (λ t. t ∷ map (pick (unfolded_after S ts steps)) ks) (front-kept ts steps k b.0) ∙ ap (λ r. pick ts k ∷ r) (fronts-kept ts steps ks b.1)
 
   -- the derivation of a step
-  behind-at : (ts : List Derivation) (steps : List Step) (n : ℕ) (step : Step) → slice_get steps n ≡ Some step → AreBelow (length ts + n) step.taken
-      → pick (unfolded_behind S ts steps) (length ts + n) ≡ citation_over S (unfolded_behind S ts steps) step
-  behind-at ts [] n step h b = cc
-  behind-at ts (s ∷ steps) zero step h b =
+  after-at : (ts : List Derivation) (steps : List Step) (n : ℕ) (step : Step) → slice_get steps n ≡ Some step → AreBelow (length ts + n) step.taken
+      → pick (unfolded_after S ts steps) (length ts + n) ≡ citation_over S (unfolded_after S ts steps) step
+  after-at ts [] n step h b = cc
+  after-at ts (s ∷ steps) zero step h b =
       let same : s ≡ step = cc in
       let t = citation_over S ts s in
       let e : length ts + 0 ≡ length ts = omega arith in
       let m = length-append ts (t ∷ []) in
       let low : AreBelow (length ts) step.taken = subst (λ k. AreBelow k step.taken) e b in
-      ap (pick (unfolded_behind S (ts ++ t ∷ []) steps)) e
+      ap (pick (unfolded_after S (ts ++ t ∷ []) steps)) e
       ∙ (front-kept (ts ++ t ∷ []) steps (length ts) (omega (arith, m))
       ∙ (get-last ts t (length ts) (hyp 0) refl
       ∙ (ap (citation_over S ts) same
-      ∙ citation-same ts (unfolded_behind S ts (s ∷ steps)) step (sym (fronts-kept ts (s ∷ steps) step.taken low)))))
-  behind-at ts (s ∷ steps) (suc n) step h b =
+      ∙ citation-same ts (unfolded_after S ts (s ∷ steps)) step (sym (fronts-kept ts (s ∷ steps) step.taken low)))))
+  after-at ts (s ∷ steps) (suc n) step h b =
       let t = citation_over S ts s in
       let m = length-append ts (t ∷ []) in
       let e : length (ts ++ t ∷ []) + n ≡ length ts + suc n = omega (arith, m) in
-      ap (pick (unfolded_behind S (ts ++ t ∷ []) steps)) (sym e)
-      ∙ behind-at (ts ++ t ∷ []) steps n step h (subst (λ k. AreBelow k step.taken) (sym e) b)
+      ap (pick (unfolded_after S (ts ++ t ∷ []) steps)) (sym e)
+      ∙ after-at (ts ++ t ∷ []) steps n step h (subst (λ k. AreBelow k step.taken) (sym e) b)
 
   unfolded-at : (steps : List Step) (n : ℕ) (step : Step) → slice_get steps n ≡ Some step → AreBelow n step.taken → pick (unfolded S steps) n ≡ citation_over S (unfolded S steps) step
-  unfolded-at steps n step h b = let e : 0 + n ≡ n = omega arith in ap (pick (unfolded S steps)) (sym e) ∙ behind-at [] steps n step h (subst (λ k. AreBelow k step.taken) (sym e) b)
+  unfolded-at steps n step h b = let e : 0 + n ≡ n = omega arith in ap (pick (unfolded S steps)) (sym e) ∙ after-at [] steps n step h (subst (λ k. AreBelow k step.taken) (sym e) b)
 
   -- ---- the machine over derivations does the items that are recorded
 
@@ -77,7 +77,7 @@ module _ (S : Database) where
       let us = unfolded S p.steps in
       let t = citation_over S us step in
       let len : length us ≡ length p.steps = unfolded-length p.steps in
-      let grown : unfolded S q.steps ≡ us ++ t ∷ [] = ap (unfolded S) more ∙ behind-snoc [] p.steps step in
+      let grown : unfolded S q.steps ≡ us ++ t ∷ [] = ap (unfolded S) more ∙ after-snoc [] p.steps step in
       ap (λ vs. trees (map (pick vs) q.stack) (map (pick vs) q.saved)) grown
       ∙ trees-same _ _ _ _
       (ap (map (pick (us ++ t ∷ []))) stack

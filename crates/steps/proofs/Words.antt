@@ -51,7 +51,7 @@ pub use Rattle.steps.specs.StepTable.{AreSteps, IsPlaced, Makes, Progress, Recor
 pub use Rattle.steps.specs.Stored.Drafted.{AreInBuffer, AreKnown, CanDo, Finds, GivesAssertion, GivesHypothesis, IsDone, IsDraft, IsTied, codes_in, key_of, place_in, place_of, progress_of, row_of, rows_of}
 pub use Rattle.steps.specs.Stored.LongLists.{AreKept, AreListsOf, AreMadeOf, HasPartsOf, IsAt, Listed, with_groups}
 pub use Rattle.steps.specs.Stored.Marked.{AreMarkedFrom, AreMarks, AreNumbers, HasMark, MarksMore, kept_row, mark_each, mark_last, marked_before, number_of, taken_by}
-pub use Rattle.steps.specs.Unfolded.{citation_over, has_assertion, last_unfolded, unfolded, unfolded_behind}
+pub use Rattle.steps.specs.Unfolded.{citation_over, has_assertion, last_unfolded, unfolded, unfolded_after}
 pub use Rattle.steps.specs.declared.table_draft.PlacedStep.{PlacedStep}
 pub use Rattle.steps.specs.declared.table_draft.TableDraft.{TableDraft}
 pub use Rattle.subst.proofs.GroupLemmas.{below-drop}

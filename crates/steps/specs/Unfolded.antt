@@ -14,12 +14,12 @@ abbrev pub citation_over : Database → List Derivation → Step → Derivation
 citation_over S ts step = if has_assertion (stmt_at S step.position) then apply step.position (from_list (map (pick ts) step.taken)) else hyp step.position
 
 -- the derivations of these steps, appended to those of the earlier steps
-abbrev pub unfolded_behind : Database → List Derivation → List Step → List Derivation
-unfolded_behind S ts [] = ts
-unfolded_behind S ts (step ∷ steps) = unfolded_behind S (ts ++ citation_over S ts step ∷ []) steps
+abbrev pub unfolded_after : Database → List Derivation → List Step → List Derivation
+unfolded_after S ts [] = ts
+unfolded_after S ts (step ∷ steps) = unfolded_after S (ts ++ citation_over S ts step ∷ []) steps
 
 abbrev pub unfolded : Database → List Step → List Derivation
-unfolded S steps = unfolded_behind S [] steps
+unfolded S steps = unfolded_after S [] steps
 
 -- the derivation of the last step
 abbrev pub last_unfolded : Database → List Step → Derivation

@@ -82,14 +82,14 @@ fn items_of(alloc: Global, tokens: &[u8]) -> Result<Items, CodeFault> {
     };
     match read(alloc, text.as_slice()) {
         Ok(statements) => match statements.as_slice() {
-            [Stmt::Const(labels), Stmt::Prove { proof, .. }] => items_behind(alloc, labels, proof),
+            [Stmt::Const(labels), Stmt::Prove { proof, .. }] => items_after(alloc, labels, proof),
             _ => Err(CodeFault::Memory),
         },
         Err(_) => Err(CodeFault::Memory),
     }
 }
 
-fn items_behind(alloc: Global, mandatory: &Words, tokens: &Words) -> Result<Items, CodeFault> {
+fn items_after(alloc: Global, mandatory: &Words, tokens: &Words) -> Result<Items, CodeFault> {
     if is_compressed(tokens) {
         packed(alloc, tokens, mandatory)
     } else {

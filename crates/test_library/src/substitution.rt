@@ -64,6 +64,6 @@ fn is_added(alloc: Global, subst: &Subst, expr: &[u32], want: &[u32]) -> Result<
         return Ok(false);
     }
     let _second = apply_into(subst, expr, &mut buffer)?;
-    let behind = buffer.as_slice().strip_prefix(want);
-    Ok(behind == Some(want))
+    let rest = buffer.as_slice().strip_prefix(want);
+    Ok(rest == Some(want))
 }

@@ -37,7 +37,7 @@ const ROWS: [(&[u8], usize, &[usize], &[u8], &[u8]); 5] = [
 #[test]
 fn assertions_have_their_frames(rt: HostRuntime) {
     for (text, count, hypotheses, group, conclusion) in ROWS {
-        let frame = frame_behind(rt.alloc(), text, count);
+        let frame = frame_after(rt.alloc(), text, count);
         assert!(rt;
             is_frame(frame, hypotheses, group, conclusion),
             "{conclusion:?}"
@@ -46,7 +46,7 @@ fn assertions_have_their_frames(rt: HostRuntime) {
 }
 
 /// Returns the frame of the assertion after so many statements.
-fn frame_behind(alloc: Global, text: &[u8], count: usize) -> Option<Frame> {
+fn frame_after(alloc: Global, text: &[u8], count: usize) -> Option<Frame> {
     match read(alloc, text) {
         Ok(statements) => frame_at(alloc, statements.as_slice(), count),
         Err(_) => None,

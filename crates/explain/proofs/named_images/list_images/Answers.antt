@@ -14,14 +14,14 @@ loop-k-preserved c =
     let here = got c.args.results.now c.loop-k.k nothing inside in
     elim c.match-get.branch [
       | in-Float+in_ok-push w ↦
-          let e = w.behind_first-symbols.ensures in
+          let e = w.without_first-symbols.ensures in
           record {
             below = λ n symbols. subst (λ v. AreImages n v.items) (sym w.images-is)
-                (images-push n c.loop-k.images.items w.push.new.self.items (record { variable = w.in-Float.variable; symbols = w.behind_first-symbols.result }) w.in_ok-push.ensures.items
+                (images-push n c.loop-k.images.items w.push.new.self.items (record { variable = w.in-Float.variable; symbols = w.without_first-symbols.result }) w.in_ok-push.ensures.items
                 (c.loop-k.invariant.below n symbols)
                 (subst (λ xs. AreBelow n xs) (sym e) (below-drop n 1 r.now (symbols-at n c.args.results.now c.loop-k.k r symbols inside here))));
             read = read_more c.args.kinds.now c.args.results.now c.loop-k.k w.in-Float.variable c.loop-k.images.items c.match-get.images.items
-                (record { variable = w.in-Float.variable; symbols = w.behind_first-symbols.result }) (codes_read c.args.kinds.now (codes c.args.results.now))
+                (record { variable = w.in-Float.variable; symbols = w.without_first-symbols.result }) (codes_read c.args.kinds.now (codes c.args.results.now))
                 within inside (kind ∙ w.in-Float.is) r here refl e
                 (ap (λ v. v.items) w.images-is ∙ w.in_ok-push.ensures.items) c.loop-k.invariant.read;
           }
