@@ -5,7 +5,6 @@ ghost use Rattle.extract.specs.Wanted.{AreRight, IsFirstWrong};
 ghost use Rattle.extract.specs.Extract.{AreExtract, IsExtract};
 
 use crate::choice::choose;
-use crate::cited::is_marked;
 use crate::fault::ExtractFault;
 use crate::wanted::first_wrong;
 use bytes::Bytes;
@@ -61,26 +60,13 @@ fn taken_by(
 /// Returns the text of the chosen statements.
 fn chosen(alloc: Global, library: &Library, labels: &[&str]) -> Result<Vec<u8>, AllocError> {
     let marks = choose(alloc, library, labels)?;
-    let text = marked_text(alloc, library, marks.as_slice());
-    drop(marks);
-    text
-}
-
-/// Returns the text of the statements that are marked.
-fn marked_text(alloc: Global, library: &Library, marks: &[bool]) -> Result<Vec<u8>, AllocError> {
     let mut text = Vec::new(alloc);
-    push_marked(&mut text, library, marks)?;
-    Ok(text)
-}
-
-/// Appends the statements that are marked.
-fn push_marked(text: &mut Vec<u8>, library: &Library, marks: &[bool]) -> Result<(), AllocError> {
-    for (index, statement) in library.statements().iter().enumerate() {
-        if is_marked(marks, index + 1) {
-            push_line(text, statement)?;
+    for (statement, marked) in library.statements().iter().zip(marks.iter()) {
+        if *marked {
+            push_line(&mut text, statement)?;
         }
     }
-    Ok(())
+    Ok(text)
 }
 
 /// Adds the statements of a text to a library, if they are good there.
