@@ -1,5 +1,5 @@
 -- A script of the lines of events.
-use Rattle.event_lines.proofs.Words.{◌≡◌, ℕ, ◌+◌, ◌^◌, ◌<◌, ◌==◌, Bool, true, false, List, [], ◌∷◌, ◌++◌, codes, count_by, decimal, map, flat_map, Some, Result, Ok, refl, AllByRecursion, list_any, sym, ◌∙◌, ap, arith, length, take, drop, get_or, append_assoc, append-nil, length-append, subst, take_at, drop_at, get_or_at, Entry, Text, Charter, AreNames, Submission, Event, Offer, Begin, Deliver, Restart, Carried, PlayLine, Node, split_at, followed, script_from, script_of, with_line, play_line_of, bytes_before, text_passed, bytes_found, bytes_rest, Fits, FitsEntry, FitsText, event_text, events_text, entry_text, offer_text, line_of, led, place_words}
+use Rattle.event_lines.proofs.Words.{◌≡◌, ℕ, ◌+◌, ◌^◌, ◌<◌, ◌==◌, Bool, true, false, List, [], ◌∷◌, ◌++◌, codes, count_by, decimal, map, flat_map, Some, Result, Ok, refl, AllByRecursion, list_any, sym, ◌∙◌, ap, arith, length, take, drop, get_or, append_assoc, append-nil, length-append, subst, take_at, drop_at, get_or_at, Entry, Text, Charter, AreNames, Submission, Event, Offer, Begin, Deliver, Restart, Carried, PlayLine, Node, split_at, followed, script_from, script_of, with_line, play_line_of, bytes_before, text_passed, bytes_found, bytes_rest, Fits, FitsEntry, FitsText, event_text, events_text, entry_text, offer_text, line_of, led, entry_words}
 use Rattle.commands.specs.declared.node_line.NodeLine.TheVariants.{Offer as OfferLine}
 use Rattle.event_lines.proofs.DecimalLemmas.{without-decimal}
 use Rattle.event_lines.proofs.WordsLemmas.{Without, without-append, without-led, split_before}
@@ -87,51 +87,51 @@ led-append [] ys = refl
 led-append (x ∷ xs) ys = ap (λ l. (codes " " ++ x) ++ l) (led-append xs ys) ∙ sym (append_assoc (codes " " ++ x) (led xs) (led ys))
 
 module _ (k a s : ℕ) (node : k < 256) (author : a < 2 ^ 64) (serial : s < 2 ^ 64) where
-  place_free : (c : ℕ) → c < 48 → (words : List (List ℕ)) → AllByRecursion (Without c) words → AllByRecursion (Without c) (place_words k a s ++ words)
+  place_free : (c : ℕ) → c < 48 → (words : List (List ℕ)) → AllByRecursion (Without c) words → AllByRecursion (Without c) (entry_words k a s ++ words)
   place_free c low words others = (free_of c k low (wide k node), (free_of c a low author, (free_of c s low serial, others)))
 
   -- an offer of a text without line feeds
   read_offer : (text : List ℕ) → Without 10 text
-      → IsRead (codes "offer" ++ led (place_words k a s) ++ codes " " ++ text ++ codes "\n")
+      → IsRead (codes "offer" ++ led (entry_words k a s) ++ codes " " ++ text ++ codes "\n")
       (Node (OfferLine (record { node = k; entry = Text (record { author = a; serial = s; text = text }) })))
   read_offer text none =
-      let place : List ℕ = led (place_words k a s) in
+      let place : List ℕ = led (entry_words k a s) in
       let line : List ℕ = codes "offer" ++ (place ++ codes " " ++ text) in
       let form : line ≡ codes "offer" ++ place ++ codes " " ++ text
       = sym (append_assoc (codes "offer" ++ place) (codes " ") text ∙ (append_assoc (codes "offer") place (codes " " ++ text) ∙ ap (λ l. codes "offer" ++ l) (sym (append_assoc place (codes " ") text)))) in
       let free : Without 10 line = without-append 10 (codes "offer") (place ++ codes " " ++ text) refl
-      (without-append 10 (place ++ codes " ") text (without-append 10 place (codes " ") (without-led 10 (place_words k a s) refl (place_free 10 (omega arith) [] tt)) refl) none) in
+      (without-append 10 (place ++ codes " ") text (without-append 10 place (codes " ") (without-led 10 (entry_words k a s) refl (place_free 10 (omega arith) [] tt)) refl) none) in
       let P : List ℕ → Type 0 = λ l. IsRead (l ++ codes "\n") (Node (OfferLine (record { node = k; entry = Text (record { author = a; serial = s; text = text }) }))) in
       subst P form (read_alone line free (longer (codes "offer") (place ++ codes " " ++ text) (omega arith)) _ (λ lines. offer_says k a s lines node author serial text (place_free 32 (omega arith) [] tt)))
 
   -- an offer of the bytes of a text
   read_bytes_offer : (text : List ℕ) → length text < 2 ^ 64
-      → IsRead (codes "offer-bytes" ++ led (place_words k a s) ++ led (decimal (length text) ∷ []) ++ codes "\n" ++ text ++ codes "\n")
+      → IsRead (codes "offer-bytes" ++ led (entry_words k a s) ++ led (decimal (length text) ∷ []) ++ codes "\n" ++ text ++ codes "\n")
       (Node (OfferLine (record { node = k; entry = Text (record { author = a; serial = s; text = text }) })))
   read_bytes_offer text small =
       let n : List (List ℕ) = decimal (length text) ∷ [] in
-      let line : List ℕ = codes "offer-bytes" ++ led (place_words k a s ++ n) in
-      let form : line ≡ codes "offer-bytes" ++ led (place_words k a s) ++ led n
-      = ap (λ l. codes "offer-bytes" ++ l) (led-append (place_words k a s) n) ∙ sym (append_assoc (codes "offer-bytes") (led (place_words k a s)) (led n)) in
-      let free : Without 10 line = without-append 10 (codes "offer-bytes") (led (place_words k a s ++ n)) refl
-      (without-led 10 (place_words k a s ++ n) refl (place_free 10 (omega arith) n (free_of 10 (length text) (omega arith) small, tt))) in
+      let line : List ℕ = codes "offer-bytes" ++ led (entry_words k a s ++ n) in
+      let form : line ≡ codes "offer-bytes" ++ led (entry_words k a s) ++ led n
+      = ap (λ l. codes "offer-bytes" ++ l) (led-append (entry_words k a s) n) ∙ sym (append_assoc (codes "offer-bytes") (led (entry_words k a s)) (led n)) in
+      let free : Without 10 line = without-append 10 (codes "offer-bytes") (led (entry_words k a s ++ n)) refl
+      (without-led 10 (entry_words k a s ++ n) refl (place_free 10 (omega arith) n (free_of 10 (length text) (omega arith) small, tt))) in
       let P : List ℕ → Type 0 = λ l. IsRead (l ++ codes "\n" ++ text ++ codes "\n") (Node (OfferLine (record { node = k; entry = Text (record { author = a; serial = s; text = text }) }))) in
-      subst P form (read_bytes line free (longer (codes "offer-bytes") (led (place_words k a s ++ n)) (omega arith)) text _
+      subst P form (read_bytes line free (longer (codes "offer-bytes") (led (entry_words k a s ++ n)) (omega arith)) text _
       (λ rest. bytes_say k a s (split_at 10 (text ++ 10 ∷ rest)) node author serial (length text) (count_by (λ b. b == 10) text + 1) text small (bytes_at text rest)
       (place_free 32 (omega arith) n (free_of 32 (length text) (omega arith) small, tt))))
 
   -- a charter
   read_charter : (names : List ℕ) → AreNames names → AllByRecursion (λ n. n < 2 ^ 64) names
-      → IsRead (codes "charter" ++ led (place_words k a s) ++ led (map decimal names) ++ codes "\n")
+      → IsRead (codes "charter" ++ led (entry_words k a s) ++ led (map decimal names) ++ codes "\n")
       (Node (OfferLine (record { node = k; entry = Charter a s names })))
   read_charter names are small =
-      let line : List ℕ = codes "charter" ++ led (place_words k a s ++ map decimal names) in
-      let form : line ≡ codes "charter" ++ led (place_words k a s) ++ led (map decimal names)
-      = ap (λ l. codes "charter" ++ l) (led-append (place_words k a s) (map decimal names)) ∙ sym (append_assoc (codes "charter") (led (place_words k a s)) (led (map decimal names))) in
-      let free : Without 10 line = without-append 10 (codes "charter") (led (place_words k a s ++ map decimal names)) refl
-      (without-led 10 (place_words k a s ++ map decimal names) refl (place_free 10 (omega arith) (map decimal names) (names_free 10 names (omega arith) small))) in
+      let line : List ℕ = codes "charter" ++ led (entry_words k a s ++ map decimal names) in
+      let form : line ≡ codes "charter" ++ led (entry_words k a s) ++ led (map decimal names)
+      = ap (λ l. codes "charter" ++ l) (led-append (entry_words k a s) (map decimal names)) ∙ sym (append_assoc (codes "charter") (led (entry_words k a s)) (led (map decimal names))) in
+      let free : Without 10 line = without-append 10 (codes "charter") (led (entry_words k a s ++ map decimal names)) refl
+      (without-led 10 (entry_words k a s ++ map decimal names) refl (place_free 10 (omega arith) (map decimal names) (names_free 10 names (omega arith) small))) in
       let P : List ℕ → Type 0 = λ l. IsRead (l ++ codes "\n") (Node (OfferLine (record { node = k; entry = Charter a s names }))) in
-      subst P form (read_alone line free (longer (codes "charter") (led (place_words k a s ++ map decimal names)) (omega arith)) _
+      subst P form (read_alone line free (longer (codes "charter") (led (entry_words k a s ++ map decimal names)) (omega arith)) _
       (λ lines. charter_says k a s lines node author serial names are small (place_free 32 (omega arith) (map decimal names) (names_free 32 names (omega arith) small))))
 
 read_number : (verb : List ℕ) (n : ℕ) (x : PlayLine) → Without 10 verb → 0 < length verb → n < 2 ^ 64

@@ -14,7 +14,7 @@ pub use Rattle.commands.specs.declared.play_line.PlayLine.{PlayLine}
 pub use Rattle.commands.specs.declared.play_line.PlayLine.TheVariants.{Node}
 pub use Rattle.commands.specs.declared.text_form.TextForm.{TextForm}
 pub use Rattle.commands.specs.declared.text_form.TextForm.TheVariants.{Bytes, Rest}
-pub use Rattle.event_lines.specs.EventLines.{Fits, FitsEntry, FitsText, entry_text, event_text, events_text, led, led_word, line_of, offer_text, place_words}
+pub use Rattle.event_lines.specs.EventLines.{Fits, FitsEntry, FitsText, entry_text, event_text, events_text, led, spaced_word, line_of, offer_text, entry_words}
 pub use Rattle.library.specs.Charters.{AreNames, is_rising}
 pub use Rattle.library.specs.declared.charter.TheConstants.{MOST_NAMES}
 pub use Rattle.library.specs.declared.entry.Entry.{Entry}

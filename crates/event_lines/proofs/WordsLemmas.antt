@@ -1,5 +1,5 @@
 -- Lines made of words, and the words that they are read as.
-use Rattle.event_lines.proofs.Words.{◌≡◌, ℕ, ◌==◌, Bool, true, false, ◌||◌, List, [], ◌∷◌, ◌++◌, codes, flat_map, refl, AllByRecursion, list_any, onto_first, slice_split, sym, ◌∙◌, ap, append_assoc, append-nil, eq-eqb, list_any-append, slice_split-cons_yes, slice_split-cons_no, split_at, led, led_word}
+use Rattle.event_lines.proofs.Words.{◌≡◌, ℕ, ◌==◌, Bool, true, false, ◌||◌, List, [], ◌∷◌, ◌++◌, codes, flat_map, refl, AllByRecursion, list_any, onto_first, slice_split, sym, ◌∙◌, ap, append_assoc, append-nil, eq-eqb, list_any-append, slice_split-cons_yes, slice_split-cons_no, split_at, led, spaced_word}
 
 -- the byte is not in the text
 abbrev pub Without : ℕ → List ℕ → Type 0
@@ -41,7 +41,7 @@ split_text word [] text one none = split_before 32 word text one
 split_text word (w ∷ words) text one (next, others) =
     let more : led (w ∷ words) ++ codes " " ++ text ≡ 32 ∷ (w ++ (led words ++ codes " " ++ text))
     = append_assoc (led (w ∷ words)) (codes " ") text
-    ∙ (append_assoc (led_word w) (led words) (codes " " ++ text)
+    ∙ (append_assoc (spaced_word w) (led words) (codes " " ++ text)
     ∙ ap (λ l. 32 ∷ (w ++ l)) (sym (append_assoc (led words) (codes " ") text))) in
     ap (λ l. split_at 32 (word ++ l)) more
     ∙ (split_before 32 word (w ++ (led words ++ codes " " ++ text)) one
@@ -51,5 +51,5 @@ split_text word (w ∷ words) text one (next, others) =
 pub without-led : (c : ℕ) (words : List (List ℕ)) → (32 == c) ≡ false → AllByRecursion (Without c) words → Without c (led words)
 without-led c [] other none = refl
 without-led c (w ∷ words) other (first, others) =
-    let own : Without c (led_word w) = ap (λ b. b || list_any (λ b. b == c) w) other ∙ first in
-    without-append c (led_word w) (led words) own (without-led c words other others)
+    let own : Without c (spaced_word w) = ap (λ b. b || list_any (λ b. b == c) w) other ∙ first in
+    without-append c (spaced_word w) (led words) own (without-led c words other others)

@@ -16,27 +16,27 @@ use Rattle.commands.specs.declared.play_line.PlayLine.{PlayLine}
 use Rattle.commands.specs.declared.play_line.PlayLine.TheVariants.{Node, Deliver as DeliverLine}
 
 -- words, each after a space
-abbrev pub led_word : List ℕ → List ℕ
-led_word word = codes " " ++ word
+abbrev pub spaced_word : List ℕ → List ℕ
+spaced_word word = codes " " ++ word
 
 abbrev pub led : List (List ℕ) → List ℕ
-led words = flat_map led_word words
+led words = flat_map spaced_word words
 
 -- the line of a verb and a number
 abbrev pub number_line : List ℕ → ℕ → List ℕ
 number_line verb n = verb ++ led (decimal n ∷ []) ++ codes "\n"
 
 -- a node, an author and a serial number
-abbrev pub place_words : ℕ → ℕ → ℕ → List (List ℕ)
-place_words node author serial = decimal node ∷ decimal author ∷ decimal serial ∷ []
+abbrev pub entry_words : ℕ → ℕ → ℕ → List (List ℕ)
+entry_words node author serial = decimal node ∷ decimal author ∷ decimal serial ∷ []
 
 -- the line `offer`, with the text on it
 abbrev pub line_offer : ℕ → Submission → List ℕ
-line_offer node s = codes "offer" ++ led (place_words node s.author s.serial) ++ codes " " ++ s.text ++ codes "\n"
+line_offer node s = codes "offer" ++ led (entry_words node s.author s.serial) ++ codes " " ++ s.text ++ codes "\n"
 
 -- the line `offer-bytes`, which ends with the count of the bytes of the text
 abbrev pub bytes_line : ℕ → Submission → List ℕ
-bytes_line node s = codes "offer-bytes" ++ led (place_words node s.author s.serial) ++ led (decimal (length s.text) ∷ []) ++ codes "\n"
+bytes_line node s = codes "offer-bytes" ++ led (entry_words node s.author s.serial) ++ led (decimal (length s.text) ∷ []) ++ codes "\n"
 
 -- the line `offer-bytes`, and the bytes of the text after it
 abbrev pub bytes_offer : ℕ → Submission → List ℕ
@@ -48,7 +48,7 @@ offer_text node s = if list_any (λ b. b == LINE_FEED) s.text then bytes_offer n
 
 abbrev pub entry_text : ℕ → Entry → List ℕ
 entry_text node (Text submission) = offer_text node submission
-entry_text node (Charter author serial names) = codes "charter" ++ led (place_words node author serial) ++ led (map decimal names) ++ codes "\n"
+entry_text node (Charter author serial names) = codes "charter" ++ led (entry_words node author serial) ++ led (map decimal names) ++ codes "\n"
 
 -- the lines of an event
 abbrev pub event_text : Event Carried → List ℕ

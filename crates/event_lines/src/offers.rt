@@ -3,7 +3,7 @@ ghost use Rattle.std.specs.Prelude.{◌≡◌, ◌++◌, ◌^◌, ◌<◌, ◌==
 ghost use Rattle.std.specs.List.{AllByRecursion, list_any};
 ghost use Rattle.commands.specs.declared.script.TheConstants.{LINE_FEED};
 ghost use Rattle.event_lines.specs.EventLines.{FitsEntry, FitsText, led, offer_text, entry_text};
-ghost use Rattle.event_lines.specs.EventLines.{bytes_line, bytes_offer, line_offer, place_words};
+ghost use Rattle.event_lines.specs.EventLines.{bytes_line, bytes_offer, line_offer, entry_words};
 
 use commands::LINE_FEED;
 use library::{Entry, Submission};
@@ -67,7 +67,7 @@ fn push_bytes_line(text: &mut Vec<u8>, node: u8, submission: &Submission) -> Res
 /// Appends `offer-bytes`, the node, and the author and serial number of a text.
 fn push_bytes_place(text: &mut Vec<u8>, node: u8, submission: &Submission) -> Result<(), AllocError>
     ensures text { OnOk result (text.new.items ≡ text.old.items
-        ++ (codes "offer-bytes" ++ led (place_words node submission.now.author submission.now.serial))) }
+        ++ (codes "offer-bytes" ++ led (entry_words node submission.now.author submission.now.serial))) }
     ensures fits { OnOk result ((node < 256)
         × (submission.now.author < 2 ^ 64) × (submission.now.serial < 2 ^ 64)) }
 {

@@ -93,7 +93,7 @@ impl<'a> Choice<'a> {
             Stmt::Const(names) => self.declare(at, names)?,
             Stmt::Var(names) => self.declare(at, names)?,
             Stmt::Disj(names) => self.separate(at, names)?,
-            Stmt::Float { variable, .. } => self.give_type(at, variable.as_bytes())?,
+            Stmt::Float { variable, .. } => self.record_float(at, variable.as_bytes())?,
             Stmt::Ess { .. } => self.active.push(at)?,
             Stmt::Axiom { expr, .. } => self.assertion(at, expr, None)?,
             Stmt::Prove { expr, proof, .. } => self.assertion(at, expr, Some(proof))?,
@@ -215,7 +215,7 @@ impl<'a> Choice<'a> {
     }
 
     /// Records a `$f`.
-    fn give_type(&mut self, at: usize, variable: &[u8]) -> Result<(), AllocError> {
+    fn record_float(&mut self, at: usize, variable: &[u8]) -> Result<(), AllocError> {
         self.active.push(at)?;
         if let Some(record) = self.record(variable) {
             record.float = at;

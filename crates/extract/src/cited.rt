@@ -21,7 +21,7 @@ pub(crate) fn named(
     for (index, statement) in statements.iter().enumerate().rev() {
         if let Stmt::Prove { proof, .. } = statement {
             if is_marked(&marks, index + 1) {
-                mark_named(frames, proof, &mut marks);
+                mark_cited(frames, proof, &mut marks);
             }
         }
     }
@@ -29,7 +29,7 @@ pub(crate) fn named(
 }
 
 /// Marks the statements that a proof cites: all tokens of a normal proof, those in the parentheses of a compressed proof.
-fn mark_named(frames: &Frames, proof: &Words, marks: &mut [bool]) {
+fn mark_cited(frames: &Frames, proof: &Words, marks: &mut [bool]) {
     for token in proof.iter() {
         if token == b")".as_slice() {
             return;

@@ -24,9 +24,9 @@ abbrev pub outline_line : ℕ → Stmt → List ℕ
 outline_line number s = decimal number ++ codes " " ++ line_of (with_proof s (decimal (length (proof_of s)) ∷ []))
 
 -- the lines of these statements, numbered from `number` on
-abbrev pub lines_from : ℕ → Database → List ℕ
-lines_from number [] = []
-lines_from number (s ∷ S) = outline_line number s ++ lines_from (number + 1) S
+abbrev pub outline_lines : ℕ → Database → List ℕ
+outline_lines number [] = []
+outline_lines number (s ∷ S) = outline_line number s ++ outline_lines (number + 1) S
 
 -- the last line: `good`, or the first statement that breaks a rule and the least rule that it breaks
 abbrev pub rules_line : Option (ℕ × Rule) → List ℕ
@@ -34,7 +34,7 @@ rules_line None = codes "good\n"
 rules_line (Some broken) = verdict_text (Refused (BrokenRule broken.0 broken.1)) ++ codes "\n"
 
 abbrev pub outline_of : Database → List ℕ
-outline_of S = lines_from 1 S ++ rules_line (first_broken 1 [] S)
+outline_of S = outline_lines 1 S ++ rules_line (first_broken 1 [] S)
 
 -- a line of words and a number
 abbrev pub numbered_line : List ℕ → ℕ → List ℕ

@@ -97,11 +97,11 @@ abbrev pub log_text : List (Option Entry) → List ℕ
 log_text log = codes "log" ++ flat_map logged_text log
 
 -- the line of an assertion; the assertions of a library: their count, and a line for each assertion
-abbrev pub listed_text : Listed → List ℕ
-listed_text l = (if l.proved then codes "proved " else codes "axiom ") ++ l.label ++ codes "\n"
+abbrev pub assertion_line : Listed → List ℕ
+assertion_line l = (if l.proved then codes "proved " else codes "axiom ") ++ l.label ++ codes "\n"
 
 abbrev pub list_text : List Listed → List ℕ
-list_text ls = codes "list " ++ decimal (length ls) ++ codes "\n" ++ flat_map listed_text ls
+list_text ls = codes "list " ++ decimal (length ls) ++ codes "\n" ++ flat_map assertion_line ls
 
 -- the statements of a library: their count, and their export form
 abbrev pub export_text : Database → List ℕ

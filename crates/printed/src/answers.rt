@@ -3,7 +3,7 @@ ghost use Rattle.std.specs.Prelude.{◌≡◌, ◌++◌, codes, decimal, flat_ma
 ghost use Rattle.mm_read.specs.Statements.{AreShaped};
 ghost use Rattle.mm_read.specs.Export.{export_of};
 ghost use Rattle.library.specs.Listed.{listed};
-ghost use Rattle.printed.specs.Printed.{decided_text, log_text, listed_text, list_text, export_text};
+ghost use Rattle.printed.specs.Printed.{decided_text, log_text, assertion_line, list_text, export_text};
 
 use crate::packets::push_entry;
 use crate::verdict_text::push_verdict;
@@ -13,7 +13,7 @@ use numbers::push_number;
 use std::alloc::AllocError;
 
 /// Appends a line `ok N`, where N packets were posted so far.
-pub fn push_posted(text: &mut Vec<u8>, posted: u64) -> Result<(), AllocError>
+pub fn push_ok(text: &mut Vec<u8>, posted: u64) -> Result<(), AllocError>
     ensures { OnOk result (text.new.items
         ≡ text.old.items ++ (codes "ok " ++ decimal posted ++ codes "\n")) }
 {
@@ -84,7 +84,7 @@ pub fn push_list(text: &mut Vec<u8>, list: &[Listed]) -> Result<(), AllocError>
 
 /// Appends a line for each assertion.
 pub fn push_assertions(text: &mut Vec<u8>, list: &[Listed]) -> Result<(), AllocError>
-    ensures { OnOk result (text.new.items ≡ text.old.items ++ flat_map listed_text list.now) }
+    ensures { OnOk result (text.new.items ≡ text.old.items ++ flat_map assertion_line list.now) }
 {
     for assertion in list {
         push_listed(text, assertion)?;
@@ -94,7 +94,7 @@ pub fn push_assertions(text: &mut Vec<u8>, list: &[Listed]) -> Result<(), AllocE
 
 /// Appends the line of an assertion.
 fn push_listed(text: &mut Vec<u8>, assertion: &Listed) -> Result<(), AllocError>
-    ensures { OnOk result (text.new.items ≡ text.old.items ++ listed_text assertion.now) }
+    ensures { OnOk result (text.new.items ≡ text.old.items ++ assertion_line assertion.now) }
 {
     let kind = if assertion.proved {
         b"proved ".as_slice()

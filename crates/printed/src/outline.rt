@@ -1,7 +1,7 @@
 //! The outline of a database.
 ghost use Rattle.std.specs.Prelude.{◌≡◌, ◌++◌, length, IfOk, OnOk};
 ghost use Rattle.mm_read.specs.Statements.{IsShaped, AreShaped};
-ghost use Rattle.printed.specs.Outline.{proof_of, outline_line, lines_from, rules_line};
+ghost use Rattle.printed.specs.Outline.{proof_of, outline_line, outline_lines, rules_line};
 ghost use Rattle.printed.specs.Outline.{outline_of, numbered_line, IsOutline};
 
 use crate::broken_rules::first_broken_rule;
@@ -53,7 +53,7 @@ fn outline(alloc: Global, statements: &[Stmt]) -> Result<Vec<u8>, AllocError>
 /// Returns a line for each statement.
 fn lines(alloc: Global, statements: &[Stmt]) -> Result<Vec<u8>, AllocError>
     requires { AreShaped statements.now }
-    ensures { IfOk result (λ bytes. bytes.items ≡ lines_from 1 statements.now) }
+    ensures { IfOk result (λ bytes. bytes.items ≡ outline_lines 1 statements.now) }
 {
     let mut bytes = Vec::new(alloc);
     for (index, statement) in statements.iter().enumerate() {

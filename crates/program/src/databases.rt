@@ -1,6 +1,6 @@
 //! Commands about a database: they read and check it, and answer the question.
 use crate::answers::write_answer;
-use crate::each_proof::{answer_bearing, bears_unproved, may_be_unfinished};
+use crate::each_proof::{allows_unproved, answer_unproved, may_be_unfinished};
 use crate::fault::Fault;
 use crate::named_text::NamedText;
 use crate::refused_questions::print_refused;
@@ -73,8 +73,8 @@ fn ask_library<R: AllocGlobal + Threads + Sync, O: Write, F: Write>(
         name: asked.name,
         bytes: bytes.as_slice(),
     };
-    if bears_unproved(asked) && may_be_unfinished(text.bytes) {
-        if let Some(status) = answer_bearing(rt, asked, text, output, faults)? {
+    if allows_unproved(asked) && may_be_unfinished(text.bytes) {
+        if let Some(status) = answer_unproved(rt, asked, text, output, faults)? {
             return Ok(status);
         }
     }
@@ -137,8 +137,8 @@ fn answer_refused<R: AllocGlobal + Threads + Sync, O: Write, F: Write>(
     faults: &mut F,
 ) -> Result<u8, Fault> {
     let is_unproved = matches!(cause, Cause::Proof { .. } | Cause::Unfinished { .. });
-    if is_unproved && bears_unproved(asked) {
-        if let Some(status) = answer_bearing(rt, asked, text, output, faults)? {
+    if is_unproved && allows_unproved(asked) {
+        if let Some(status) = answer_unproved(rt, asked, text, output, faults)? {
             return Ok(status);
         }
     }

@@ -26,7 +26,7 @@ use verify_pool::Workers;
 const MOST_EXPLAINED: usize = 100;
 
 /// Returns whether a question is answered even if some `$p` are not proved.
-pub fn bears_unproved(asked: &Asked<'_>) -> bool {
+pub fn allows_unproved(asked: &Asked<'_>) -> bool {
     asked.assumes || matches!(asked.question, Question::CheckEach)
 }
 
@@ -50,7 +50,7 @@ pub fn may_be_unfinished(text: &[u8]) -> bool {
 
 /// Answers a question that is answered even if some `$p` are not proved; returns the exit status,
 /// or `None` if the text is too long, cannot be parsed or breaks a rule.
-pub fn answer_bearing<R: AllocGlobal + Threads + Sync, O: Write, F: Write>(
+pub fn answer_unproved<R: AllocGlobal + Threads + Sync, O: Write, F: Write>(
     rt: &R,
     asked: &Asked<'_>,
     text: NamedText<'_>,

@@ -11,7 +11,7 @@ use event_lines::push_events;
 use library::Entry;
 use net::Event;
 use printed::{
-    push_decided, push_export, push_library, push_log, push_packet, push_posted, push_state,
+    push_decided, push_export, push_library, push_log, push_ok, push_packet, push_state,
 };
 use std::alloc::{AllocError, Global};
 use std::io::{Read, Write};
@@ -98,5 +98,5 @@ fn push_history(world: &World, text: &mut Vec<u8>) -> Result<(), AllocError>
 
 /// Plays an event, and appends how many packets were posted so far.
 fn push_step(world: &mut World, event: Event<Entry>, text: &mut Vec<u8>) -> Result<(), Fault> {
-    Ok(push_posted(text, world.step(event)?)?)
+    Ok(push_ok(text, world.step(event)?)?)
 }

@@ -10,7 +10,7 @@ use commands::{ProofForm, ProofQuestion};
 use frame::Frames;
 use library::Library;
 use mm_lex::Word;
-use proof_pages::{Neighbours, PageContents, ProofSteps, write_dot, write_page, write_plain};
+use proof_pages::{PageContents, ProofSteps, RelatedItems, write_dot, write_page, write_plain};
 use std::alloc::{AllocError, Global};
 use std::io::Write;
 use steps::{ProofTable, essential_table, proof_table};
@@ -124,8 +124,8 @@ fn write_theorem<O: Write>(
 }
 
 /// Returns the axioms and the users of a theorem for its page, without a description.
-fn neighbours_of<'a>(axioms: &'a [u32], users: &'a [u32]) -> Neighbours<'a> {
-    Neighbours {
+fn neighbours_of<'a>(axioms: &'a [u32], users: &'a [u32]) -> RelatedItems<'a> {
+    RelatedItems {
         axioms,
         users,
         description: None,

@@ -5,7 +5,7 @@ pub use Rattle.mm_read.specs.declared.stmt.Stmt.TheVariants.{Open}
 pub use Rattle.proof_pages.specs.Indexes.{index_row}
 pub use Rattle.proof_pages.specs.Notations.{symbol_html}
 pub use Rattle.proof_pages.specs.Pictures.{arrow_line, node_text, picture_head, quoted_symbol}
-pub use Rattle.proof_pages.specs.StepLines.{after_comma, expr_text, number_text, step_line, symbol_text, taken_text, texts_from}
+pub use Rattle.proof_pages.specs.StepLines.{after_comma, expr_text, number_text, step_line, symbol_text, taken_text, concat_texts}
 pub use Rattle.proof_pages.specs.TableRows.{item_html}
 pub use Rattle.proof_pages.specs.Writing.{Wrote}
 pub use Rattle.proof_pages.specs.declared.index.TheConstants.{INDEX_START}

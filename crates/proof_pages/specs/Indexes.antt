@@ -5,7 +5,7 @@ use Rattle.std.specs.Prelude.{ℕ, ◌+◌, List, [], ◌++◌, codes}
 use Rattle.proof_pages.specs.Words.{Name, spaced, Stmt, Axiom, Prove, Database, Expr, html_text}
 use Rattle.proof_pages.specs.declared.index.TheConstants.{INDEX_START}
 use Rattle.proof_pages.specs.Notations.{page_link}
-use Rattle.proof_pages.specs.StepLines.{texts_from}
+use Rattle.proof_pages.specs.StepLines.{concat_texts}
 
 -- the kind: axiom or theorem
 abbrev pub kind_cell : List ℕ → List ℕ
@@ -26,4 +26,4 @@ index_row place s = []
 
 -- a row for each assertion, in order
 abbrev pub index_text : Database → List ℕ
-index_text S = INDEX_START.now ++ texts_from index_row 0 S ++ codes "</tbody>\n</table>\n</body>\n</html>\n"
+index_text S = INDEX_START.now ++ concat_texts index_row 0 S ++ codes "</tbody>\n</table>\n</body>\n</html>\n"

@@ -3,7 +3,7 @@
 -- The code adds each part to the end of a buffer.
 use Rattle.std.specs.Prelude.{ℕ, List, [], ◌∷◌, ◌++◌, codes, flat_map}
 use Rattle.proof_pages.specs.Words.{Name, Database, stmt_at, name_at, label_or_none, Row, quoted_text}
-use Rattle.proof_pages.specs.StepLines.{number_text, texts_from}
+use Rattle.proof_pages.specs.StepLines.{number_text, concat_texts}
 
 abbrev pub quoted_symbol : List Name → ℕ → List ℕ
 quoted_symbol names symbol = codes " " ++ quoted_text (name_at names symbol)
@@ -29,4 +29,4 @@ abbrev pub picture_head : Name → List ℕ
 picture_head label = codes "digraph \"" ++ quoted_text label ++ codes "\" {\n"
 
 abbrev pub picture_text : Database → List Name → Name → List Row → List ℕ
-picture_text S names label rows = picture_head label ++ texts_from (node_text S names) 0 rows ++ codes "}\n"
+picture_text S names label rows = picture_head label ++ concat_texts (node_text S names) 0 rows ++ codes "}\n"

@@ -29,6 +29,6 @@ step_line S names place row =
     number_text place ++ codes " " ++ taken_text row.step.taken ++ codes " " ++ label_or_none (stmt_at S row.step.position) ++ expr_text names row.expr ++ codes "\n"
 
 -- the concatenated texts of the elements of a list, the first of which has this place
-abbrev pub texts_from : {A : Type 0} → (ℕ → A → List ℕ) → ℕ → List A → List ℕ
-texts_from text place [] = []
-texts_from text place (thing ∷ things) = text place thing ++ texts_from text (suc place) things
+abbrev pub concat_texts : {A : Type 0} → (ℕ → A → List ℕ) → ℕ → List A → List ℕ
+concat_texts text place [] = []
+concat_texts text place (thing ∷ things) = text place thing ++ concat_texts text (suc place) things

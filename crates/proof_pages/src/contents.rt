@@ -14,7 +14,7 @@ pub struct PageContents<'a> {
     /// The steps of its proof, if it has one.
     pub proof: Option<ProofSteps<'a>>,
     /// The axioms, citing theorems and description that the page shows.
-    pub neighbours: Neighbours<'a>,
+    pub neighbours: RelatedItems<'a>,
 }
 
 /// The steps of a proof.
@@ -28,7 +28,7 @@ pub struct ProofSteps<'a> {
 
 /// The axioms that an assertion rests on, the theorems that cite it, and its description.
 #[derive(Drop)]
-pub struct Neighbours<'a> {
+pub struct RelatedItems<'a> {
     /// The positions of the axioms that it rests on, ascending.
     pub axioms: &'a [u32],
     /// The positions of the theorems whose proofs cite it, ascending.

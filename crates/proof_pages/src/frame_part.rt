@@ -4,7 +4,7 @@ ghost use Rattle.frame.specs.FrameOf.{HasAssertion};
 
 use crate::draft::Draft;
 use crate::notation::{Notation, push_coloured, push_html_expr};
-use crate::parted::{expr_at, part_essential};
+use crate::parted::{expr_at, partition_essential};
 use crate::rows::push_row_rest;
 use entries::Groups;
 use frame::FrameBuffers;
@@ -25,7 +25,7 @@ fn push_hypotheses(alloc: Global, page: &mut Vec<u8>, draft: &Draft<'_>) -> Resu
     if draft.hypotheses.is_empty() {
         return Ok(());
     }
-    let parted = part_essential(alloc, draft.contents.statements, draft.hypotheses)?;
+    let parted = partition_essential(alloc, draft.contents.statements, draft.hypotheses)?;
     page.extend_from_slice(b"<h2>Hypotheses</h2>\n")?;
     push_table(page, &draft.notation, &parted.first)?;
     push_floating(page, &draft.notation, &parted.others)

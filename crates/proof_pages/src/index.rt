@@ -5,7 +5,7 @@ ghost use Rattle.mm_read.specs.declared.stmt.Stmt.{Stmt as Statement};
 ghost use Rattle.proof_pages.specs.Indexes.{kind_cell, expr_cell, index_cells, index_row, index_text};
 
 use crate::notation::push_page_link;
-use crate::writing::{WriteFault, write_part, write_rest};
+use crate::writing::{WriteFault, flush, flush_if_full};
 use markup::push_html;
 use mm_lex::Words;
 use mm_read::Stmt;
@@ -33,10 +33,10 @@ pub fn write_index<W: Write>(
     text.extend_from_slice(INDEX_START)?;
     for place in 0..statements.len() {
         push_row_at(&mut text, statements, place)?;
-        write_part(out, &mut text)?;
+        flush_if_full(out, &mut text)?;
     }
     text.extend_from_slice(b"</tbody>\n</table>\n</body>\n</html>\n")?;
-    write_rest(out, &text)
+    flush(out, &text)
 }
 
 /// Appends the row of the statement at a place.

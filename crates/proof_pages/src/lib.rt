@@ -24,7 +24,7 @@ mod step_lines;
 mod style;
 mod writing;
 
-pub use contents::{Neighbours, PageContents, ProofSteps};
+pub use contents::{PageContents, ProofSteps, RelatedItems};
 pub use index::write_index;
 pub use page::{write_page, write_site_page};
 pub use style::style_sheet;

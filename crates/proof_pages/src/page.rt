@@ -9,7 +9,7 @@ use crate::frame_part::push_frame;
 use crate::notation::Notation;
 use crate::opening::push_opening;
 use crate::proof_part::{push_users, write_proof};
-use crate::writing::{WriteFault, write_rest};
+use crate::writing::{WriteFault, flush};
 use frame::Frames;
 use std::alloc::{AllocError, Global};
 use std::io::Write;
@@ -83,7 +83,7 @@ fn write_draft<W: Write>(alloc: Global, out: &mut W, draft: &Draft<'_>) -> Resul
     write_proof(alloc, out, &mut page, draft)?;
     push_users(&mut page, draft)?;
     page.extend_from_slice(b"</body>\n</html>\n")?;
-    write_rest(out, &page)
+    flush(out, &page)
 }
 
 /// Returns the mandatory hypotheses of the assertion at a position, by position.

@@ -5,16 +5,16 @@ use std::alloc::{AllocError, Global};
 
 /// Positions split by a test, in their order.
 #[derive(Drop)]
-pub struct Parted {
+pub struct Partition {
     /// The positions that pass the test.
     pub first: Vec<u32>,
     /// The positions that do not pass it.
     pub others: Vec<u32>,
 }
 
-impl Parted {
-    fn new(alloc: Global) -> Parted {
-        Parted {
+impl Partition {
+    fn new(alloc: Global) -> Partition {
+        Partition {
             first: Vec::new(alloc),
             others: Vec::new(alloc),
         }
@@ -31,12 +31,12 @@ impl Parted {
 }
 
 /// Splits positions into those of `$e` and all others.
-pub fn part_essential(
+pub fn partition_essential(
     alloc: Global,
     statements: &[Stmt],
     positions: &[u32],
-) -> Result<Parted, AllocError> {
-    let mut parted = Parted::new(alloc);
+) -> Result<Partition, AllocError> {
+    let mut parted = Partition::new(alloc);
     for position in positions {
         let passes = is_essential_at(statements, *position as usize);
         parted.add(*position, passes)?;
@@ -53,13 +53,13 @@ fn is_essential_at(statements: &[Stmt], position: usize) -> bool {
 
 /// Splits positions into those of statements with the typecode of the statement at `at`, and all
 /// others.
-pub fn part_by_typecode(
+pub fn partition_by_typecode(
     alloc: Global,
     frames: &Frames,
     at: usize,
     positions: &[u32],
-) -> Result<Parted, AllocError> {
-    let mut parted = Parted::new(alloc);
+) -> Result<Partition, AllocError> {
+    let mut parted = Partition::new(alloc);
     let own = typecode_at(frames, at);
     for position in positions {
         let passes = typecode_at(frames, *position as usize) == own;

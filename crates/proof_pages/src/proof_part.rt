@@ -2,9 +2,9 @@
 use crate::contents::ProofSteps;
 use crate::draft::Draft;
 use crate::notation::Notation;
-use crate::parted::part_by_typecode;
+use crate::parted::partition_by_typecode;
 use crate::rows::{push_html_step, push_labels};
-use crate::writing::{WriteFault, write_part};
+use crate::writing::{WriteFault, flush_if_full};
 use std::alloc::{AllocError, Global};
 use std::io::Write;
 use steps::ProofTable;
@@ -56,7 +56,7 @@ fn write_steps<W: Write>(
     )?;
     for place in 0..table.len() {
         push_html_step(page, notation, mark, table, place)?;
-        write_part(out, page)?;
+        flush_if_full(out, page)?;
     }
     page.extend_from_slice(b"</tbody>\n</table>\n")?;
     Ok(())
@@ -65,7 +65,7 @@ fn write_steps<W: Write>(
 /// Appends the axioms of the theorem's own typecode, and the others in a collapsed section.
 fn push_axioms(alloc: Global, page: &mut Vec<u8>, draft: &Draft<'_>) -> Result<(), AllocError> {
     let contents = draft.contents;
-    let axioms = part_by_typecode(
+    let axioms = partition_by_typecode(
         alloc,
         contents.frames,
         contents.at,

@@ -1,7 +1,7 @@
 //! Writes a proof step by step, so that a long proof needs little more memory than its table.
 ghost use Rattle.std.specs.Prelude.{◌≡◌, [], codes, OnOk};
 ghost use Rattle.std.specs.Io.KnownBytes.{Appends};
-ghost use Rattle.proof_pages.specs.StepLines.{step_line, texts_from};
+ghost use Rattle.proof_pages.specs.StepLines.{step_line, concat_texts};
 ghost use Rattle.proof_pages.specs.Pictures.{picture_text};
 ghost use Rattle.proof_pages.specs.Writing.{Wrote};
 
@@ -28,22 +28,22 @@ impl From<AllocError> for WriteFault {
 }
 
 /// The size of the buffer, in bytes, at which it is written.
-const PART: usize = 65_536;
+const BUFFER_SIZE: usize = 65_536;
 
 /// Writes the buffered text and clears the buffer, if it has at least 64 KiB.
-pub(crate) fn write_part<W: Write>(out: &mut W, text: &mut Vec<u8>) -> Result<(), WriteFault>
+pub(crate) fn flush_if_full<W: Write>(out: &mut W, text: &mut Vec<u8>) -> Result<(), WriteFault>
     ensures { OnOk result (Wrote (W.contents out.old) (W.contents out.new) text.new.items text.old.items) }
 {
-    if text.len() < PART {
+    if text.len() < BUFFER_SIZE {
         return Ok(());
     }
-    write_rest(out, text)?;
+    flush(out, text)?;
     text.clear();
     Ok(())
 }
 
 /// Writes the buffered text.
-pub(crate) fn write_rest<W: Write>(out: &mut W, text: &[u8]) -> Result<(), WriteFault>
+pub(crate) fn flush<W: Write>(out: &mut W, text: &[u8]) -> Result<(), WriteFault>
     ensures { OnOk result (Appends (W.contents out.old) (W.contents out.new) text.now) }
 {
     match out.write_all(text) {
@@ -64,14 +64,14 @@ pub fn write_plain<W: Write>(
     table: &ProofTable,
 ) -> Result<(), WriteFault>
     ensures { OnOk result (Appends (W.contents out.old) (W.contents out.new)
-        (texts_from (step_line frames.now.statements frames.now.names) 0 table.now)) }
+        (concat_texts (step_line frames.now.statements frames.now.names) 0 table.now)) }
 {
     let mut text = Vec::new(alloc);
     for place in 0..table.len() {
         push_step(&mut text, frames, table, place)?;
-        write_part(out, &mut text)?;
+        flush_if_full(out, &mut text)?;
     }
-    write_rest(out, &text)
+    flush(out, &text)
 }
 
 /// Writes the steps as a graph in the DOT language of Graphviz.
@@ -91,8 +91,8 @@ pub fn write_dot<W: Write>(
     push_head(&mut text, label)?;
     for place in 0..table.len() {
         push_node(&mut text, frames, table, place)?;
-        write_part(out, &mut text)?;
+        flush_if_full(out, &mut text)?;
     }
     text.extend_from_slice(b"}\n")?;
-    write_rest(out, &text)
+    flush(out, &text)
 }

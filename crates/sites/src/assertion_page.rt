@@ -8,7 +8,7 @@ use crate::site::{Site, SiteFault};
 use cross_references::CrossReferences;
 use mm_lex::Span;
 use mm_read::Stmt;
-use proof_pages::{Neighbours, PageContents, ProofSteps, write_site_page};
+use proof_pages::{PageContents, ProofSteps, RelatedItems, write_site_page};
 use std::alloc::{AllocError, Global};
 use steps::{essential_table, proof_table};
 
@@ -86,7 +86,7 @@ fn write_assertion(
         frames: library.frames(),
         at,
         proof,
-        neighbours: Neighbours {
+        neighbours: RelatedItems {
             axioms: axioms.as_slice(),
             users: users.as_slice(),
             description: described(contents, index),

@@ -11,6 +11,6 @@ TakeEarlier = (S : Database) (at : ℕ) (items : List Item) (steps : List Step) 
     → (k : ℕ) (step : Step) → slice_get steps k ≡ Some step → AreBelow k step.taken
 
 -- no two steps are equal
-abbrev pub StandOnce : Type 0
-StandOnce = (S : Database) (at : ℕ) (items : List Item) (steps : List Step) → AreSteps S at items steps
+abbrev pub StepsAreDistinct : Type 0
+StepsAreDistinct = (S : Database) (at : ℕ) (items : List Item) (steps : List Step) → AreSteps S at items steps
     → (j k : ℕ) (step : Step) → slice_get steps j ≡ Some step → slice_get steps k ≡ Some step → j ≡ k

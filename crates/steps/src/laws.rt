@@ -1,6 +1,6 @@
 //! Laws about the definitions alone. Each is a function that does nothing and ensures a sentence of `specs/Laws`.
 
-ghost use Rattle.steps.specs.Laws.{TakeEarlier, StandOnce};
+ghost use Rattle.steps.specs.Laws.{TakeEarlier, StepsAreDistinct};
 
 /// Each step takes only earlier steps.
 pub fn take_earlier()
@@ -8,6 +8,6 @@ pub fn take_earlier()
 {}
 
 /// No two steps of a table are equal.
-pub fn stand_once()
-    ensures { StandOnce }
+pub fn steps_are_distinct()
+    ensures { StepsAreDistinct }
 {}

@@ -5,7 +5,7 @@ use Rattle.proof_pages.proofs.writing.write_plain.Goals as goal
 pub loop-place-preserved : goal.loop-place-preserved
 loop-place-preserved g c =
     row_on (step_line c.args.frames.now.statements c.args.frames.now.names) c.args.table.now c.loop-place.place no_row []
-    (g.W.Write.contents c.args.out.now) (g.W.Write.contents c.loop-place.out) (g.W.Write.contents c.write_part.new.out)
-    c.loop-place.text.items c.write_part.new.text.items c.push_step.new.text.items
+    (g.W.Write.contents c.args.out.now) (g.W.Write.contents c.loop-place.out) (g.W.Write.contents c.flush_if_full.new.out)
+    c.loop-place.text.items c.flush_if_full.new.text.items c.push_step.new.text.items
     (let t = c.loop-place-test.true in let e = c.loop-place.auto.place-end in let n = c.len-place-end.ensures in omega (arith, t, e, n))
-    c.loop-place.invariant c.in_ok-push_step.ensures c.in_ok-write_part.ensures
+    c.loop-place.invariant c.in_ok-push_step.ensures c.in_ok-flush_if_full.ensures
