@@ -1,4 +1,4 @@
-//! A library that takes two submissions, and three nodes that agree on one (see docs/EMBEDDING.md).
+//! Applies two submissions to a library; has three nodes agree on one (see docs/EMBEDDING.md).
 #![tactic(auto)]
 
 use anyhow::Result;
@@ -9,7 +9,7 @@ use library::{Cause, Entry, Library, Submission, Verdict};
 use std::alloc::Global;
 use synod::Weights;
 
-/// A text that is added: modus ponens, and a theorem by it.
+/// A text that is added: modus ponens, and a theorem that is proved by it.
 const GOOD: &[u8] = b"$c wff |- ( ) -> $. $v p q $. wp $f wff p $. wq $f wff q $.
 wi $a wff ( p -> q ) $. ${ min $e |- p $. maj $e |- ( p -> q ) $. mp $a |- q $. $}
 ${ a $e |- p $. b $e |- ( p -> q ) $. th $p |- q $= wp wq a b mp $. $}";
@@ -21,7 +21,7 @@ fn main(rt: HostRuntime) -> Result<()> {
     agree_on_one(&rt)
 }
 
-/// Makes an entry of a text by author 7.
+/// Makes an entry from a text by author 7.
 fn entry(alloc: Global, serial: u64, text: &[u8]) -> Result<Entry> {
     Ok(Entry::Text(Submission {
         author: 7,
@@ -54,7 +54,7 @@ fn apply_two(rt: &HostRuntime) -> Result<()> {
     Ok(())
 }
 
-/// Has three nodes agree on one entry and apply it; compares the libraries of the first and last.
+/// Has three nodes agree on an entry and apply it; compares the libraries of the first and last.
 fn agree_on_one(rt: &HostRuntime) -> Result<()> {
     let alloc = rt.alloc();
     let (one, two) = (MemoryKeep::new(alloc), MemoryKeep::new(alloc));

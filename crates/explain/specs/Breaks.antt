@@ -37,7 +37,7 @@ marks_in (Mark ∷ items) = suc (marks_in items)
 marks_in (Cite label ∷ items) = marks_in items
 marks_in (Recall k ∷ items) = marks_in items
 
--- the letters end here, or a mark comes next
+-- the letters end here, or the next one is a mark
 abbrev pub IsEnd : List ℕ → Type 0
 IsEnd [] = Unit {0}
 IsEnd (letter ∷ letters) = letter ≡ 90
@@ -50,7 +50,7 @@ BeginsWith P (letter ∷ letters) = P letter
 abbrev pub IsOther : ℕ → Type 0
 IsOther letter = IsFalse (is_first letter) × IsFalse (is_last letter) × (letter ≢ 90)
 
--- no letter of the letter group yet, or a group that begins so has a number up to the limit
+-- the letter group has no letter yet, or some group with this beginning has a number up to the limit
 abbrev pub IsAllowed : ℕ → List ℕ → Type 0
 IsAllowed limit begun = (begun ≡ []) ⊎ ((word : Name) × (n : ℕ) × IsNumber (begun ++ word) n × (n ≤ limit))
 
@@ -58,7 +58,7 @@ IsAllowed limit begun = (begun ≡ []) ⊎ ((word : Name) × (n : ℕ) × IsNumb
 abbrev pub IsOver : ℕ → List ℕ → ℕ → Type 0
 IsOver limit begun letter = IsTrue (is_first letter || is_last letter) × ((word : Name) (n : ℕ) → IsNumber (begun ++ letter ∷ word) n → limit < n)
 
--- after the items, with letters U to Y of a letter group that is begun, the rest breaks the rule
+-- after the items and the letters U to Y that begin a letter group, the rest breaks the rule
 abbrev pub Breaks : LetterFault → ℕ → List Item → List ℕ → List ℕ → Type 0
 Breaks NotLetter limit items begun rest = BeginsWith IsOther rest
 Breaks NotEnded limit items begun rest = (begun ≢ []) × IsEnd rest
@@ -87,7 +87,7 @@ pub record IsLetterBreak (labels : List Name) (letters : List ℕ) (broken : Let
 
 -- ---- tokens
 
--- this token, at this index, is the first of those after `(` that is no label or is a mandatory one
+-- this token, at this index, is the first one after `(` that is not a label or is a mandatory one
 pub record IsListing (tokens mandatory : List Name) (index : ℕ) (word : Name) (rest : List Name) : Type 0 where
   pub words : List Name
   pub whole : tokens ≡ begin ∷ words
@@ -120,7 +120,7 @@ pub record AreBroken (tokens mandatory : List Name) (broken : LetterBreak) : Typ
   pub listing : IsListing tokens mandatory index finish rest
   pub letters : IsLetterBreak (mandatory ++ listing.first.front) (joined rest) broken
 
--- the rule that the tokens break under these mandatory labels; no token has a `?`, except if the rule is `Unfinished`
+-- the rule that the tokens break under these mandatory labels; a token has a `?` only if the rule is `Unfinished`
 abbrev pub IsBreak : List Name → List Name → CodeBreak → Type 0
 IsBreak tokens mandatory (Unfinished token) = (word : Name) × (rest : List Name) × IsFirst (fails mandatory test.Unfinished) tokens token word rest
 IsBreak tokens mandatory (NotLabel token) = IsFalse (is_unfinished tokens) × IsNotLabel tokens mandatory token

@@ -1,6 +1,6 @@
 -- Faults of a citation of an assertion: a hypothesis that requires another result.
 -- Source: Metamath, 4.2.6.
--- The code compares numbers; here are expressions, under the images that the results themselves give.
+-- The code compares numbers; these definitions compare expressions, under the images that the results themselves give.
 use Rattle.std.specs.Prelude.{◌≡◌, ◌≢◌, ℕ, length, List, [], ◌∷◌, map, take, Option, Some, slice_get}
 use Rattle.explain.specs.Words.{Bor, Vec, Name, Stmt, Expr, Database, stmt_at, before, decode, Hypothesis, hypotheses, expr_at, Numbered}
 use Rattle.mm_read.specs.declared.stmt.Stmt.TheVariants as stmt
@@ -12,7 +12,7 @@ use Rattle.explain.specs.declared.named_images.Image.{Image}
 use Rattle.explain.specs.Stored.Vectors.{named, code_images}
 use Rattle.explain.specs.ReadImages.{images_read, named_images, AreVariables}
 
--- the result that the hypothesis at p requires, the images substituted
+-- the result that the hypothesis at p requires: its expression with the images substituted
 abbrev pub asks : Database → Images → ℕ → Expr
 asks S σ p = applied σ (expr_at S p)
 
@@ -20,7 +20,7 @@ asks S σ p = applied σ (expr_at S p)
 abbrev pub AllFit : Database → Images → List ℕ → List Expr → Type 0
 AllFit S σ ps rs = map (asks S σ) ps ≡ rs
 
--- the k-th hypothesis, at p, requires another result than the one that is there; each before it has the one that it requires
+-- the k-th hypothesis, at p, requires another result than it has; each earlier one has the result that it requires
 pub record IsOther (S : Database) (σ : Images) (ps : List ℕ) (rs : List Expr) (k p : ℕ) (required there : Expr) : Type 0 where
   pub hypothesis : slice_get ps k ≡ Some p
   pub result : slice_get rs k ≡ Some there
@@ -37,8 +37,8 @@ abbrev pub IsOtherConstant : Option Stmt → Expr → Type 0
 IsOtherConstant (Some (stmt.Float label constant variable)) e = BeginsOther constant e
 IsOtherConstant s e = ⊥
 
--- the first of the mandatory hypotheses of the assertion s at a that requires another result than the one that is there, under
--- the images that the results give
+-- the first of the mandatory hypotheses of the assertion s at a that requires another result than it has, under the images
+-- that the results give
 abbrev pub IsMismatch : Database → List Name → ℕ → Stmt → List Expr → Fault → Type 0
 IsMismatch S names a s rs (Expression b p required there) =
     (b ≡ a) × ((k : ℕ) × IsOther S (images_read S (hypotheses (before S a) s) rs) (hypotheses (before S a) s) rs k p (decode names required.items) (decode names there.items))
@@ -47,7 +47,7 @@ IsMismatch S names a s rs (Constant b p there) =
     × IsOtherConstant (stmt_at S p) (decode names there.items))
 IsMismatch S names a s rs fault = ⊥
 
--- the fault of a result that is not the one that a hypothesis of that kind, with that typecode, requires
+-- the fault of a result that a hypothesis of that kind, with that typecode, does not require
 abbrev pub StartsOther : ℕ → List ℕ → Type 0
 StartsOther typecode [] = Unit {0}
 StartsOther typecode (x ∷ e) = x ≢ typecode

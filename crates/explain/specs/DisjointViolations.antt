@@ -1,11 +1,11 @@
 -- Two variables of an assertion whose images are not disjoint.
 -- Source: Metamath, 4.2.6 (the disjoint variable condition).
--- The code tests images by number; here they are of names.
+-- The code tests images of numbers; here they are of names.
 use Rattle.std.specs.Prelude.{◌≡◌, Bool, not, ◌||◌, List, IsTrue, IsFalse}
 use Rattle.explain.specs.Words.{Name, name_eq, has_name, Expr, Database, is_variable, name_at, is_pair, together, Images, image, are_disjoint}
 use Rattle.explain.specs.declared.violation.DisjointViolation.{DisjointViolation}
 
--- u and v need no `$d`, or have one
+-- one of u and v is not a variable, or an active `$d` has both
 abbrev pub is_kept : Database → Name → Name → Bool
 is_kept S u v = not (is_variable S u) || not (is_variable S v) || is_pair S u v
 
@@ -15,12 +15,12 @@ pub record IsUnpaired (S : Database) (u v : Name) : Type 0 where
   pub second : IsTrue (is_variable S v)
   pub disjoint : IsFalse (is_pair S u v)
 
--- v stands in the expression and is unpaired with u
+-- v occurs in the expression and is unpaired with u
 pub record IsUnpairedIn (S : Database) (u v : Name) (f : Expr) : Type 0 where
   pub stands : IsTrue (has_name v f)
   pub unpaired : IsUnpaired S u v
 
--- u stands in one expression, v in the other, and they are unpaired
+-- u occurs in one expression, v in the other, and they are unpaired
 pub record AreShared (S : Database) (u v : Name) (e f : Expr) : Type 0 where
   pub first : IsTrue (has_name u e)
   pub second : IsTrue (has_name v f)
@@ -30,7 +30,7 @@ pub record AreShared (S : Database) (u v : Name) (e f : Expr) : Type 0 where
 abbrev pub is_other_disjoint : Database → Images → Name → Name → Bool
 is_other_disjoint S σ x y = name_eq x y || are_disjoint S (image σ x) (image σ y)
 
--- two variables that stand together in a group, with unpaired variables of their images
+-- two variables that are together in a group, with unpaired variables of their images
 pub record IsViolation (S : Database) (names : List Name) (σ : Images) (groups : List (List Name)) (c : DisjointViolation) : Type 0 where
   pub together : IsTrue (together groups (name_at names c.first) (name_at names c.second))
   pub shared : AreShared S (name_at names c.one) (name_at names c.other) (image σ (name_at names c.first)) (image σ (name_at names c.second))

@@ -1,6 +1,6 @@
--- The results that explain an item, and that the item cannot be done within the limit.
+-- The results before an item, and that no citation of a statement stays within the limit.
 -- Source: Metamath, 4.2.6; the limit is this project's.
--- The code has the verifier's results, by numbers; here are expressions.
+-- The code has the verifier's results as numbers; here they are expressions.
 use Rattle.std.specs.Prelude.{◌≡◌, ℕ, ◌+◌, ◌<◌, List, ◌++◌, length, map, Some}
 use Rattle.explain.specs.Words.{Stmt, Expr, Database, expr_of, stmt_at, decode, Numbered, IsHypothesis, IsInstance, premises, behind, named, State, HeldResults, SYMBOLS_LIMIT}
 use Rattle.frame.specs.Substitution.{Images, apply as applied}

@@ -38,7 +38,7 @@ FailsAt S names at h i s (Together b x y u v) = AreWrong S names at h i s (Toget
 FailsAt S names at h i s Heavy = IsHeavy S at h i s
 FailsAt S names at h i s fault = ⊥
 
--- the fault of an item: a label that no statement carries; the fault of a citation of its statement; a recall of a result that
+-- the fault of an item: a label that no statement has; the fault of a citation of its statement; a recall of a result that
 -- is not marked, or is too heavy; a mark without a result
 abbrev pub FailsCited : Database → List Name → ℕ → State → Name → Fault → Type 0
 FailsCited S names at h label Unknown = (i : ℕ) (s : Stmt) → Carries S i s label → ⊥
@@ -71,7 +71,7 @@ IsFirstFault S names at s items (reason.Results count) = (h : State) × RunsWell
 IsFirstFault S names at s items (reason.Theorem proved) =
     (h : State) × RunsWell S at items h × (h.stack ≡ decode names proved.items ∷ []) × (decode names proved.items ≢ expr_of s)
 
--- the results at the end, by number, are not one, or this one
+-- the number of results at the end is not one, or the only result, by number, is this one
 abbrev pub IsEnd : List (List ℕ) → Reason → Type 0
 IsEnd stack (reason.Results count) = (count ≡ length stack) × (count ≢ 1)
 IsEnd stack (reason.Theorem proved) = stack ≡ proved.items ∷ []

@@ -1,6 +1,6 @@
--- Where the image of a symbol stands in a list of images.
+-- The index of the image of a symbol in a list of images.
 -- Source: this project's form of finding images.
--- The code has the index of the first image for each symbol; here is the image at that index.
+-- The code keeps the index of the first image of each symbol; this is the image at that index.
 use Rattle.std.specs.Prelude.{◌≡◌, ℕ, List, [], ◌∷◌, Option, None, Some, slice_get}
 use Rattle.frame.specs.Substitution.{code_image}
 use Rattle.explain.specs.declared.named_images.Image.{Image}

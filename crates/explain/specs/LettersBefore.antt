@@ -1,6 +1,6 @@
 -- Letters of a compressed proof read up to one of them, for the private functions.
 -- Source: Metamath, appendix B.
--- This is the code's way to read; `Breaks` states the faults that it finds.
+-- This follows how the code reads; `Breaks` states the faults that it finds.
 use Rattle.std.specs.Prelude.{◌≡◌, ◌≢◌, ℕ, zero, suc, ◌+◌, ◌*◌, ◌<◌, ◌≤◌, IsTrue, IsFalse, List, [], ◌∷◌, ◌++◌, length}
 use Rattle.explain.specs.Words.{list_all, Name, is_first, number_from, before_rest, numbers_from, starts_with_mark}
 
@@ -10,7 +10,7 @@ zeros [] = 0
 zeros (zero ∷ numbers) = suc (zeros numbers)
 zeros (suc n ∷ numbers) = zeros numbers
 
--- before the letter at an index stand whole letter groups and marks up to `begin`, and letters U to Y that come to `digits`
+-- the letters before an index are whole letter groups and marks up to `begin`, then letters U to Y with the value `digits`
 pub record IsReadTo (labels : ℕ) (letters : List ℕ) (index limit digits begin : ℕ) : Type 0 where
   pub numbers : List ℕ
   pub front : List ℕ

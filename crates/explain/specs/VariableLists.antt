@@ -1,6 +1,6 @@
 -- The variables of expressions, each once.
--- Source: Metamath, 4.2.6: the disjoint variable condition speaks of the variables of an image.
--- The code reads each image once; the definitions of faults speak of whole images.
+-- Source: Metamath, 4.2.6: the disjoint variable condition is on the variables of an image.
+-- The code reads each image once; the definitions of faults are about whole images.
 use Rattle.std.specs.Prelude.{ℕ, ◌<◌, IsTrue, List, [], ◌∷◌, length}
 use Rattle.explain.specs.Words.{Vec, contains, nat_cmp, Name, has_name, Expr, Database, is_variable, name_at, decode, AreBelow}
 use Rattle.explain.specs.declared.named_images.Image.{Image}
@@ -18,7 +18,7 @@ AreListsOf S names [] [] = Unit {0}
 AreListsOf S names (image ∷ images) (list ∷ lists) = AreVariablesOf S names image.symbols.now list.items × AreListsOf S names images lists
 AreListsOf S names images lists = ⊥
 
--- each number that was seen stands in the list
+-- the list has each number that was seen
 abbrev pub AreSeen : List Name → VariableList → Type 0
 AreSeen names v = (x : ℕ) → IsTrue (contains nat_cmp v.seen x) → IsTrue (has_name (name_at names x) (decode names v.list.items))
 

@@ -8,7 +8,7 @@ use Rattle.explain.specs.declared.why.WhyUnproved.{WhyUnproved}
 use Rattle.explain.specs.declared.why.WhyUnproved.TheVariants.{Code, Run}
 use Rattle.explain.specs.Breaks.{IsBreak}
 
--- they break this rule of proof code; or they write these items, with this first fault
+-- they break this rule of proof code; or they write these items, whose run has this first fault
 abbrev pub IsWhy : Database → List Name → ℕ → List Name → WhyUnproved → Type 0
 IsWhy S names at tokens (Code broken) = (s : Stmt) × IsProvable S at s × IsBreak tokens (mandatory_labels S at s) broken
 IsWhy S names at tokens (Run items reason) =

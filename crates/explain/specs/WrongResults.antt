@@ -1,6 +1,6 @@
--- The results that a citation of an assertion takes, one for each of its mandatory hypotheses: taken, or wrong.
+-- The results that a citation of an assertion takes, one for each of its mandatory hypotheses: correct, or wrong.
 -- Source: Metamath, 4.2.6.
--- The code reads the images off the results and tests them; it does not write the conclusion.
+-- The code reads the images off the results and tests them; it does not compute the conclusion.
 use Rattle.std.specs.Prelude.{◌≡◌, ℕ, IsTrue, List}
 use Rattle.explain.specs.Words.{Name, Stmt, Expr, Database, before, hypotheses, mandatory_groups, are_groups_disjoint}
 use Rattle.frame.specs.Substitution.{Images}
@@ -23,7 +23,7 @@ pub record AreTaken (S : Database) (at a : ℕ) (s : Stmt) (rs : List Expr) : Ty
   pub fit : DoFit S a s rs
   pub disjoint : IsTrue (are_groups_disjoint (before S at) (images_of S a s rs) (mandatory_groups (before S a) s))
 
--- the fault of the results: the first mismatch, or two variables that are not disjoint
+-- the fault of the results: the first mismatch, or two variables that violate the disjoint variable condition
 abbrev pub IsWrong : Database → List Name → ℕ → ℕ → Stmt → List Expr → Fault → Type 0
 IsWrong S names at a s rs (Constant b p there) = IsMismatch S names a s rs (Constant b p there)
 IsWrong S names at a s rs (Expression b p required there) = IsMismatch S names a s rs (Expression b p required there)

@@ -9,14 +9,14 @@ ghost use Rattle.explain.specs.LettersBefore.{IsReadTo};
 
 use crate::why::{LetterBreak, LetterFault};
 
-/// The state before a letter.
+/// The state of reading before a letter.
 #[derive(Clone, Copy, Drop)]
 pub(crate) struct Front {
     /// The greatest number that a letter group may have here.
     limit: usize,
-    /// The value of the letters U to Y of the letter group that is begun.
+    /// The value of the letters U to Y of the current letter group read so far.
     digits: usize,
-    /// The index at which that letter group begins, or the next one.
+    /// The index at which the current letter group begins, or at which the next one does.
     begin: usize,
 }
 
@@ -50,7 +50,7 @@ pub(crate) fn letter_break(letters: &[u8], labels: usize) -> Option<LetterBreak>
     }
 }
 
-/// Returns whether a mark stands first.
+/// Returns whether the first letter is a mark.
 fn begins_with_mark(letters: &[u8]) -> bool
     ensures { result ≡ starts_with_mark letters.now }
 {
@@ -102,7 +102,7 @@ impl Front {
         }
     }
 
-    /// Returns the fault of the letter group that is begun.
+    /// Returns this fault at the beginning of the current letter group.
     fn broken(self, fault: LetterFault) -> LetterBreak
         ensures letter { result.letter ≡ self.begin }
         ensures fault { result.fault ≡ fault }

@@ -14,18 +14,18 @@ use proof_code::{MOST_LETTERS, is_compressed, names_of};
 use std::alloc::{AllocError, Global};
 use std::collections::BTreeSet;
 
-/// A fault of a token of a proof.
+/// A test that finds a faulty token of a proof.
 #[derive(Clone, Copy, Drop)]
 pub(crate) enum Test {
     /// The token has the byte `?`.
     Unfinished,
-    /// The token is no label.
+    /// The token is not a label.
     NotLabel,
-    /// The token is no label, or is that of a mandatory hypothesis.
+    /// The token is not a label, or is the label of a mandatory hypothesis.
     NotListed,
 }
 
-/// Returns the rule of proof code that the tokens break, which must write no items under these mandatory labels.
+/// Returns the rule of proof code that the tokens break. They must write no items under these mandatory labels.
 ///
 /// Errors: an allocation fails, or there are more than `MOST_LETTERS` tokens, mandatory labels or letters.
 pub(crate) fn code_break(
@@ -51,7 +51,7 @@ pub(crate) fn code_break(
     }
 }
 
-/// Returns the rule that a compressed proof breaks in which no token has the byte `?`.
+/// Returns the rule that a compressed proof without the byte `?` breaks.
 fn compressed_break(
     alloc: Global,
     tokens: &Words,
@@ -69,7 +69,7 @@ fn compressed_break(
     }
 }
 
-/// Returns the rule that such a proof breaks, given the names of the mandatory labels.
+/// Returns the rule that a compressed proof without the byte `?` breaks, given the mandatory labels as a set.
 fn listed_break(
     alloc: Global,
     tokens: &Words,
@@ -111,8 +111,8 @@ fn listed_break(
 
 /// Returns the first of the tokens with this fault, and its index. Consumes the tokens up to it.
 ///
-/// Cost: the tokens; for `NotListed` times the logarithm of the number of mandatory labels if their names are given, else times
-/// that number.
+/// Cost: linear in the tokens; for `NotListed` times the logarithm of the number of mandatory labels if their set is given,
+/// else times that number.
 fn first_of<'a>(
     words: &mut WordIter<'a>,
     mandatory: &Words,
@@ -157,7 +157,7 @@ fn join(alloc: Global, words: &mut WordIter<'_>) -> Result<Vec<u8>, AllocError>
     Ok(letters)
 }
 
-/// Returns whether a name is one of the labels, whose names may be given as a set.
+/// Returns whether a name is one of the labels, which may also be given as a set.
 fn has(labels: &Words, names: Option<&BTreeSet<&[u8]>>, name: &[u8]) -> bool
     requires { IfSome names (λ set. AreNames set.now labels.now) }
     ensures { result ≡ has_name name.now labels.now }

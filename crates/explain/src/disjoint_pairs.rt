@@ -1,4 +1,4 @@
-//! The pairs of variables of an assertion whose images were found disjoint.
+//! A cache of pairs of variables of an assertion whose images are known to be disjoint.
 ghost use Rattle.std.specs.Prelude.{◌≡◌, List, [], IsTrue};
 ghost use Rattle.mm_lex.specs.Alphabet.{Name};
 ghost use Rattle.mm_read.specs.Statements.{Database};
@@ -18,10 +18,10 @@ pub struct VariablePair {
     pub second: u32,
 }
 
-/// Pairs of variables whose images are disjoint, so that a pair that stands in many groups is tested once.
+/// A cache of pairs of variables whose images are disjoint, so that a pair that is in many groups is tested once.
 #[derive(Drop)]
 pub struct DisjointPairs {
-    /// The index of a pair by its key. An index may be stale: the pair there is compared.
+    /// The index of a pair by its key. An index may be stale, so the pair at it is compared.
     indexes: BTreeMap<u64, usize>,
     pub pairs: Vec<VariablePair>,
 }
@@ -37,7 +37,7 @@ impl DisjointPairs {
         }
     }
 
-    /// Returns whether two variables are a recorded pair, whatever their order.
+    /// Returns whether two variables are a recorded pair, in either order.
     ///
     /// Cost: log n for n pairs.
     pub fn has(&self, first: u32, second: u32) -> bool
@@ -66,12 +66,12 @@ impl DisjointPairs {
     }
 }
 
-/// Returns one number for two variables, whatever their order.
+/// Returns a key for two variables, the same in either order.
 fn key(first: u32, second: u32) -> u64 {
     (first.min(second) as u64) << 32 | first.max(second) as u64
 }
 
-/// Returns whether the pair at an index is of these two variables, whatever their order.
+/// Returns whether the pair at an index consists of these two variables, in either order.
 fn is_pair_at(pairs: &[VariablePair], index: usize, first: u32, second: u32) -> bool
     ensures { IsTrue result → IsPairAt pairs.now index first second }
 {
@@ -81,7 +81,7 @@ fn is_pair_at(pairs: &[VariablePair], index: usize, first: u32, second: u32) -> 
     }
 }
 
-/// Returns whether a pair is of these two variables, in this order.
+/// Returns whether a pair consists of these two variables, in this order.
 fn is_of(pair: VariablePair, first: u32, second: u32) -> bool
     ensures { IsTrue result → (pair.first ≡ first) × (pair.second ≡ second) }
 {

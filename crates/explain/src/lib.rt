@@ -1,8 +1,8 @@
 //! Why a proof is refused.
 //!
 //! `explain` returns the reason why the tokens of a `$p` do not prove it: the rule of proof code that they break, or the first
-//! fault of the run over the items that they write. It is called only after a refusal. `first_fault` lets the verifier run
-//! over the items, and explains the item at which the run stops by the results before it.
+//! fault of the run over the items that they write. It is called only after a refusal. `first_fault` runs the verifier over
+//! the items, and derives the fault of the item at which the run stops from the results at that point.
 //!
 //! Reading order: `why`, `proof_fault`, `code`, `broken_letters`; then `reason`, `named_images`, `variable_lists`,
 //! `disjoint_pairs`, `violation`, `named_citation`, `run`.

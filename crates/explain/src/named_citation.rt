@@ -1,4 +1,4 @@
-//! One citation.
+//! Explains why one citation fails.
 ghost use Rattle.std.specs.Prelude.{◌≡◌, ℕ, ◌<◌, ◌≤◌, drop, length, IfOk, MatchOption, Some};
 ghost use Rattle.mm_read.specs.declared.stmt.Stmt.{Stmt as Statement};
 ghost use Rattle.frame.specs.Below.{AllBelow};
@@ -24,7 +24,7 @@ use verify::Results;
 
 /// Returns why the statement at a position cannot be cited, given the earlier results.
 ///
-/// Errors: an allocation fails, or the expression that a hypothesis requires is above the limit of a weight.
+/// Errors: an allocation fails, or the expression that a hypothesis requires has more than `SYMBOLS_LIMIT` symbols.
 pub fn cite(
     alloc: Global,
     frames: &Frames,
@@ -72,7 +72,7 @@ fn cite_assertion(
     cite_parts(alloc, frames, at, a, mandatory.as_slice(), &cited, results)
 }
 
-/// Returns why an earlier assertion cannot be cited, given its mandatory hypotheses and its parts.
+/// Returns why an earlier assertion cannot be cited, given its mandatory hypotheses and a view of it.
 fn cite_parts(
     alloc: Global,
     frames: &Frames,
@@ -128,7 +128,7 @@ fn last_results<'a>(
 }
 
 /// Returns the fault of these results, one for each hypothesis of an assertion, or `None` if its hypotheses require them and
-/// its pairs are disjoint. Does not write the conclusion.
+/// its disjoint variable conditions hold. Does not compute the conclusion.
 fn find_wrong(
     alloc: Global,
     frames: &Frames,
@@ -168,7 +168,7 @@ fn find_wrong(
     Ok(None)
 }
 
-/// Returns the fault of the first hypothesis that requires another result than the one that stands there.
+/// Returns the fault of the first hypothesis whose result is not the one that it requires, if there is one.
 fn find_other(
     alloc: Global,
     frames: &Frames,
@@ -211,7 +211,7 @@ fn find_other(
     Ok(None)
 }
 
-/// Returns the fault of a result that is not the one that the hypothesis requires.
+/// Returns the fault for a result that differs from the one that the hypothesis requires.
 fn other(
     kind: Hypothesis,
     typecode: u32,

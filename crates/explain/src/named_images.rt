@@ -1,4 +1,4 @@
-//! The images that the results for `$f` give to variables, and their substitution in an expression.
+//! The substitution that the results for `$f` give, as an image for each variable, and its application to an expression.
 ghost use Rattle.std.specs.Prelude.{◌≡◌, ℕ, ◌<◌, ◌≤◌, ◌+◌, ◌^◌, ◌∷◌, ◌++◌, ◌↔◌, [], List, length, drop, IfOk, IfNone, IfSome, IsTrue, MatchOption};
 ghost use Rattle.frame.specs.Below.{AreBelow};
 ghost use Rattle.frame.specs.Substitution.{code_image, code_apply};
@@ -11,14 +11,14 @@ use std::alloc::{AllocError, Global};
 use std::collections::BTreeMap;
 use std::marker::Model;
 
-/// The image of a variable, which is a part of a result.
+/// The image of a variable under the substitution, borrowed from a result.
 #[derive(Clone, Copy, Drop)]
 pub struct Image<'a> {
     pub variable: u32,
     pub symbols: &'a [u32],
 }
 
-/// Images, with the index of the first one for each variable. Contracts see the list of the images.
+/// The images of variables, with an index of the first one for each variable. Contracts see the list of the images.
 #[derive(Drop)]
 pub struct Images<'a> {
     list: Vec<Image<'a>>,
@@ -40,7 +40,7 @@ impl<'a> Model for Images<'a> {
 }
 
 impl<'a> Images<'a> {
-    /// Returns the images with their index.
+    /// Indexes the images.
     ///
     /// Errors: an allocation fails. Cost: n log n for n images.
     pub fn new(alloc: Global, list: Vec<Image<'a>>) -> Result<Images<'a>, AllocError>
@@ -69,7 +69,7 @@ impl<'a> Images<'a> {
     }
 }
 
-/// Returns the images that results give: the result for a `$f`, without its typecode, is the image of its variable.
+/// Returns the images that the results give: the result for a `$f`, without its typecode, is the image of its variable.
 pub fn read_images<'a>(
     alloc: Global,
     kinds: &Hypotheses<'_>,
@@ -83,7 +83,7 @@ pub fn read_images<'a>(
     Images::new(alloc, list)
 }
 
-/// Returns the list of these images.
+/// Returns the images that the results give, as a list.
 fn list_images<'a>(
     alloc: Global,
     kinds: &Hypotheses<'_>,
@@ -125,7 +125,7 @@ pub fn image_or<'a>(images: &'a Images<'_>, symbol: u32, own: &'a [u32]) -> &'a 
     }
 }
 
-/// Returns the expression with the images substituted, if it has no more symbols than there is room for.
+/// Returns the expression with the images substituted, or `None` if it would have more than `room` symbols.
 pub fn apply(
     alloc: Global,
     images: &Images<'_>,

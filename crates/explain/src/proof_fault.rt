@@ -21,8 +21,8 @@ use verify::{Answer, Checker};
 
 /// Returns why the tokens do not prove the `$p` at a position, or `None` if they do.
 ///
-/// Errors: an allocation fails; an expression that a hypothesis requires is above the limit of a weight; or there are more
-/// than 2^30 tokens, mandatory labels or letters. Cost: that of judging the proof, and of `first_fault`.
+/// Errors: an allocation fails; an expression that a hypothesis requires has more than `SYMBOLS_LIMIT` symbols; or there are
+/// more than 2^30 tokens, mandatory labels or letters. Cost: that of verifying the proof, and of `first_fault`.
 pub fn explain(
     alloc: Global,
     frames: &Frames,
@@ -39,7 +39,7 @@ pub fn explain(
     }
 }
 
-/// Returns why the tokens do not prove the `$p`.
+/// Returns why the tokens do not prove the `$p`, given that they do not.
 fn explain_wrong(
     alloc: Global,
     frames: &Frames,
@@ -74,7 +74,7 @@ fn items_of(alloc: Global, tokens: &Words, mandatory: &Words) -> Result<Option<I
 
 /// Returns the labels of the mandatory hypotheses of the `$p` at a position, in order.
 ///
-/// A label that is no word, which no statement that was read has, is reported as out of memory.
+/// A label that is not a word is reported as out of memory; no parsed statement has one.
 fn labels_of(alloc: Global, frames: &Frames, at: usize) -> Result<Words, AllocError>
     requires { (s : Statement) × IsProvable frames.now.statements at s }
     ensures { IfOk result (λ labels. (s : Statement) → IsProvable frames.now.statements at s → labels ≡ mandatory_labels frames.now.statements at s) }

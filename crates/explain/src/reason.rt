@@ -1,17 +1,17 @@
 //! Why a proof is wrong.
 
-/// Why a proof is wrong. Statements are given by their positions from 1, symbols by their numbers in `Frames`.
+/// Why a proof is wrong. Statements are given by their positions, counted from 1, symbols by their numbers in `Frames`.
 #[derive(Debug, Drop)]
 pub enum Reason {
     /// An item, counted from 0, has a fault.
     Item { item: usize, fault: Fault },
-    /// The count of the results that are left at the end is not 1.
+    /// The number of results on the stack at the end is not 1.
     Results { count: usize },
-    /// The one result at the end is not the theorem's expression.
+    /// The only result at the end is not the theorem's expression.
     Theorem { proved: Vec<u32> },
 }
 
-/// A fault at an item.
+/// A fault of an item.
 #[derive(Debug, Drop)]
 pub enum Fault {
     /// No statement has the label.
@@ -20,17 +20,17 @@ pub enum Fault {
     Inactive {
         hypothesis: usize,
     },
-    /// The statement is the theorem or stands after it.
+    /// The statement is the theorem itself or a later one.
     Later {
         statement: usize,
     },
-    /// The assertion takes more results than there are.
+    /// The assertion takes more results than the stack has.
     Few {
         assertion: usize,
         takes: usize,
         there: usize,
     },
-    /// The result for a `$f` has another typecode.
+    /// The result for a `$f` has another typecode than the `$f`.
     Constant {
         assertion: usize,
         hypothesis: usize,
@@ -43,8 +43,8 @@ pub enum Fault {
         required: Vec<u32>,
         result: Vec<u32>,
     },
-    /// The variables `first` and `second` of the assertion must be disjoint, but `one` stands in the image of `first`, `other`
-    /// in that of `second`, and no active `$d` has `one` and `other` together; these may be the same.
+    /// The variables `first` and `second` of the assertion must be disjoint, but `one` occurs in the image of `first`, `other`
+    /// in that of `second`, and `one` and `other` are the same variable or no active `$d` has both.
     Together {
         assertion: usize,
         first: u32,
@@ -52,7 +52,7 @@ pub enum Fault {
         one: u32,
         other: u32,
     },
-    /// The lengths of all results add up to more than the limit.
+    /// The lengths of all results, with that of this item, add up to more than the limit.
     Heavy,
     /// There is no result to mark, or none marked with this number.
     Unmarked,

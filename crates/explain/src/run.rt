@@ -16,10 +16,10 @@ use proof_code::Items;
 use std::alloc::{AllocError, Global};
 use verify::{Failure, Results, first_failure};
 
-/// Returns the first fault of the run over the items of a proof of the `$p` at a position, or `None` if they are a right
-/// proof of it.
+/// Returns the first fault of the run over the items of a proof of the `$p` at a position, or `None` if they are a
+/// correct proof of it.
 ///
-/// Errors: an allocation fails, or the expression that a hypothesis requires is above the limit of a weight.
+/// Errors: an allocation fails, or the expression that a hypothesis requires has more than `SYMBOLS_LIMIT` symbols.
 /// Cost: that of `verify::check`, and that of the one citation that fails: the lengths of the results that it takes, and a
 /// comparison of the images of each two variables that must be disjoint.
 pub fn first_fault(
@@ -48,7 +48,7 @@ pub fn first_fault(
     }
 }
 
-/// Returns the fault of an item that cannot be done. The number of an item is 0 for a mark, up to the count of the labels
+/// Returns the fault of the item at which the run stops. The number of an item is 0 for a mark, up to the count of the labels
 /// for a citation, greater for a recall.
 fn fault_at(
     alloc: Global,
@@ -79,7 +79,7 @@ fn fault_at(
     }
 }
 
-/// Returns the fault of a recall that cannot be made, by the index of the result among those after the ones kept for labels.
+/// Returns the fault of a recall that fails. The index counts the marked results, which follow those kept for labels.
 fn recall_fault(results: &Results, labels: usize, index: usize) -> Fault
     ensures marked { index < length results.now.results.saved - labels → result ≡ Heavy }
     ensures unmarked { length results.now.results.saved - labels ≤ index → result ≡ Unmarked }
@@ -91,7 +91,7 @@ fn recall_fault(results: &Results, labels: usize, index: usize) -> Fault
     }
 }
 
-/// Returns the reason at the end, if the results are not the theorem's expression alone.
+/// Returns the reason at the end of a run that does not leave the theorem's expression as its only result.
 fn end(alloc: Global, results: &Results) -> Result<Reason, AllocError>
     ensures { IfOk result (IsEnd results.now.results.stack) }
 {

@@ -1,4 +1,4 @@
-//! The variables of images, each image read once.
+//! Lists the variables of each image, so that each image is read once.
 ghost use Rattle.std.specs.Prelude.{◌≡◌, ◌<◌, ◌∷◌, [], List, length, slice_get, IfOk, IsTrue, OnOk, Some};
 ghost use Rattle.mm_lex.specs.Alphabet.{Name};
 ghost use Rattle.mm_read.specs.Statements.{Database};
@@ -12,16 +12,16 @@ use frame::Pairs;
 use std::alloc::{AllocError, Global};
 use std::collections::BTreeSet;
 
-/// The size of the table of recent variables: a variable is found without a search if it was the last one to be added of those
-/// with its number modulo this.
+/// The size of the table of recent variables. A variable is found without a search if it was the last one added among those
+/// whose numbers are the same modulo this size.
 const RECENT: usize = 256;
 
-/// The variables that were found, each once, in the order in which they came first.
+/// Distinct variables, in the order of their first occurrences.
 #[derive(Drop)]
 pub struct VariableList {
     list: Vec<u32>,
     seen: BTreeSet<u32>,
-    /// The index in the list of the last variable that was added with each number modulo `RECENT`.
+    /// For each number modulo `RECENT`, the index in the list of the variable that was added last.
     recent: [usize; RECENT],
 }
 
@@ -46,7 +46,7 @@ impl VariableList {
     }
 }
 
-/// Returns whether a number stands at an index.
+/// Returns whether the list has this number at an index.
 fn is_at(list: &[u32], index: usize, code: u32) -> bool
     ensures { IsTrue result → slice_get list.now index ≡ Some code }
 {
@@ -56,9 +56,9 @@ fn is_at(list: &[u32], index: usize, code: u32) -> bool
     }
 }
 
-/// Returns the variables of an expression, each once, in the order in which they come first.
+/// Returns the distinct variables of an expression, in the order of their first occurrences.
 ///
-/// Errors: an allocation fails. Cost: the symbols, times a logarithm if there are many variables.
+/// Errors: an allocation fails. Cost: linear in the symbols, times log n for n variables if they are many.
 fn variables_of(alloc: Global, pairs: &Pairs<'_>, symbols: &[u32]) -> Result<Vec<u32>, AllocError>
     requires { AreBelow (length pairs.now.names) symbols.now }
     ensures { IfOk result (λ list. AreVariablesOf pairs.now.statements pairs.now.names symbols.now list.items) }
@@ -74,7 +74,7 @@ fn variables_of(alloc: Global, pairs: &Pairs<'_>, symbols: &[u32]) -> Result<Vec
     Ok(variables.list)
 }
 
-/// Returns for each image the variables that stand in it.
+/// Returns for each image the list of its variables.
 ///
 /// Errors: an allocation fails. Cost: that of `variables_of` for each image.
 pub fn variable_lists(
@@ -93,7 +93,7 @@ pub fn variable_lists(
     Ok(lists)
 }
 
-/// Returns the list of the image of a symbol, or `own`, the symbol alone, if it has no image.
+/// Returns the list of the variables in the image of a symbol, or `own`, the symbol alone, if it has no image.
 pub fn list_or<'a>(
     images: &Images<'_>,
     lists: &'a [Vec<u32>],

@@ -1,4 +1,4 @@
-//! Two variables whose images are not disjoint.
+//! Finds two variables whose images violate the disjoint variable condition.
 ghost use Rattle.std.specs.Prelude.{◌≡◌, ◌<◌, ◌-◌, length, map, slice_get, true, IfOk, IsTrue, MatchOption};
 ghost use Rattle.std.specs.List.{list_all};
 ghost use Rattle.names.specs.Codes.{AreDistinct, name_at, decode};
@@ -18,7 +18,7 @@ use entries::Groups;
 use frame::Pairs;
 use std::alloc::{AllocError, Global};
 
-/// Two variables of an assertion, and a variable in the image of each; no active `$d` has these two together.
+/// Two variables of an assertion, and a variable in the image of each; these are the same, or no active `$d` has both.
 #[derive(Clone, Copy, Drop)]
 pub struct DisjointViolation {
     pub first: u32,
@@ -27,10 +27,10 @@ pub struct DisjointViolation {
     pub other: u32,
 }
 
-/// Returns the first violation of the images of variables that stand together in one of the groups.
+/// Returns the first violation by the images of two variables that are in one of the groups.
 ///
-/// Errors: an allocation fails. Cost: the symbols of the images, each once; for each two variables of a group a look-up, and
-/// that of `shared` for each pair that is not among the at most 65,536 recorded as disjoint.
+/// Errors: an allocation fails. Cost: one pass over the images; for each two variables of a group a look-up, and the cost of
+/// `shared` unless the pair is among the at most 65,536 recorded as disjoint.
 pub fn find_violation(
     alloc: Global,
     pairs: &Pairs<'_>,
@@ -88,9 +88,9 @@ fn is_repeated(groups: &Groups<'_>, index: usize) -> bool
     index > 0 && groups.get(index) == groups.get(index - 1)
 }
 
-/// Returns the first violation of the images of variables of one group.
+/// Returns the first violation by the images of two variables of one group.
 ///
-/// Cost: for each two variables of the group that of `shared_by`.
+/// Cost: that of `shared_by` for each two variables of the group.
 fn violation_in(
     pairs: &Pairs<'_>,
     images: &Images<'_>,
@@ -157,10 +157,10 @@ fn violation_with(
     None
 }
 
-/// Returns a variable of the image of `first` and one of that of `second` which are the same or stand together in no active
-/// `$d`; `None` if the images are disjoint, which is then recorded.
+/// Returns a variable of the image of `first` and one of the image of `second` that are the same or that no active `$d` has
+/// together; `None` if the images are disjoint, and then records the pair.
 ///
-/// Cost: that of looking the pair up; if it is not recorded, also that of `shared`.
+/// Cost: a look-up of the pair; if it is not recorded, also the cost of `shared`.
 fn shared_by(
     pairs: &Pairs<'_>,
     images: &Images<'_>,
@@ -197,9 +197,9 @@ fn shared_by(
     }
 }
 
-/// Returns a variable of each expression such that the two are the same or stand together in no active `$d`.
+/// Returns a variable of each expression such that the two are the same or no active `$d` has both, if there are such.
 ///
-/// Cost: the product of their symbols, times that of `Pairs::has`.
+/// Cost: the product of their lengths, times the cost of `Pairs::has`.
 fn shared(pairs: &Pairs<'_>, left: &[u32], right: &[u32]) -> Option<(u32, u32)>
     requires left { AreBelow (length pairs.now.names) left.now }
     requires right { AreBelow (length pairs.now.names) right.now }
@@ -215,7 +215,8 @@ fn shared(pairs: &Pairs<'_>, left: &[u32], right: &[u32]) -> Option<(u32, u32)>
     None
 }
 
-/// Returns a variable of the expression that is `one` or stands with it in no active `$d`; `None` if `one` is no variable.
+/// Returns a variable of the expression that is `one`, or that no active `$d` has together with `one`; `None` if `one` is not
+/// a variable.
 fn not_with(pairs: &Pairs<'_>, one: u32, right: &[u32]) -> Option<u32>
     requires one { one < length pairs.now.names }
     requires right { AreBelow (length pairs.now.names) right.now }

@@ -8,7 +8,7 @@ use proof_code::Items;
 pub enum WhyUnproved {
     /// They write no items.
     Code(CodeBreak),
-    /// They write these items, and the run over them meets this first.
+    /// They write these items, and the run over them has this first fault.
     Run { items: Items, reason: Reason },
 }
 
@@ -17,17 +17,17 @@ pub enum WhyUnproved {
 pub enum CodeBreak {
     /// The first token with the byte `?`.
     Unfinished { token: usize },
-    /// The first token that is no label, where a label has to stand.
+    /// The first token that is not a label where a label is required.
     NotLabel { token: usize },
-    /// The first listed label that is one of a mandatory hypothesis.
+    /// The first listed label that is the label of a mandatory hypothesis.
     Mandatory { token: usize },
     /// No `)` follows the listed labels.
     Unclosed,
-    /// The letters after `)`.
+    /// The letters after `)` break a rule.
     Letters(LetterBreak),
 }
 
-/// The rule that the letters of a compressed proof break, and a letter by its index from 0 among those of all tokens after
+/// The rule that the letters of a compressed proof break, and the index of a letter, from 0, among those of all tokens after
 /// `)`.
 #[derive(Clone, Copy, Debug, Drop)]
 pub struct LetterBreak {
@@ -35,16 +35,16 @@ pub struct LetterBreak {
     pub fault: LetterFault,
 }
 
-/// A fault of the letters at an index; all letters before it write items, or begin the letter group in
-/// which it stands.
+/// A fault of the letters at an index. The letters before it write items, or are the beginning of its letter
+/// group.
 #[derive(Clone, Copy, Debug, Drop)]
 pub enum LetterFault {
-    /// The byte is none of A to Z.
+    /// The byte is not one of A to Z.
     NotLetter,
     /// No letter A to T ends the letters U to Y that begin here.
     NotEnded,
     /// A mark stands before any number.
     EarlyMark,
-    /// The letter group that begins here has a number greater than the count of labels and marks so far.
+    /// The number of the letter group that begins here is greater than the count of labels and marks so far.
     TooGreat,
 }

@@ -1,4 +1,4 @@
-//! Statements that break a rule.
+//! Explains which rule a statement breaks.
 use crate::statement_symbols::{first_symbol_token, label_of, symbol_at};
 use crate::text_tokens::TextTokens;
 use crate::written_lines::Page;
@@ -12,12 +12,12 @@ use std::alloc::Global;
 struct Broken<'a> {
     tokens: &'a TextTokens<'a>,
     statements: &'a [Stmt],
-    /// The statement, from 1.
+    /// The statement, counted from 1.
     statement: usize,
     rule: Rule,
 }
 
-/// Writes the rule that the statement breaks, and, if there are such, the symbol or label that breaks it and the place of the
+/// Writes the rule that the statement breaks, and, if there are any, the symbol or label that breaks it and the place of the
 /// other declaration.
 pub(crate) fn explain_rule(
     alloc: Global,
@@ -33,7 +33,7 @@ pub(crate) fn explain_rule(
     }
 }
 
-/// Writes the same, given the statements of the text.
+/// Writes the rule that the statement breaks, given the statements of the text.
 fn explain_read(
     alloc: Global,
     page: &mut Page<'_>,
@@ -113,10 +113,10 @@ fn explain_violation(
     }
 }
 
-/// Writes that a `$c` stands in a block, or that a `$}` closes none.
+/// Writes that a `$c` is inside a block, or that a `$}` closes none.
 fn explain_alone(page: &mut Page<'_>, broken: &Broken<'_>) {
     push_start(page, broken, broken.statement, 1);
-    // G1: a `$c` stands in the outermost block. The other rule that a whole statement breaks is G10: a `$}` closes a block.
+    // G1: a `$c` is in the outermost block. The other rule that a whole statement breaks is G10: a `$}` closes a block.
     if broken.rule == Rule::G1 {
         return page.push(
             b"this $c stands inside a block; constants are declared outside all blocks\n",
@@ -135,7 +135,7 @@ fn push_symbol(page: &mut Page<'_>, broken: &Broken<'_>, stmt: &Stmt, symbol: us
 fn explain_symbol(page: &mut Page<'_>, broken: &Broken<'_>, stmt: &Stmt, symbol: usize) {
     push_symbol(page, broken, stmt, symbol);
     // G5: each symbol of an expression is a constant or an active variable. G6: the first is a constant. G9: each variable has
-    // an active `$f`. Else the symbol is to be an active variable: the second of a `$f` (G7), or one of a `$d` (G8).
+    // an active `$f`. Otherwise the symbol must be an active variable: the second of a `$f` (G7), or one of a `$d` (G8).
     match broken.rule {
         Rule::G5 => page.push(b" is neither a constant nor an active variable\n"),
         Rule::G6 => page.push(b" is no constant, and an expression begins with a constant\n"),
@@ -175,7 +175,7 @@ fn explain_label(page: &mut Page<'_>, broken: &Broken<'_>, stmt: &Stmt, other: u
     push_other(page, broken, label_of(stmt), other);
 }
 
-/// Writes the use that the other statement makes of the name, and the place of it.
+/// Writes how the other statement uses the name, and where.
 fn push_other(page: &mut Page<'_>, broken: &Broken<'_>, name: &[u8], other: usize) {
     let Some(stmt) = broken.statements.get(other.saturating_sub(1)) else {
         page.push(b"\n");
@@ -188,7 +188,7 @@ fn push_other(page: &mut Page<'_>, broken: &Broken<'_>, name: &[u8], other: usiz
     page.push(b"\n");
 }
 
-/// Returns the message for the use that a statement makes of a name, and the number of the token that has it, from 1.
+/// Returns the message for how a statement uses a name, and the number, from 1, of the token that is the name.
 fn told(stmt: &Stmt, name: &[u8]) -> (&'static [u8], usize) {
     match stmt {
         Stmt::Const(names) => (
@@ -204,7 +204,7 @@ fn told(stmt: &Stmt, name: &[u8]) -> (&'static [u8], usize) {
     }
 }
 
-/// Returns the index of a name among these, 0 if it is not there.
+/// Returns the index of a name among these names, or 0 if it is not one of them.
 fn place_in(names: &mm_lex::Words, name: &[u8]) -> usize {
     let mut index = 0usize;
     let mut left = names.iter();

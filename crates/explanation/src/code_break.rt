@@ -36,7 +36,7 @@ pub(crate) fn explain_break(page: &mut Page<'_>, theorem: &Theorem<'_>, broken: 
     }
 }
 
-/// Writes that a listed label is that of a mandatory hypothesis.
+/// Writes that a listed label is the label of a mandatory hypothesis.
 fn push_mandatory(page: &mut Page<'_>, theorem: &Theorem<'_>, token: usize) {
     push_unread(page, theorem, Spot { token, byte: 0 });
     page.push(token_at(theorem.proof, token));
@@ -58,7 +58,7 @@ fn push_unread(page: &mut Page<'_>, theorem: &Theorem<'_>, spot: Spot) {
     page.push(b" cannot be read\n  ");
 }
 
-/// Returns the message for a token that is no label.
+/// Returns the message for a token that is not a label.
 fn no_label(proof: &Words) -> &'static [u8] {
     if is_compressed(proof) {
         b"this token is no label, and no ) stands before it"

@@ -1,4 +1,4 @@
-//! The refusals that are explained, and the lines of an explanation.
+//! The faults of a database, and the calls that explain them.
 
 ghost use Rattle.std.specs.Prelude.{◌≤◌, length, IfOk};
 
@@ -17,11 +17,11 @@ use unproved::Entered;
 pub enum DatabaseFault {
     /// It has too many bytes.
     TooLong,
-    /// A byte or a comment is at fault.
+    /// A byte or a comment is faulty.
     Text,
-    /// Its tokens are no list of statements.
+    /// Its tokens do not parse as statements.
     Shape,
-    /// A statement, counted from 1, breaks a rule; one above the last if a block is open at the end.
+    /// A statement, counted from 1, breaks a rule. The number is one above the last if a block is open at the end.
     Rule { statement: usize, rule: Rule },
     /// The proof of a `$p` is wrong.
     Proof { statement: usize },
@@ -29,11 +29,11 @@ pub enum DatabaseFault {
     Unfinished { statement: usize },
 }
 
-/// Returns the lines that say why the text is refused, at most 65,536 bytes. They are unspecified if it
-/// does not have this fault. The name of its file, if given, stands before each place.
+/// Returns the lines that explain why the text is refused, at most 65,536 bytes. They are unspecified if
+/// it does not have this fault. The name of its file, if given, is written before each place.
 ///
-/// Errors: an allocation fails, or those of `explain::explain`. Cost: a few passes over the text, that of
-/// adding its statements once more, and for a proof that of `explain::explain`.
+/// Errors: an allocation fails, or those of `explain::explain`. Cost: a few passes over the text, the cost
+/// of adding its statements again, and for a proof that of `explain::explain`.
 pub fn explain_refusal(
     alloc: Global,
     name: Option<&str>,
@@ -47,9 +47,9 @@ pub fn explain_refusal(
     page.into_lines()
 }
 
-/// Returns the lines that say why a text is refused after the statements of a library, at most 65,536 bytes. The first
-/// `before` bytes of `text` are the export form of these statements; places are counted in the rest. The number in `fault` counts
-/// from the first statement of the library.
+/// Returns the lines that explain why a text is refused after the statements of a library, at most 65,536 bytes. The first
+/// `before` bytes of `text` are the export of the library; lines and columns are counted in the rest, which is the refused
+/// text. The statement number in `fault` counts from the first statement of the library.
 ///
 /// Errors and cost: those of `explain_refusal`.
 pub fn explain_after(
@@ -65,10 +65,10 @@ pub fn explain_after(
     page.into_lines()
 }
 
-/// Returns the lines that say why the proof of the `$p` at a position is not right, at most 65,536
-/// bytes; none if it is right, or if no `$p` stands there. The statements are those of the text.
+/// Returns the lines that explain why the proof of the `$p` at a position is wrong, at most 65,536 bytes;
+/// none if it is correct, or if there is no `$p`. The statements are those of the text.
 ///
-/// Errors: those of `explain::explain`. Cost: that of `explain::explain`, and that of going over the text.
+/// Errors: those of `explain::explain`. Cost: that of `explain::explain`, and a pass over the text.
 pub fn explain_unproved(
     alloc: Global,
     name: Option<&str>,

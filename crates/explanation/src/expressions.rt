@@ -1,16 +1,16 @@
-//! Writes expressions, given by numbers, as their symbols.
+//! Writes expressions, given as symbol numbers, in symbols.
 
 use crate::written_lines::Page;
 use frame::Frames;
 
-/// The greatest number of symbols of an expression that are written.
+/// The most symbols that are written of an expression.
 const MOST_SYMBOLS: usize = 400;
 
-/// The greatest number of bytes of an expression that are written, with a space before each symbol.
+/// The most bytes that are written of an expression, with a space before each symbol.
 const MOST_EXPRESSION_BYTES: usize = 4_096;
 
-/// Writes the symbols of an expression, with a space before each. Cuts a long one before the first symbol that goes beyond
-/// either limit, and writes the number of its symbols.
+/// Writes the symbols of an expression, with a space before each. Truncates a long one before the first symbol that would
+/// exceed either limit, and writes how many symbols it has.
 ///
 /// Cost: the bytes that are written.
 pub(crate) fn push_expression(page: &mut Page<'_>, frames: &Frames, expr: &[u32]) {

@@ -1,21 +1,21 @@
 //! Finds an item or a letter among the tokens of a proof.
 //!
-//! An item is a citation, a recall of a marked result, or a mark `Z`. Its number is that of the label that it cites, or goes on
-//! from these for a recall, and is 0 for a mark. In a normal proof each token is an item, a citation. In a compressed proof the
-//! items are among the letters after `)`: a citation or recall is a letter group, letters U to Y and then one of A to T, and
-//! spaces do not count.
+//! An item is a citation, a recall of a marked result, or a mark `Z`. The number of a citation is that of its label; recalls are
+//! numbered after the labels; a mark has the number 0. In a normal proof each token is an item, a citation. In a compressed
+//! proof the items are in the letters after `)`: a citation or recall is a letter group, letters U to Y and then one of A to T,
+//! and spaces do not count.
 
 use mm_lex::Words;
 use proof_code::is_compressed;
 
-/// A token of a proof, from 0, and a byte of it.
+/// The index of a token of a proof and of a byte of the token, both from 0.
 #[derive(Clone, Copy)]
 pub(crate) struct Spot {
     pub(crate) token: usize,
     pub(crate) byte: usize,
 }
 
-/// Returns where the item at an index begins: its token, or its letter `Z`, or the first letter of its letter group.
+/// Returns where the item at an index begins: at its token, its letter `Z`, or the first letter of its letter group.
 pub(crate) fn spot_of(proof: &Words, item: usize) -> Spot {
     if is_compressed(proof) {
         group_spot(proof, item)
@@ -27,7 +27,7 @@ pub(crate) fn spot_of(proof: &Words, item: usize) -> Spot {
     }
 }
 
-/// Returns where the letter group or mark at an index begins among the letters; after the last token if there are fewer.
+/// Returns where the letter group or mark at an index begins among the letters, or the end of the tokens if there are fewer.
 fn group_spot(proof: &Words, item: usize) -> Spot {
     let mut is_past = false;
     let mut left = proof.iter();
@@ -54,7 +54,7 @@ fn group_spot(proof: &Words, item: usize) -> Spot {
     Spot { token, byte: 0 }
 }
 
-/// Returns where the letter at an index among those of all tokens after `)` stands; after the last token if there are fewer.
+/// Returns where the letter at an index among those of all tokens after `)` is, or the end of the tokens if there are fewer.
 pub(crate) fn letter_spot(proof: &Words, letter: usize) -> Spot {
     let mut is_past = false;
     let mut left = proof.iter();
@@ -78,8 +78,8 @@ fn ends_item(letter: u8) -> bool {
     letter.is_ascii_uppercase() && (letter <= b'T' || letter == b'Z')
 }
 
-/// Returns the number of the step that the item is: the count of citations and recalls up to it. For a mark it is the number
-/// of the step whose result it marks.
+/// Returns the step number of the item: the count of citations and recalls up to and including it. For a mark it is the
+/// number of the step whose result it marks.
 pub(crate) fn step_of(numbers: &[u32], item: usize) -> usize {
     numbers
         .iter()

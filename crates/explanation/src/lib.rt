@@ -1,8 +1,8 @@
 //! Explains in words why a database is refused, with the place in the text.
 //!
 //! `explain_refusal` returns the lines of an explanation, at most 65,536 bytes; it is called only after
-//! a refusal and reads the text again. `explain_unproved` returns them for one `$p` of statements that
-//! the caller has read. The explanation rests on the clauses of `places`, `rule_violation` and `explain`;
+//! a refusal and parses the text again. `explain_unproved` explains one `$p` of statements that the
+//! caller has parsed. The explanation relies on the clauses of `places`, `rule_violation` and `explain`;
 //! its messages have no contract.
 //!
 //! Reading order: `explained_refusal`, `written_lines`, `text_fault`, `shape_fault`, `broken_rule` with

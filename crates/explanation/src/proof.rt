@@ -1,4 +1,4 @@
-//! Proofs that are wrong or unfinished.
+//! Explains why a proof is wrong or unfinished.
 ghost use Rattle.mm_read.specs.declared.stmt.Stmt.{Stmt as Statement};
 ghost use Rattle.mm_read.specs.Statements.{AreShaped};
 ghost use Rattle.verify.specs.Right.{IsProvable};
@@ -53,7 +53,7 @@ fn explain_in(
     }
 }
 
-/// Writes the same for the `$p` at a position of statements that were read from the text.
+/// Writes why the proof of the `$p` at a position is wrong or unfinished, given the statements parsed from the text.
 pub(crate) fn explain_entered(
     alloc: Global,
     page: &mut Page<'_>,
@@ -75,7 +75,7 @@ fn explain_theorem(alloc: Global, page: &mut Page<'_>, frames: &Frames, theorem:
     }
 }
 
-/// Writes the rule of proof code that is broken, or the first fault of the run.
+/// Writes the reason: the rule of proof code that is broken, or the first fault of the run.
 fn explain_why(page: &mut Page<'_>, frames: &Frames, theorem: &Theorem<'_>, why: &WhyUnproved) {
     match why {
         WhyUnproved::Code(broken) => explain_break(page, theorem, *broken),
@@ -116,7 +116,7 @@ fn explain_step(
     push_fault(page, theorem, frames, fault);
 }
 
-/// Writes that another number of results than one is left.
+/// Writes that the stack at the end does not have exactly one result.
 fn explain_results(page: &mut Page<'_>, theorem: &Theorem<'_>, count: usize) {
     theorem.push_end(page);
     page.push(b" is wrong at its end\n  it leaves ");
@@ -124,7 +124,7 @@ fn explain_results(page: &mut Page<'_>, theorem: &Theorem<'_>, count: usize) {
     page.push(b" results, and one has to be left\n");
 }
 
-/// Writes that another theorem is proved.
+/// Writes that the proof proves another expression than the theorem's.
 fn explain_other(page: &mut Page<'_>, frames: &Frames, theorem: &Theorem<'_>, proved: &[u32]) {
     theorem.push_end(page);
     page.push(b" is wrong at its end\n  it proves");
@@ -136,7 +136,7 @@ fn explain_other(page: &mut Page<'_>, frames: &Frames, theorem: &Theorem<'_>, pr
     page.push(b"\n");
 }
 
-/// Returns the expression of the statement at a position, empty if none stands there.
+/// Returns the expression of the statement at a position, or an empty one if there is none.
 fn expr_at(frames: &Frames, at: usize) -> &[u32] {
     if at == 0 || at > frames.len() {
         return &[];
@@ -144,7 +144,7 @@ fn expr_at(frames: &Frames, at: usize) -> &[u32] {
     frames.expr(at)
 }
 
-/// Writes the number of the step that the item is, and the label that it cites, if it is a citation.
+/// Writes the step number of the item, and the label that it cites, if it is a citation.
 fn push_step(page: &mut Page<'_>, items: &Items, item: usize) {
     let parts = items.parts();
     page.push(b" is wrong at step ");

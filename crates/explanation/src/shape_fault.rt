@@ -1,4 +1,4 @@
-//! Tokens that are no list of statements.
+//! Explains why tokens do not parse as statements.
 ghost use Rattle.std.specs.Prelude.{◌≤◌, length};
 ghost use Rattle.std.specs.List.{All};
 ghost use Rattle.mm_lex.specs.Tokens.{IsWordAt};
@@ -9,7 +9,7 @@ use mm_read::{ReadFault, read};
 use places::statement_at;
 use std::alloc::Global;
 
-/// Writes the token that is misplaced, what may stand in its place, and where its statement begins.
+/// Writes the misplaced token, the tokens allowed in its place, and where its statement begins.
 pub(crate) fn explain_shape(alloc: Global, page: &mut Page<'_>, text: &[u8]) {
     match read(alloc, text) {
         Err(ReadFault::Shape { token }) => explain_among(alloc, page, text, token),
@@ -18,7 +18,7 @@ pub(crate) fn explain_shape(alloc: Global, page: &mut Page<'_>, text: &[u8]) {
     }
 }
 
-/// Writes the explanation for the token that is misplaced, given its number from 1.
+/// Writes the explanation for the misplaced token, given its number from 1.
 fn explain_among(alloc: Global, page: &mut Page<'_>, text: &[u8], token: usize) {
     match tokens(alloc, text) {
         Ok(spans) => explain_misfit(page, text, spans.as_slice(), token.saturating_sub(1)),
@@ -66,7 +66,7 @@ fn explain_token(page: &mut Page<'_>, text: &[u8], spans: &[Span], index: usize)
     page.push(b"\n");
 }
 
-/// Writes that a token may not stand where it does, and what may.
+/// Writes that a token is not allowed where it is, and which tokens are.
 fn push_misfit(page: &mut Page<'_>, expected: &[u8], token: &[u8], begins: bool) {
     if token == b"$[".as_slice() {
         page.push(
@@ -84,7 +84,7 @@ fn push_misfit(page: &mut Page<'_>, expected: &[u8], token: &[u8], begins: bool)
     }
 }
 
-/// Returns the part of the message for what may follow these tokens of a statement.
+/// Returns the part of the message that names the tokens allowed after these tokens of a statement.
 fn what_may_stand(text: &[u8], before: &[Span]) -> &'static [u8] {
     let Some(first) = before.get(0) else {
         return b"a label, $c, $v, $d, ${ or $}";
@@ -97,7 +97,7 @@ fn what_may_stand(text: &[u8], before: &[Span]) -> &'static [u8] {
     }
 }
 
-/// Returns the part of the message for a symbol, and for the end too if there are enough tokens.
+/// Returns the part of the message that names a symbol, and also the end of the statement if there are enough tokens.
 fn symbols_or_end(len: usize, enough: usize) -> &'static [u8] {
     if len < enough {
         b"a symbol"
@@ -106,7 +106,7 @@ fn symbols_or_end(len: usize, enough: usize) -> &'static [u8] {
     }
 }
 
-/// Returns the part of the message for what may follow these tokens, the first of which is a label.
+/// Returns the part of the message that names the tokens allowed after these, the first of which is a label.
 fn after_label(text: &[u8], before: &[Span]) -> &'static [u8] {
     let Some(key) = before.get(1) else {
         return b"$f, $e, $a or $p";
@@ -122,7 +122,7 @@ fn after_label(text: &[u8], before: &[Span]) -> &'static [u8] {
     }
 }
 
-/// Returns the part of the message for what may follow these tokens of a `$p`.
+/// Returns the part of the message that names the tokens allowed after these tokens of a `$p`.
 fn within_provable(text: &[u8], before: &[Span]) -> &'static [u8] {
     for span in before {
         if token_in(text, *span) == b"$=".as_slice() {

@@ -3,7 +3,7 @@
 use mm_lex::Words;
 use mm_read::Stmt;
 
-/// Returns the label of a statement, empty if it has none.
+/// Returns the label of a statement, or an empty one if it has none.
 pub(crate) fn label_of(stmt: &Stmt) -> &[u8] {
     match stmt {
         Stmt::Float { label, .. } => label.as_bytes(),

@@ -57,7 +57,7 @@ fn push_inactive(page: &mut Page<'_>, theorem: &Theorem<'_>) {
     page.push(b"\n");
 }
 
-/// Writes that the assertion at a position is the theorem or comes after it.
+/// Writes that the assertion at a position is the theorem itself or a later statement.
 fn push_later(page: &mut Page<'_>, theorem: &Theorem<'_>, at: usize) {
     page.push(b"  ");
     page.push(theorem.label_at(at));
@@ -96,7 +96,7 @@ fn push_constant(
     push_there(page, frames, there);
 }
 
-/// Writes that a result is not the one that a hypothesis requires.
+/// Writes that a result differs from the one that a hypothesis requires.
 fn push_required(
     page: &mut Page<'_>,
     theorem: &Theorem<'_>,
@@ -122,7 +122,7 @@ fn push_hypothesis(page: &mut Page<'_>, theorem: &Theorem<'_>, at: usize) {
     page.push(theorem.label_at(at));
 }
 
-/// Writes that two variables are not disjoint.
+/// Writes that two variables violate the disjoint variable condition.
 fn push_together(page: &mut Page<'_>, frames: &Frames, variables: [u32; 2], images: [u32; 2]) {
     let [first, second] = variables;
     let [one, other] = images;

@@ -1,4 +1,4 @@
-//! Faults of bytes and comments.
+//! Explains faults of bytes and comments.
 ghost use Rattle.mm_lex.specs.TextFaults.{IsCommentFault};
 
 use crate::written_lines::Page;
@@ -27,7 +27,7 @@ fn explain_byte(page: &mut Page<'_>, text: &[u8], offset: usize) {
     page.push(b"  visible ASCII characters, spaces, tabs, form feeds and ends of lines may\n");
 }
 
-/// Returns the digit of a number below 16.
+/// Returns the hexadecimal digit of a number below 16.
 fn hexadecimal(number: u8) -> u8 {
     match b"0123456789abcdef".get(number as usize) {
         Some(digit) => *digit,
@@ -53,7 +53,7 @@ fn explain_comment(page: &mut Page<'_>, text: &[u8], offset: usize)
     }
 }
 
-/// Writes the place of the first `$)` after an offset that is only a part of a token, if there is one.
+/// Writes the place of the first `$)` after an offset that is only part of a longer token, if there is one.
 fn explain_glued(page: &mut Page<'_>, text: &[u8], offset: usize) {
     let Some(rest) = text.get(offset..) else {
         return;
@@ -72,7 +72,7 @@ fn explain_glued(page: &mut Page<'_>, text: &[u8], offset: usize) {
     }
 }
 
-/// Returns whether a byte is white.
+/// Returns whether a byte is white space.
 fn is_space(byte: u8) -> bool {
     byte == b' ' || byte == b'\t' || byte == b'\n' || byte == 12 || byte == b'\r'
 }

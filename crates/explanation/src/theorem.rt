@@ -1,4 +1,4 @@
-//! A `$p` of a text: its parts, and where its proof stands.
+//! A `$p` of a text: its parts, and where its proof is.
 ghost use Rattle.std.specs.Prelude.{◌≡◌, IfSome, Some};
 ghost use Rattle.scope.specs.Active.{stmt_at};
 
@@ -9,12 +9,12 @@ use crate::written_lines::Page;
 use mm_lex::Words;
 use mm_read::Stmt;
 
-/// A `$p` of a text that reads as these statements.
+/// A `$p` of a text that parses as these statements.
 #[derive(Clone, Copy)]
 pub(crate) struct Theorem<'a> {
     pub(crate) tokens: &'a TextTokens<'a>,
     pub(crate) statements: &'a [Stmt],
-    /// Its position, from 1.
+    /// Its position, counted from 1.
     pub(crate) at: usize,
     pub(crate) label: &'a [u8],
     pub(crate) expr: &'a Words,
@@ -22,7 +22,7 @@ pub(crate) struct Theorem<'a> {
 }
 
 impl<'a> Theorem<'a> {
-    /// Returns the `$p` at a position, or `None` if no `$p` stands there.
+    /// Returns the `$p` at a position, or `None` if there is no `$p`.
     pub(crate) fn new(
         tokens: &'a TextTokens<'a>,
         statements: &'a [Stmt],
@@ -61,7 +61,7 @@ impl<'a> Theorem<'a> {
         self.push_spot(page, Spot { token, byte: 0 });
     }
 
-    /// Returns the label of the statement at a position, empty if there is none.
+    /// Returns the label of the statement at a position, or an empty one if there is none.
     pub(crate) fn label_at(&self, at: usize) -> &'a [u8] {
         match self.statements.get(at.saturating_sub(1)) {
             Some(stmt) => label_of(stmt),
@@ -69,7 +69,7 @@ impl<'a> Theorem<'a> {
         }
     }
 
-    /// Returns the typecode of the `$f` at a position, empty if another statement stands there.
+    /// Returns the typecode of the `$f` at a position, or an empty one if that statement is not a `$f`.
     pub(crate) fn constant_at(&self, at: usize) -> &'a [u8] {
         match self.statements.get(at.saturating_sub(1)) {
             Some(Stmt::Float { constant, .. }) => constant.as_bytes(),

@@ -7,21 +7,21 @@ use mm_lex::Span;
 use places::line_and_column;
 use std::alloc::{AllocError, Global};
 
-/// The greatest number of bytes of an explanation.
+/// The most bytes of an explanation.
 pub const MOST_BYTES: usize = 65_536;
 
-/// The last line of an explanation that is cut.
+/// The last line of a truncated explanation.
 const CUT: &[u8] = b"\n  the explanation is cut here: it has more than 65536 bytes\n";
 
-/// The lines of an explanation, or none once it has failed. Keeps one byte more than `MOST_BYTES`, and drops the rest.
+/// The lines of an explanation, or none after a failure. Keeps at most `MOST_BYTES` + 1 bytes, and drops the rest.
 #[derive(Drop)]
 pub(crate) struct Page<'a> {
     lines: Vec<u8>,
-    /// The name of the file that stands before each place, if there is one.
+    /// The name of the file, which is written before each place, if there is one.
     name: Option<&'a str>,
-    /// Whether an allocation failed, or a call on which the explanation rests returned an error.
+    /// Whether an allocation failed, or a call that the explanation needs returned an error.
     has_failed: bool,
-    /// The number of bytes of the text, before the part that is explained, that are statements of a library, a line each.
+    /// The number of bytes at the start of the text that are the statements of a library, a line each; the rest is explained.
     before: usize,
 }
 
@@ -35,7 +35,7 @@ impl<'a> Page<'a> {
         }
     }
 
-    /// Returns the lines, at most 65,536 bytes. If more were pushed, the last line says so.
+    /// Returns the lines, at most 65,536 bytes. If more were pushed, the last line says that they are truncated.
     ///
     /// Errors: the explanation has failed.
     pub(crate) fn into_lines(self) -> Result<Vec<u8>, AllocError>
@@ -56,12 +56,12 @@ impl<'a> Page<'a> {
         Ok(lines)
     }
 
-    /// Records that the explanation has failed: no lines are returned then.
+    /// Records a failure, after which no lines are returned.
     pub(crate) fn fail(&mut self) {
         self.has_failed = true;
     }
 
-    /// Returns the value of an answer, or `None` for an error. After any error, of whatever kind, the explanation has failed.
+    /// Returns the value of a result, or records a failure and returns `None` if it is an error of any kind.
     pub(crate) fn value_of<T, E: Drop>(&mut self, answer: Result<T, E>) -> Option<T> {
         match answer {
             Ok(value) => Some(value),
@@ -72,7 +72,7 @@ impl<'a> Page<'a> {
         }
     }
 
-    /// Appends bytes, as many as fit; the rest is dropped.
+    /// Appends as many of the bytes as fit, and drops the rest.
     pub(crate) fn push(&mut self, bytes: &[u8]) {
         let room = (MOST_BYTES + 1).saturating_sub(self.lines.len());
         let kept = bytes.get(..room).unwrap_or(bytes);
@@ -88,7 +88,7 @@ impl<'a> Page<'a> {
     }
 
     /// Writes `LINE:COLUMN`, counted in the part that is explained, after the name of the file and a colon if there is a name;
-    /// for an offset before that part, the number of the statement of the library that stands there.
+    /// for an offset before that part, writes the number of the statement of the library at that offset.
     pub(crate) fn push_place(&mut self, text: &[u8], offset: usize) {
         let before = self.before;
         let within = offset.min(text.len());
@@ -110,7 +110,7 @@ impl<'a> Page<'a> {
     }
 }
 
-/// Returns the token at a place, empty if the place is not in the text.
+/// Returns the token at a place, or an empty one if the place is not in the text.
 pub(crate) fn token_in(text: &[u8], span: Span) -> &[u8] {
     match text.get(span.start..span.end) {
         Some(token) => token,

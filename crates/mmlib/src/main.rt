@@ -1,5 +1,5 @@
-//! `mmlib`, formal mathematics in the Metamath language: its arguments and streams. The crate
-//! `program` does the rest.
+//! The program `mmlib`, formal mathematics in the Metamath language: passes its arguments and streams
+//! to the crate `program`, which does the rest.
 #![tactic(auto)]
 
 use folders::SystemFolder;
@@ -43,7 +43,7 @@ fn arguments(rt: &HostRuntime) -> io::Result<Vec<String>> {
     Ok(words)
 }
 
-/// Returns the arguments as slices.
+/// Returns the arguments as string slices.
 fn as_words<'a>(alloc: Global, arguments: &'a [String]) -> Result<Vec<&'a str>, AllocError> {
     let mut words = Vec::new(alloc);
     for argument in arguments {

@@ -2,7 +2,7 @@
 use std::alloc::{AllocError, Global};
 use std::io::{self, ErrorKind, Read, Write};
 
-/// A reader that gives a byte at each call, and fails at one.
+/// A reader that returns one byte a call, and fails at one of the calls.
 #[derive(Drop)]
 pub struct FailingReader<'a> {
     text: &'a [u8],
@@ -11,7 +11,7 @@ pub struct FailingReader<'a> {
 }
 
 impl<'a> FailingReader<'a> {
-    /// Returns a reader that fails after so many calls.
+    /// Returns a reader that fails after `calls_left` calls.
     pub fn new(text: &'a [u8], calls_left: usize) -> FailingReader<'a> {
         FailingReader {
             text,
@@ -42,18 +42,18 @@ impl Read for FailingReader<'_> {
     }
 }
 
-/// A writer that takes a byte at each call, and fails at one.
+/// A writer that takes one byte a call, and fails after some calls.
 #[derive(Drop)]
 pub struct FailingWriter {
     pub text: Vec<u8>,
     calls_left: usize,
     pub failed: bool,
-    /// Whether something was written after the failure.
+    /// Whether it was called again after the failure.
     pub called_again: bool,
 }
 
 impl FailingWriter {
-    /// Returns a writer that fails after so many calls.
+    /// Returns a writer that fails after `calls_left` calls.
     pub fn new(alloc: Global, calls_left: usize) -> FailingWriter {
         FailingWriter {
             text: Vec::new(alloc),

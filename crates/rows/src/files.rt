@@ -1,4 +1,4 @@
-//! The files of rows.
+//! Finds and reads the files of rows.
 use std::alloc::{AllocError, Global};
 use std::fs::DirEntry;
 use std::rt::Files;
@@ -33,7 +33,7 @@ fn push_name(alloc: Global, name: &str, names: &mut Vec<String>) -> Result<(), A
     Ok(())
 }
 
-/// Appends the text of a file of rows. A line `include FILE` stands for the lines of that file.
+/// Appends the text of a file of rows. A line `include FILE` is replaced by the lines of that file.
 pub fn push_text<R: Files + AllocGlobal>(
     rt: &R,
     folder: &str,

@@ -1,4 +1,4 @@
-//! The rows of all files, one after another.
+//! Runs the rows of all files, one after another.
 use crate::files::{push_row_files, push_text};
 use crate::judging::judge;
 use crate::row::Row;
@@ -13,13 +13,13 @@ use std::thread::Threads;
 struct Run<'a, R> {
     rt: &'a R,
     folder: &'a str,
-    /// How many rows held.
+    /// How many rows passed.
     held: u64,
-    /// How many rows or files did not.
+    /// How many rows or files failed.
     failed: u64,
 }
 
-/// Runs the rows of a folder, and tells whether there is a row and all hold.
+/// Runs the rows of a folder. Returns whether there is a row and all pass.
 pub fn run_files<
     R: AllocGlobal + Files + Print + Threads + Wait + Copy + Send + Sync + Drop + Clone + 'static,
 >(rt: &R, folder: &str) -> io::Result<bool> {
@@ -43,7 +43,7 @@ pub fn run_files<
 impl<
     R: AllocGlobal + Files + Print + Threads + Wait + Copy + Send + Sync + Drop + Clone + 'static,
 > Run<'_, R> {
-    /// Runs the files of the folder. Their names go into an empty list.
+    /// Runs the files of the folder. `names` must be empty and receives their names.
     fn files(&mut self, names: &mut Vec<String>) -> io::Result<()> {
         push_row_files(self.rt, self.folder, names)?;
         for name in names.as_slice() {
@@ -53,13 +53,13 @@ impl<
         Ok(())
     }
 
-    /// Runs the rows of a file. Its text goes into an empty one.
+    /// Runs the rows of a file. `text` must be empty and receives its text.
     fn file(&mut self, name: &str, text: &mut String) -> io::Result<()> {
         push_text(self.rt, self.folder, name, text)?;
         self.parsed(name, &parse_rows(self.rt.alloc(), text.as_str()))
     }
 
-    /// Runs the rows that were parsed, and prints each that does not hold.
+    /// Runs the parsed rows, and prints each that fails.
     fn parsed(&mut self, name: &str, rows: &Result<Vec<Row>, UnreadRows>) -> io::Result<()> {
         match rows {
             Ok(rows) => {
@@ -73,7 +73,7 @@ impl<
         }
     }
 
-    /// Runs a row, and prints how it does not hold.
+    /// Runs a row, and prints how it fails, if it does.
     fn row(&mut self, name: &str, row: &Row) -> io::Result<()> {
         let sentence = row.sentence.as_str();
         if row.commands.is_empty() {
@@ -88,7 +88,7 @@ impl<
         }
     }
 
-    /// Counts a failure, and prints what it is of and how it fails.
+    /// Counts a failure, and prints which row or file fails and how.
     fn fail(&mut self, name: &str, of: &str, told: &str) -> io::Result<()> {
         self.failed = self.failed.saturating_add(1);
         println!(self.rt; "{name}: {of}: {told}")

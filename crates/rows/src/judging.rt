@@ -11,10 +11,10 @@ use std::io::Read;
 use std::sync::Wait;
 use std::thread::Threads;
 
-/// How an output differs from what is wanted, if it does.
+/// How an output differs from the expected one, if it does.
 type Told = Result<Option<String>, AllocError>;
 
-/// Tells how the row differs from what the program prints, if it does.
+/// Returns how the row differs from what the program prints, if it does.
 pub fn judge<R: AllocGlobal + Threads + Wait + Copy + Send + Sync + Drop + 'static>(
     rt: &R,
     row: &Row,
@@ -43,7 +43,7 @@ fn judge_command<R: AllocGlobal + Threads + Wait + Copy + Send + Sync + Drop + '
     told_at(rt.alloc(), format_args!("{words:?}"), &told)
 }
 
-/// Returns a difference with the place where it is.
+/// Returns a difference with its place before it.
 fn told_at<D: Display + Drop>(alloc: Global, place: D, told: &Option<String>) -> Told {
     match told {
         Some(told) => Ok(Some(format!(in alloc; "{place}: {told}")?)),
@@ -89,7 +89,7 @@ impl<'a, 'w, R: AllocGlobal + Threads + Wait + Copy + Send + Sync + Drop + 'stat
         told_at(alloc, format_args!("`{chosen}`"), &told)
     }
 
-    /// Judges an input and an output, in the row's way.
+    /// Judges an input and its expected output, in the row's way.
     fn with(&self, input: &[u8], output: &[u8]) -> Told {
         let wanted = wanted_of(self.row, output);
         match self.row.way {
@@ -101,7 +101,7 @@ impl<'a, 'w, R: AllocGlobal + Threads + Wait + Copy + Send + Sync + Drop + 'stat
         }
     }
 
-    /// Runs the program on the whole input.
+    /// Runs the program on the whole input, and compares.
     fn whole(&self, mut input: &[u8], wanted: &Wanted<'_>) -> Told {
         let printed = self.print(&mut input);
         difference(self.rt.alloc(), wanted, &printed)
@@ -128,7 +128,7 @@ impl<'a, 'w, R: AllocGlobal + Threads + Wait + Copy + Send + Sync + Drop + 'stat
         }
     }
 
-    /// Cuts the input at each byte.
+    /// Truncates the input at each byte in turn.
     fn cuts(&self, input: &[u8], elsewhere: &[u8]) -> Told {
         for end in 0..input.len() + 1 {
             match self.cut(&input[..end], elsewhere) {
@@ -139,7 +139,7 @@ impl<'a, 'w, R: AllocGlobal + Threads + Wait + Copy + Send + Sync + Drop + 'stat
         Ok(None)
     }
 
-    /// Runs the program on what a cut leaves of the input.
+    /// Runs the program on a prefix of the input.
     fn cut(&self, input: &[u8], elsewhere: &[u8]) -> Told {
         let end = input.len();
         let output = output_at(self.row.cuts.as_slice(), end, elsewhere);
@@ -147,7 +147,7 @@ impl<'a, 'w, R: AllocGlobal + Threads + Wait + Copy + Send + Sync + Drop + 'stat
         told_at(self.rt.alloc(), format_args!("cut at {end}"), &told)
     }
 
-    /// Runs the program on a reader that it may not call.
+    /// Runs the program on a reader that it must not call.
     fn no_reads(&self, wanted: &Wanted<'_>) -> Told {
         let mut reader = FailingReader::new(b"", 0);
         let printed = self.print(&mut reader);
@@ -172,7 +172,7 @@ impl<'a, 'w, R: AllocGlobal + Threads + Wait + Copy + Send + Sync + Drop + 'stat
         Ok(Some(String::from_str(self.rt.alloc(), "no run read all")?))
     }
 
-    /// Runs the program on a reader that fails after so many calls.
+    /// Runs the program on a reader that fails after a number of calls.
     fn failing_read(
         &self,
         reader: &mut FailingReader<'_>,
@@ -247,7 +247,7 @@ fn push_files(output: &mut Vec<u8>, folder: &MemoryFolder) -> Result<(), AllocEr
     Ok(())
 }
 
-/// Tells how an output differs from the refusal of an input that cannot be read.
+/// Returns how an output differs from the refusal of an input that cannot be read, if it does.
 fn unread_difference(alloc: Global, printed: &Printed) -> Told {
     let told = Vec::from_slice(alloc, b"standard input cannot be read\n")?;
     let refused = Wanted {
@@ -266,7 +266,7 @@ fn joined(alloc: Global, front: &[u8], rest: &[u8]) -> Result<Vec<u8>, AllocErro
     Ok(all)
 }
 
-/// Returns what the row wants, with this output.
+/// Returns what the row expects, with this output.
 fn wanted_of<'a>(row: &'a Row, output: &'a [u8]) -> Wanted<'a> {
     Wanted {
         output,
@@ -276,7 +276,7 @@ fn wanted_of<'a>(row: &'a Row, output: &'a [u8]) -> Wanted<'a> {
     }
 }
 
-/// Returns the output of the input that is cut here.
+/// Returns the expected output for the input truncated here.
 fn output_at<'a>(cuts: &'a [Cut], end: usize, elsewhere: &'a [u8]) -> &'a [u8] {
     for cut in cuts {
         if cut.before_line_feed == end || cut.after == end {
@@ -286,7 +286,7 @@ fn output_at<'a>(cuts: &'a [Cut], end: usize, elsewhere: &'a [u8]) -> &'a [u8] {
     elsewhere
 }
 
-/// Tells how an output differs from what is wanted, if a write failed.
+/// Returns how an output differs from the expected one after a failed write, if it does.
 fn write_difference(
     alloc: Global,
     called_again: bool,

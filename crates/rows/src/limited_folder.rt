@@ -1,17 +1,17 @@
-//! A folder that refuses files.
+//! A folder that refuses calls after some number of them.
 use folders::{Folder, FolderFault, MemoryFolder};
 use std::alloc::Global;
 
-/// A folder in memory that refuses each call after the first ones.
+/// A folder in memory that answers a number of calls and refuses all later ones.
 #[derive(Drop)]
 pub struct LimitedFolder {
     pub folder: MemoryFolder,
-    /// How many calls are left; `None` for a folder that refuses none.
+    /// How many more calls are answered; `None` if all are.
     calls_left: Option<u64>,
 }
 
 impl LimitedFolder {
-    /// Returns a folder that refuses each call after so many, or none.
+    /// Returns an empty folder that answers `calls_left` calls, or all for `None`.
     pub fn new(alloc: Global, calls_left: Option<u64>) -> LimitedFolder {
         LimitedFolder {
             folder: MemoryFolder::new(alloc),
@@ -19,7 +19,7 @@ impl LimitedFolder {
         }
     }
 
-    /// Counts a call.
+    /// Counts a call. Errors: no calls are left.
     fn count(&mut self) -> Result<(), FolderFault> {
         match self.calls_left {
             None => Ok(()),

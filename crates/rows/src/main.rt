@@ -1,8 +1,8 @@
-//! Runs the rows of a folder: each is a command line, an input, and what the program prints of it.
+//! Runs the rows of a folder: each is a command line, an input, and the output that is expected.
 //!
-//! Reading order: `row` (a row), `row_texts` and `row_parser` (how it is written), `files` (the files
-//! of a folder); `failing_streams` (readers and writers that fail), `limited_folder` (a folder that
-//! does), `wanted_output` (whether an output is as wanted), `judging` (whether a row holds), `folder`
+//! Reading order: `row` (a row), `row_texts` and `row_parser` (its syntax), `files` (the files of a
+//! folder); `failing_streams` (readers and writers that fail), `limited_folder` (a folder that refuses
+//! calls), `wanted_output` (compares outputs), `judging` (whether a row holds), `folder`
 //! (`run_files`).
 #![tactic(auto)]
 
@@ -36,7 +36,7 @@ fn main(rt: HostRuntime) -> ExitCode {
     }
 }
 
-/// Returns the folder of rows, if one is named; else it is the one where the program runs.
+/// Returns the folder of rows that the first argument names, or `None` for the current directory.
 fn asked_folder(rt: &HostRuntime) -> io::Result<Option<String>> {
     Ok(env::args(rt)?.nth(1))
 }

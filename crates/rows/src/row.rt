@@ -1,39 +1,39 @@
-//! Rows: what the program prints of a command line and an input.
+//! Rows: the expected output of the program for a command line and an input.
 
-/// A row: what the program prints of an input.
+/// A row: a test of what the program prints for an input.
 #[derive(Drop)]
 pub struct Row {
-    /// A sentence that says what it shows.
+    /// A sentence that states what the row shows.
     pub sentence: String,
-    /// The command lines that it holds for, as words.
+    /// The command lines for which the row holds, as words.
     pub commands: Vec<Vec<String>>,
     pub input: Vec<u8>,
     pub output: Vec<u8>,
-    /// The inputs that it holds for, each appended to `input`; if there are none, `input` alone.
+    /// The endings of the input for which the row holds, each appended to `input`; if there are none, `input` is the whole input.
     pub choices: Vec<Choice>,
-    /// The count of lines, if `output` is only how they begin.
+    /// The number of lines of the output, if `output` is only its beginning.
     pub lines: Option<u64>,
     pub faults: Faults,
     /// `None` means 1 if a line of the output begins with `refused`, else 0.
     pub status: Option<u8>,
     pub way: Way,
-    /// How many calls of the folder of `pages` are answered, if not all.
+    /// How many calls the folder of `pages` answers, if not all.
     pub files: Option<u64>,
-    /// The outputs of the input that is cut.
+    /// The outputs for prefixes of the input.
     pub cuts: Vec<Cut>,
 }
 
-/// One of several inputs, and what it appends to the output.
+/// One of several endings of the input, and the ending of the output for it.
 #[derive(Drop)]
 pub struct Choice {
     pub input: Vec<u8>,
     pub output: Vec<u8>,
 }
 
-/// The text on standard error.
+/// The expected text on standard error.
 #[derive(Drop)]
 pub enum Faults {
-    /// Not said: it is empty, or anything if a text is refused, which is explained there.
+    /// Not given: it is empty, or any text if a text is refused, since the explanation is written there.
     Unsaid,
     /// This text.
     Exactly(Vec<u8>),
@@ -44,19 +44,19 @@ pub enum Faults {
 /// How the input is given and the output is taken.
 #[derive(Clone, Copy, PartialEq, Eq)]
 pub enum Way {
-    /// As a whole.
+    /// The whole input is given, and the whole output is taken.
     Whole,
-    /// The input is cut at each of its bytes.
+    /// The input is truncated at each of its bytes in turn.
     Cut,
-    /// The input may not be read.
+    /// The input must not be read.
     NoReads,
-    /// A read fails, each in turn.
+    /// Each read fails in turn.
     FailingReads,
-    /// A write fails, each in turn.
+    /// Each write fails in turn.
     FailingWrites,
 }
 
-/// The output of the input that is cut here, before or after a line feed.
+/// The output for the input truncated here, before or after the line feed.
 #[derive(Drop)]
 pub struct Cut {
     pub before_line_feed: usize,

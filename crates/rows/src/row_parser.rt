@@ -1,4 +1,4 @@
-//! The rows of a file.
+//! Parses the rows of a file.
 use crate::row::{Choice, Cut, Faults, Row, Way};
 use crate::row_texts::{RowFault, push_line, push_lines, word_of};
 use numbers::parse_number;
@@ -7,7 +7,7 @@ use std::alloc::{AllocError, Global};
 /// Why the rows of a file are not parsed.
 #[derive(Drop)]
 pub enum UnreadRows {
-    /// A line that is none of a row, or not where it stands.
+    /// A line is not a line of a row, or is not allowed where it is.
     Line(String),
     /// An allocation failed.
     Memory,
@@ -35,7 +35,7 @@ pub fn parse_rows(alloc: Global, text: &str) -> Result<Vec<Row>, UnreadRows> {
     Ok(rows)
 }
 
-/// Parses a line: it begins a row, or says more of the last one.
+/// Parses a line, which begins a row or belongs to the last one.
 fn read_line(alloc: Global, rows: &mut Vec<Row>, line: &str) -> Result<(), RowFault> {
     match line.strip_prefix("row ") {
         Some(sentence) => {
@@ -50,7 +50,7 @@ fn read_line(alloc: Global, rows: &mut Vec<Row>, line: &str) -> Result<(), RowFa
     }
 }
 
-/// Returns a row that has only a sentence yet.
+/// Returns a row that has only a sentence so far.
 fn new_row(alloc: Global, sentence: &str) -> Result<Row, AllocError> {
     Ok(Row {
         sentence: String::from_str(alloc, sentence)?,
@@ -87,7 +87,7 @@ fn read_more(alloc: Global, row: &mut Row, line: &str) -> Result<(), RowFault> {
     }
 }
 
-/// Appends a command line: words between spaces.
+/// Appends a command line: words separated by spaces.
 fn add_command(alloc: Global, row: &mut Row, text: &str) -> Result<(), RowFault> {
     let mut words = Vec::new(alloc);
     for word in text.split(' ').filter(|word| !word.is_empty()) {
@@ -117,7 +117,7 @@ fn set_files(row: &mut Row, text: &str) -> Result<(), RowFault> {
     Ok(())
 }
 
-/// Sets the way, which is said before the input and the output.
+/// Sets the way, which must come before the input and the output.
 fn set_way(row: &mut Row, way: Way, text: &str, wanted: &str) -> Result<(), RowFault> {
     if text != wanted || !row.input.is_empty() || !row.output.is_empty() || row.way != Way::Whole {
         return Err(RowFault::Bad);
@@ -145,7 +145,7 @@ fn set_beginning(alloc: Global, row: &mut Row, text: &str) -> Result<(), RowFaul
     Ok(())
 }
 
-/// Appends one of several inputs.
+/// Appends one of several endings of the input.
 fn add_choice(alloc: Global, row: &mut Row, text: &str, answer: &str) -> Result<(), RowFault> {
     let mut choice = Choice {
         input: Vec::new(alloc),
@@ -162,7 +162,7 @@ fn add_choice_with_answer(alloc: Global, row: &mut Row, text: &str) -> Result<()
     add_choice(alloc, row, text, answer)
 }
 
-/// Appends lines to the input, the output or both. The mark may say how often, after a `*`.
+/// Appends lines to the input, the output or both. The mark may end in `*` and how many.
 fn add_lines(alloc: Global, row: &mut Row, mark: &str, text: &str) -> Result<(), RowFault> {
     let (mark, times) = match mark.split_once('*') {
         Some((mark, times)) => (mark, parse_number(times.as_bytes()).ok_or(RowFault::Bad)?),
@@ -183,7 +183,7 @@ fn add_lines(alloc: Global, row: &mut Row, mark: &str, text: &str) -> Result<(),
     }
 }
 
-/// Appends the output of the input that is cut after its last line.
+/// Appends the output for the input truncated after its last line so far.
 fn add_cut(alloc: Global, row: &mut Row, text: &str, answer: &str) -> Result<(), RowFault> {
     let after = row.input.len();
     let mut output = Vec::new(alloc);

@@ -1,11 +1,11 @@
-//! Texts of a row: bytes that stand for themselves, and escapes that begin with a backslash.
+//! Texts of a row: literal bytes, and escapes that begin with a backslash.
 use numbers::{parse_number, push_number};
 use std::alloc::{AllocError, Global};
 
 /// Why a line is not parsed.
 #[derive(Drop)]
 pub enum RowFault {
-    /// It is no line of a row.
+    /// It is not a line of a row.
     Bad,
     /// An allocation failed.
     Memory,
@@ -17,7 +17,7 @@ impl From<AllocError> for RowFault {
     }
 }
 
-/// Appends the line so many times. In each, `\{K}` and `\{K+S}` stand for the number of that time.
+/// Appends the line `times` times. In each, `\{K}` and `\{K+S}` are replaced by the number for that time.
 pub fn push_lines(bytes: &mut Vec<u8>, text: &str, times: u64) -> Result<(), RowFault> {
     for time in 0..times {
         push_line(bytes, text, time)?;
@@ -59,7 +59,7 @@ fn push_text(bytes: &mut Vec<u8>, text: &str, time: u64) -> Result<(), RowFault>
     Ok(())
 }
 
-/// Appends the bytes of an escape and of what follows it.
+/// Appends the byte of an escape and the text after it.
 fn push_escaped(bytes: &mut Vec<u8>, piece: &str, time: u64) -> Result<(), RowFault> {
     if let Some(digits) = piece.strip_prefix("x") {
         return push_byte(bytes, digits);
@@ -76,7 +76,7 @@ fn push_escaped(bytes: &mut Vec<u8>, piece: &str, time: u64) -> Result<(), RowFa
     Ok(())
 }
 
-/// Appends the byte of two hexadecimal digits, and what follows them.
+/// Appends the byte of two hexadecimal digits, and the text after them.
 fn push_byte(bytes: &mut Vec<u8>, digits: &str) -> Result<(), RowFault> {
     let Some((digits, rest)) = digits.split_at_checked(2) else {
         return Err(RowFault::Bad);
@@ -89,7 +89,7 @@ fn push_byte(bytes: &mut Vec<u8>, digits: &str) -> Result<(), RowFault> {
     Ok(())
 }
 
-/// Returns the number that `K` or `K+S` stands for at a time, from 0.
+/// Returns the value of `K` or `K+S` at a time, counted from 0.
 fn number_at(text: &str, time: u64) -> Option<u64> {
     let (first, step) = match text.split_once('+') {
         Some((first, step)) => (first, parse_number(step.as_bytes())?),

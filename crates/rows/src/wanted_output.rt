@@ -1,15 +1,15 @@
-//! Whether a run printed what is wanted.
+//! Compares what a run printed with the expected output.
 use crate::row::Faults;
 use std::alloc::{AllocError, Global};
 
-/// The standard error of a database without a statement.
+/// The standard error for a database without statements.
 const NO_STATEMENT: &[u8] = b"the database has no statement\n";
 
-/// The output that is wanted of a run.
+/// The expected output of a run.
 #[derive(Clone, Copy)]
 pub struct Wanted<'a> {
     pub output: &'a [u8],
-    /// The count of lines, if `output` is only how they begin.
+    /// The number of lines of the output, if `output` is only its beginning.
     pub lines: Option<u64>,
     pub faults: &'a Faults,
     pub status: u8,
@@ -23,7 +23,7 @@ pub struct Printed {
     pub status: u8,
 }
 
-/// Returns the status of an output, if the row says none.
+/// Returns the expected status for an output, if the row gives none.
 pub fn status_of(output: &[u8]) -> u8 {
     for line in output.split(|byte| *byte == b'\n') {
         if line.starts_with(b"refused") {
@@ -33,7 +33,7 @@ pub fn status_of(output: &[u8]) -> u8 {
     0
 }
 
-/// Tells how the output of a run differs from what is wanted, if it does.
+/// Returns how the output of a run differs from the expected one, if it does.
 pub fn difference(
     alloc: Global,
     wanted: &Wanted<'_>,
@@ -57,13 +57,13 @@ pub fn difference(
     Ok(None)
 }
 
-/// Tells whether the output begins so, and has so many lines.
+/// Returns whether the output has this beginning and this number of lines.
 fn begins(output: &[u8], beginning: &[u8], lines: u64) -> bool {
     let line_feeds = output.iter().filter(|byte| **byte == b'\n').count();
     output.starts_with(beginning) && line_feeds as u64 == lines
 }
 
-/// Tells whether this text is wanted on standard error.
+/// Returns whether the text on standard error is as expected.
 fn are_told(wanted: &Wanted<'_>, told: &[u8]) -> bool {
     match wanted.faults {
         Faults::Unsaid => {
@@ -76,7 +76,7 @@ fn are_told(wanted: &Wanted<'_>, told: &[u8]) -> bool {
     }
 }
 
-/// Tells whether the last line of the output refuses a text.
+/// Returns whether the last line of the output refuses a text.
 fn is_refusal(output: &[u8]) -> bool {
     let mut refuses = false;
     for line in output.split(|byte| *byte == b'\n') {
@@ -87,7 +87,7 @@ fn is_refusal(output: &[u8]) -> bool {
     refuses
 }
 
-/// Tells the first line that differs.
+/// Returns the first line that differs.
 fn line_difference(alloc: Global, wanted: &[u8], got: &[u8]) -> Result<Option<String>, AllocError> {
     let mut got_lines = got.split(|byte| *byte == b'\n');
     let mut number = 0usize;

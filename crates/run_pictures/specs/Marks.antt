@@ -1,7 +1,7 @@
 -- The marks of a picture: what it shows of some steps of a run, and nothing else.
 -- Source: this project's own form; arrows between lines of processes are Lamport's space-time diagrams
 -- (Time, Clocks, and the Ordering of Events, 1978).
--- The code looks up packets in the world; here they are a list.
+-- The code looks packets up in the world; here they are a list.
 use Rattle.std.specs.Prelude.{ℕ, suc, zero, ◌+◌, ◌-◌, ◌==◌, Bool, true, false, ◌&&◌, List, [], ◌∷◌, ◌++◌, Option, Some, None, nat_lt, nat_le, slice_get, drop, take, if◌then◌else◌}
 use Rattle.std.specs.List.{list_any, position_from}
 use Rattle.synod.specs.declared.packet.Packet.{Packet}
@@ -16,7 +16,7 @@ use Rattle.run_pictures.specs.declared.mark.Spot.{Spot}
 abbrev pub Packets : Type 0
 Packets = List (Packet Carried)
 
--- the shown steps: so many, from a step on
+-- the shown steps: a number of steps, from an index on
 abbrev pub shown_of : List Step → ℕ → ℕ → List Step
 shown_of steps from count = take count (drop from steps)
 
@@ -63,7 +63,7 @@ arrows packets shown row Begin = []
 arrows packets shown row Restart = []
 arrows packets shown row (Apply slot verdict) = []
 
--- a packet that the step posted, and that no shown step delivers
+-- the stump of a packet that the step posted, if no shown step delivers it
 abbrev pub undelivered : Spot → ℕ → Option (Packet Carried) → List Mark
 undelivered from n None = []
 undelivered from n (Some p) = Stump n from p.to ∷ []
@@ -71,7 +71,7 @@ undelivered from n (Some p) = Stump n from p.to ∷ []
 abbrev pub stump : Packets → List Step → ℕ → Step → ℕ → List Mark
 stump packets shown row s n = if list_any (delivers n) shown then [] else undelivered (spot row s) n (slice_get packets n)
 
--- so many packets from number n on
+-- the stumps of a number of packets, from packet n on
 abbrev pub stumps_from : Packets → List Step → ℕ → Step → ℕ → ℕ → List Mark
 stumps_from packets shown row s n zero = []
 stumps_from packets shown row s n (suc count) = stump packets shown row s n ++ stumps_from packets shown row s (n + 1) count

@@ -1,6 +1,6 @@
 -- A run as contracts see it: its world, and the steps that led there.
 -- Source: this project's own form.
--- The code also keeps how many packets were posted.
+-- The code also keeps how many packets have been posted.
 use Rattle.std.specs.Prelude.{◌≡◌, ℕ, List, length, filter}
 use Rattle.net.specs.World.{packets_after}
 use Rattle.net.specs.Taken.{world_of}
@@ -18,7 +18,7 @@ pub record RunView : Type 0 where
 abbrev pub packets_of : Replicas → Packets
 packets_of world = packets_after (world_of carried_size world.taken)
 
--- the steps are those of the history, in order, and applications of entries between them
+-- the steps are those of the history, in order, with applications of entries between them
 pub record IsRecorded (world : Replicas) (steps : List Step) (posted : ℕ) : Type 0 where
   pub events : filter is_event steps ≡ steps_of world.taken
   pub count : posted ≡ length (packets_of world)

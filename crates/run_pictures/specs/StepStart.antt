@@ -1,11 +1,11 @@
--- A step, by what is known of it before its event and what after.
+-- A step, from the fields known before its event and those known after it.
 -- Source: this project's own form.
 -- The code is the same.
 use Rattle.std.specs.Prelude.{ℕ}
 use Rattle.run_pictures.specs.declared.step.Step.{Step}
 use Rattle.run_pictures.specs.declared.step.StepStart.{StepStart}
 
--- the step, by how many packets were posted when it ended, and how many entries its node's log had
+-- the step, given how many packets were posted when it ended, and how many entries its node's log had then
 abbrev pub ended_of : StepStart → ℕ → ℕ → Step
 ended_of start end_post learned = record {
   node = start.node;

@@ -18,20 +18,20 @@ use Rattle.run_pictures.specs.declared.step.StepStart.{StepStart}
 use Rattle.run_pictures.specs.declared.step.Act.TheVariants.{Offer as Offering, Begin as Beginning, Deliver as Delivering, Restart as Restarting, Apply as Applying}
 use Rattle.run_pictures.specs.StepStart.{ended_of}
 
--- the world after some events, or the fault that they meet
+-- the world after some events, or the fault that they cause
 abbrev pub Reached : Type 0
 Reached = Result (World Carried) StepFault
 
--- the world after one event more
+-- the world after one more event
 abbrev pub then_event : Reached → Event Carried → Reached
 then_event r e = all_happen carried_size (e ∷ []) r
 
--- the receiver of a packet that is there
+-- the receiver of a packet, or 0 if there is none
 abbrev pub receiver_of : Option (Packet Carried) → ℕ
 receiver_of None = 0
 receiver_of (Some p) = p.to
 
--- the node of an event that is taken: that of a delivery is the receiver of the packet
+-- the node of an event that is taken; for a delivery, the receiver of the packet
 abbrev pub node_in : Reached → Event Carried → ℕ
 node_in r (Offer k entry) = k
 node_in r (Begin k) = k
@@ -69,11 +69,11 @@ abbrev pub steps_from : ℕ → Reached → List (Event Carried) → List Step
 steps_from index r [] = []
 steps_from index r (e ∷ es) = step_of index r e (then_event r e) ∷ steps_from (suc index) (then_event r e) es
 
--- the steps of a history, a step an event, in order
+-- the steps of a history, in order, one for each event
 abbrev pub steps_of : Taken Carried → List Step
 steps_of taken = steps_from 0 (after carried_size taken.weights []) taken.events
 
--- the step is an event of the history, and no application of an entry
+-- the act is an event of the history, not the application of an entry
 abbrev pub is_event_act : Act → Bool
 is_event_act (Offering index) = true
 is_event_act Beginning = true

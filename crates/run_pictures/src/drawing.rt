@@ -1,4 +1,4 @@
-//! The picture of the marks of a run.
+//! Draws the marks of a run as a picture.
 ghost use Rattle.std.specs.Prelude.{◌≡◌, ◌<◌, ◌≤◌, Err, length, IsOkUnless};
 ghost use Rattle.timelines.specs.declared.grid.TheConstants.{MOST_ROWS};
 ghost use Rattle.run_pictures.specs.Marks.{shown_of};
@@ -32,7 +32,7 @@ impl From<AllocError> for PictureFault {
     }
 }
 
-/// The steps that are drawn, and the world after the run.
+/// The steps to draw, and the world after the run.
 #[derive(Clone, Copy)]
 struct Scene<'a> {
     world: &'a World,
@@ -41,8 +41,8 @@ struct Scene<'a> {
     from: usize,
 }
 
-/// Returns a part of a run as an SVG picture of its marks. `weights` are those that the run was made
-/// with.
+/// Returns an SVG picture of the marks of a part of a run. `weights` are the weights with which the run
+/// was made.
 ///
 /// Errors: `TooLarge` if more than `MOST_ROWS` steps are to be shown, else `Memory` if an allocation
 /// fails. Cost: that of `Run::marks`, and the size of the picture.
@@ -121,7 +121,7 @@ fn draw_point(
     timeline.push_row(at.node, sign(step.act), number, label.as_slice())
 }
 
-/// Notes which slots a node learned.
+/// Writes which slots a node learned.
 fn draw_learned(
     alloc: Global,
     timeline: &mut Timeline,
@@ -184,7 +184,7 @@ fn drawn_row(row: usize) -> u32 {
     u32::try_from(row).unwrap_or(u32::MAX)
 }
 
-/// Returns how the point of an act looks: green where an entry is added, red where it is refused.
+/// Returns how the point of an act looks: green if an entry is added, red if it is refused.
 fn sign(act: Act) -> Sign {
     match act {
         Act::Apply { verdict, .. } => verdict_sign(verdict),

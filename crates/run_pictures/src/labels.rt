@@ -12,14 +12,14 @@ use std::alloc::{AllocError, Global};
 use synod::Packet;
 use world::{Carried, World};
 
-/// The most bytes of a packet's printed form, or of a text, that a label has.
+/// The most bytes of a packet's printed form, or of a text, that a label shows.
 const MOST_SHOWN: usize = 48;
 
-/// The byte that stands for one that is no printable ASCII.
+/// The byte that replaces one that is not printable ASCII.
 const UNSEEN: u8 = b'?';
 
-/// Returns the name of a step: its kind, with the author, the serial and the start of the text of an
-/// offer, the number of a packet, or the slot and the verdict of an application.
+/// Returns the name of a step: its kind; for an offer with the author, the serial and the start of the
+/// text, for a delivery with the number of the packet, for an application with the slot and the verdict.
 pub(crate) fn step_label(alloc: Global, world: &World, act: Act) -> Result<Vec<u8>, AllocError> {
     let mut name = Vec::new(alloc);
     match act {
@@ -36,7 +36,7 @@ pub(crate) fn step_label(alloc: Global, world: &World, act: Act) -> Result<Vec<u
     escaped(alloc, name.as_slice())
 }
 
-/// Appends the name of an offer: the event of the history at an index.
+/// Appends the name of the offer that is the event of the history at an index.
 fn push_offer(name: &mut Vec<u8>, world: &World, index: u64) -> Result<(), AllocError> {
     match world.history().get(index as usize) {
         Some(Event::Offer(_, Carried(entry))) => push_entry(name, entry),
@@ -60,13 +60,13 @@ fn push_entry(name: &mut Vec<u8>, entry: &Entry) -> Result<(), AllocError> {
     }
 }
 
-/// Appends some text and a number.
+/// Appends a text and then a number.
 fn push_numbered(name: &mut Vec<u8>, before: &[u8], number: u64) -> Result<(), AllocError> {
     name.extend_from_slice(before)?;
     push_number(name, number)
 }
 
-/// Appends the start of some bytes; each that is no printable ASCII is shown as `?`.
+/// Appends the start of some bytes, with `?` for each byte that is not printable ASCII.
 fn push_start(name: &mut Vec<u8>, bytes: &[u8]) -> Result<(), AllocError> {
     for byte in bytes.iter().take(MOST_SHOWN) {
         name.push(shown_byte(*byte))?;
@@ -77,7 +77,7 @@ fn push_start(name: &mut Vec<u8>, bytes: &[u8]) -> Result<(), AllocError> {
     Ok(())
 }
 
-/// Returns the byte, or the one that stands for it.
+/// Returns the byte as a label shows it.
 fn shown_byte(byte: u8) -> u8 {
     if b' ' <= byte && byte <= b'~' {
         byte
@@ -113,7 +113,7 @@ pub(crate) fn learned_label(alloc: Global, first: u32, end: u32) -> Result<Vec<u
     Ok(note)
 }
 
-/// Returns bytes as text of XML, their markup escaped.
+/// Returns the bytes as XML text, with markup escaped.
 fn escaped(alloc: Global, bytes: &[u8]) -> Result<Vec<u8>, AllocError>
     ensures { IfOk result (λ text. text.items ≡ html_text bytes.now) }
 {

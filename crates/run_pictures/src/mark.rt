@@ -7,7 +7,7 @@ pub struct Spot {
     pub node: u8,
 }
 
-/// The node that posted a packet, and the row in which it did; `None` is before the first row.
+/// The node that posted a packet, and the row in which it did; `None` if that was before the first row.
 #[derive(Clone, Copy, Debug, PartialEq, Eq)]
 pub struct Origin {
     pub row: Option<usize>,
@@ -19,12 +19,12 @@ pub struct Origin {
 pub enum Mark {
     /// A step.
     Point { at: Spot },
-    /// The line of a node breaks, since it restarts.
+    /// A node restarts, which breaks its line.
     Break { at: Spot },
     /// The log of a node gained the entries of slots `first..end`.
     Learned { at: Spot, first: u32, end: u32 },
     /// A packet is delivered.
     Arrow { packet: u64, from: Origin, to: Spot },
-    /// A packet to a node is posted, and no step that is shown delivers it.
+    /// A packet to a node is posted, and no shown step delivers it.
     Stump { packet: u64, from: Spot, to: u8 },
 }

@@ -112,7 +112,7 @@ fn push_break(marks: &mut Vec<Mark>, row: usize, step: Step) -> Result<(), Alloc
     }
 }
 
-/// Appends which slots the node learned, if it learned some.
+/// Appends the slots that the node learned, if there are any.
 fn push_learned(marks: &mut Vec<Mark>, row: usize, step: Step) -> Result<(), AllocError>
     ensures { OnOk result (marks.new.items ≡ marks.old.items ++ learned_marks row step) }
 {
@@ -181,21 +181,21 @@ fn push_arrow(
     }
 }
 
-/// Returns the row of the step that posted a packet, if it is shown.
+/// Returns the row of the step that posted a packet, if that step is shown.
 fn row_of_post(shown: &[Step], number: u64) -> Option<usize>
     ensures { result ≡ position_from (posts number) 0 shown.now }
 {
     shown.iter().position(|step| is_post(step, number))
 }
 
-/// Tells whether the step posted a packet.
+/// Returns whether the step posted a packet.
 fn is_post(step: &Step, number: u64) -> bool
     ensures { result ≡ posts number step.now }
 {
     step.first_post <= number && number < step.end_post
 }
 
-/// Appends a stump for each packet that the step posted, and that no shown step delivers.
+/// Appends a stump for each packet that the step posted and no shown step delivers.
 fn push_stumps(
     marks: &mut Vec<Mark>,
     world: &World,
@@ -231,14 +231,14 @@ fn push_stump(
     }
 }
 
-/// Tells whether a shown step delivers a packet.
+/// Returns whether a shown step delivers a packet.
 fn is_delivered(shown: &[Step], number: u64) -> bool
     ensures { result ≡ list_any (delivers number) shown.now }
 {
     shown.iter().any(|step| is_delivery(step.act, number))
 }
 
-/// Tells whether an act delivers a packet.
+/// Returns whether an act delivers a packet.
 fn is_delivery(act: Act, number: u64) -> bool
     ensures { result ≡ delivers_act number act }
 {

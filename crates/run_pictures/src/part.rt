@@ -4,7 +4,7 @@ ghost use Rattle.run_pictures.specs.Marks.{shown_of};
 
 use crate::step::Step;
 
-/// A part of a run: some of its steps, events and applications counted together from 0.
+/// A part of a run: a range of its steps. Events and applications are counted together, from 0.
 #[derive(Clone, Copy, Debug, PartialEq, Eq)]
 pub struct Part {
     /// The index of the first step of the part, from 0.

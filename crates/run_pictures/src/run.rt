@@ -19,7 +19,7 @@ use std::marker::Model;
 use synod::Weights;
 use world::World;
 
-/// A world of nodes and their libraries whose steps are recorded: the events taken, and the entries
+/// A world of nodes and their libraries that records its steps: the events taken, and the entries
 /// applied between them. Contracts see the world and the steps.
 #[derive(Drop)]
 pub struct Run {
@@ -44,7 +44,7 @@ impl Run {
     ghost use Rattle.run_pictures.specs.RunView.{RunView, packets_of};
     ghost use Rattle.run_pictures.specs.Marks.{marks_of as marks_shown, shown_of};
 
-    /// Makes the run of new nodes, without a step.
+    /// Makes a run of new nodes, without steps.
     #[tactic(auto, using(crate::proofs::RunLemmas::new_recorded))]
     pub fn new(alloc: Global, weights: Weights) -> Result<Run, StepFault>
         ensures new { IfOk result
@@ -60,7 +60,7 @@ impl Run {
 
     /// Takes an event, and records its step.
     ///
-    /// Errors: those of `World::step`, or `Memory`; the run is then as before.
+    /// Errors: those of `World::step`, or `Memory`; the run is then unchanged.
     #[tactic(auto, using(crate::proofs::RunLemmas::event_recorded, crate::proofs::RunLemmas::same_recorded))]
     pub fn step(&mut self, event: Event<Entry>) -> Result<(), StepFault>
         ensures taken { OnOk result
@@ -79,9 +79,9 @@ impl Run {
         Ok(())
     }
 
-    /// Applies the next entry of the log of node `k`, and records the step, if there is an entry.
+    /// Applies the next entry of the log of node `k`, if there is one, and records the step.
     ///
-    /// Errors: those of `World::apply_next`, or `Memory`; the run is then as before.
+    /// Errors: those of `World::apply_next`, or `Memory`; the run is then unchanged.
     #[tactic(auto, using(crate::proofs::RunLemmas::application_recorded, crate::proofs::RunLemmas::same_recorded))]
     pub fn apply_next(&mut self, k: u8) -> Result<(), StepFault>
         ensures same { OnErr result (self.new ≡ self.old) }
@@ -110,11 +110,11 @@ impl Run {
         shown(self.steps.as_slice(), part)
     }
 
-    /// Returns the marks of a part: all that a picture shows of it. The steps that are events are
-    /// exactly those of the history, in order.
+    /// Returns the marks of a part, which are all that a picture shows of it. The recorded steps that are
+    /// events are exactly those of the history, in order.
     ///
-    /// Errors: an allocation fails. Cost: for each packet that a shown step posted or delivers, the
-    /// shown steps.
+    /// Errors: an allocation fails. Cost: the number of shown steps, for each packet that a shown step
+    /// posted or delivers.
     pub fn marks(&self, alloc: Global, part: Part) -> Result<Vec<Mark>, AllocError>
         requires { length (shown_of self.now.steps part.from part.count) ≤ MOST_ROWS }
         ensures marks { IfOk result (λ marks. marks.items ≡ marks_shown
@@ -125,9 +125,9 @@ impl Run {
     }
 }
 
-/// Returns what is known of the step of an event before the event.
+/// Returns the fields of the step of an event that are known before the event.
 ///
-/// Errors: `NoNode`, where there is no such node.
+/// Errors: `NoNode` if there is no such node.
 fn step_start(world: &World, posted: u64, event: &Event<Entry>) -> Result<StepStart, StepFault>
     requires { posted ≡ length (packets_after (world_of carried_size world.now.taken)) }
     ensures start { IfOk result (λ start. start
@@ -144,7 +144,7 @@ fn step_start(world: &World, posted: u64, event: &Event<Entry>) -> Result<StepSt
     })
 }
 
-/// Returns the node of an event; of a packet that is not there, node 0.
+/// Returns the node of an event, or 0 for the delivery of a packet that does not exist.
 fn node_of(world: &World, event: &Event<Entry>) -> u8
     ensures { result ≡ node_in (world_of carried_size world.now.taken) (carried_event event.now) }
 {
@@ -156,7 +156,7 @@ fn node_of(world: &World, event: &Event<Entry>) -> u8
     }
 }
 
-/// Returns the receiver of a packet; of one that is not there, node 0.
+/// Returns the receiver of a packet, or 0 if there is no such packet.
 fn receiver(world: &World, number: u64) -> u8
     ensures { result ≡ receiver_of (slice_get (packets_after (world_of carried_size world.now.taken)) number) }
 {

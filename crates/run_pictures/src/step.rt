@@ -4,7 +4,7 @@ ghost use Rattle.run_pictures.specs.StepStart.{ended_of};
 
 use library::Verdict;
 
-/// A step of a run: an event that was taken, or an entry that was applied.
+/// A step of a run: an event that the world took, or an entry that a node applied.
 #[derive(Clone, Copy, PartialEq, Eq)]
 pub struct Step {
     /// The node at which it happened.
@@ -12,7 +12,7 @@ pub struct Step {
     pub act: Act,
     /// The number of the first packet that it posted; 0 for an application.
     pub first_post: u64,
-    /// The number after that of the last packet that it posted; 0 for an application.
+    /// One more than the number of the last packet that it posted; 0 for an application.
     pub end_post: u64,
     /// How many entries the log of the node had before the step.
     pub learned_before: u32,
@@ -23,19 +23,19 @@ pub struct Step {
 /// The kind of a step: an event, or the application of an entry.
 #[derive(Clone, Copy, PartialEq, Eq)]
 pub enum Act {
-    /// An entry is offered by the event of the history at this index.
+    /// The event of the history at this index offers an entry.
     Offer { event: u64 },
     /// A ballot begins.
     Begin,
-    /// The packet of this number is delivered.
+    /// The packet with this number is delivered.
     Deliver { packet: u64 },
     /// The node restarts.
     Restart,
-    /// The entry of the slot is applied to the library, with this verdict.
+    /// The entry of the slot is applied to the node's library, with this verdict.
     Apply { slot: u32, verdict: Verdict },
 }
 
-/// What is known of a step before its event.
+/// The fields of a step that are known before its event.
 #[derive(Clone, Copy)]
 pub(crate) struct StepStart {
     pub(crate) node: u8,
@@ -45,7 +45,7 @@ pub(crate) struct StepStart {
 }
 
 impl StepStart {
-    /// Returns the step, by what is known after the event.
+    /// Returns the step, given the fields that are known after the event.
     pub(crate) fn ended(self, end_post: u64, learned: u32) -> Step
         ensures { result ≡ ended_of self end_post learned }
     {

@@ -1,5 +1,5 @@
--- Pairs of variables of an assertion whose images were found disjoint.
--- Source: Metamath, 4.2.6: the condition speaks of two variables, whatever their order.
+-- Pairs of variables of an assertion whose images are known to be disjoint.
+-- Source: Metamath, 4.2.6: the condition is on two variables, in either order.
 -- The code tests a recorded pair once, however many groups have it.
 use Rattle.std.specs.Prelude.{◌≡◌, ℕ, ◌⊎◌, List, [], ◌∷◌, Some, slice_get, true}
 use Rattle.explain.specs.Words.{Name, Database, name_at, Images, image, are_disjoint}
@@ -9,7 +9,7 @@ use Rattle.explain.specs.declared.disjoint_pairs.VariablePair.{VariablePair}
 abbrev pub IsDisjointPair : Database → List Name → Images → ℕ → ℕ → Type 0
 IsDisjointPair S names σ x y = are_disjoint S (image σ (name_at names x)) (image σ (name_at names y)) ≡ true
 
--- .. those of each pair
+-- .. for each pair
 abbrev pub AreDisjointPairs : Database → List Name → Images → List VariablePair → Type 0
 AreDisjointPairs S names σ [] = Unit {0}
 AreDisjointPairs S names σ (p ∷ ps) = IsDisjointPair S names σ p.first p.second × AreDisjointPairs S names σ ps

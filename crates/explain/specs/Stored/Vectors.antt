@@ -1,4 +1,4 @@
--- Expressions kept as slices of numbers that stand for names, and images of variables.
+-- Expressions as slices of numbers, each the number of a name, and images of variables.
 -- Source: this project's form of keeping names; images are Metamath, 4.2.6.
 -- The code keeps a slice for each expression; the definitions of faults speak of names.
 use Rattle.std.specs.Prelude.{◌≡◌, ℕ, List, map, length, Some}
