@@ -1,5 +1,5 @@
-//! A submission during which an allocation fails has no verdict, and has it if it is submitted again. Each allocation fails in
-//! turn.
+//! A submission during which an allocation fails has no verdict; submitted again, it has its usual one. Each allocation fails
+//! in turn.
 use crate::library_workers::by_workers;
 use crate::text_entries::{entry, of_new, verdict_on};
 use bytes::Bytes;
