@@ -46,7 +46,7 @@ abbrev pub BeginsWith : (ℕ → Type 0) → List ℕ → Type 0
 BeginsWith P [] = ⊥
 BeginsWith P (letter ∷ letters) = P letter
 
--- the byte is none of A to Z
+-- the byte is not one of A to Z
 abbrev pub IsOther : ℕ → Type 0
 IsOther letter = IsFalse (is_first letter) × IsFalse (is_last letter) × (letter ≢ 90)
 

@@ -2,7 +2,7 @@
 use std::alloc::{AllocError, Global};
 use std::io::{self, ErrorKind, Read, Write};
 
-/// A reader that returns one byte a call, and fails at one of the calls.
+/// A reader that returns one byte a call, and fails after some calls.
 #[derive(Drop)]
 pub struct FailingReader<'a> {
     text: &'a [u8],

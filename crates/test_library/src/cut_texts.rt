@@ -1,4 +1,4 @@
-//! A text that is cut is read as by one thread, also where a `$.` stands in a comment.
+//! A text that is parsed in parts by several threads gives the same as by one, even if a comment contains `$.`.
 use mm_read::ReadFault;
 use read_pool::read_in_parts;
 use std::alloc::{AllocError, Global};
@@ -7,7 +7,7 @@ use std::thread::Threads;
 /// One statement.
 const LINE: &[u8] = b"$( $c b $. $) $c a $.\n";
 
-/// So many make a text of more than four MiB, which is cut into four parts at most.
+/// How many lines make a text of more than 4 MiB, which is split into at most four parts.
 const LINES: usize = 200_000;
 
 #[test]

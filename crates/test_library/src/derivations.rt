@@ -1,4 +1,4 @@
-//! Both proofs of the book's first theorem by their items: they are right, and their tree has 34 nodes.
+//! Both proofs of the book's first theorem, normal and compressed, are correct, and their tree has 34 nodes.
 ghost use Rattle.std.specs.Prelude.{◌≡◌, ◌∷◌, ◌++◌, []};
 ghost use Rattle.mm_read.specs.Statements.{AreShaped, Database};
 ghost use Rattle.scope.specs.Active.{bare};
@@ -11,7 +11,7 @@ use scope::Scope;
 use std::alloc::Global;
 use verify::{Answer, Tree, TreeFault, check, derivation};
 
-/// A call that ran out of memory answers when it is repeated: run with each allocation refused in turn.
+/// A call in which an allocation fails returns its result when it is repeated. Each allocation fails in turn.
 #[test]
 fn right_after_a_failed_allocation(rt: HostRuntime) {
     for text in [NORMAL, PACKED] {
@@ -23,7 +23,7 @@ fn right_after_a_failed_allocation(rt: HostRuntime) {
     }
 }
 
-/// Returns the number of nodes of the tree of the last proof: 0 if it is wrong; nothing if memory runs out.
+/// Returns the number of nodes of the tree of the last proof: 0 if it is wrong, `None` if an allocation fails.
 fn nodes_of(alloc: Global, text: &[u8]) -> Option<usize> {
     match (read(alloc, text), read(alloc, b"$c tt $.")) {
         (Ok(statements), Ok(labels)) => match labels.first() {
@@ -34,20 +34,20 @@ fn nodes_of(alloc: Global, text: &[u8]) -> Option<usize> {
     }
 }
 
-/// Returns the number of nodes for these statements, where the last theorem has these mandatory labels.
+/// Returns the number of nodes for these statements. The last theorem must have these mandatory labels.
 fn last_nodes(alloc: Global, statements: &[Stmt], mandatory: &Words) -> Option<usize>
     requires { AreShaped statements.now }
 {
     let mut scope = Scope::new(alloc);
     let mut frames = Frames::new(alloc);
     let nodes = nodes_in(alloc, statements, mandatory, &mut scope, &mut frames);
-    // Drops by a call are proved once for each type, and not laid out here.
+    // An explicit `drop` is proved once for each type; a drop at the end of the scope would be proved here.
     drop(frames);
     drop(scope);
     nodes
 }
 
-/// Returns the number of nodes by a scope and frames without statements.
+/// Returns the number of nodes, given an empty scope and empty frames.
 fn nodes_in(
     alloc: Global,
     statements: &[Stmt],

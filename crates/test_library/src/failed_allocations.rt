@@ -1,4 +1,4 @@
-//! If an allocation fails nothing is decided, and the same text submitted again has its verdict: run with each allocation refused
+//! A submission during which an allocation fails has no verdict; submitted again, it has its usual one. Each allocation fails
 //! in turn.
 use crate::library_workers::by_workers;
 use crate::text_entries::{entry, of_new, verdict_on};
@@ -13,7 +13,7 @@ const REFUSED: &[u8] = b"$c |- $. p $a |- $. p $a |- $.";
 
 const GOOD: &[u8] = b"$c |- $. p $a |- $.";
 
-/// Texts one after another, each with its serial, its verdict and how many statements stand then.
+/// Successive texts, each with its serial number, its verdict, and the number of statements of the library after it.
 const ROWS: [(u64, &[u8], Verdict, usize); 2] = [
     (
         1,
@@ -36,7 +36,7 @@ fn decides_each(alloc: Global) -> bool {
     of_new(alloc, |library| decides_rows(alloc, library))
 }
 
-/// Returns whether each text has its verdict, and so many statements stand then.
+/// Returns whether each text has its verdict, and the library has the expected number of statements after it.
 fn decides_rows(alloc: Global, library: &mut Library) -> bool {
     for (serial, text, verdict, count) in ROWS {
         if !is_decided(alloc, library, serial, text, verdict)
@@ -48,7 +48,7 @@ fn decides_rows(alloc: Global, library: &mut Library) -> bool {
     true
 }
 
-/// Returns whether this is the verdict on the text. If an allocation fails, nothing may be decided, and the call is repeated.
+/// Returns whether this is the verdict on the text. If an allocation fails, nothing must be decided, and the call is repeated.
 fn is_decided(
     alloc: Global,
     library: &mut Library,
@@ -67,7 +67,7 @@ fn is_decided(
     }
 }
 
-/// Returns the verdict on the text; nothing if memory runs out.
+/// Returns the verdict on the text, or `None` if an allocation fails.
 fn verdict_of(alloc: Global, library: &mut Library, serial: u64, text: &[u8]) -> Option<Verdict> {
     let entry = entry(serial, Bytes::copy_from_slice(alloc, text).ok()?);
     verdict_on(library, &entry)

@@ -1,4 +1,4 @@
-//! The book's first example, statements added to a scope and its frames, and the items of a proof, which the tests share.
+//! Helpers that the tests share: the book's first example, adding statements to a scope and frames, and the items of a proof.
 ghost use Rattle.std.specs.Prelude.{◌≡◌, ◌∷◌, ◌++◌, [], OnSome, IfSome};
 ghost use Rattle.mm_read.specs.Statements.{IsShaped, AreShaped, Database};
 ghost use Rattle.scope.specs.Active.{bare};
@@ -19,7 +19,7 @@ pub const NORMAL: &[u8] =
     th1 $p |- t = t $= tt tze tpl tt weq tt tt weq tt a2 tt tze tpl tt weq tt tze tpl tt weq tt tt weq \
     wim tt a2 tt tze tpl tt tt a1 mp mp $.";
 
-/// The book's first example with its proof compressed.
+/// The book's first example, with a compressed proof.
 pub const PACKED: &[u8] =
     b"$c 0 + = -> ( ) term wff |- $. $v t r s P Q $. tt $f term t $. tr $f term r $. \
     ts $f term s $. wp $f wff P $. wq $f wff Q $. tze $a term 0 $. tpl $a term ( t + r ) $. \
@@ -27,7 +27,7 @@ pub const PACKED: &[u8] =
     a2 $a |- ( t + 0 ) = t $. ${ min $e |- P $. maj $e |- ( P -> Q ) $. mp $a |- Q $. $} \
     th1 $p |- t = t $= ( tze tpl weq a2 wim a1 mp ) ABCZADZAADZAEZJJKFLIAAGHH $.";
 
-/// Adds the statement, if it is legal next.
+/// Adds the statement, if it is legal as the next one.
 pub fn push(scope: &mut Scope, frames: &mut Frames, stmt: &Stmt) -> Option<()>
     requires same { scope.old.statements ≡ frames.old.statements }
     requires shaped { IsShaped stmt.now }
@@ -42,7 +42,7 @@ pub fn push(scope: &mut Scope, frames: &mut Frames, stmt: &Stmt) -> Option<()>
     scope.add(stmt, &mut steps).ok()
 }
 
-/// Adds the statements, if each is legal next, and lends the last.
+/// Adds the statements, if each is legal as the next one, and returns the last.
 pub fn push_all<'a>(
     scope: &mut Scope,
     frames: &mut Frames,

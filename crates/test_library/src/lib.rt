@@ -1,6 +1,6 @@
-//! Tests from bytes to a verdict of what no row can say: places of tokens and items of proof tokens, texts that are cut, copies of
-//! a scope, worked frames, images substituted at once, trees of the book's first theorem, answers by several workers in
-//! parallel, texts of the greatest length, and answers after a failed allocation.
+//! Tests of the crates up to `library` that rows cannot express: places of tokens and items of proof tokens, texts parsed in
+//! parts, copies of a scope, worked frames, simultaneous substitution, trees of the book's first theorem, verdicts by several
+//! workers in parallel, texts of the greatest length, and verdicts after a failed allocation.
 #![tactic(auto)]
 
 #[cfg(test)]

@@ -1,4 +1,4 @@
-//! The same verdict by any number of workers, and two workers in parallel.
+//! Any number of workers give the same verdict, and two workers run in parallel.
 ghost use Rattle.std.specs.Prelude.{◌≤◌};
 
 use crate::meeting::Meeting;
@@ -33,10 +33,10 @@ const ROWS: [(&[u8], Verdict); 6] = [
     ),
 ];
 
-/// Two right proofs.
+/// Two correct proofs.
 const TWO: &[u8] = b"$c |- o $. a $a |- o $. p $p |- o $= a $. q $p |- o $= p $.";
 
-/// The results of the first proof have more than 2,000,000 symbols, more than a worker's share.
+/// The results of the first proof have more than 2,000,000 symbols, which exceeds a worker's share.
 const HEAVY: &[u8] = b"$c |- w e $. $v x $. fx $f w x $. e0 $a w e $. d2 $a w x x $. \
     ${ h $e w x $. k $a |- e $. $} c0 $a |- e $. \
     p $p |- e $= ( e0 d2 k ) ABBBBBBBBBBBBBBBBBBBBZDC $. q $p |- e $= c0 $.";
@@ -68,7 +68,7 @@ fn is_judged_by_each<R: Threads + Sync>(
         && by_workers(rt, alloc, 16, text, &OpenGate) == Some(verdict)
 }
 
-/// Returns the verdict of a new library by so many workers.
+/// Returns the verdict of a new library with this number of workers.
 pub fn by_workers<G: Gate + Sync, R: Threads + Sync>(
     rt: &R,
     alloc: Global,
@@ -86,7 +86,7 @@ pub fn by_workers<G: Gate + Sync, R: Threads + Sync>(
     )
 }
 
-/// Returns the verdict on the entry; the call is repeated if an allocation fails.
+/// Returns the verdict on the entry. Repeats the call if an allocation fails.
 fn asked_again<G: Gate + Sync, R: Threads + Sync>(
     rt: &R,
     library: &mut Library,
@@ -100,7 +100,7 @@ fn asked_again<G: Gate + Sync, R: Threads + Sync>(
     }
 }
 
-/// Some proofs are wrong, in a text that is long enough that its first proofs are judged while the others are added.
+/// Some proofs are wrong in a text so long that its first proofs are verified while later statements are added.
 #[test]
 fn long_text_judged_alike(rt: HostRuntime) -> Result<(), Fail> {
     for (wrong, verdict) in LONG_ROWS {
@@ -113,7 +113,7 @@ fn long_text_judged_alike(rt: HostRuntime) -> Result<(), Fail> {
     Ok(())
 }
 
-/// Which of the proofs of a long text are wrong, by number from 0, and the verdict: the `$c` and the `$a` come before them.
+/// Which of the proofs of a long text are wrong, by number from 0, and the verdict. A `$c` and an `$a` precede the proofs.
 const LONG_ROWS: [(&[u64], Verdict); 4] = [
     (&[], Verdict::Added),
     (
@@ -139,7 +139,7 @@ fn long_text(alloc: Global, wrong: &[u64]) -> Result<Vec<u8>, AllocError> {
     Ok(text)
 }
 
-/// Appends the theorem of that number, with a right proof or a wrong one.
+/// Appends the theorem with this number, with a correct proof or a wrong one.
 fn push_proof(text: &mut Vec<u8>, number: u64, is_right: bool) -> Result<(), AllocError> {
     let proof: &[u8] = if is_right { b"a $. " } else { b"a a $. " };
     text.extend_from_slice(b"p")?;

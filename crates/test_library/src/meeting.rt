@@ -2,7 +2,7 @@
 use std::sync::atomic::{AtomicBool, Ordering};
 use verify_pool::{Gate, Place};
 
-/// How often a thread looks whether the other has come.
+/// How many times a thread checks whether the other has arrived.
 const TURNS: u64 = 1_000_000_000;
 
 /// A gate at which the first two jobs meet: each waits for the other.
@@ -10,12 +10,12 @@ const TURNS: u64 = 1_000_000_000;
 pub struct Meeting {
     first_came: AtomicBool,
     second_came: AtomicBool,
-    /// Whether one of them waited in vain.
+    /// Whether one of them gave up waiting.
     missed: AtomicBool,
 }
 
 impl Meeting {
-    /// Returns a gate to which neither job has come.
+    /// Returns a gate at which neither job has arrived.
     pub fn new() -> Meeting {
         Meeting {
             first_came: AtomicBool::new(false),
@@ -24,12 +24,12 @@ impl Meeting {
         }
     }
 
-    /// Returns whether neither job waited in vain.
+    /// Returns whether neither job gave up waiting.
     pub fn was_kept(&self) -> bool {
         !self.missed.load(Ordering::SeqCst)
     }
 
-    /// Records that a job has come, and waits for the other.
+    /// Records that a job has arrived, and waits for the other.
     fn meet(&self, comes: &AtomicBool, other: &AtomicBool) {
         comes.store(true, Ordering::SeqCst);
         for _turn in 0..TURNS {

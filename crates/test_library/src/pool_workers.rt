@@ -1,4 +1,4 @@
-//! The jobs of two right proofs by two workers, which run in parallel, also after a failed allocation.
+//! Two workers verify the jobs of two correct proofs in parallel, also after a failed allocation.
 ghost use Rattle.std.specs.Prelude.{◌≡◌, ◌≤◌, ◌∷◌, ◌++◌, [], IsTrue};
 ghost use Rattle.mm_read.specs.Statements.{Database, AreShaped, IsShaped};
 ghost use Rattle.scope.specs.Active.{bare};
@@ -15,10 +15,10 @@ use std::alloc::Global;
 use std::thread::Threads;
 use verify_pool::{Gate, Job, OpenGate, Workers, check_all};
 
-/// Two right proofs.
+/// Two correct proofs.
 const TWO: &[u8] = b"$c |- o $. a $a |- o $. p $p |- o $= a $. q $p |- o $= p $.";
 
-/// A second call answers after an allocation failed once.
+/// A second call returns the answer after an allocation failed in the first.
 #[test]
 fn answered_after_a_failed_allocation(rt: HostRuntime) {
     let mut answer = answer_of(&rt, rt.alloc(), TWO, 2, &OpenGate);
@@ -37,7 +37,7 @@ fn gate_two_jobs(rt: HostRuntime) {
     assert!(rt; meeting.was_kept());
 }
 
-/// Returns the answer for the proofs of a text; nothing if the text is no legal database or memory runs out.
+/// Returns the answer for the proofs of a text, or `None` if the text is not a legal database or an allocation fails.
 fn answer_of<G: Gate + Sync, R: Threads + Sync>(
     rt: &R,
     alloc: Global,
@@ -67,13 +67,13 @@ fn judge<G: Gate + Sync, R: Threads + Sync>(
     let mut frames = Frames::new(alloc);
     let mut jobs = Vec::new(alloc);
     let least = judge_in(rt, alloc, statements, workers, gate, &mut jobs, &mut frames);
-    // Drops by a call are proved once for each type, and not laid out here.
+    // An explicit `drop` is proved once for each type; a drop at the end of the scope would be proved here.
     drop(jobs);
     drop(frames);
     least
 }
 
-/// Returns the answer by empty lists of jobs and frames.
+/// Returns the answer, given empty jobs and frames to fill.
 fn judge_in<G: Gate + Sync, R: Threads + Sync>(
     rt: &R,
     alloc: Global,
@@ -95,7 +95,7 @@ fn judge_in<G: Gate + Sync, R: Threads + Sync>(
     }
 }
 
-/// Returns the least bad job. If an allocation fails, the call is repeated.
+/// Returns the first job that is wrong, if any. Repeats the call if an allocation fails.
 fn checked_again<G: Gate + Sync, R: Threads + Sync>(
     rt: &R,
     alloc: Global,
@@ -165,7 +165,7 @@ fn push_one(
     push_job(alloc, frames, stmt, jobs).is_some()
 }
 
-/// Returns the items of a normal proof; the call is repeated if memory ran out.
+/// Returns the items of a normal proof. Repeats the call if an allocation fails.
 fn items_again(alloc: Global, tokens: &Words) -> Result<Items, CodeFault> {
     match normal(alloc, tokens) {
         Err(CodeFault::Memory) => normal(alloc, tokens),

@@ -1,11 +1,11 @@
-//! The items that proof tokens write, with the numbers of the book, and the tokens that write none.
+//! The items that proof tokens write, with examples of numbers from the book, and tokens that write no items.
 use mm_lex::Words;
 use mm_read::{Stmt, read};
 use numbers::push_number;
 use proof_code::{CodeFault, Items, is_compressed, normal, packed};
 use std::alloc::{AllocError, Global};
 
-/// The tokens after the labels h1 to h130, and the numbers of their items.
+/// Tokens, and the numbers of the items that they write after the labels h1 to h130.
 const NUMBERS: [(&[u8], &[u32]); 4] = [
     (b"( ) TUAYTUUA", &[20, 21, 120, 121]),
     (b"( b ) A BZ U A U B ZC", &[1, 2, 0, 21, 22, 0, 3]),
@@ -27,7 +27,7 @@ fn has_numbers(alloc: Global, tokens: &[u8], want: &[u32]) -> bool {
     }
 }
 
-/// The tokens after the same labels, and why they write no items.
+/// Tokens, and why they write no items after the same labels.
 const FAULTS: [(&[u8], CodeFault); 9] = [
     (b"( ) AU", CodeFault::Malformed),
     (b"( ) ZA", CodeFault::Malformed),
@@ -47,7 +47,7 @@ fn faults_are_told_apart(rt: HostRuntime) {
     }
 }
 
-/// The number of a long word is over every limit.
+/// The number of a long letter group exceeds every limit.
 #[test]
 fn word_of_100_000_letters(rt: HostRuntime) {
     assert!(rt; is_too_long(rt.alloc()));
@@ -75,7 +75,7 @@ fn has_fault(alloc: Global, tokens: &[u8], want: CodeFault) -> bool {
     }
 }
 
-/// Returns the items that these tokens write after the labels h1 to h130.
+/// Returns the items that the tokens write after the labels h1 to h130.
 fn items_of(alloc: Global, tokens: &[u8]) -> Result<Items, CodeFault> {
     let Ok(text) = text_of(alloc, tokens) else {
         return Err(CodeFault::Memory);
@@ -97,7 +97,7 @@ fn items_after(alloc: Global, mandatory: &Words, tokens: &Words) -> Result<Items
     }
 }
 
-/// Returns a statement of the labels, and one with the tokens as its proof.
+/// Returns a text of two statements: one of the labels, and one with the tokens as its proof.
 fn text_of(alloc: Global, tokens: &[u8]) -> Result<Vec<u8>, AllocError> {
     let mut text = Vec::new(alloc);
     push_text(&mut text, tokens)?;
@@ -114,7 +114,7 @@ fn push_text(text: &mut Vec<u8>, tokens: &[u8]) -> Result<(), AllocError> {
     text.extend_from_slice(b" $.")
 }
 
-/// Appends the label of that number.
+/// Appends the label with this number.
 fn push_label(text: &mut Vec<u8>, number: u64) -> Result<(), AllocError> {
     text.extend_from_slice(b" h")?;
     push_number(text, number)

@@ -1,4 +1,4 @@
-//! Copies of a scope, with ample memory.
+//! Copies of a scope.
 ghost use Rattle.mm_read.specs.Statements.{AreShaped};
 
 use mm_read::{Stmt, read};
@@ -12,13 +12,13 @@ fn copies_after_each_statement(rt: HostRuntime) {
     assert!(rt; copies_each(rt.alloc(), SMALLEST));
 }
 
-/// Returns whether the scope of each front of the text has a copy.
+/// Returns whether the statements of the text are added, and the scope can be copied after each.
 fn copies_each(alloc: Global, text: &[u8]) -> bool {
     let mut scope = Scope::new(alloc);
     adds_each(alloc, &mut scope, text)
 }
 
-/// Returns whether each statement is added, and the scope has a copy then.
+/// Returns whether the statements of the text are added to this scope, and it can be copied after each.
 fn adds_each(alloc: Global, scope: &mut Scope, text: &[u8]) -> bool {
     match read(alloc, text) {
         Ok(statements) => adds_all(scope, statements.as_slice()),

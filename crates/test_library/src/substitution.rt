@@ -1,13 +1,13 @@
-//! Images that are substituted at once, and an image of nothing.
+//! Simultaneous substitution, and an empty image.
 use std::alloc::{AllocError, Global};
 use subst::{Buffer, Subst, apply, apply_into, has_room};
 
-/// Numbers of symbols.
+/// Symbol numbers.
 const X: u32 = 4;
 
 const Y: u32 = 5;
 
-/// The images of x and of y, an expression, and the result.
+/// The images of x and y, an expression, and the result of the substitution.
 const ROWS: [(&[u32], &[u32], &[u32], &[u32]); 3] = [
     (&[Y], &[X], &[0, X, 3, Y], &[0, Y, 3, X]),
     (&[], &[Y], &[0, 1, X, 2], &[0, 1, 2]),
@@ -21,7 +21,7 @@ fn images_are_put_in_at_once(rt: HostRuntime) {
     }
 }
 
-/// Returns whether an expression with these images of x and y becomes that one, also at the end of a buffer.
+/// Returns whether substituting these images of x and y in an expression gives `want`, also when appended to a buffer.
 fn gives(
     alloc: Global,
     x: &[u32],
@@ -33,7 +33,7 @@ fn gives(
     gives_by(alloc, &mut subst, x, y, expr, want)
 }
 
-/// Returns whether it does so with an empty list of images.
+/// Returns whether it gives `want`, with `subst` empty at first.
 fn gives_by(
     alloc: Global,
     subst: &mut Subst,
@@ -48,12 +48,12 @@ fn gives_by(
     Ok(becomes(alloc, subst, expr, want)? && is_added(alloc, subst, expr, want)?)
 }
 
-/// Returns whether the expression becomes that one.
+/// Returns whether the substitution turns the expression into `want`.
 fn becomes(alloc: Global, subst: &Subst, expr: &[u32], want: &[u32]) -> Result<bool, AllocError> {
     Ok(apply(alloc, subst, expr)?.as_slice() == want)
 }
 
-/// Returns whether that is added to a buffer twice.
+/// Returns whether appending it to a buffer twice gives `want` twice.
 fn is_added(alloc: Global, subst: &Subst, expr: &[u32], want: &[u32]) -> Result<bool, AllocError> {
     let mut buffer = Buffer::new(alloc);
     if !has_room(subst, expr, &buffer) {

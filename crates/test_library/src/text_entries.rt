@@ -1,4 +1,4 @@
-//! A text as an entry, and the verdict on the greatest text and on one byte more.
+//! Makes entries from texts; tests the verdict on a text of the greatest length and on one with one more byte.
 use bytes::Bytes;
 use library::{Cause, Entry, Library, Submission, Verdict};
 use std::alloc::Global;
@@ -27,14 +27,14 @@ fn texts_have_a_limit(rt: HostRuntime) {
     }
 }
 
-/// Returns the verdict of a new library on so many spaces.
+/// Returns the verdict of a new library on a text of `length` spaces.
 fn spaces_verdict(alloc: Global, length: usize) -> Option<Verdict> {
     let text = Bytes::from_vec(vec![in alloc; b' '; length].ok()?).ok()?;
     let entry = entry(1, text);
     of_new(alloc, |library| verdict_on(library, &entry))
 }
 
-/// Queries a new library. It is dropped by a call, whose drops are proved once for each type, and not laid out here.
+/// Calls `ask` on a new library. The library is dropped explicitly, since `drop` is proved once for each type.
 pub fn of_new<T, F: FnOnce(&mut Library) -> T>(alloc: Global, ask: F) -> T
     requires { F.IsAlwaysCallable ask }
 {
@@ -44,7 +44,7 @@ pub fn of_new<T, F: FnOnce(&mut Library) -> T>(alloc: Global, ask: F) -> T
     answer
 }
 
-/// Returns the verdict on the entry; nothing if memory runs out.
+/// Returns the verdict on the entry, or `None` if an allocation fails.
 pub fn verdict_on(library: &mut Library, entry: &Entry) -> Option<Verdict> {
     library.apply(Some(entry)).ok()
 }

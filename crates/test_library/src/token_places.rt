@@ -1,8 +1,8 @@
-//! With ample memory the places of tokens are told.
+//! The places of tokens.
 use mm_lex::{Span, tokens};
 use std::alloc::Global;
 
-/// A comment stands between the two tokens, and has a token that only begins like the opening of one.
+/// Two tokens and a comment between them. A token of the comment only begins like `$(`.
 const TEXT: &[u8] = b"$. $( hi $(x $) p";
 
 const PLACES: [Span; 2] = [Span { start: 0, end: 2 }, Span { start: 16, end: 17 }];

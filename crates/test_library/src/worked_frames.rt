@@ -1,4 +1,4 @@
-//! The frames of worked assertions.
+//! The frames of assertions of worked examples.
 ghost use Rattle.mm_read.specs.Statements.{AreShaped};
 
 use frame::{Frame, frame};
@@ -13,13 +13,13 @@ const ARITHMETIC: &[u8] = b"$c 0 + = -> ( ) term wff |- $. $v t r s P Q $. \
     a1 $a |- ( t = r -> ( t = s -> r = s ) ) $. a2 $a |- ( t + 0 ) = t $. \
     ${ min $e |- P $. maj $e |- ( P -> Q ) $. mp $a |- Q $. $}";
 
-/// A `$d` on the variables of `ax`, and one on a dummy of `th`.
+/// A `$d` on the variables of `ax`, and one on a dummy variable of `th`.
 const APART: &[u8] = b"$c wff |- R $. $v x y z $. wx $f wff x $. wy $f wff y $. wz $f wff z $. \
     ${ $d x y $. ax $a |- x R y $. $} ${ h $e |- x R y $. r $a |- R x $. $} \
     ${ $d x z $. th $p |- R x $= wx wz wx wz ax r $. $}";
 
-/// A text, how many statements stand before an assertion, and its hypotheses, the one list of its disjoint variables
-/// (or none) and its conclusion.
+/// A text, the number of statements before an assertion, and the assertion's mandatory hypotheses, its one list of disjoint
+/// variables (or none) and its conclusion.
 const ROWS: [(&[u8], usize, &[usize], &[u8], &[u8]); 5] = [
     (ARITHMETIC, 16, &[6, 7, 15, 16], b"", b"|- Q"),
     (
@@ -45,7 +45,7 @@ fn assertions_have_their_frames(rt: HostRuntime) {
     }
 }
 
-/// Returns the frame of the assertion after so many statements.
+/// Returns the frame of the assertion after `count` statements.
 fn frame_after(alloc: Global, text: &[u8], count: usize) -> Option<Frame> {
     match read(alloc, text) {
         Ok(statements) => frame_at(alloc, statements.as_slice(), count),

@@ -14,12 +14,12 @@ fn a_store_fails(rt: HostRuntime) {
     }
 }
 
-/// Returns whether the first node is down once its first store fails, which leaves the new record or the old, and up again once it
-/// restarts.
+/// Returns whether the first node is down after its first store fails, and up again after it restarts. The failed store leaves
+/// the new record or the old one.
 fn store_fails(alloc: Global, new: bool) -> Result<bool, StepFault> {
     let (mut switch, mut cells) = three(alloc, Fuse::new(alloc, Some(0), new))?;
     let down = goes_down(&mut switch, &mut cells);
-    // Drops by a call are proved once for each type, and not laid out here.
+    // An explicit `drop` is proved once for each type; a drop at the end of the scope would be proved here.
     drop(cells);
     drop(switch);
     down
@@ -37,7 +37,7 @@ fn goes_down(
     )
 }
 
-/// Returns whether the restart asked both others, and the next ballot is the second.
+/// Returns whether the node asked both others when it restarted, and its next ballot is its second.
 fn comes_back(switch: &mut Switch<Carried, Fuse>) -> Result<bool, StepFault> {
     let asked = matches!(switch.history(), [Event::Begin(0), Event::Restart(0)])
         && asks(switch, 3, 1)?
@@ -45,7 +45,7 @@ fn comes_back(switch: &mut Switch<Carried, Fuse>) -> Result<bool, StepFault> {
     Ok(asked && begin_on(switch, 0) == Ok(8) && prepares(switch, 6)?)
 }
 
-/// Returns whether the packet is one by which node 0 asks that node for the first entry.
+/// Returns whether node 0 asks node `to` for the first entry with this packet.
 fn asks(switch: &Switch<Carried, Fuse>, number: u64, to: u8) -> Result<bool, StepFault> {
     let packet = switch.packet(number)?;
     let asked = match &packet.body {
@@ -55,7 +55,7 @@ fn asks(switch: &Switch<Carried, Fuse>, number: u64, to: u8) -> Result<bool, Ste
     Ok(asked && packet.from == 0 && packet.to == to)
 }
 
-/// Returns whether the packet tells node 1 of ballot 2.0.
+/// Returns whether the packet is a prepare request to node 1 for the ballot of round 2 and node 0.
 fn prepares(switch: &Switch<Carried, Fuse>, number: u64) -> Result<bool, StepFault> {
     let packet = switch.packet(number)?;
     let prepared = match &packet.body {
@@ -84,7 +84,7 @@ fn restarts_twice(switch: &mut Switch<Carried, Fuse>, cells: &mut Vec<NodeCell>)
         && matches!(switch.history(), [Event::Restart(0)])
 }
 
-/// Slots of the first page and of others, up to the last.
+/// Slots of the first page and of later pages, up to the last slot.
 const SLOTS_KEPT: [u32; 5] = [0, 255, 256, 300, SLOTS - 1];
 
 #[test]
@@ -101,7 +101,7 @@ fn keeps(alloc: Global, slot: u32) -> Result<bool, Failed> {
     kept
 }
 
-/// Returns whether a no-operation that is stored at the slot is loaded.
+/// Returns whether a no-operation that is stored at the slot is in the loaded record.
 fn is_kept<K: Keep<Carried>>(keep: &mut K, slot: u32) -> Result<bool, Failed> {
     let ballot = Ballot { round: 1, node: 0 };
     store(keep, slot, ballot)?;

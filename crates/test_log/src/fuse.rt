@@ -1,4 +1,4 @@
-//! A keep that fails at one of its calls, and three nodes of which the first has it.
+//! A keep that fails at one of its calls, and three nodes of which the first uses it.
 ghost use Rattle.std.specs.Prelude.{◌≡◌, ◌+◌};
 ghost use Rattle.synod.specs.Record.{new_kept};
 
@@ -11,7 +11,7 @@ use std::alloc::{AllocError, Global};
 use synod::{Change, Failed, Keep, Record, Weights};
 use world::Carried;
 
-/// Returns the text of author 7 under that serial number, as an entry.
+/// Returns a text of author 7 with this serial number, as an entry.
 pub fn entry(alloc: Global, serial: u64, text: &[u8]) -> Result<Entry, AllocError> {
     Ok(Entry::Text(Submission {
         author: 7,
@@ -20,7 +20,8 @@ pub fn entry(alloc: Global, serial: u64, text: &[u8]) -> Result<Entry, AllocErro
     }))
 }
 
-/// A keep that fails once, after so many calls, and then goes on. A store that fails leaves the old record or the new one.
+/// A keep that fails once, after `left` calls, and then works again. A store that fails leaves the new record if `new`, else
+/// the old one.
 #[derive(Drop)]
 pub struct Fuse {
     keep: MemoryKeep<Carried>,
@@ -82,7 +83,7 @@ fn blows(left: &mut Option<u32>) -> bool {
     }
 }
 
-/// Makes three nodes, the first with this keep.
+/// Makes three nodes, of which the first has this keep.
 pub fn three(
     alloc: Global,
     first: Fuse,

@@ -1,5 +1,5 @@
-//! The row of a gap in the log, by the calls that are lent the locked values: each cell fills the gap, and cells compare as their
-//! statements do, also where the first node's keep fails at any call and the node restarts after any event.
+//! A scenario with a gap in the log, by the calls that borrow the locked values. Each cell fills the gap, and cells compare as
+//! their statements do, even if the first node's keep fails at any call and the node restarts after any event.
 
 use crate::fuse::{Fuse, entry, restart_first, three};
 use cluster::{
@@ -10,7 +10,7 @@ use net::StepFault;
 use std::alloc::Global;
 use world::Carried;
 
-/// A step of the row: a ballot or an offer of one of two texts, at node 0, or a delivery.
+/// A step of the scenario: a ballot or an offer of one of two texts, at node 0, or a delivery.
 #[derive(Clone, Copy)]
 enum Step {
     Begin,
@@ -18,7 +18,7 @@ enum Step {
     Deliver(u64),
 }
 
-/// Each step with the count of packets after it.
+/// Each step with the number of packets posted after it.
 const GAP: [(Step, u64); 17] = [
     (Step::Begin, 3),
     (Step::Deliver(0), 4),
@@ -47,13 +47,13 @@ fn each_cell_fills_the_gap(rt: HostRuntime) {
 fn is_filled(alloc: Global) -> Result<bool, StepFault> {
     let (mut switch, mut cells) = three(alloc, Fuse::new(alloc, None, false))?;
     let filled = makes_and_fills(alloc, &mut switch, &mut cells);
-    // Drops by a call are proved once for each type, and not laid out here.
+    // An explicit `drop` is proved once for each type; a drop at the end of the scope would be proved here.
     drop(cells);
     drop(switch);
     filled
 }
 
-/// Returns whether each step of the row is made, and the cells fill the gap.
+/// Returns whether all steps succeed, and the cells fill the gap.
 fn makes_and_fills(
     alloc: Global,
     switch: &mut Switch<Carried, Fuse>,
@@ -62,7 +62,7 @@ fn makes_and_fills(
     Ok(makes_all(alloc, switch) && fills(switch, cells)?)
 }
 
-/// Returns whether each step of the row is made, and no other packet and no other node is there.
+/// Returns whether all steps succeed, and no other packet and no other node exists.
 fn makes_all(alloc: Global, switch: &mut Switch<Carried, Fuse>) -> bool {
     for (step, want) in GAP {
         if make(alloc, switch, step) != Ok(want) {
@@ -73,7 +73,7 @@ fn makes_all(alloc: Global, switch: &mut Switch<Carried, Fuse>) -> bool {
         && begin_on(switch, 3) == Err(StepFault::NoNode)
 }
 
-/// Returns whether the cells add so many statements each, and agree.
+/// Returns whether each cell adds as many statements as `added_at` returns, and all agree.
 fn fills(switch: &Switch<Carried, Fuse>, cells: &mut Vec<NodeCell>) -> Result<bool, StepFault> {
     for cell in cells.iter_mut() {
         if !adds(cell, switch, added_at(cell.at()))? {
@@ -83,7 +83,7 @@ fn fills(switch: &Switch<Carried, Fuse>, cells: &mut Vec<NodeCell>) -> Result<bo
     Ok(all_agree(switch, cells))
 }
 
-/// Returns how many statements a node adds.
+/// Returns how many statements a node is expected to add.
 fn added_at(node: u8) -> usize {
     match node {
         0 => 1,
@@ -92,7 +92,7 @@ fn added_at(node: u8) -> usize {
     }
 }
 
-/// Returns whether the cell takes over and applies what its log has, so many statements without a label.
+/// Returns whether the cell copies and applies the entries of its log, and then has `added` statements, none with a label.
 fn adds(
     cell: &mut NodeCell,
     switch: &Switch<Carried, Fuse>,
@@ -105,7 +105,7 @@ fn adds(
     Ok(!was_ahead && !is_behind && listed == 0 && cell.library().statements().len() == added)
 }
 
-/// Makes a step of the row.
+/// Makes a step of the scenario.
 fn make(alloc: Global, switch: &mut Switch<Carried, Fuse>, step: Step) -> Result<u64, StepFault> {
     match step {
         Step::Begin => begin_on(switch, 0),
@@ -115,7 +115,7 @@ fn make(alloc: Global, switch: &mut Switch<Carried, Fuse>, step: Step) -> Result
     }
 }
 
-/// Takes over and applies all entries of the cell's log.
+/// Copies and applies all entries of the cell's log.
 fn settle(cell: &mut NodeCell, switch: &Switch<Carried, Fuse>) -> Result<(), StepFault> {
     for _entry in 0..3 {
         if !take_on(cell, switch)? {
@@ -126,7 +126,7 @@ fn settle(cell: &mut NodeCell, switch: &Switch<Carried, Fuse>) -> Result<(), Ste
     Ok(())
 }
 
-/// Returns whether each cell is of the switch, and each two compare as their statements do.
+/// Returns whether each cell belongs to the switch, and each two compare as their statements do.
 fn all_agree(switch: &Switch<Carried, Fuse>, cells: &[NodeCell]) -> bool {
     for one in cells {
         for other in cells {
@@ -138,7 +138,7 @@ fn all_agree(switch: &Switch<Carried, Fuse>, cells: &[NodeCell]) -> bool {
     true
 }
 
-/// Returns which of two cells is ahead, where both are of the switch.
+/// Returns which of two cells is ahead, if both belong to the switch.
 fn ahead(one: &NodeCell, other: &NodeCell, switch: &Switch<Carried, Fuse>) -> Option<Ahead> {
     if belongs(one, switch) && belongs(other, switch) {
         Some(compare_on(one, other, switch))
@@ -147,7 +147,7 @@ fn ahead(one: &NodeCell, other: &NodeCell, switch: &Switch<Carried, Fuse>) -> Op
     }
 }
 
-/// Returns whose library has more statements, counted.
+/// Returns which cell's library has more statements, by counting them.
 fn counted(one: &NodeCell, other: &NodeCell) -> Ahead {
     let first = one.library().statements().len();
     let second = other.library().statements().len();
@@ -174,8 +174,8 @@ fn stop_at_each(rt: HostRuntime) {
     }
 }
 
-/// Returns whether all cells agree after the steps, where node 0 has this keep and restarts after one of them; a step that is
-/// refused is passed over. Each cell takes over and applies what it can after each step.
+/// Returns whether all cells agree after the steps if node 0 has this keep and restarts after one of them. A step that fails
+/// is skipped. After each step, each cell copies and applies the entries that it can.
 fn agrees(alloc: Global, left: Option<u32>, new: bool, stop: usize) -> Result<bool, StepFault> {
     let (mut switch, mut cells) = three(alloc, Fuse::new(alloc, left, new))?;
     let agreed = go_on(alloc, &mut switch, &mut cells, stop);

@@ -1,5 +1,5 @@
-//! Tests from a submission to all replicas of what no row can say: one node over plain numbers at its limits, keeps that fail at
-//! each of their calls, a gap in the log that each cell fills, and an application after a failed allocation.
+//! Tests of the replicated log that rows cannot express: one node over plain numbers at its limits, keeps that fail at each of
+//! their calls, a gap in the log that each cell fills, and an application after a failed allocation.
 #![tactic(auto)]
 
 #[cfg(test)]

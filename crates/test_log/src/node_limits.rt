@@ -1,4 +1,4 @@
-//! A node whose log is full, and one whose rounds are spent.
+//! A node whose log is full, and one that has no greater round left.
 ghost use Rattle.std.specs.Prelude.{IfSome};
 ghost use Rattle.std.specs.List.{AllByRecursion};
 ghost use Rattle.synod.specs.Packets.{IsReport};
@@ -28,17 +28,17 @@ fn the_log_may_be_full(rt: HostRuntime) {
     assert!(rt; fills_its_log(rt.alloc()) == Some(true));
 }
 
-/// Returns whether a node that alone leads, and hears of a value at the last slot, proposes at each slot and then has no room
-/// for an offer.
+/// Returns whether a single node that leads, and receives a promise with a value at the last slot, proposes at each slot and
+/// then refuses an offer, since its log is full.
 fn fills_its_log(alloc: Global) -> Option<bool> {
     let mut node = NodeCore::new(alloc, 0, Weights::equal(1));
     let filled = is_filled(alloc, &mut node);
-    // Drops by a call are proved once for each type, and not laid out here.
+    // An explicit `drop` is proved once for each type; a drop at the end of the scope would be proved here.
     drop(node);
     filled
 }
 
-/// Returns whether a new node does so.
+/// Returns whether a new node fills its log so.
 fn is_filled(alloc: Global, node: &mut NodeCore<Number>) -> Option<bool> {
     if node.begin().is_err() {
         return None;
@@ -47,7 +47,7 @@ fn is_filled(alloc: Global, node: &mut NodeCore<Number>) -> Option<bool> {
     Some(proposed == SLOTS as usize && node.offer(Number(2)).err() == Some(Refusal::LogFull))
 }
 
-/// Returns how many packets the node posts where a promise to it reports a value at the last slot.
+/// Returns how many packets the node posts after a promise that reports a value at the last slot.
 fn proposed_behind(alloc: Global, node: &mut NodeCore<Number>) -> Option<usize> {
     if node.nodes() == 0 {
         return None;
@@ -68,7 +68,7 @@ fn proposed_behind(alloc: Global, node: &mut NodeCore<Number>) -> Option<usize> 
     }
 }
 
-/// Returns a value at the last slot.
+/// Returns a report of a value at the last slot.
 fn last_reported(alloc: Global) -> Option<Reports<Number>>
     ensures { IfSome result (λ reports. AllByRecursion IsReport reports) }
 {
@@ -88,7 +88,7 @@ fn the_rounds_may_be_spent(rt: HostRuntime) {
     assert!(rt; spends_its_rounds(rt.alloc()) == Some(true));
 }
 
-/// Returns whether a node that hears of the greatest round begins no other.
+/// Returns whether a node that receives a packet of the greatest round begins no ballot.
 fn spends_its_rounds(alloc: Global) -> Option<bool> {
     let mut node = NodeCore::new(alloc, 0, Weights::equal(1));
     let spent = are_spent(&mut node);
@@ -96,7 +96,7 @@ fn spends_its_rounds(alloc: Global) -> Option<bool> {
     spent
 }
 
-/// Returns whether a new node does so.
+/// Returns whether a new node begins no ballot after that.
 fn are_spent(node: &mut NodeCore<Number>) -> Option<bool> {
     if node.nodes() == 0 {
         return None;

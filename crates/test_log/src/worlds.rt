@@ -1,4 +1,4 @@
-//! A world of entries: a list of events at once, and an application after an allocation that failed.
+//! A world of entries: a whole list of events in one call, and an application after a failed allocation.
 use crate::fuse::entry;
 use library::Entry;
 use net::{Event, StepFault};
@@ -6,7 +6,7 @@ use std::alloc::{AllocError, Global};
 use synod::Weights;
 use world::{World, run};
 
-/// The packets that are delivered after the ballot and after the two offers of the row of a gap in the log.
+/// The packets that are delivered after the ballot and after each of the two offers, in the scenario of a gap in the log.
 const DELIVERED: [[u64; 4]; 3] = [[0, 1, 3, 4], [5, 6, 8, 9], [11, 14, 19, 22]];
 
 #[test]
@@ -14,19 +14,19 @@ fn events_are_run(rt: HostRuntime) {
     assert!(rt; runs_to_its_end(rt.alloc()) == Ok(true));
 }
 
-/// Returns whether the events up to the gap are all taken, and all but the last if one more names no packet.
+/// Returns whether all events up to the gap are taken, also if a delivery of a packet that does not exist follows and fails.
 fn runs_to_its_end(alloc: Global) -> Result<bool, AllocError> {
     let runs = runs_all(alloc, gap(alloc)?);
     let stops = stops_at_last(alloc, one_more(alloc)?);
     Ok(runs && stops)
 }
 
-/// Returns whether the events are all taken.
+/// Returns whether all events are taken.
 fn runs_all(alloc: Global, events: Vec<Event<Entry>>) -> bool {
     match run(alloc, Weights::equal(3), events) {
         Ok(world) => {
             let taken = world.history().len() == 15;
-            // Drops by a call are proved once for each type, and not laid out here.
+            // An explicit `drop` is proved once for each type; a drop at the end of the scope would be proved here.
             drop(world);
             taken
         }
@@ -34,7 +34,7 @@ fn runs_all(alloc: Global, events: Vec<Event<Entry>>) -> bool {
     }
 }
 
-/// Returns whether all events are taken but the last, which names no packet.
+/// Returns whether all events are taken except the last, whose packet does not exist.
 fn stops_at_last(alloc: Global, events: Vec<Event<Entry>>) -> bool {
     match run(alloc, Weights::equal(3), events) {
         Ok(world) => {
@@ -45,21 +45,21 @@ fn stops_at_last(alloc: Global, events: Vec<Event<Entry>>) -> bool {
     }
 }
 
-/// Returns the events of the row up to the gap.
+/// Returns the events of the scenario up to the gap.
 fn gap(alloc: Global) -> Result<Vec<Event<Entry>>, AllocError> {
     let mut events = Vec::new(alloc);
     push_gap(alloc, &mut events)?;
     Ok(events)
 }
 
-/// Returns these events and a delivery of a packet that is not there.
+/// Returns these events and a delivery of a packet that does not exist.
 fn one_more(alloc: Global) -> Result<Vec<Event<Entry>>, AllocError> {
     let mut events = gap(alloc)?;
     events.push(Event::Deliver(25))?;
     Ok(events)
 }
 
-/// Appends the events of the row up to the gap.
+/// Appends the events of the scenario up to the gap.
 fn push_gap(alloc: Global, events: &mut Vec<Event<Entry>>) -> Result<(), AllocError> {
     events.push(Event::Begin(0))?;
     let [ballot, first, second] = DELIVERED;
@@ -87,13 +87,13 @@ fn push_deliveries(events: &mut Vec<Event<Entry>>, numbers: &[u64]) -> Result<()
     Ok(())
 }
 
-/// The replica stays at its slot after an allocation failed once, and the next application decides.
+/// A replica stays at its slot after a failed allocation, and the next application returns the verdict.
 #[test]
 fn applies_after_a_failed_allocation(rt: HostRuntime) {
     assert!(rt; applies_if_learned(rt.alloc()));
 }
 
-/// Returns whether a world that learned two texts applies both, unless no world is made, since memory is full.
+/// Returns whether a world that learned two texts applies both; also true if there is no memory for a world.
 fn applies_if_learned(alloc: Global) -> bool {
     match learned(alloc) {
         Ok(mut world) => {
@@ -105,7 +105,7 @@ fn applies_if_learned(alloc: Global) -> bool {
     }
 }
 
-/// Returns whether the two entries are applied by three calls of which one may run out of memory, and nothing is left then.
+/// Returns whether three calls, one of which may run out of memory, apply the two entries, and no entry is left then.
 fn applies_all(world: &mut World) -> bool {
     for _call in 0..3 {
         match world.apply_next(0) {
@@ -120,7 +120,7 @@ fn applies_all(world: &mut World) -> bool {
     world.apply_next(0) == Ok(None)
 }
 
-/// Returns a world of one node that learned two texts of one author under one number.
+/// Returns a world of one node that learned two texts of one author with the same serial number.
 fn learned(alloc: Global) -> Result<World, StepFault> {
     let mut world = World::new(alloc, Weights::equal(1))?;
     learn_two(alloc, &mut world)?;

@@ -1,5 +1,5 @@
-//! A text submitted at one node is added and listed at each, whichever node leads; answers after the stop; a desk in
-//! another thread.
+//! A text submitted at one node is added and listed at each, whichever node leads; a cluster that is stopped still answers
+//! queries; a desk works in another thread.
 use crate::three::{EntryKeep, added_by_all, everywhere, open, text};
 use cluster::Ahead;
 use library::Entry;
@@ -13,7 +13,7 @@ use std::time::Clock;
 use synod::Weights;
 use verify_pool::{Gate, OpenGate};
 
-/// The node that leads, and the weight of the first.
+/// The node that leads, and the weight of the first node.
 const ROWS: [(u8, u8); 3] = [(0, 1), (0, 100), (1, 1)];
 
 #[test]
@@ -40,7 +40,7 @@ fn agree<R: Threads + Wait + Clock + Copy + Send + Sync + Drop + 'static>(
     works(rt, alloc, &mut cluster, leader)
 }
 
-/// Returns whether the cluster serves, and then stops.
+/// Returns whether the cluster serves as expected, and then stops.
 fn works<R: Threads + Wait + Clock>(
     rt: &R,
     alloc: Global,
@@ -63,7 +63,7 @@ fn works_at<R: Threads + Wait + Clock>(
     Ok(served? && stopped?)
 }
 
-/// Returns whether a text submitted at the leader is added and listed at each, and no other node is known.
+/// Returns whether a text submitted at the leader is added and listed at each node, and no fourth node is known.
 fn serves<R: Wait + Clock>(
     rt: &R,
     alloc: Global,
@@ -80,7 +80,7 @@ fn serves<R: Wait + Clock>(
     )
 }
 
-/// Returns whether node 2 has the text again once it has restarted, by what the others answer it.
+/// Returns whether node 2 has the text again after a restart, from the answers of the others.
 fn comes_back<R: Wait + Clock>(
     rt: &R,
     desk: &Desk<OpenGate, EntryKeep>,
@@ -89,7 +89,7 @@ fn comes_back<R: Wait + Clock>(
     added_by_all(rt, desk, 1)
 }
 
-/// Returns whether the cluster stops, its first two nodes of three having had events, and takes nothing more then.
+/// Returns whether the cluster stops after its first two nodes of three took events, and then refuses events.
 fn stops<R: Threads + Wait>(
     rt: &R,
     alloc: Global,
@@ -104,7 +104,7 @@ fn stops<R: Threads + Wait>(
     Ok(worked && has_stopped(rt, alloc, cluster, desk)?)
 }
 
-/// Returns whether node 1 lists the axiom p alone, and no node is ahead.
+/// Returns whether node 1 lists only the axiom p, and no node is ahead.
 fn lists_alike<R: Wait>(rt: &R, desk: &Desk<OpenGate, EntryKeep>) -> Result<bool, StepFault> {
     let list = desk.list(rt, 1)?;
     let listed = match list.as_slice() {
@@ -114,7 +114,7 @@ fn lists_alike<R: Wait>(rt: &R, desk: &Desk<OpenGate, EntryKeep>) -> Result<bool
     Ok(listed && desk.compare(rt, 0, 1)? == Ahead::Same && desk.compare(rt, 2, 1)? == Ahead::Same)
 }
 
-/// Returns whether each call at that node answers that there is none.
+/// Returns whether each call at that node reports that there is no such node.
 fn knows_no_node<R: Wait>(
     rt: &R,
     alloc: Global,
@@ -128,7 +128,7 @@ fn knows_no_node<R: Wait>(
     )
 }
 
-/// Returns whether a cluster that was stopped takes nothing more, and still answers.
+/// Returns whether a stopped cluster refuses events, and still answers queries.
 fn has_stopped<R: Threads + Wait>(
     rt: &R,
     alloc: Global,
@@ -158,7 +158,7 @@ fn submits_elsewhere<R: Threads + Wait + Clock + Copy + Send + Sync + Drop + 'st
     adds_and_stops(rt, alloc, &mut cluster)
 }
 
-/// Returns whether each node adds what another thread submits, and the cluster stops then.
+/// Returns whether each node adds a text that another thread submits, and the cluster then stops.
 fn adds_and_stops<R: Threads + Wait + Clock + Copy + Send + Sync + Drop + 'static>(
     rt: &R,
     alloc: Global,
@@ -169,7 +169,7 @@ fn adds_and_stops<R: Threads + Wait + Clock + Copy + Send + Sync + Drop + 'stati
     added
 }
 
-/// Returns whether each node adds what another thread submits.
+/// Returns whether each node adds a text that another thread submits.
 fn adds_theirs<R: Threads + Wait + Clock + Copy + Send + Sync + Drop + 'static>(
     rt: &R,
     alloc: Global,
@@ -180,7 +180,7 @@ fn adds_theirs<R: Threads + Wait + Clock + Copy + Send + Sync + Drop + 'static>(
     Ok(submitted == Ok(()) && added_by_all(rt, &desk, 1)?)
 }
 
-/// Lets another thread begin a ballot and submit a text, and waits for its end.
+/// Has another thread begin a ballot and submit a text, and joins it.
 fn submit_elsewhere<R: Threads + Wait + Copy + Send + Sync + Drop + 'static>(
     rt: &R,
     alloc: Global,
@@ -195,7 +195,7 @@ fn submit_elsewhere<R: Threads + Wait + Copy + Send + Sync + Drop + 'static>(
     }
 }
 
-/// Begins a ballot at node 0 and submits there.
+/// Begins a ballot at node 0 and submits a text there.
 fn submit_first<G: Gate + Drop, R: Wait + Drop>(
     rt: R,
     desk: Desk<G, EntryKeep>,

@@ -1,4 +1,4 @@
-//! A text is decided after any one allocation that fails.
+//! A text has a verdict even if any one allocation fails.
 use crate::three::{EntryKeep, everywhere, open, settled, text};
 use library::Verdict;
 use net::StepFault;
@@ -10,8 +10,8 @@ use std::time::Clock;
 use synod::Weights;
 use verify_pool::{Gate, OpenGate};
 
-/// A failed allocation is reported by `start`, `desk`, `submit` or `stop`, or loses a packet, or leaves an entry to a
-/// later hint, or fails a keep, whose node is down then until it restarts.
+/// A failed allocation makes `start`, `desk`, `submit` or `stop` return an error, loses a packet, delays an entry until a
+/// later hint, or makes a keep fail, whose node is then down until it restarts.
 #[test]
 fn decides_after_a_failed_allocation(rt: HostRuntime) {
     let mut verdict = decided_by_three(&rt, rt.alloc());
@@ -21,7 +21,7 @@ fn decides_after_a_failed_allocation(rt: HostRuntime) {
     assert!(rt; verdict == Ok(Some(Verdict::Added)));
 }
 
-/// Returns the verdict at node 0 of new nodes, which have stopped then.
+/// Returns the verdict at node 0 of new nodes, which are stopped afterwards.
 fn decided_by_three<R: Threads + Wait + Clock + Copy + Send + Sync + Drop + 'static>(
     rt: &R,
     alloc: Global,
@@ -31,7 +31,7 @@ fn decided_by_three<R: Threads + Wait + Clock + Copy + Send + Sync + Drop + 'sta
     decided_and_stopped(rt, alloc, &mut cluster)
 }
 
-/// Returns the verdict at node 0 of that cluster, which has stopped then.
+/// Returns the verdict at node 0 of that cluster, which is stopped afterwards.
 fn decided_and_stopped<R: Threads + Wait + Clock>(
     rt: &R,
     alloc: Global,
@@ -47,8 +47,8 @@ fn decided_and_stopped<R: Threads + Wait + Clock>(
     verdict
 }
 
-/// Returns the verdict at node 0 on a text that is submitted there again and again, each time after a new ballot: the packets that
-/// a failed allocation lost are made good by those that are posted then.
+/// Returns the verdict at node 0 on a text that is submitted there repeatedly, each time after a new ballot. The packets posted
+/// then replace those that a failed allocation lost.
 fn decided<G: Gate, R: Wait + Clock>(
     rt: &R,
     alloc: Global,

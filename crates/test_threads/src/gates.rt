@@ -1,4 +1,4 @@
-//! Two nodes in parallel: each waits before an entry for the other.
+//! Two nodes apply an entry in parallel: each waits for the other before it does.
 use crate::three::{EntryKeep, added_by_all, everywhere, submit_one, three};
 use net::StepFault;
 use nodes::{Clear, Cluster, Desk};
@@ -11,7 +11,7 @@ use std::time::Clock;
 use synod::Weights;
 use verify_pool::{Gate, Place};
 
-/// Holds the first two nodes before an entry, each until the other has come.
+/// A gate that holds each of the first two nodes before an entry until the other has arrived.
 #[derive(Drop)]
 struct Meeting {
     first: AtomicBool,
@@ -49,7 +49,7 @@ fn gate_two_nodes(rt: HostRuntime) {
     assert!(rt; meet(&rt, rt.alloc()) == Ok(true));
 }
 
-/// Returns whether the first two nodes, which wait for one another, both add a text.
+/// Returns whether the first two nodes, which wait for each other, both add a text.
 fn meet<R: Threads + Wait + Clock + Copy + Send + Sync + Drop + 'static>(
     rt: &R,
     alloc: Global,
@@ -66,7 +66,7 @@ fn meet<R: Threads + Wait + Clock + Copy + Send + Sync + Drop + 'static>(
     Ok(added? && !gate.missed.load(Ordering::SeqCst))
 }
 
-/// Returns whether three nodes add a text, whose gate this is.
+/// Returns whether three nodes with this gate add a text.
 fn meet_at<R: Threads + Wait + Clock + Copy + Send + Sync + Drop + 'static>(
     rt: &R,
     alloc: Global,

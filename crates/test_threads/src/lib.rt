@@ -1,4 +1,4 @@
-//! Tests of `nodes`: three nodes on real threads.
+//! Tests of `nodes` with three nodes on real threads.
 #![tactic(auto)]
 
 #[cfg(test)]

@@ -1,4 +1,4 @@
-//! Three nodes with keeps in memory, texts, and a desk that is polled until it answers, which the tests share.
+//! Helpers that the tests share: three nodes with keeps in memory, texts, and polling of a desk until it answers.
 ghost use Rattle.std.specs.Prelude.{◌≡◌, length, IfOk};
 
 use bytes::Bytes;
@@ -17,7 +17,7 @@ use world::Carried;
 
 pub type EntryKeep = MemoryKeep<Carried>;
 
-/// Returns a text of author 7.
+/// Returns a text of author 7 as an entry.
 pub fn text(alloc: Global, serial: u64, text: &[u8]) -> Result<Entry, AllocError> {
     Ok(Entry::Text(Submission {
         author: 7,
@@ -51,7 +51,7 @@ pub fn three<
     start(rt, alloc, weights, Workers::of(2), gate, weathers, keeps)
 }
 
-/// Starts three nodes of that weather, at which nothing waits before an entry.
+/// Starts three nodes with these weathers and an open gate.
 pub fn open<
     W: Weather + Send + Drop + 'static,
     R: Threads + Wait + Copy + Send + Sync + Drop + 'static,
@@ -93,7 +93,8 @@ pub fn everywhere<W: Weather + Copy>(alloc: Global, weather: W) -> Result<Vec<W>
     Ok(weathers)
 }
 
-/// Returns the verdict at node `k` on the text of that number, polled each millisecond, so often at most, until it is known.
+/// Returns the verdict at node `k` on the text with that serial number. Polls once a millisecond until it is known, a limited
+/// number of times.
 pub fn settled<G: Gate, R: Wait + Clock>(
     rt: &R,
     desk: &Desk<G, EntryKeep>,
@@ -111,10 +112,10 @@ pub fn settled<G: Gate, R: Wait + Clock>(
     Ok(None)
 }
 
-/// How often a desk is polled for a verdict: 20 seconds.
+/// How many times a desk is polled for a verdict, once a millisecond: for 20 seconds.
 pub const OFTEN: u32 = 20_000;
 
-/// Returns whether each node adds the text of that number.
+/// Returns whether each node adds the text with that serial number.
 pub fn added_by_all<G: Gate, R: Wait + Clock>(
     rt: &R,
     desk: &Desk<G, EntryKeep>,

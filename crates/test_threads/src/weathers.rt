@@ -1,4 +1,4 @@
-//! Hints that are repeated and delayed, a restart, and a gap in one node's log that a later answer fills.
+//! Repeated and delayed hints, a restart, and a gap in one node's log that a later answer fills.
 ghost use Rattle.std.specs.Prelude.{◌≡◌, length, IfOk};
 
 use crate::three::{EntryKeep, OFTEN, added_by_all, everywhere, open, settled, submit_one, text};
@@ -37,7 +37,7 @@ impl Weather for Turns {
     }
 }
 
-/// The four texts: the third breaks a rule, and the fourth stands under the first's number.
+/// The four texts: the third breaks a rule, and the fourth has the serial number of the first.
 const TEXTS: [(u64, &[u8]); 4] = [
     (1, b"$c |- wff $. wx $a wff $."),
     (2, b"p $a |- $."),
@@ -50,19 +50,19 @@ fn served_by_all(rt: HostRuntime) {
     assert!(rt; serve_as_one(&rt, rt.alloc()) == Ok(true));
 }
 
-/// Returns whether each node answers as one library that is given the texts in order, also after a restart.
+/// Returns whether each node answers like one library to which the texts are applied in order, also after a restart.
 fn serve_as_one<R: Threads + Wait + Clock + Copy + Send + Sync + Drop + 'static>(
     rt: &R,
     alloc: Global,
 ) -> Result<bool, StepFault> {
     let mut library = Library::new(alloc);
     let served = serve_as(rt, alloc, &mut library);
-    // Drops by a call are proved once for each type, and not laid out here.
+    // An explicit `drop` is proved once for each type; a drop at the end of the scope would be proved here.
     drop(library);
     served
 }
 
-/// Returns whether each node answers as a new library.
+/// Returns whether each node answers like this new library after the texts are applied to it.
 fn serve_as<R: Threads + Wait + Clock + Copy + Send + Sync + Drop + 'static>(
     rt: &R,
     alloc: Global,
@@ -71,7 +71,7 @@ fn serve_as<R: Threads + Wait + Clock + Copy + Send + Sync + Drop + 'static>(
     Ok(apply_all(alloc, library)? && serve_like(rt, alloc, library)?)
 }
 
-/// Gives the library the texts in order; whether it took them.
+/// Applies the texts to the library in order. Returns whether it has three statements then.
 fn apply_all(alloc: Global, library: &mut Library) -> Result<bool, AllocError> {
     for (serial, source) in TEXTS {
         apply_one(library, &text(alloc, serial, source)?)?;
@@ -84,7 +84,7 @@ fn apply_one(library: &mut Library, entry: &Entry) -> Result<(), AllocError> {
     Ok(())
 }
 
-/// Returns whether each of three nodes answers as that library, also after a restart.
+/// Returns whether each of three nodes answers like that library, also after a restart.
 fn serve_like<R: Threads + Wait + Clock + Copy + Send + Sync + Drop + 'static>(
     rt: &R,
     alloc: Global,
@@ -95,7 +95,7 @@ fn serve_like<R: Threads + Wait + Clock + Copy + Send + Sync + Drop + 'static>(
     serves_and_stops(rt, alloc, &mut cluster, library)
 }
 
-/// Returns whether the nodes of this cluster answer as the library, and stops it.
+/// Returns whether the nodes of this cluster answer like the library, and stops the cluster.
 fn serves_and_stops<R: Threads + Wait + Clock>(
     rt: &R,
     alloc: Global,
@@ -136,7 +136,7 @@ fn serve_at<R: Wait + Clock>(
     serves(rt, desk, 2, library)
 }
 
-/// Returns whether each node lists nothing.
+/// Returns whether each node lists no assertion.
 fn is_new<R: Wait>(rt: &R, desk: &Desk<OpenGate, EntryKeep>) -> Result<bool, StepFault> {
     for k in [0, 1, 2] {
         if !desk.list(rt, k)?.is_empty() {
@@ -179,14 +179,14 @@ fn serves<G: Gate, R: Wait + Clock>(
     Ok(same && list.len() == want.len())
 }
 
-/// How a node's hints fare: the test tells it.
+/// With this setting of the test a node's hints pass; with `LOSE` they are lost, with `HOLD` they are delayed.
 const PASS: u8 = 0;
 
 const LOSE: u8 = 1;
 
 const HOLD: u8 = 2;
 
-/// Passes a node's first hint, and treats the others as it is told.
+/// Passes a node's first hint, and treats the others as the test sets.
 #[derive(Drop)]
 struct Told {
     told: Arc<AtomicU8>,
@@ -212,8 +212,8 @@ fn a_filled_gap_is_applied(rt: HostRuntime) {
     assert!(rt; fills_its_gap(&rt, rt.alloc()) == Ok(true));
 }
 
-/// Returns whether node 2, to which nothing of the first text comes, and which cannot ask for it while it learns of the next
-/// four, applies all six texts once it learns of the sixth: it asks for the first then, and one answer gives it all.
+/// Returns whether node 2, which gets no packet of the first text and cannot ask for it while it learns the next four, applies
+/// all six texts after it learns the sixth: it then asks for the first, and one answer has all that it needs.
 fn fills_its_gap<R: Threads + Wait + Clock + Copy + Send + Sync + Drop + 'static>(
     rt: &R,
     alloc: Global,
@@ -229,7 +229,7 @@ fn fills_its_gap<R: Threads + Wait + Clock + Copy + Send + Sync + Drop + 'static
     learns_and_stops(rt, alloc, &mut cluster, &first, &last)
 }
 
-/// Returns whether node 2 of that cluster applies all texts; the cluster stops then.
+/// Returns whether node 2 of that cluster applies all texts, and stops the cluster.
 fn learns_and_stops<R: Threads + Wait + Clock>(
     rt: &R,
     alloc: Global,
@@ -242,7 +242,7 @@ fn learns_and_stops<R: Threads + Wait + Clock>(
     filled
 }
 
-/// Weathers of two nodes that are told one thing, and of one that is told another.
+/// Returns three weathers: two share the first setting, and the third has the last.
 fn all_told(
     alloc: Global,
     first: &Arc<AtomicU8>,
@@ -298,10 +298,10 @@ fn learns_at<R: Wait + Clock>(
     Ok(decided && more && missed && added_by_all(rt, desk, 6)?)
 }
 
-/// How many milliseconds the nodes have for the hints that are on their way.
+/// How many milliseconds the test waits for hints in transit.
 const QUIET: u64 = 100;
 
-/// Submits a text at node 0; whether the first two nodes add it. The hints of it that go to the third have come then.
+/// Submits a text at node 0. Returns whether the first two nodes add it, after its hints have reached the third.
 fn decide<R: Wait + Clock>(
     rt: &R,
     alloc: Global,
