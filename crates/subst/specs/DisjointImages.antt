@@ -1,6 +1,6 @@
--- Images of numbers that are disjoint.
--- Metamath, 4.2.6: no variable stands in two images of variables that a `$d` makes disjoint, and each pair of one variable from each has its own `$d`.
--- The code goes by numbers; `are_groups_disjoint`, one number and one group at a time.
+-- The disjoint variable condition over numbers.
+-- Metamath, 4.2.6: no variable is in both images of two variables that a `$d` makes disjoint, and each pair of variables, one from each image, is in an active `$d`.
+-- The code decides `are_groups_disjoint` over numbers, one group and one number at a time.
 use Rattle.std.specs.Prelude.{ℕ, Bool, ◌||◌, ◌==◌, List}
 use Rattle.subst.specs.Words.{list_all, Name, Expr, Database, decode, CodeImages, code_image, are_disjoint}
 
@@ -8,11 +8,11 @@ use Rattle.subst.specs.Words.{list_all, Name, Expr, Database, decode, CodeImages
 abbrev pub image_named : List Name → CodeImages → ℕ → Expr
 image_named names σ n = decode names (code_image σ n)
 
--- the numbers are one, or their images are disjoint
+-- the numbers are equal, or their images are disjoint
 abbrev pub are_two_disjoint : Database → (ℕ → Expr) → ℕ → ℕ → Bool
 are_two_disjoint D image k l = (k == l) || are_disjoint D (image k) (image l)
 
--- the image of k is disjoint from those of the other numbers
+-- the image of k is disjoint from those of the other numbers of the group
 abbrev pub is_number_disjoint : Database → (ℕ → Expr) → List ℕ → ℕ → Bool
 is_number_disjoint D image group k = list_all (are_two_disjoint D image k) group
 

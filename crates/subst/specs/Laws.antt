@@ -4,21 +4,21 @@
 use Rattle.std.specs.Prelude.{◌≡◌, ℕ, ◌↔◌, ◌&&◌, List, IsTrue}
 use Rattle.subst.specs.Words.{list_any, Name, has_name, Expr, Database, is_variable, decode, AreCodes, AreDistinct, groups, together, CodeImages, Images, image, apply, code_apply, images_of_names, are_groups_disjoint}
 
--- where no two numbers stand for one name, to substitute and then to read names is to read names and then to substitute
+-- if no two numbers stand for one name, to substitute and then read the names is to read the names and then substitute
 abbrev pub SubstitutionOverNames : Type 0
 SubstitutionOverNames =
     (names : List Name) (σ : CodeImages) (e : List ℕ) → AreDistinct names → AreCodes names e
     → decode names (code_apply σ e) ≡ apply (images_of_names names σ) (decode names e)
 
--- the two conditions on two images: no variable stands in both,
--- and each two variables, one from each, stand together in an active `$d`
+-- the two conditions on two images: no variable is in both,
+-- and each pair of variables, one from each, is in an active `$d`
 pub record AreImagesDisjoint (S : Database) (e f : Expr) : Type 0 where
   pub none_shared : (u : Name) → IsTrue (is_variable S u) → IsTrue (has_name u e) → IsTrue (has_name u f) → ⊥
   pub each_listed :
       (u v : Name) → IsTrue (is_variable S u) → IsTrue (is_variable S v) → IsTrue (has_name u e) → IsTrue (has_name v f)
       → IsTrue (list_any (λ names. has_name u names && has_name v names) (groups S))
 
--- the test of a citation holds exactly where the images of each two variables of one of its lists meet both
+-- the test of a citation succeeds if and only if the images of each pair of variables in one of its lists meet both
 abbrev pub PairClause : Type 0
 PairClause =
     (S : Database) (σ : Images) (lists : List (List Name)) → IsTrue (are_groups_disjoint S σ lists)

@@ -1,4 +1,4 @@
--- How images are kept by number, and symbols after others in a buffer. Public clauses cite `Appends` of it alone.
+-- Images stored by number, symbols appended to a buffer, and the tables of the cache. Public clauses cite only `Appends` of these.
 pub mod Slots
 pub mod Written
 pub mod VariablePlaces

@@ -1,6 +1,6 @@
 -- The symbols of an expression whose images are not empty.
--- Metamath, 4.2.6: an image may be the empty sequence of symbols, and then nothing stands for the variable.
--- The code goes over the symbols of an expression by groups, and skips those with an empty image.
+-- Metamath, 4.2.6: an image may be the empty sequence of symbols, and then nothing replaces the variable.
+-- The code goes over the distinct symbols of an expression, each with its group of indexes, and skips those with an empty image.
 use Rattle.std.specs.Prelude.{◌≡◌, ℕ, Bool, true, false, nat_eq, nat_lt, List, [], Option, Some, None, slice_get, option_and_then, if◌then◌else◌}
 use Rattle.subst.specs.Words.{filter, lookup, code_apply}
 use Rattle.subst.specs.SymbolRanges.{images_at}
@@ -18,7 +18,7 @@ is_left images x = is_place_left (lookup (nat_eq x) images)
 abbrev pub remaining : List (ℕ × SymbolRange) → List ℕ → List ℕ
 remaining images expr = filter (is_left images) expr
 
--- with the images put in, what is left gives the result of the expression, whatever symbols the images are places in
+-- substitution gives the same result for what is left as for the expression, whichever buffer the images are ranges of
 abbrev pub HaveSameResult : List (ℕ × SymbolRange) → List ℕ → List ℕ → Type 0
 HaveSameResult images left expr = (symbols : List ℕ) → code_apply (images_at symbols images) left ≡ code_apply (images_at symbols images) expr
 
@@ -34,6 +34,6 @@ is_symbol_left images (Some x) = is_left images x
 abbrev pub is_group_left : List (ℕ × SymbolRange) → List ℕ → List ℕ → Bool
 is_group_left images expr group = is_symbol_left images (first_symbol expr group)
 
--- the group, or nothing where that image is empty
+-- the group, or nothing if that image is empty
 abbrev pub group_left : List (ℕ × SymbolRange) → List ℕ → List ℕ → List ℕ
 group_left images expr group = if is_group_left images expr group then group else []

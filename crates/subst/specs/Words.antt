@@ -1,4 +1,4 @@
--- The words of the layers below in which this crate is specified, passed on from one place.
+-- Re-exports of the definitions of lower layers that the specs of this crate cite.
 pub use Rattle.frame.specs.Below.{AreBelow}
 pub use Rattle.frame.specs.Disjoint.{are_disjoint, are_groups_disjoint}
 pub use Rattle.frame.specs.FrameOf.{groups, is_pair, together}

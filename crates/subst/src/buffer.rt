@@ -20,7 +20,7 @@ pub const SYMBOLS_LIMIT: usize = 67_108_864;
 /// A list of at most `SYMBOLS_LIMIT` symbols.
 #[derive(Drop)]
 pub struct Buffer {
-    /// The symbols, and after them room that does not count.
+    /// The symbols, followed by room to spare.
     symbols: Vec<u32>,
     /// The number of symbols.
     len: usize,
@@ -64,7 +64,7 @@ impl Buffer {
         &self.symbols[..self.len]
     }
 
-    /// Returns whether the symbols in a range are the expression with all images put in. The images are ranges of this
+    /// Returns whether the symbols in a range are the expression with all images substituted. The images are ranges of this
     /// buffer too.
     ///
     /// Cost: the symbols that agree, each once; nothing is written.
@@ -79,7 +79,7 @@ impl Buffer {
 
     /// Appends symbols.
     ///
-    /// Errors: an allocation fails; the buffer is as before. Cost: the symbols.
+    /// Errors: an allocation fails; the buffer is unchanged. Cost: the symbols.
     pub fn extend(&mut self, more: &[u32]) -> Result<(), AllocError>
         requires { length self.old + length more.now ≤ SYMBOLS_LIMIT }
         ensures added { OnOk result (self.new ≡ self.old ++ more.now) }
@@ -93,17 +93,17 @@ impl Buffer {
         Ok(())
     }
 
-    /// Truncates to the first `len` symbols. The memory stays.
+    /// Truncates to the first `len` symbols. Keeps the memory.
     pub fn truncate(&mut self, len: usize)
         ensures { self.new ≡ take len self.old }
     {
         self.len = self.len.min(len);
     }
 
-    /// Appends the expression with all images put in at once, or returns `false` if it has more symbols than the limit.
-    /// The images are ranges of this buffer.
+    /// Appends the expression with all images substituted at once, or returns `false` if that has more symbols than the
+    /// limit. The images are ranges of this buffer.
     ///
-    /// Errors: an allocation fails; the buffer is as before.
+    /// Errors: an allocation fails; the buffer is unchanged.
     /// Cost: the symbols read and written, each once; twice if the buffer has to grow.
     #[inline(always)]
     pub fn add_applied(
@@ -127,7 +127,7 @@ impl Buffer {
         Ok(true)
     }
 
-    /// Appends the expression if the room is too small.
+    /// Appends the expression after making room for it.
     #[cold]
     #[inline(never)]
     fn add_growing(
@@ -153,9 +153,9 @@ impl Buffer {
     }
 }
 
-/// Appends the expression with all images put in at once, and returns where it lies.
+/// Appends the expression with all images substituted at once, and returns the range of the result.
 ///
-/// Errors: an allocation fails; the buffer is as before.
+/// Errors: an allocation fails; the buffer is unchanged.
 /// Cost: the symbols read and written, each once.
 pub fn apply_into(
     subst: &Subst,

@@ -1,4 +1,4 @@
-//! Symbols copied within one buffer, many at once.
+//! Copies symbols within one buffer, many at once.
 ghost use Rattle.std.specs.Prelude.{◌≡◌, ◌+◌, ◌<◌, ◌≤◌, ◌++◌, ◌∷◌, [], length, take, drop, IfSome, IfNone};
 ghost use Rattle.subst.specs.Stored.Written.{IsWritten};
 ghost use Rattle.subst.specs.SymbolRanges.{seen_at};
@@ -6,10 +6,10 @@ ghost use Rattle.subst.specs.SymbolRanges.{seen_at};
 use crate::symbol_range::SymbolRange;
 use std::simd::prelude::*;
 
-/// So many symbols are copied at once, so up to so many may be overwritten after those that are written.
+/// The number of symbols that are copied at once. Up to this many are overwritten after the end of a copy.
 pub const LANES: usize = 32;
 
-/// Copies symbols that lie before `at` to `at`. Most runs are copied by the first block.
+/// Copies `len` symbols from `from`, which all are before `at`, to `at`. Most runs fit the first block.
 #[inline(always)]
 fn copy_run(symbols: &mut [u32], from: usize, len: usize, at: usize)
     requires before { from + len ≤ at }
@@ -25,7 +25,7 @@ fn copy_run(symbols: &mut [u32], from: usize, len: usize, at: usize)
     }
 }
 
-/// Copies the symbols in a range to `at`, and returns where they end; `None` if that is after `last`.
+/// Copies the symbols in a range to `at`, and returns where the copy ends, or `None` if that is after `last`.
 #[inline(always)]
 pub fn copy_place(symbols: &mut [u32], at: usize, last: usize, place: SymbolRange) -> Option<usize>
     requires place { (place.start ≤ place.end) × (place.end ≤ at) }

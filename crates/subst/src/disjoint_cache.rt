@@ -1,4 +1,4 @@
-//! The facts about the variables of one proof.
+//! A cache of facts about the variables of one proof.
 ghost use Rattle.std.specs.Prelude.{◌≡◌, ◌++◌, ◌≤◌, List, ℕ, [], length, map, IfOk};
 ghost use Rattle.frame.specs.Below.{AllBelow, AreBelow};
 ghost use Rattle.frame.specs.Disjoint.{are_groups_disjoint};
@@ -18,11 +18,11 @@ use frame::Pairs;
 use std::alloc::{AllocError, Global};
 use std::marker::Model;
 
-/// The facts about the variables of one proof: which symbols are variables, which variables were found to be disjoint, and
-/// the variables of long results.
+/// A cache of facts about the variables of one proof: which symbols are variables, which variables were found to be disjoint,
+/// and the variables of long results.
 ///
-/// Contracts see the statements and names that it holds for, and the symbols over which it was filled last. Its buffers
-/// serve one proof after another.
+/// Contracts see the statements and names that it is for, and the symbols of the buffer when facts were last recorded. Its
+/// memory serves one proof after another.
 #[derive(Drop)]
 pub struct DisjointCache {
     subject: Subject,
@@ -41,7 +41,7 @@ impl Model for DisjointCache {
 }
 
 impl DisjointCache {
-    /// Returns a cache that knows nothing, of no proof yet. Does not allocate.
+    /// Returns an empty cache, for no proof yet. Does not allocate.
     pub fn new(alloc: Global) -> DisjointCache
         ensures { result.over ≡ [] }
     {
@@ -51,9 +51,9 @@ impl DisjointCache {
         }
     }
 
-    /// Begins a proof under the pairs that are active at its statement. The memory stays.
+    /// Begins a proof under the pairs that are active at its statement. Keeps the memory.
     ///
-    /// Cost: a step for each pair of images that was noted in the proof before.
+    /// Cost: a step for each pair of images that was recorded in the previous proof.
     pub fn begin(&mut self, pairs: &Pairs<'_>)
         ensures { self.new ≡ record { about = pairs.now; over = [] } }
     {
@@ -61,8 +61,8 @@ impl DisjointCache {
         self.subject = Subject::of(pairs);
     }
 
-    /// Forgets all that is known, and gives back the memory of long results and of pairs of images; that by the number of a
-    /// symbol stays.
+    /// Empties the cache, and frees the memory of long results and of pairs of images, but not that of tables indexed by
+    /// symbol.
     ///
     /// Does not allocate.
     pub fn release(&mut self, alloc: Global)
@@ -72,13 +72,13 @@ impl DisjointCache {
         self.subject = Subject::none();
     }
 
-    /// Whether the images of each two variables of each group are disjoint at the statement of the pairs: no variable stands
-    /// in both, and each two variables, one from each, stand together in an active `$d`. The images lie in the buffer.
+    /// Returns whether the images of each two variables of each group are disjoint at the statement of the pairs: no variable
+    /// is in both, and each pair of variables, one from each, is in an active `$d`. The images are ranges of the buffer.
     ///
     /// Errors: an allocation fails.
-    /// Cost: the count of the variables in the groups; each image once, or the count of its variables if it is long; for
-    /// the variables of two images the product of their counts, over 64 if they were asked for before, else that of
-    /// `Pairs::has`. If that is more than 256, it is paid once in a proof, and then a look-up.
+    /// Cost: the number of variables in the groups; each image once, or the number of its variables if it is long; for two
+    /// images the product of their numbers of variables, over 64 if all these pairs are known, else times the cost of
+    /// `Pairs::has`. If that product is large, it is paid once in a proof, and later costs a look-up.
     /// Source: Metamath, 4.2.6.
     #[inline(always)]
     pub fn are_groups_disjoint(
@@ -104,7 +104,7 @@ impl DisjointCache {
         self.ask(pairs, groups, symbols, images)
     }
 
-    /// Whether the images are disjoint, where there are groups.
+    /// Returns the answer of `are_groups_disjoint` if there are groups.
     #[inline(always)]
     fn ask(
         &mut self,
@@ -129,11 +129,11 @@ impl DisjointCache {
             .are_groups_disjoint(pairs, groups, symbols, images)
     }
 
-    /// Notes the variables of a result that an expression gives with all images put in, from these, if the result has more
-    /// than `LONG_RESULT` symbols. The result and the images lie in the buffer.
+    /// Records the variables of a result, which is an expression with all images substituted, if it has more than
+    /// `LONG_RESULT` symbols. The result and the images are ranges of the buffer.
     ///
-    /// Errors: an allocation fails. Cost: the symbols of the expression and of its images, or the counts of their variables
-    /// for those that are long; the result is not read.
+    /// Errors: an allocation fails. Cost: the symbols of the expression and of its images, or the number of variables of an
+    /// image that is long; the result is not read.
     #[inline(always)]
     pub fn record_result(
         &mut self,
@@ -162,8 +162,8 @@ impl DisjointCache {
             .record_result(pairs, symbols, images, expr, place)
     }
 
-    /// Notes the variables of a result that is an expression of more than `LONG_RESULT` symbols. The result lies in the
-    /// buffer.
+    /// Records the variables of a result that is an expression as it is, if it has more than `LONG_RESULT` symbols. The result
+    /// is a range of the buffer.
     ///
     /// Errors: an allocation fails. Cost: the symbols of the expression.
     #[inline(always)]

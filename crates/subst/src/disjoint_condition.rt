@@ -8,13 +8,13 @@ use crate::images::Subst;
 use frame::{Frame, Pairs};
 use mm_lex::Words;
 
-/// Returns whether the images meet the disjoint variable condition: for each two variables that the cited frame keeps
-/// distinct, no variable stands in both images, and each two variables, one from each, stand together in a `$d` that is
-/// active at the theorem.
+/// Returns whether the images meet the disjoint variable condition: for each two variables that the cited frame makes
+/// disjoint, no variable is in both images, and each pair of variables, one from each, is in a `$d` that is active at the
+/// theorem.
 ///
 /// Numbers stand for the names that they have at the theorem, in the images too.
-/// Cost: for each two variables that the frame keeps distinct, the size of their images and of the active `$d`, if one of
-/// these has the variables of both images; else, for each pair of a variable from each, the active `$d`.
+/// Cost: for each two variables that the frame makes disjoint, the size of their images and of the active `$d`, if one of
+/// these has the variables of both images; else, for each pair of variables, one from each, the active `$d`.
 /// Source: Metamath, 4.2.6.
 pub fn disjoint(subst: &Subst, frame: &Frame, pairs: &Pairs<'_>) -> bool
     requires { AreOver pairs.now.names subst.now }
@@ -36,7 +36,7 @@ fn group_disjoint(subst: &Subst, pairs: &Pairs<'_>, group: &Words) -> bool
         .all(|x| variable_disjoint(subst, pairs, x, group))
 }
 
-/// Returns whether the image of x is disjoint from those of the others.
+/// Returns whether the image of x is disjoint from those of the other variables of the group.
 fn variable_disjoint(subst: &Subst, pairs: &Pairs<'_>, x: &[u8], group: &Words) -> bool
     requires { AreOver pairs.now.names subst.now }
     ensures { result ≡ is_image_disjoint pairs.now.statements (images_of_names pairs.now.names subst.now) group.now x.now (image (images_of_names pairs.now.names subst.now) x.now) }

@@ -1,4 +1,4 @@
-//! Which variables of a proof were found to be disjoint.
+//! The pairs of variables of a proof that were found to be disjoint.
 ghost use Rattle.std.specs.Prelude.{◌≡◌, ℕ, ◌+◌, ◌*◌, ◌<◌, [], length, true, IfOk, IfSome};
 ghost use Rattle.std.specs.Int.{bit_at};
 ghost use Rattle.frame.specs.Below.{AreBelow};
@@ -14,16 +14,16 @@ use frame::{PairMemo, Pairs};
 use std::alloc::{AllocError, Global};
 use std::marker::Model;
 
-/// How many places have their facts recorded.
+/// Facts are recorded of this many places.
 const NOTED_PLACES: u32 = 8192;
 
-/// So many of the last active `$d` are read in a proof before the first question.
+/// The number of the last active `$d` that are read in a proof before the first question.
 const READ_LISTS: usize = 16;
 
-/// A `$d` with more symbols is not read.
+/// The most symbols of a `$d` that is read.
 const READ_SYMBOLS: usize = 16;
 
-/// Places that were found to be disjoint from one place.
+/// Some of 64 places, whose variables were found to be disjoint from the variable at one place.
 #[derive(Clone, Copy, Drop)]
 pub struct RowWord {
     place: u32,
@@ -31,16 +31,17 @@ pub struct RowWord {
     bits: u64,
 }
 
-/// Which variables of a proof were found to be disjoint: words of bits. A bit that is set is a fact, another one says nothing.
+/// The pairs of variables of a proof that were found to be disjoint, as words of bits. A bit that is set is a fact; one that
+/// is not set says nothing.
 ///
-/// A hint tells where a word may stand. At most 24 MB are used: of variables beyond the first 8,192 nothing is recorded.
+/// A hint gives the index that a word may have. At most 24 MB are used: variables beyond the first 8,192 are not recorded.
 #[derive(Drop)]
 pub struct DisjointRows {
     hints: Hints,
     words: Vec<RowWord>,
-    /// The last active `$d` were read.
+    /// Whether the last active `$d` were read.
     learned: bool,
-    /// The pairs that long searches found, whatever the proof.
+    /// The pairs that long searches found, in all proofs.
     memo: PairMemo,
     one_list: OneList,
 }
@@ -68,7 +69,7 @@ impl DisjointRows {
         }
     }
 
-    /// Removes all facts, in constant time. The memory stays.
+    /// Removes all facts, in constant time. Keeps the memory.
     pub fn clear(&mut self)
         ensures { self.new ≡ [] }
     {
@@ -76,7 +77,7 @@ impl DisjointRows {
         self.learned = false;
     }
 
-    /// Removes all facts, and gives back the memory of marks.
+    /// Removes all facts, and frees the memory of the marks.
     pub fn release(&mut self, alloc: Global)
         ensures { self.new ≡ [] }
     {
@@ -85,7 +86,7 @@ impl DisjointRows {
         self.one_list.release(alloc);
     }
 
-    /// Returns the index of the word for a place and a word of others, if there is one.
+    /// Returns the position of the word for a place and for the 64 other places of an index, if there is one.
     #[inline(always)]
     fn find(&self, place: usize, index: u32) -> Option<usize>
         ensures { IfSome result (IsRowAt self.now place index) }
@@ -97,7 +98,7 @@ impl DisjointRows {
         }
     }
 
-    /// Returns those of 64 places that were found to be disjoint from a place.
+    /// Returns, as bits, those of the 64 places of an index that were found to be disjoint from a place.
     #[inline(always)]
     fn bits(&self, place: usize, index: u32) -> u64
         ensures { (b : ℕ) → bit_at result b ≡ 1 → HasFact self.now place (64 * index + b) }
@@ -108,7 +109,7 @@ impl DisjointRows {
         }
     }
 
-    /// Notes that places are disjoint from a place.
+    /// Records that the places of a word are disjoint from a place.
     #[inline(always)]
     fn record_word(&mut self, place: usize, word: PlaceWord) -> Result<(), AllocError>
         ensures { RecordsWord self.old self.new place word }
@@ -131,7 +132,7 @@ impl DisjointRows {
         Ok(())
     }
 
-    /// Reads the last active `$d`, once in a proof, and notes that the variables of each are disjoint.
+    /// Reads the last active `$d`, once in a proof, and records that the variables of each are disjoint.
     ///
     /// Errors: an allocation fails. Cost: a constant: at most 16 `$d` of at most 16 symbols are read.
     #[inline(always)]
@@ -179,7 +180,7 @@ impl DisjointRows {
         Ok(())
     }
 
-    /// Notes that the variables of an active `$d` are disjoint.
+    /// Records that the variables of an active `$d` are disjoint.
     fn learn_list(
         &mut self,
         pairs: &Pairs<'_>,
@@ -209,7 +210,8 @@ impl DisjointRows {
         Ok(())
     }
 
-    /// Whether the variable at a place is disjoint from each of those at the places of a word.
+    /// Looks up and returns whether the variable at a place is disjoint from each of those at the places of a word. Records it
+    /// if so.
     #[cold]
     #[inline(never)]
     fn ask(
@@ -233,7 +235,7 @@ impl DisjointRows {
         Ok(true)
     }
 
-    /// Returns whether each of the places below 64 of a word was found to be disjoint from each of those of another one.
+    /// Returns `true` only if each of the places below 64 of a word was found to be disjoint from each of those of another.
     ///
     /// Cost: a step for each place of the first word.
     #[inline(always)]
@@ -254,11 +256,11 @@ impl DisjointRows {
         true
     }
 
-    /// Whether the variable at a place is disjoint from each of those at the places of others.
+    /// Returns whether the variable at a place is disjoint from each of those at the places of other words.
     ///
     /// Errors: an allocation fails.
-    /// Cost: a step for each of the other words; that of `Pairs::has_by_memo` for each two variables that the proof did not ask
-    /// for before.
+    /// Cost: a step for each of the other words; that of `Pairs::has_by_memo` for each two variables that are not yet known to
+    /// be disjoint.
     #[inline(always)]
     fn is_disjoint(
         &mut self,
@@ -284,7 +286,7 @@ impl DisjointRows {
         Ok(true)
     }
 
-    /// Whether each of the variables at the places of a word is disjoint from each of those at the places of others.
+    /// Returns whether each of the variables at the places of a word is disjoint from each of those at the places of others.
     #[inline(always)]
     fn is_word_disjoint(
         &mut self,
@@ -312,9 +314,9 @@ impl DisjointRows {
         Ok(true)
     }
 
-    /// Whether each of the variables at the places of a list of words is disjoint from each of those at the places of others.
+    /// Returns whether each of the variables at the places of words is disjoint from each of those at the places of others.
     ///
-    /// Errors: an allocation fails. Cost: a step for each place of the list and each of the other words; see `is_disjoint`.
+    /// Errors: an allocation fails. Cost: that of `is_disjoint` for each place of the words.
     pub fn are_disjoint(
         &mut self,
         pairs: &Pairs<'_>,
@@ -337,10 +339,9 @@ impl DisjointRows {
         Ok(true)
     }
 
-    /// Whether each of the variables at the places of a list of words is disjoint from each of those at the places of others,
-    /// which may be many.
+    /// Returns the answer of `are_disjoint`, for words with many places.
     ///
-    /// If `are_disjoint` would take many steps, one active `$d` that has all of them is looked for first.
+    /// If `are_disjoint` would take many steps, one active `$d` that has all of the variables is looked for first.
     ///
     /// Errors: an allocation fails. Cost: the symbols of one active `$d` that has all of them, and of those read before it;
     /// if none is found within as many steps as `are_disjoint` takes, also that of `are_disjoint`.
@@ -372,7 +373,7 @@ impl DisjointRows {
     }
 }
 
-/// Returns whether the variable at a place stands together with each of those at the places of a word in an active `$d`.
+/// Returns whether the variable at a place is in an active `$d` with each of those at the places of a word.
 ///
 /// Cost: that of `Pairs::has_by_memo` for each of them.
 fn are_pairs(
@@ -400,7 +401,8 @@ fn are_pairs(
     true
 }
 
-/// The number of the hint for a place and a word of others, where these are few.
+/// Returns the number of the hint for a place and the 64 other places of an index. It is unique for places below
+/// `NOTED_PLACES`.
 #[inline(always)]
 fn hint_number(place: usize, index: u32) -> u32 {
     NOTED_PLACES * (index % (NOTED_PLACES / 64)) + (place % NOTED_PLACES as usize) as u32

@@ -1,4 +1,4 @@
-//! Groups of variables whose images are to be disjoint.
+//! Decides whether the images of groups of variables are disjoint.
 ghost use Rattle.std.specs.Prelude.{◌≡◌, ◌+◌, ◌-◌, ◌<◌, ◌≤◌, [], length, slice_get, true, IfOk};
 ghost use Rattle.std.specs.List.{list_all};
 ghost use Rattle.frame.specs.Below.{AllBelow, AreBelow};
@@ -23,19 +23,19 @@ use entries::Groups;
 use frame::Pairs;
 use std::alloc::{AllocError, Global};
 
-/// The variables of one proof, those of its images, and which of its images were found to be disjoint.
+/// The variables of one proof, those of its images, and the pairs of variables and of images that were found to be disjoint.
 #[derive(Drop)]
 pub struct DisjointTables {
     variables: VariablePlaces,
     images: ImageVariables,
     rows: DisjointRows,
-    /// The variables of the images before, in a group.
+    /// The variables of the earlier images of a group.
     before: PlaceSet,
     found: ImagePairs,
 }
 
 impl DisjointTables {
-    /// Returns tables that know nothing. Does not allocate.
+    /// Returns empty tables. Does not allocate.
     pub fn new(alloc: Global) -> DisjointTables
         ensures { (v : Numbered) → AreTables v [] result }
     {
@@ -48,9 +48,9 @@ impl DisjointTables {
         }
     }
 
-    /// Forgets all. The memory stays.
+    /// Empties the tables. Keeps the memory.
     ///
-    /// Cost: a step for each pair of images that was noted.
+    /// Cost: a step for each pair of images that was recorded.
     pub fn clear(&mut self)
         ensures { (v : Numbered) → AreTables v [] self.new }
     {
@@ -60,7 +60,7 @@ impl DisjointTables {
         self.found.clear();
     }
 
-    /// Forgets all, and gives back the memory of long images and of pairs of images.
+    /// Empties the tables, and frees the memory of long images and of pairs of images.
     pub fn release(&mut self, alloc: Global)
         ensures { (v : Numbered) → AreTables v [] self.new }
     {
@@ -70,7 +70,7 @@ impl DisjointTables {
         self.found.release(alloc);
     }
 
-    /// Whether the images of two variables are disjoint. They are held against each other.
+    /// Returns whether the images of two variables are disjoint, by comparing their variables.
     ///
     /// Errors: an allocation fails. Cost: the images if they were not read in this citation, and that of
     /// `DisjointRows::are_many_disjoint`.
@@ -106,9 +106,9 @@ impl DisjointTables {
             .are_many_disjoint(pairs, &self.variables, words, others)
     }
 
-    /// Whether the images of two variables are disjoint. If both are ranges, this is noted for the proof.
+    /// Returns whether the images of two variables are disjoint. If they are, and both are ranges, records it for the proof.
     ///
-    /// Errors: an allocation fails. Cost: log n for n pairs that were noted; that of `are_disjoint` if this one was not.
+    /// Errors: an allocation fails. Cost: log n for n recorded pairs; that of `are_disjoint` if this one is not recorded.
     fn are_found_disjoint(
         &mut self,
         pairs: &Pairs<'_>,
@@ -142,7 +142,7 @@ impl DisjointTables {
         Ok(true)
     }
 
-    /// Whether the image of a variable is disjoint from those of the others in a list.
+    /// Returns whether the image of a variable is disjoint from those of the others in a list.
     ///
     /// Errors: an allocation fails. Cost: that of `are_found_disjoint` for each of them.
     #[cold]
@@ -178,10 +178,10 @@ impl DisjointTables {
         Ok(true)
     }
 
-    /// Whether the images of each two variables of a group are disjoint.
+    /// Returns whether the images of each two variables of a group are disjoint.
     ///
-    /// Each image is held against the variables of all images before it, or against each of these where that costs much. That
-    /// a variable stands in a group twice is looked for only if its images are not disjoint.
+    /// Compares each image with the variables of all images before it, or with each of these images if that costs much.
+    /// Whether a variable is in the group twice is looked up only if its image is not disjoint from the earlier ones.
     #[cold]
     #[inline(never)]
     fn is_group_disjoint(
@@ -223,8 +223,8 @@ impl DisjointTables {
         Ok(true)
     }
 
-    /// Returns whether the images of each two variables of a group were found to be disjoint, where all their variables have
-    /// places below 64. Most groups are passed so.
+    /// Returns `true` only if all variables of the images of a group have places below 64, and the images of each two were
+    /// found to be disjoint. This decides most groups.
     ///
     /// Errors: an allocation fails. Cost: the images that were not read in this citation, and a step for each variable of
     /// each image.
@@ -261,7 +261,7 @@ impl DisjointTables {
         Ok(true)
     }
 
-    /// Whether the images of each two variables of each group are disjoint.
+    /// Returns whether the images of each two variables of each group are disjoint.
     #[inline(never)]
     pub fn are_groups_disjoint(
         &mut self,
@@ -294,9 +294,9 @@ impl DisjointTables {
         Ok(true)
     }
 
-    /// Notes the variables of a long result from the images that it was made of, without reading it.
+    /// Records the variables of a long result from the images that it was made of, without reading it.
     ///
-    /// Errors: an allocation fails. Cost: the symbols of the expression, and each image once, or the counts of its variables
+    /// Errors: an allocation fails. Cost: the symbols of the expression, and each image once, or the number of its variables
     /// if it is long.
     pub fn record_result(
         &mut self,
@@ -330,7 +330,7 @@ impl DisjointTables {
         self.images.record_image(without_first(result_range))
     }
 
-    /// Notes the variables of a long result that is a hypothesis.
+    /// Records the variables of a long result that is an expression as it is, such as a hypothesis.
     pub fn record_expr(
         &mut self,
         pairs: &Pairs<'_>,
@@ -354,8 +354,8 @@ impl DisjointTables {
     }
 }
 
-/// Returns whether it costs much to hold the variables at the places of words against those at the places of so many others,
-/// which are those of so many images: at least 256 steps, and 64 for each image.
+/// Returns whether it costs much to compare the variables at the places of words with those at the places of `others` other
+/// words, which are those of `images` images: at least 256 steps, and 64 for each image.
 ///
 /// Cost: the words, if there are many of both.
 fn is_costly(words: &[PlaceWord], others: usize, images: usize) -> bool {
@@ -365,7 +365,7 @@ fn is_costly(words: &[PlaceWord], others: usize, images: usize) -> bool {
     }
 }
 
-/// Whether the group at an index is equal to the one before it.
+/// Returns whether the group at an index is equal to the one before it.
 fn is_repeated(groups: &Groups<'_>, index: usize) -> bool
     requires { index < length groups.now }
     ensures { result ≡ true → (0 < index) × (slice_get groups.now index ≡ slice_get groups.now (index - 1)) }
@@ -373,7 +373,7 @@ fn is_repeated(groups: &Groups<'_>, index: usize) -> bool
     index > 0 && groups.get(index) == groups.get(index - 1)
 }
 
-/// Returns where the symbols of a range stand without the first.
+/// Returns the range without its first symbol.
 fn without_first(range: SymbolRange) -> SymbolRange
     requires { range.start < range.end }
     ensures { (result.start ≡ range.start + 1) × (result.end ≡ range.end) }

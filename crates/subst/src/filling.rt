@@ -1,4 +1,4 @@
-//! An expression with the images put in, written after them in their buffer.
+//! Writes an expression with the images substituted, after them in their buffer.
 ghost use Rattle.std.specs.Prelude.{◌≡◌, ◌+◌, ◌<◌, ◌≤◌, ◌^◌, length, take, IfSome, IfNone, OnOk};
 ghost use Rattle.frame.specs.Substitution.{code_apply};
 ghost use Rattle.subst.specs.Stored.Written.{IsWritten, LacksRoom};
@@ -10,8 +10,8 @@ use crate::copies::{LANES, copy_place, put_symbol};
 use crate::image_ranges::ImageRanges;
 use std::alloc::AllocError;
 
-/// Writes the expression with all images put in at `at`, and returns where it ends; `None` if the room after `at` is too
-/// small for the result, the symbols of the expression and those that are overwritten.
+/// Writes, from `at` on, the expression with all images substituted, and returns where the result ends, or `None` if the room
+/// after `at` is too small for the result, as many symbols as the expression has, and those that copies overwrite.
 #[inline(always)]
 pub fn fill(symbols: &mut [u32], at: usize, images: &ImageRanges, expr: &[u32]) -> Option<usize>
     requires within { AreInside at images.now }
@@ -36,7 +36,7 @@ pub fn fill(symbols: &mut [u32], at: usize, images: &ImageRanges, expr: &[u32]) 
     Some(end)
 }
 
-/// Returns the number of symbols of the expression with all images put in, or `None` if it is more than `room`.
+/// Returns the number of symbols of the expression with all images substituted, or `None` if it is more than `room`.
 pub fn filled_len(symbols: &[u32], images: &ImageRanges, expr: &[u32], room: usize) -> Option<usize>
     requires { AreInside (length symbols.now) images.now }
     ensures some { IfSome result (λ len. (len ≡ length (code_apply (images_at symbols.now images.now) expr.now)) × (len ≤ room)) }
@@ -57,10 +57,10 @@ pub fn filled_len(symbols: &[u32], images: &ImageRanges, expr: &[u32], room: usi
     Some(len)
 }
 
-/// Makes room for so many symbols after the first `len`, and for those that are overwritten.
+/// Makes room for `more` symbols after the first `len`, and for those that copies overwrite.
 ///
-/// Errors: an allocation fails; the first `len` symbols are as before.
-/// Cost: the buffer grows to twice its symbols; near the bound of a buffer no further than that, or by a sixteenth.
+/// Errors: an allocation fails; the first `len` symbols are unchanged.
+/// Cost: the buffer doubles; near the bound of a buffer it grows only up to that, or by a sixteenth.
 #[cold]
 #[inline(never)]
 pub fn make_room(buffer: &mut Vec<u32>, len: usize, more: usize) -> Result<(), AllocError>
@@ -75,7 +75,7 @@ pub fn make_room(buffer: &mut Vec<u32>, len: usize, more: usize) -> Result<(), A
     Ok(())
 }
 
-/// Returns the size to which a buffer with `len` symbols grows that needs a larger one.
+/// Returns the size to which a buffer with `len` symbols grows if at least `needed` is wanted.
 fn grown_size(len: usize, needed: usize) -> usize
     requires { (len < 2 ^ 62) × (needed < 2 ^ 63) }
     ensures { needed ≤ result }

@@ -1,10 +1,10 @@
-//! Guesses of where something stands in a list.
+//! Guesses at the position of an item in a list.
 ghost use Rattle.std.specs.Prelude.{◌<◌, ◌^◌};
 
 use std::alloc::{AllocError, Global};
 
-/// Guesses by number of where something stands in a list. A guess may be wrong: the list itself tells. So guesses are never
-/// cleared.
+/// Guesses, by number, at the position of an item in a list. A guess may be wrong, so the list is always checked, and guesses
+/// are never cleared.
 #[derive(Drop)]
 pub(crate) struct Hints {
     guesses: Vec<u32>,
@@ -27,9 +27,9 @@ impl Hints {
         }
     }
 
-    /// Keeps a guess for a number.
+    /// Stores a guess for a number.
     ///
-    /// Cost: constant; linear in the number if the table is too short.
+    /// Errors: an allocation fails. Cost: constant; linear in the number if the table is too short.
     #[inline(always)]
     pub(crate) fn set(&mut self, number: u32, guess: usize) -> Result<(), AllocError> {
         let guess = u32::try_from(guess).unwrap_or(0);
@@ -42,7 +42,7 @@ impl Hints {
         }
     }
 
-    /// Keeps a guess for a number beyond the table, which grows.
+    /// Grows the table and stores a guess for a number beyond it.
     #[cold]
     #[inline(never)]
     fn add(&mut self, number: usize, guess: u32) -> Result<(), AllocError>

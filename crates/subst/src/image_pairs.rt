@@ -10,10 +10,10 @@ use std::alloc::Global;
 use std::collections::BTreeMap;
 use std::marker::Model;
 
-/// The most pairs that are noted in a proof.
+/// The most pairs that are recorded in a proof.
 const MOST_PAIRS: usize = 1_048_576;
 
-/// Where two images lie.
+/// The ranges of two images.
 #[derive(Clone, Copy, Drop)]
 pub struct ImagePair {
     left: SymbolRange,
@@ -21,7 +21,7 @@ pub struct ImagePair {
 }
 
 impl ImagePair {
-    /// Returns where the images of two symbols lie, or `None` if one of them was given none.
+    /// Returns the ranges of the images of two symbols, or `None` if one of them has none.
     pub fn of(images: &ImageRanges, first: u32, second: u32) -> Option<ImagePair>
         ensures left { IfSome result (λ pair. lookup (nat_eq first) images.now ≡ Some pair.left) }
         ensures right { IfSome result (λ pair. lookup (nat_eq second) images.now ≡ Some pair.right) }
@@ -34,7 +34,7 @@ impl ImagePair {
 
 /// The pairs of images that were found to be disjoint in a proof.
 ///
-/// A place by the starts of two images only says where to look, and the pair that stands there tells.
+/// The map from the starts of two images to an index is only a guess; the pair at that index decides.
 #[derive(Drop)]
 pub struct ImagePairs {
     places: BTreeMap<u64, u32>,
@@ -61,9 +61,9 @@ impl ImagePairs {
         }
     }
 
-    /// Removes all pairs. The memory of the list stays.
+    /// Removes all pairs. Keeps the memory of the list.
     ///
-    /// Cost: the count of pairs.
+    /// Cost: the number of pairs.
     pub fn clear(&mut self)
         ensures { self.new ≡ [] }
     {
@@ -71,7 +71,7 @@ impl ImagePairs {
         self.pairs.clear();
     }
 
-    /// Removes all pairs, and gives back their memory.
+    /// Removes all pairs, and frees their memory.
     pub fn release(&mut self, alloc: Global)
         ensures { self.new ≡ [] }
     {
@@ -79,7 +79,7 @@ impl ImagePairs {
         self.pairs = Vec::new(alloc);
     }
 
-    /// Returns whether two images were found to be disjoint.
+    /// Returns whether two images are recorded as disjoint.
     ///
     /// Cost: log n for n pairs.
     pub fn has(&self, pair: ImagePair) -> bool
@@ -94,7 +94,7 @@ impl ImagePairs {
         }
     }
 
-    /// Notes that two images are disjoint, unless there is no room for more or an allocation fails.
+    /// Records that two images are disjoint, unless `MOST_PAIRS` are recorded or an allocation fails.
     pub fn note(&mut self, pair: ImagePair)
         ensures { NotesPair self.old self.new pair }
     {
@@ -106,7 +106,7 @@ impl ImagePairs {
     }
 }
 
-/// Returns one number for where two images begin.
+/// Returns the starts of two images as one number.
 fn key(pair: ImagePair) -> u64 {
     (pair.left.start as u64) << 32 | pair.right.start as u64
 }

@@ -19,10 +19,10 @@ const UNSET: Slot = Slot {
     place: SymbolRange { start: 0, end: 0 },
 };
 
-/// A table has so many more slots than twice its greatest number, so that it mostly has those of constants.
+/// A table that grows gets twice the new index and this many slots more, so that it mostly has those of constants too.
 const SPARE: usize = 1024;
 
-/// A table of images for reading only: in a loop its parts stay at hand.
+/// A read-only view of a table of images, which a loop keeps in registers.
 #[derive(Drop)]
 pub(crate) struct ImageTable<'a> {
     slots: &'a [Slot],
@@ -39,7 +39,7 @@ impl<'a> Model for ImageTable<'a> {
 }
 
 impl<'a> ImageTable<'a> {
-    /// Returns the range of a symbol's image, if it was given one.
+    /// Returns the range of a symbol's image, if it has one.
     #[inline(always)]
     pub(crate) fn get(&self, symbol: u32) -> Option<SymbolRange>
         ensures { result ≡ lookup (nat_eq symbol) self.now }
@@ -51,10 +51,11 @@ impl<'a> ImageTable<'a> {
     }
 }
 
-/// Images of symbols, each a range of a buffer that stands beside. Contracts see the symbols with their ranges.
+/// A table of the images of symbols, each a range of a buffer that is kept elsewhere. Contracts see the symbols with their
+/// ranges.
 ///
-/// Cost: an image is set and found in constant time, and all are removed in constant time. The table is about twice as
-/// long as the greatest number that was set.
+/// Cost: setting an image, finding one and removing all take constant time. The table is about twice as long as the greatest
+/// symbol number that was set.
 #[derive(Drop)]
 pub struct ImageRanges {
     slots: Vec<Slot>,
@@ -84,7 +85,7 @@ impl ImageRanges {
         }
     }
 
-    /// Removes all images, in constant time.
+    /// Removes all images, in constant time. Keeps the memory.
     pub fn clear(&mut self)
         ensures { self.new ≡ [] }
     {
@@ -96,9 +97,9 @@ impl ImageRanges {
         }
     }
 
-    /// Gives the symbol the image in this range.
+    /// Sets the range of a symbol's image, and replaces an earlier one.
     ///
-    /// Errors: an allocation fails; all images are as before.
+    /// Errors: an allocation fails; all images are unchanged.
     #[inline(always)]
     pub fn set(&mut self, symbol: u32, place: SymbolRange) -> Result<(), AllocError>
         ensures ok { OnOk result ((x : ℕ) → lookup (nat_eq x) self.new ≡ (if x == symbol then Some place else lookup (nat_eq x) self.old)) }
@@ -113,7 +114,7 @@ impl ImageRanges {
         Ok(())
     }
 
-    /// Returns the range of a symbol's image, if it was given one.
+    /// Returns the range of a symbol's image, if it has one.
     #[inline(always)]
     pub fn get(&self, symbol: u32) -> Option<SymbolRange>
         ensures { result ≡ lookup (nat_eq symbol) self.now }
@@ -121,7 +122,7 @@ impl ImageRanges {
         self.table().get(symbol)
     }
 
-    /// Returns the table for reading.
+    /// Returns a read-only view of the table.
     #[inline(always)]
     pub(crate) fn table(&self) -> ImageTable<'_>
         ensures { result ≡ self.now }
@@ -135,7 +136,7 @@ impl ImageRanges {
 
 /// Appends slots up to that index, and about as many more.
 ///
-/// Errors: an allocation fails; the slots are as before.
+/// Errors: an allocation fails; the slots are unchanged.
 #[cold]
 #[inline(never)]
 fn add_slots(slots: &mut Vec<Slot>, index: usize) -> Result<(), AllocError>

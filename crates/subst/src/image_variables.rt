@@ -1,4 +1,4 @@
-//! The variables of images, each image read once.
+//! The variables of images, each image read once in a citation.
 ghost use Rattle.std.specs.Prelude.{◌≡◌, ◌<◌, ◌≤◌, ◌++◌, ◌∷◌, [], ℕ, get_or, length, slice_range, take, true, IfOk, IfSome, OnErr, OnOk};
 ghost use Rattle.std.specs.List.{Contains};
 ghost use Rattle.frame.specs.Below.{AreBelow};
@@ -19,28 +19,28 @@ use frame::Pairs;
 use std::alloc::{AllocError, Global};
 use std::marker::Model;
 
-/// Results with more symbols keep their variables.
+/// The variables of results with more symbols are recorded.
 pub const LONG_RESULT: usize = 1024;
 
-/// A result keeps the words of its variables if these are at most one in so many of its symbols: with more of them, to read
-/// it again costs about as much as its words, and these would need about as much memory as it does.
+/// The words of a result's variables are recorded if there is at most one for this many of its symbols: with more words, it
+/// would cost about as much to read them as to read the result, and they would need about as much memory.
 const SYMBOLS_PER_WORD: usize = 8;
 
-/// Where words lie in a list of words.
+/// A range of a list of words.
 #[derive(Clone, Copy, Drop)]
 pub struct WordRange {
     start: usize,
     end: usize,
 }
 
-/// A symbol whose image was read, and the words of the image's variables.
+/// A symbol whose image was read, and the range of the words of the image's variables.
 #[derive(Clone, Copy, Drop)]
 pub struct ReadImage {
     symbol: u32,
     words: WordRange,
 }
 
-/// Where a long image lies, and the words of its variables.
+/// The range of a long image, and that of the words of its variables.
 #[derive(Clone, Copy, Drop)]
 pub struct LongImage {
     image: SymbolRange,
@@ -50,7 +50,7 @@ pub struct LongImage {
 /// The places of the variables of images, as words of bits: those of long images for a whole proof, the others for one
 /// citation.
 ///
-/// Hints tell where a symbol may stand, so nothing is cleared by number.
+/// A hint gives the index that a symbol may have among those read, so no table by symbol is cleared.
 #[derive(Drop)]
 pub struct ImageVariables {
     /// The first `kept` words are those of long images.
@@ -61,7 +61,7 @@ pub struct ImageVariables {
     /// The images that were read in this citation.
     read: Vec<ReadImage>,
     hints: Hints,
-    /// By their start, ascending.
+    /// In ascending order of their starts.
     long: Vec<LongImage>,
 }
 
@@ -89,7 +89,7 @@ impl ImageVariables {
         }
     }
 
-    /// Forgets all images, in constant time. The memory stays.
+    /// Removes all images, in constant time. Keeps the memory.
     pub fn clear(&mut self)
         ensures kept { self.new.kept ≡ 0 }
         ensures long { self.new.long ≡ [] }
@@ -98,7 +98,7 @@ impl ImageVariables {
         self.long.clear();
     }
 
-    /// Forgets all images, and gives back their memory; that of the hints stays.
+    /// Removes all images, and frees their memory, but not that of the hints.
     pub fn release(&mut self, alloc: Global)
         ensures kept { self.new.kept ≡ 0 }
         ensures long { self.new.long ≡ [] }
@@ -110,7 +110,7 @@ impl ImageVariables {
         self.long = Vec::new(alloc);
     }
 
-    /// Begins a citation: forgets the images that are not long.
+    /// Begins a citation: removes the images that are not long.
     pub fn begin(&mut self)
         ensures { self.new ≡ record { words = take self.old.kept self.old.words; list = []; kept = self.old.kept; read = []; long = self.old.long } }
     {
@@ -128,7 +128,7 @@ impl ImageVariables {
         &self.words[range.start..range.end]
     }
 
-    /// Returns the places in a range as bits, if they are one word of places below 64.
+    /// Returns the places in a range as bits, if the range is one word of places below 64.
     #[inline(always)]
     pub fn near_bits(&self, range: WordRange) -> Option<u64>
         requires { (range.start ≤ range.end) × (range.end ≤ length self.now.words) }
@@ -140,7 +140,7 @@ impl ImageVariables {
         }
     }
 
-    /// Returns the range of the image of a symbol that was read in this citation.
+    /// Returns the range of the words of a symbol's image, if it was read in this citation.
     #[inline(always)]
     fn find(&self, symbol: u32) -> Option<WordRange>
         ensures { IfSome result (λ range. Contains self.now.read (record { symbol = symbol; words = range })) }
@@ -153,7 +153,7 @@ impl ImageVariables {
         }
     }
 
-    /// Returns the range of a long image that was recorded.
+    /// Returns the range of the words of an image, if it is long and was recorded.
     #[inline(always)]
     fn find_long(&self, image: SymbolRange) -> Option<WordRange>
         ensures { IfSome result (λ range. Contains self.now.long (record { image = image; words = range })) }
@@ -164,7 +164,7 @@ impl ImageVariables {
         self.search_long(image)
     }
 
-    /// The search of a long image.
+    /// Searches the long images for one, by its start.
     #[cold]
     #[inline(never)]
     fn search_long(&self, image: SymbolRange) -> Option<WordRange>
@@ -244,7 +244,8 @@ impl ImageVariables {
         }
     }
 
-    /// Returns `true` if the symbol at an index of a list stands in it before, and it was asked for before.
+    /// Returns `true` only if the symbol at an index of a list also occurs at a smaller one. Finds this if called for each
+    /// index in turn.
     ///
     /// Errors: an allocation fails. Cost: constant.
     #[inline(always)]
@@ -262,7 +263,7 @@ impl ImageVariables {
         Ok(false)
     }
 
-    /// Puts the words of the list at the end.
+    /// Appends the words of the list, and returns their range.
     #[inline(always)]
     fn append_list(&mut self) -> Result<WordRange, AllocError>
         ensures rest { KeepsMost self.old self.new }
@@ -274,7 +275,7 @@ impl ImageVariables {
         Ok(WordRange { start, end })
     }
 
-    /// Puts a word at the end.
+    /// Appends a word, and returns its range.
     #[inline(always)]
     fn append_word(&mut self, word: PlaceWord) -> Result<WordRange, AllocError>
         ensures rest { KeepsMost self.old self.new }
@@ -286,7 +287,7 @@ impl ImageVariables {
         Ok(WordRange { start, end })
     }
 
-    /// Reads the places of the variables of an image.
+    /// Reads the places of the variables of an image, and returns the range of their words.
     ///
     /// Cost: a step for each symbol, or two if one of them was not met before or a place is not below 64.
     #[inline(always)]
@@ -309,7 +310,7 @@ impl ImageVariables {
         }
     }
 
-    /// Reads the places of the variables of an image, where not all are known and below 64.
+    /// Reads the places of the variables of an image, not all of which are known and below 64.
     #[cold]
     #[inline(never)]
     fn read_far(
@@ -330,7 +331,7 @@ impl ImageVariables {
         self.append_list()
     }
 
-    /// Begins a list.
+    /// Empties the list.
     #[inline(always)]
     fn clear_list(&mut self)
         ensures { self.new ≡ record { words = self.old.words; list = []; kept = self.old.kept; read = self.old.read; long = self.old.long } }
@@ -338,7 +339,7 @@ impl ImageVariables {
         self.list.clear();
     }
 
-    /// Returns the range of the places of the variables of the image of a symbol, which is read, or was recorded.
+    /// Returns the range of the words of a symbol's image. Reads the image, unless it is long and was recorded.
     #[inline(always)]
     fn read_image(
         &mut self,
@@ -367,7 +368,7 @@ impl ImageVariables {
         }
     }
 
-    /// Keeps the range of the image of a symbol for this citation.
+    /// Records the range of the words of a symbol's image for this citation.
     #[inline(always)]
     fn keep(&mut self, symbol: u32, words: WordRange) -> Result<(), AllocError>
         ensures { KeepsImage self.old self.new symbol words }
@@ -377,7 +378,7 @@ impl ImageVariables {
         Ok(())
     }
 
-    /// Returns the range of the places of the variables of the image of a symbol.
+    /// Returns the range of the words of a symbol's image, which is read unless it was before.
     ///
     /// Errors: an allocation fails. Cost: the symbols of the image, once in a citation; constant for a long one.
     #[inline(always)]
@@ -410,7 +411,7 @@ impl ImageVariables {
         Ok(range)
     }
 
-    /// Notes that the list has the places of the variables of a long image, if its words are few.
+    /// Records that the list has the places of the variables of a long image, if its words are few.
     ///
     /// Errors: an allocation fails. Cost: the words of the list.
     pub fn record_image(&mut self, image: SymbolRange) -> Result<(), AllocError>
@@ -429,7 +430,7 @@ impl ImageVariables {
 
 /// Appends words, mostly one.
 ///
-/// Errors: an allocation fails; the words are as before.
+/// Errors: an allocation fails; the words are unchanged.
 #[inline(always)]
 fn append_words(words: &mut Vec<PlaceWord>, more: &[PlaceWord]) -> Result<(), AllocError>
     ensures ok { OnOk result (words.new.items ≡ words.old.items ++ more.now) }

@@ -1,4 +1,4 @@
-//! Images of symbols.
+//! Images of symbols, substituted all at once.
 ghost use Rattle.std.specs.Prelude.{◌≡◌, ℕ, [], ◌∷◌, ◌==◌, ◌++◌, ◌+◌, ◌≤◌, ◌↔◌, take, IsTrue, IfOk, if◌then◌else◌, length, OnOk, OnErr, IfSome, IfNone};
 ghost use Rattle.frame.specs.Substitution.{code_apply, code_image};
 ghost use Rattle.subst.specs.declared.buffer.TheConstants.{SYMBOLS_LIMIT};
@@ -10,10 +10,10 @@ use crate::symbol_range::{place_between, symbols_at};
 use std::alloc::{AllocError, Global};
 use std::marker::Model;
 
-/// Images of symbols. A symbol to which it gives no image stays itself.
+/// A table of images of symbols. A symbol without an image stays itself.
 ///
-/// Contracts see the symbols with their images. The images stand in one buffer, those that were replaced too.
-/// Cost: an image is found by one look-up, in a table as long as the greatest number that was set.
+/// Contracts see the symbols with their images. The images are in one buffer, including those that were replaced.
+/// Cost: an image is found by one look-up, in a table about twice as long as the greatest number that was set.
 /// Source: Metamath, 4.1.
 #[derive(Drop)]
 pub struct Subst {
@@ -43,10 +43,10 @@ impl Subst {
         }
     }
 
-    /// Gives the symbol this image, which replaces an earlier one.
+    /// Sets the image of a symbol, and replaces an earlier one.
     ///
-    /// Errors: an allocation fails, or the images that were set, those replaced among them, would have more than
-    /// `SYMBOLS_LIMIT` symbols together. All images are then as before.
+    /// Errors: an allocation fails, or the images that were set, including those replaced, would have more than
+    /// `SYMBOLS_LIMIT` symbols together. All images are then unchanged.
     pub fn set(&mut self, symbol: u32, image: &[u32]) -> Result<(), AllocError>
         ensures ok { OnOk result ((x : ℕ) → code_image self.new x ≡ (if x == symbol then image.now else code_image self.old x)) }
         ensures same { OnErr result (self.new ≡ self.old) }
@@ -66,7 +66,7 @@ impl Subst {
         }
     }
 
-    /// Returns the image of a symbol, if it was given one. Cost: a constant.
+    /// Returns the image of a symbol, if it has one. Cost: a constant.
     pub fn image(&self, symbol: u32) -> Option<&[u32]>
         ensures some { IfSome result (λ image. image.now ≡ code_image self.now symbol) }
         ensures none { IfNone result (code_image self.now symbol ≡ symbol ∷ []) }
@@ -76,11 +76,11 @@ impl Subst {
     }
 }
 
-/// Returns the expression with all images put in at once.
+/// Returns the expression with all images substituted at once.
 ///
 /// Errors: an allocation fails.
 /// Cost: the symbols read and written, each once.
-/// Source: Metamath, 4.1: images are not looked through again.
+/// Source: Metamath, 4.1: nothing is substituted in the images themselves.
 pub fn apply(alloc: Global, subst: &Subst, expr: &[u32]) -> Result<Vec<u32>, AllocError>
     ensures { IfOk result (λ applied. applied.items ≡ code_apply subst.now expr.now) }
 {
@@ -89,7 +89,7 @@ pub fn apply(alloc: Global, subst: &Subst, expr: &[u32]) -> Result<Vec<u32>, All
     Ok(applied)
 }
 
-/// Appends the expression with all images put in.
+/// Appends the expression with all images substituted.
 ///
 /// Errors: an allocation fails; a part may have been appended.
 pub(crate) fn write(subst: &Subst, expr: &[u32], out: &mut Vec<u32>) -> Result<(), AllocError>
@@ -105,7 +105,7 @@ pub(crate) fn write(subst: &Subst, expr: &[u32], out: &mut Vec<u32>) -> Result<(
     Ok(())
 }
 
-/// Returns whether the buffer stays within its bound if the expression with all images put in is appended.
+/// Returns whether the buffer has room for the expression with all images substituted.
 ///
 /// Cost: one look-up for each symbol of the expression; nothing is written.
 pub fn has_room(subst: &Subst, expr: &[u32], buffer: &Buffer) -> bool

@@ -1,4 +1,4 @@
-//! The laws of substitution and of the disjoint variable condition, each a call that does nothing.
+//! The laws of substitution and of the disjoint variable condition, each the contract of a function that does nothing.
 ghost use Rattle.subst.specs.Laws.{SubstitutionOverNames, PairClause};
 
 /// Substitution over numbers is substitution over the names that they stand for.
@@ -6,7 +6,7 @@ pub fn substitution_over_names()
     ensures { SubstitutionOverNames }
 {}
 
-/// The disjoint variable condition is the two sentences of the book.
+/// The disjoint variable condition holds if and only if the book's two sentences do.
 pub fn pair_clause()
     ensures { PairClause }
 {}

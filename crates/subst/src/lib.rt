@@ -1,13 +1,14 @@
-//! Images put into expressions, all at once.
+//! Simultaneous substitution of images into expressions.
 //!
-//! A symbol's image is a range in a buffer of symbols (`SymbolRange`, `ImageRanges`, `Buffer`): so a verifier reads images
-//! off its results, matches an expression under them without writing it, and appends one to the buffer. `Subst` is such a table
-//! with a buffer of its own, and `apply` puts all its images in at once. Symbols are numbers; that this is substitution over
-//! the names that they stand for is a law. `DisjointCache` tells whether images meet the disjoint variable condition.
+//! A symbol's image is a range of a buffer of symbols (`SymbolRange`, `ImageRanges`, `Buffer`), so a verifier takes images
+//! from its results, compares an expression under them without writing it, and appends one to the buffer. `Subst` is such a
+//! table with a buffer of its own, and `apply` substitutes all its images at once. Symbols are numbers; that this is
+//! substitution over the names that they stand for is a law. `DisjointCache` decides whether images meet the disjoint
+//! variable condition.
 //!
-//! Reading order: `symbol_range`, `image_ranges`, `copies`, `filling`, `matching`, `buffer`, `vanishing`, `images`, `disjoint_condition`; `hints`,
-//! `variable_places`, `place_words`, `place_set`, `one_list`, `disjoint_rows`, `image_variables`, `image_pairs`, `disjoint_tables`,
-//! `subject`, `disjoint_cache`; `laws`.
+//! Reading order: `symbol_range`, `image_ranges`, `copies`, `filling`, `matching`, `buffer`, `vanishing`, `images`,
+//! `disjoint_condition`; `hints`, `variable_places`, `place_words`, `place_set`, `one_list`, `disjoint_rows`,
+//! `image_variables`, `image_pairs`, `disjoint_tables`, `subject`, `disjoint_cache`; `laws`.
 #![tactic(auto)]
 
 mod buffer;

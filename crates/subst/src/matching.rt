@@ -1,4 +1,4 @@
-//! An expression with the images put in, compared with symbols of the buffer without writing it.
+//! Compares symbols of a buffer to an expression with the images substituted, without writing this.
 ghost use Rattle.std.specs.Prelude.{◌≡◌, ℕ, ◌∷◌, ◌++◌, ◌↔◌, ◌<◌, ◌≤◌, [], List, length, take, slice_range, IfSome, IfNone, IsTrue};
 ghost use Rattle.frame.specs.Substitution.{code_apply, code_image};
 ghost use Rattle.subst.specs.SymbolRanges.{AreInside, images_at, seen_at};
@@ -7,10 +7,10 @@ use crate::image_ranges::{ImageRanges, ImageTable};
 use crate::symbol_range::SymbolRange;
 use std::simd::prelude::*;
 
-/// So many symbols are compared at once.
+/// The number of symbols that are compared at once.
 const LANES: usize = 16;
 
-/// Returns a number of first symbols in which two lists agree.
+/// Returns the length of a common prefix of two lists, up to `LANES`.
 #[inline(always)]
 fn count_alike(left: &[u32], right: &[u32]) -> usize
     requires left { 16 ≤ length left.now }
@@ -26,7 +26,7 @@ fn count_alike(left: &[u32], right: &[u32]) -> usize
     }
 }
 
-/// Returns whether the first `len` symbols of two lists agree. Mostly they are few, and compared at once.
+/// Returns whether the first `len` symbols of two lists agree. Mostly they are few, and are compared at once.
 #[inline(always)]
 fn begin_alike(left: &[u32], right: &[u32], len: usize) -> bool
     requires left { len ≤ length left.now }
@@ -40,7 +40,7 @@ fn begin_alike(left: &[u32], right: &[u32], len: usize) -> bool
     left[..len] == right[..len]
 }
 
-/// Returns where the image in a range ends, if the symbols from `at` up to `end` begin with it.
+/// Returns where the image in a range ends if the symbols from `at` up to `end` begin with it, else `None`.
 #[inline(always)]
 fn pass_range(symbols: &[u32], place: SymbolRange, at: usize, end: usize) -> Option<usize>
     requires image { (place.start ≤ place.end) × (place.end ≤ length symbols.now) }
@@ -59,7 +59,7 @@ fn pass_range(symbols: &[u32], place: SymbolRange, at: usize, end: usize) -> Opt
     }
 }
 
-/// Returns where the image of a symbol ends, if the symbols from `at` up to `end` begin with it.
+/// Returns where the image of a symbol ends if the symbols from `at` up to `end` begin with it, else `None`.
 #[inline(always)]
 fn pass_image(
     symbols: &[u32],
@@ -80,7 +80,8 @@ fn pass_image(
     }
 }
 
-/// Returns whether the symbols in a range are the expression with all images put in. The images lie in the same list.
+/// Returns whether the symbols in a range are the expression with all images substituted. The images are ranges of the same
+/// list.
 #[inline(always)]
 pub(crate) fn matches(
     symbols: &[u32],

@@ -1,4 +1,4 @@
-//! Whether one active `$d` has all variables of two images.
+//! Finds one active `$d` that has all variables of two images.
 ghost use Rattle.std.specs.Prelude.{◌≡◌, ◌<◌, ◌≤◌, ◌⊎◌, ℕ, false, length, replicate, true, IfOk, IfSome, OnOk};
 ghost use Rattle.subst.specs.Stored.DisjointRows.{TellsEach};
 ghost use Rattle.subst.specs.Stored.PlaceSets.{ArePlacesBelow, HasBit, HasPlace};
@@ -10,32 +10,32 @@ use crate::variable_places::VariablePlaces;
 use frame::Pairs;
 use std::alloc::{AllocError, Global};
 
-/// Looks for one active `$d` that has all variables of two images, with marks of its symbols, by number.
+/// Looks for one active `$d` that has all variables of two images, by marking its symbols.
 #[derive(Drop)]
 pub(crate) struct OneList {
     marks: Vec<bool>,
 }
 
 impl OneList {
-    /// Returns one without marks. Does not allocate.
+    /// Returns a search without marks. Does not allocate.
     pub(crate) fn new(alloc: Global) -> OneList {
         OneList {
             marks: Vec::new(alloc),
         }
     }
 
-    /// Gives back the memory of the marks.
+    /// Frees the memory of the marks.
     pub(crate) fn release(&mut self, alloc: Global) {
         self.marks = Vec::new(alloc);
     }
 
-    /// Returns true only if one active `$d` has the variables at all places of words and of others, none of which stands at
-    /// places of both. False says nothing.
+    /// Returns `true` only if one active `$d` has the variables at all places of `words` and of `others`, and no variable is
+    /// at places of both. `false` says nothing.
     ///
-    /// The `$d` that have the variable at the first place are read from the last one back, as long as they and the marks for
-    /// them take at most so many steps.
+    /// Reads the `$d` that have the variable at the first place, from the last one back, as long as these and the marks for
+    /// them take at most `steps` steps.
     ///
-    /// Errors: an allocation fails. Cost: at most so many steps.
+    /// Errors: an allocation fails. Cost: linear in `steps`.
     pub(crate) fn stand_in_one(
         &mut self,
         pairs: &Pairs<'_>,
@@ -67,7 +67,7 @@ impl OneList {
     }
 }
 
-/// Returns a place of the first word that has one, or `None` if none has.
+/// Returns the lowest place of the first word that has one, or `None` if none has.
 fn first_place(words: &[PlaceWord]) -> Option<usize>
     ensures { IfSome result (HasPlace words.now) }
 {
@@ -79,9 +79,9 @@ fn first_place(words: &[PlaceWord]) -> Option<usize>
     None
 }
 
-/// Returns how many steps it takes to mark the symbols of a list, if these are at most so many.
+/// Returns the number of steps that it takes to mark the symbols of a list, or `None` if it is more than `most`.
 ///
-/// Cost: at most so many steps.
+/// Cost: at most `most` steps.
 fn marking_steps(list: &[u32], most: usize) -> Option<usize>
     ensures { IfSome result (λ steps. steps ≤ most) }
 {
@@ -101,9 +101,10 @@ fn highest(list: &[u32]) -> u32 {
     highest
 }
 
-/// Returns true only if a list has the variables at all places of words and of others, none of which stands at places of both.
+/// Returns `true` only if a list has the variables at all places of `words` and of `others`, and no variable is at places of
+/// both.
 ///
-/// Errors: an allocation fails. Cost: a step for each symbol of the list, and for 64 symbols of the database.
+/// Errors: an allocation fails. Cost: a step for each symbol of the list, and one for every 64 symbols up to its greatest.
 fn stand_in(
     marks: &mut Vec<bool>,
     variables: &VariablePlaces,
@@ -135,7 +136,7 @@ fn mark_symbols(marks: &mut Vec<bool>, list: &[u32]) -> Result<(), AllocError>
     Ok(())
 }
 
-/// Makes so many places for marks, none of which is set.
+/// Makes room for `count` marks, none of which is set.
 ///
 /// Errors: an allocation fails.
 fn clear_marks(marks: &mut Vec<bool>, count: usize) -> Result<(), AllocError>
@@ -146,7 +147,7 @@ fn clear_marks(marks: &mut Vec<bool>, count: usize) -> Result<(), AllocError>
     Ok(())
 }
 
-/// Marks a symbol, if there is a place for its mark.
+/// Marks a symbol, if there is room for its mark.
 #[inline(always)]
 fn mark(marks: &mut Vec<bool>, symbol: usize)
     ensures { (x : ℕ) → IsMarked marks.new.items x → (x ≡ symbol) ⊎ IsMarked marks.old.items x }
@@ -156,7 +157,7 @@ fn mark(marks: &mut Vec<bool>, symbol: usize)
     }
 }
 
-/// Takes away the mark of a symbol, and returns whether it had one.
+/// Removes the mark of a symbol, and returns whether it had one.
 #[inline(always)]
 fn take_mark(marks: &mut Vec<bool>, symbol: usize) -> bool
     ensures { result ≡ true → TakesMark marks.old.items marks.new.items symbol }
@@ -168,7 +169,7 @@ fn take_mark(marks: &mut Vec<bool>, symbol: usize) -> bool
     true
 }
 
-/// Takes away the marks of the variables at the places of a word, and returns true only if each had one.
+/// Removes the marks of the variables at the places of a word, and returns `true` only if each had one.
 #[inline(always)]
 fn take_word(marks: &mut Vec<bool>, variables: &VariablePlaces, word: PlaceWord) -> bool
     requires { (j : ℕ) → HasBit word j → j < length variables.now.variables }
@@ -186,7 +187,7 @@ fn take_word(marks: &mut Vec<bool>, variables: &VariablePlaces, word: PlaceWord)
     true
 }
 
-/// Takes away the marks of the variables at the places of words, and returns true only if each had one.
+/// Removes the marks of the variables at the places of words, and returns `true` only if each had one.
 fn take_words(marks: &mut Vec<bool>, variables: &VariablePlaces, words: &[PlaceWord]) -> bool
     requires { ArePlacesBelow (length variables.now.variables) words.now }
     ensures { result ≡ true → TakesPlaces variables.now (HasPlace words.now) marks.old.items marks.new.items }

@@ -1,4 +1,4 @@
-//! A set of places.
+//! A set of places of variables.
 ghost use Rattle.std.specs.Prelude.{◌≡◌, ◌++◌, ◌∷◌, [], length, IfOk, OnOk};
 ghost use Rattle.frame.specs.Below.{AreBelow};
 ghost use Rattle.subst.specs.Stored.PlaceSets.{AddsSymbols, AddsWord, AddsWords, HasEither, HasPlace, TakesPlace};
@@ -11,9 +11,9 @@ use frame::Pairs;
 use std::alloc::{AllocError, Global};
 use std::marker::Model;
 
-/// A set of places, as the words of bits that have any.
+/// A set of places of variables, as those words of bits that have any.
 ///
-/// A hint tells where a word may stand, so a set is cleared in constant time.
+/// A hint gives the index that a word may have, so a set is cleared in constant time.
 #[derive(Drop)]
 pub struct PlaceSet {
     hints: Hints,
@@ -40,7 +40,7 @@ impl PlaceSet {
         }
     }
 
-    /// Removes all places, in constant time. The memory stays.
+    /// Removes all places, in constant time. Keeps the memory.
     pub fn clear(&mut self)
         ensures { self.new ≡ [] }
     {
@@ -74,7 +74,7 @@ impl PlaceSet {
         }
     }
 
-    /// Adds a word of which none stands there yet.
+    /// Appends a word.
     #[inline(always)]
     fn add_new(&mut self, word: PlaceWord) -> Result<(), AllocError>
         ensures { OnOk result (self.new ≡ self.old ++ word ∷ []) }
@@ -97,8 +97,8 @@ impl PlaceSet {
         Ok(())
     }
 
-    /// Adds a place to the word at hand. If it is not one of the 64 places of that word, the word is added to the set, and
-    /// another one is at hand.
+    /// Adds a place to the word at hand, and returns that. If the place is not one of its 64, adds the word to the set and
+    /// returns a new one with the place.
     #[inline(always)]
     fn take(&mut self, word: PlaceWord, place: u32) -> Result<PlaceWord, AllocError>
         ensures { IfOk result (λ next. TakesPlace self.old word self.new next place) }
@@ -113,7 +113,7 @@ impl PlaceSet {
         Ok(PlaceWord { index, bits: bit })
     }
 
-    /// Adds the places of the variables among the symbols, those of the last word not yet, and returns that word.
+    /// Adds the places of the variables among the symbols, except those of the last word at hand, and returns that word.
     #[inline(always)]
     fn take_symbols(
         &mut self,

@@ -1,19 +1,19 @@
-//! Words of bits that stand for places.
+//! Words of bits, each bit a place.
 ghost use Rattle.std.specs.Prelude.{◌≡◌, ℕ, ◌<◌, ◌⊎◌};
 ghost use Rattle.std.specs.Int.{bit_at};
 
-/// Some of 64 places, the first of which is 64 times `index`.
+/// Some of the 64 places from 64 times `index` on.
 #[derive(Clone, Copy, Drop)]
 pub struct PlaceWord {
     pub index: u32,
     pub bits: u64,
 }
 
-/// To hold an image against another costs much if it takes at least so many steps.
+/// The least number of steps at which it costs much to compare two images.
 const COSTLY: usize = 256;
 
-/// Returns how many steps it takes to hold the variables at the places of words against those at the places of so many other
-/// words, if these are at least 256, which is much.
+/// Returns the number of steps that it takes to compare the variables at the places of words with those at the places of
+/// `others` other words, or `None` if it is below `COSTLY`.
 ///
 /// Cost: the words, if there are many of both.
 pub fn costly_steps(words: &[PlaceWord], others: usize) -> Option<usize> {
@@ -28,7 +28,7 @@ pub fn costly_steps(words: &[PlaceWord], others: usize) -> Option<usize> {
     if steps < COSTLY { None } else { Some(steps) }
 }
 
-/// The lowest bit of a word.
+/// Returns the lowest bit of a word.
 #[inline(always)]
 pub fn lowest(word: u64) -> usize
     requires { 0 < word }
@@ -38,7 +38,7 @@ pub fn lowest(word: u64) -> usize
     word.trailing_zeros() as usize
 }
 
-/// The word without one of its bits.
+/// Returns the word without one of its bits.
 #[inline(always)]
 pub fn without(word: u64, bit: usize) -> u64
     requires low { bit < 64 }

@@ -1,4 +1,4 @@
-//! The statements and the position that a cache holds for, which contracts alone see.
+//! The statements, names and symbols that a cache is for, which only contracts see.
 ghost use Rattle.std.specs.Prelude.{◌≡◌, ℕ, List, []};
 ghost use Rattle.std.specs.Borrow.{ftrue};
 ghost use Rattle.frame.specs.Parts.{Numbered};
@@ -7,7 +7,7 @@ use crate::buffer::Buffer;
 use frame::Pairs;
 use std::marker::Model;
 
-/// The statements and names that a cache holds for, and the symbols over which it was filled last. It has no bytes.
+/// The statements and names that a cache is for, and the symbols of the buffer when facts were last recorded. It has no bytes.
 #[derive(Drop)]
 pub struct Subject {
     pub ghost about: { Numbered },
@@ -22,7 +22,7 @@ impl Model for Subject {
 unsafe impl Send for Subject {}
 
 impl Subject {
-    /// Returns the subject of a cache that knows nothing.
+    /// Returns the subject of an empty cache.
     pub fn none() -> Subject
         ensures { result.over ≡ [] }
     {

@@ -30,7 +30,7 @@ pub fn place_between(start: usize, end: usize) -> SymbolRange
     }
 }
 
-/// Returns whether a symbol stands in the list.
+/// Returns whether a symbol is in the list.
 #[inline(always)]
 pub(crate) fn contains(symbols: &[u32], symbol: u32) -> bool
     ensures { result ≡ list_any (λ x. x == symbol) symbols.now }

@@ -9,7 +9,7 @@ use crate::image_ranges::{ImageRanges, ImageTable};
 use entries::SymbolPlaces;
 use std::alloc::{AllocError, Global};
 
-/// If more than one in this many symbols is left, the whole expression costs about as much.
+/// If more than one in this many symbols is left, reading the whole expression costs about as much.
 const PART: usize = 4;
 
 /// Buffers for the symbols that are left of an expression.
@@ -20,7 +20,7 @@ pub struct Remaining {
 }
 
 impl Remaining {
-    /// Makes empty buffers. Does not allocate.
+    /// Returns empty buffers. Does not allocate.
     pub fn new(alloc: Global) -> Remaining {
         Remaining {
             indexes: Vec::new(alloc),
@@ -31,8 +31,8 @@ impl Remaining {
     /// Returns the symbols of an expression whose images are not empty, in order, or `None` if they are more than a quarter of
     /// the expression.
     ///
-    /// With the images put in, these symbols give the same result as the whole expression. `None` is allowed always: the
-    /// caller then goes over the whole expression, which only costs more.
+    /// Substitution gives the same result for these symbols as for the whole expression. `None` is always allowed: the caller
+    /// then goes over the whole expression, which only costs more.
     ///
     /// Errors: an allocation fails.
     /// Cost: a look-up for each distinct symbol of the expression, and t log t for the t symbols that are returned.
@@ -74,9 +74,10 @@ fn symbol_at(expr: &[u32], index: u32) -> Option<u32>
     expr.get(index as usize).copied()
 }
 
-/// Returns the index of the first symbol from `from` on whose image is not empty, or the count of the symbols.
+/// Returns the index of the first symbol from `from` on whose image is not empty, or the number of symbols if there is none.
 ///
-/// A function of its own, so that the loop has all it needs in registers: it decides what a citation on empty images costs.
+/// It is a function of its own so that the loop keeps all it needs in registers: its speed decides that of a citation with
+/// many empty images.
 #[inline(never)]
 fn next_kept(images: &ImageTable<'_>, symbols: &[u32], from: usize) -> usize
     requires { from ≤ length symbols.now }

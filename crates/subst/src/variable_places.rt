@@ -23,7 +23,7 @@ pub struct MetSymbol {
 
 /// The variables of one proof, each at a place: 0, 1, 2 and so on, as they are met.
 ///
-/// A hint tells where a symbol may stand among those met, so nothing is cleared between proofs.
+/// A hint gives the index that a symbol may have among those met, so no table by symbol is cleared between proofs.
 #[derive(Drop)]
 pub struct VariablePlaces {
     hints: Hints,
@@ -52,7 +52,7 @@ impl VariablePlaces {
         }
     }
 
-    /// Forgets all symbols, in constant time. The memory stays.
+    /// Removes all symbols, in constant time. Keeps the memory.
     pub fn clear(&mut self)
         ensures symbols { self.new.symbols ≡ [] }
         ensures variables { self.new.variables ≡ [] }
@@ -70,7 +70,7 @@ impl VariablePlaces {
         self.variables[place]
     }
 
-    /// Returns the place of a symbol that was met, which is `None` inside if it is no variable.
+    /// Returns the place of a symbol if it was met: `Some(None)` if it is no variable.
     #[inline(always)]
     fn known(&self, symbol: u32) -> Option<Option<u32>>
         ensures { IfSome result (IsListed self.now symbol) }
@@ -85,7 +85,7 @@ impl VariablePlaces {
 
     /// Returns the place of a symbol, or `None` if it is no variable. A variable that was not met before gets the next place.
     ///
-    /// Errors: an allocation fails. Cost: constant; for a symbol that is met first, that of `Pairs::variable`.
+    /// Errors: an allocation fails. Cost: constant; for a symbol that was not met before, that of `Pairs::variable`.
     #[inline(always)]
     pub fn place_of(&mut self, pairs: &Pairs<'_>, symbol: u32) -> Result<Option<u32>, AllocError>
         requires placed { ArePlaced pairs.now self.old }
@@ -100,7 +100,7 @@ impl VariablePlaces {
         }
     }
 
-    /// Meets a symbol for the first time.
+    /// Records a symbol that was not met before, and returns its place.
     #[cold]
     #[inline(never)]
     fn meet(&mut self, pairs: &Pairs<'_>, symbol: u32) -> Result<Option<u32>, AllocError>
@@ -117,7 +117,7 @@ impl VariablePlaces {
         Ok(place)
     }
 
-    /// Gives a variable the next place, and another symbol none.
+    /// Gives a variable the next place, and returns it, or `None` for a symbol that is no variable.
     fn next_place(&mut self, pairs: &Pairs<'_>, symbol: u32) -> Result<Option<u32>, AllocError>
         requires placed { ArePlaced pairs.now self.old }
         requires named { symbol < length pairs.now.names }
@@ -157,7 +157,7 @@ impl VariablePlaces {
 
     /// Returns the places below 64 of the variables in a list, as bits, each variable once.
     ///
-    /// Errors: an allocation fails. Cost: the square of the count of symbols, and that of `place_of` for each.
+    /// Errors: an allocation fails. Cost: the square of the number of symbols, and that of `place_of` for each.
     pub fn bits_of(&mut self, pairs: &Pairs<'_>, list: &[u32]) -> Result<u64, AllocError>
         requires placed { ArePlaced pairs.now self.old }
         requires below { AreBelow (length pairs.now.names) list.now }

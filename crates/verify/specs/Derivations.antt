@@ -1,4 +1,4 @@
--- Derivations as data, and the derivation that a `Tree` is: the same, without where its lists lie in memory.
+-- Derivations as data, and the derivation that a `Tree` of the code is: the tree without the addresses of its lists.
 use Rattle.std.specs.Prelude.{ℕ, ◌+◌, max, List, [], ◌∷◌}
 use Rattle.verify.specs.declared.tree.Tree.{Tree}
 use Rattle.verify.specs.declared.tree.Tree.TheOpen.{Tree-F}
@@ -6,7 +6,7 @@ use Rattle.verify.specs.declared.tree.Tree.TheOpen as open_tree
 use Rattle.verify.specs.declared.tree.Tree.TheFolds.{fold-Tree}
 
 mutual
-  -- a hypothesis by its position, or an assertion by its position with a derivation of each of its hypotheses
+  -- a hypothesis by its position, or an assertion by its position with a derivation of each of its mandatory hypotheses
   pub data Derivation : Type 0 where
     hyp : ℕ → Derivation
     apply : ℕ → Derivations → Derivation
@@ -20,7 +20,7 @@ abbrev pub from_list : List Derivation → Derivations
 from_list [] = none
 from_list (t ∷ ts) = more t (from_list ts)
 
--- one node, with the derivations of its children in their place
+-- one node, given the derivations of its children
 abbrev pub derivation_step : Tree-F Derivation → Derivation
 derivation_step (open_tree.Hyp i) = hyp i
 derivation_step (open_tree.Apply a kids) = apply a (from_list kids.items)
@@ -29,7 +29,7 @@ derivation_step (open_tree.Apply a kids) = apply a (from_list kids.items)
 abbrev pub derivation_of : Tree → Derivation
 derivation_of = fold-Tree Derivation derivation_step
 
--- how many nodes there are, and how deep they lie: a lone node has depth 1
+-- the number of nodes, and the depth: a lone node has depth 1
 abbrev mutual
   pub node_count : Derivation → ℕ
   node_count (hyp i) = 1

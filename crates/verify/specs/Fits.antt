@@ -1,6 +1,6 @@
--- What the results for the mandatory hypotheses of an assertion must be.
--- Metamath, 4.2.6: what stands behind the first symbol of the result for a `$f` is the image of its variable.
--- The code looks at first symbols, reads the images off the results, and holds each `$e` under them against its result.
+-- The conditions on the results for the mandatory hypotheses of an assertion.
+-- Metamath, 4.2.6: the symbols after the first one of the result for a `$f` are the image of its variable.
+-- The code checks first symbols, reads the images from the results, and compares each `$e` under them with its result.
 use Rattle.std.specs.Prelude.{◌≡◌, ℕ, ◌<◌, ◌≤◌, Bool, true, false, List, [], ◌∷◌, length, drop, get_or, slice_get, Some}
 use Rattle.verify.specs.Words.{decode, Name, Stmt, Expr, Database, stmt_at, expr_of, Images, applied, CodeImages, code_image, expr_at, Hypothesis, Float, Essential, typecode_of}
 
@@ -8,16 +8,17 @@ use Rattle.verify.specs.Words.{decode, Name, Stmt, Expr, Database, stmt_at, expr
 pub record AreDifferent (hs : List Hypothesis) : Type 0 where
   pub each : (j k x : ℕ) → slice_get hs j ≡ Some (Float x) → slice_get hs k ≡ Some (Float x) → j ≡ k
 
--- the first n are `$f`, and the next one is none
+-- the first n are `$f`
 abbrev pub AreFloats : List Hypothesis → ℕ → Type 0
 AreFloats hs n = (k : ℕ) → k < n → (x : ℕ) × (slice_get hs k ≡ Some (Float x))
 
+-- the first n are `$f`, and the next one, if there is one, is not
 pub record AreFront (hs : List Hypothesis) (n : ℕ) : Type 0 where
   pub within : n ≤ length hs
   pub floats : AreFloats hs n
   pub last : (x : ℕ) → slice_get hs n ≡ Some (Float x) → ⊥
 
--- a statement stands at the position of a `$e`
+-- there is a statement at the position of a `$e`
 abbrev pub IsStanding : Database → Hypothesis → Type 0
 IsStanding S (Float x) = Unit {0}
 IsStanding S (Essential p) = (s : Stmt) × (stmt_at S p ≡ Some s)
@@ -26,29 +27,29 @@ abbrev pub AreStanding : Database → List Hypothesis → Type 0
 AreStanding S [] = Unit {0}
 AreStanding S (h ∷ hs) = IsStanding S h × AreStanding S hs
 
--- a statement stands at the position, and the codes stand for its expression
+-- the statement is at the position, and the codes stand for its expression
 pub record IsExprAt (S : Database) (names : List Name) (at : ℕ) (codes : List ℕ) (s : Stmt) : Type 0 where
   pub stands : stmt_at S at ≡ Some s
   pub same : decode names codes ≡ expr_of s
 
--- the result begins with this symbol
+-- the result begins with this typecode
 pub record IsTyped (typecode : ℕ) (r : List ℕ) : Type 0 where
   pub some : 0 < length r
   pub first : typecode_of r ≡ typecode
 
--- the result of each `$f` begins with the symbol that it asks for, the image of its variable is what stands behind, and no
--- other symbol has an image
+-- the result for each `$f` begins with its typecode, the image of its variable is the rest of the result, and no other symbol
+-- has an image
 pub record AreRead (typecodes : List ℕ) (hs : List Hypothesis) (rs : List (List ℕ)) (σ : CodeImages) : Type 0 where
   pub typed : (k x : ℕ) → slice_get hs k ≡ Some (Float x) → IsTyped (get_or typecodes k 0) (get_or rs k [])
   pub image : (k x : ℕ) → slice_get hs k ≡ Some (Float x) → code_image σ x ≡ drop 1 (get_or rs k [])
   pub own : (x : ℕ) → ((k : ℕ) → slice_get hs k ≡ Some (Float x) → ⊥) → code_image σ x ≡ x ∷ []
 
--- the images were read, or the result for some `$f` begins otherwise
+-- the images were read, or the result for some `$f` does not begin with its typecode
 abbrev pub Reads : Bool → List ℕ → List Hypothesis → List (List ℕ) → CodeImages → Type 0
 Reads true typecodes hs rs σ = AreRead typecodes hs rs σ
 Reads false typecodes hs rs σ = (k : ℕ) × (x : ℕ) × (slice_get hs k ≡ Some (Float x)) × (IsTyped (get_or typecodes k 0) (get_or rs k []) → ⊥)
 
--- the result is the expression of the `$e` with the images put in
+-- the result for a `$e` is its expression with the images substituted
 abbrev pub FitsOne : Database → Images → Hypothesis → Expr → Type 0
 FitsOne S σ (Float x) r = Unit {0}
 FitsOne S σ (Essential p) r = r ≡ applied σ (expr_at S p)

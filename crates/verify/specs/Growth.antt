@@ -1,12 +1,12 @@
--- What one item does to the derivations so far: a machine over derivations.
+-- The effect of one item on the derivations so far: a machine over derivations.
 -- Metamath, 4.2.6 and appendix B: the stack of a proof, read as trees.
--- The code keeps each node once, by number; here the trees stand whole.
+-- The code keeps each node once, by number; here the trees are whole.
 use Rattle.std.specs.Prelude.{◌≡◌, ℕ, zero, suc, Bool, true, false, List, [], ◌∷◌, ◌++◌, length, Some, slice_get}
 use Rattle.verify.specs.Words.{Name, Stmt, Database, before, hypotheses, Carries, IsHypothesis, Item, Cite, Recall, Mark}
 use Rattle.verify.specs.Derivations.{Derivation, hyp, apply, from_list}
 use Rattle.verify.specs.Spells.{IsCitable}
 
--- derivations that wait, the last on top; derivations that were marked
+-- the stack of derivations, the last on top; the derivations that were marked
 pub record Trees : Type 0 where
   pub stack : List Derivation
   pub saved : List Derivation
@@ -14,13 +14,13 @@ pub record Trees : Type 0 where
 abbrev pub trees : List Derivation → List Derivation → Trees
 trees stack saved = record { stack = stack; saved = saved }
 
--- the citation of a label gives t in place of the derivations above `below`
+-- the citation of a label replaces the derivations above `below` with t
 pub data Builds (S : Database) (at : ℕ) (label : Name) (stack below : List Derivation) (t : Derivation) : Type 0 where
   a_hypothesis : (i : ℕ) (s : Stmt) → Carries S i s label → IsHypothesis S at i s → t ≡ hyp i → stack ≡ below → Builds S at label stack below t
   an_assertion : (a : ℕ) (s : Stmt) (kids : List Derivation) → Carries S a s label → IsCitable S at a s → length kids ≡ length (hypotheses (before S a) s)
       → stack ≡ below ++ kids → t ≡ apply a (from_list kids) → Builds S at label stack below t
 
--- the derivation saved as number k, from 1
+-- t is the derivation saved as number k, from 1
 abbrev pub IsKept : List Derivation → ℕ → Derivation → Type 0
 IsKept saved zero t = ⊥
 IsKept saved (suc k) t = slice_get saved k ≡ Some t
@@ -39,6 +39,6 @@ abbrev pub Grew : Bool → Database → ℕ → Trees → Item → Trees → Typ
 Grew true S at old item new = Grows S at old item new
 Grew false S at old item new = (next : Trees) → Grows S at old item next → ⊥
 
--- the derivation t in place of those above `below`
+-- t in place of the derivations above `below`
 abbrev pub with_tree : Trees → List Derivation → Derivation → Trees
 with_tree st below t = trees (below ++ t ∷ []) st.saved

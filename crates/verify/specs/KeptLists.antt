@@ -1,26 +1,26 @@
--- The lists by which an assertion is cited again and again, and what else a checker keeps from proof to proof.
--- Metamath, 4.2.6: the images of each two variables that are mandatory disjoint have to be disjoint.
+-- The lists of assertions and the facts on pairs of variables that a checker keeps from proof to proof.
+-- Metamath, 4.2.6: the images of the two variables of each mandatory `$d` pair must be disjoint.
 -- The code keeps fewer lists of disjoint variables than the frame has; they have the same pairs.
 use Rattle.std.specs.Prelude.{◌≡◌, ℕ, ◌<◌, ◌==◌, Bool, ◌||◌, List, [], ◌∷◌, length, map, slice_get, Some}
 use Rattle.verify.specs.Words.{list_all, list_any, has_both, AssertionView, AllBelow, AreBelow, AreRequired, AreFacts, PairFact, are_groups_disjoint, mandatory_groups, decode, Name, Stmt, Database, Images, before, expr_of, hypotheses, stmt_at, Hypothesis}
 
 -- ---- the pairs of lists
 
--- the two are one, or stand together in one of the lists
+-- the two are equal, or are together in one of the lists
 abbrev pub is_paired : List (List ℕ) → ℕ → ℕ → Bool
 is_paired gs x y = x == y || list_any (has_both x y) gs
 
--- each two numbers of the list g stand together in one of the lists
+-- each two numbers of the list g are together in one of the lists
 abbrev pub are_covered : List (List ℕ) → List ℕ → Bool
 are_covered gs g = list_all (λ x. list_all (is_paired gs x) g) g
 
--- under all images the one lists are apart where the others are
+-- any images are disjoint as the lists gs require if and only if they are as the lists hs require
 abbrev pub SaySame : List (List ℕ) → List (List ℕ) → Type 0
 SaySame gs hs = (names : List Name) (D : Database) (σ : Images) → are_groups_disjoint D σ (map (decode names) gs) ≡ are_groups_disjoint D σ (map (decode names) hs)
 
--- ---- what a citation reads
+-- ---- the view of an assertion that a citation reads
 
--- the parts by which the assertion s at a is cited
+-- the view is right for citations of the assertion s at a
 pub record IsCitedBy (S : Database) (names : List Name) (a : ℕ) (s : Stmt) (c : AssertionView) : Type 0 where
   pub required : AreRequired S names (hypotheses (before S a) s) c.typecodes.now c.hypotheses
   pub conclusion : decode names c.conclusion.now ≡ expr_of s
@@ -28,7 +28,7 @@ pub record IsCitedBy (S : Database) (names : List Name) (a : ℕ) (s : Stmt) (c 
   pub groups : (D : Database) (σ : Images) → are_groups_disjoint D σ (map (decode names) c.groups) ≡ are_groups_disjoint D σ (mandatory_groups (before S a) s)
   pub groups_below : AllBelow (length names) c.groups
 
--- ---- what is kept
+-- ---- the lists and facts that are kept
 
 -- the lists of the assertion at a position
 pub record Lists : Type 0 where
@@ -37,7 +37,7 @@ pub record Lists : Type 0 where
   pub required : List Hypothesis
   pub groups : List (List ℕ)
 
--- they were made of these parts
+-- the lists were made from this view
 pub record AreMadeOf (position : ℕ) (c : AssertionView) (l : Lists) : Type 0 where
   pub at : l.position ≡ position
   pub heads_same : l.typecodes ≡ c.typecodes.now
@@ -45,7 +45,7 @@ pub record AreMadeOf (position : ℕ) (c : AssertionView) (l : Lists) : Type 0 w
   pub same : SaySame l.groups c.groups
   pub below : (n : ℕ) → AllBelow n c.groups → AllBelow n l.groups
 
--- they say of the assertion s at their position what its parts do
+-- the lists are right for citations of the assertion s at their position
 pub record AreListsOf (S : Database) (names : List Name) (l : Lists) (s : Stmt) : Type 0 where
   pub asked_of : AreRequired S names (hypotheses (before S l.position) s) l.typecodes l.required
   pub disjoint : (D : Database) (σ : Images) → are_groups_disjoint D σ (map (decode names) l.groups) ≡ are_groups_disjoint D σ (mandatory_groups (before S l.position) s)
@@ -55,17 +55,17 @@ abbrev pub AreKeptLists : Database → List Name → List Lists → Type 0
 AreKeptLists S names [] = Unit {0}
 AreKeptLists S names (l ∷ ls) = ((s : Stmt) → stmt_at S l.position ≡ Some s → AreListsOf S names l s) × AreKeptLists S names ls
 
--- the lists of the assertion at a position stand at the index i
+-- the lists of the assertion at a position are at the index i
 pub record IsAt (ls : List Lists) (i position : ℕ) : Type 0 where
   pub within : i < length ls
   pub there : (l : Lists) → slice_get ls i ≡ Some l → l.position ≡ position
 
--- what a checker keeps from proof to proof: lists of assertions, and which pairs of variables were found to be disjoint or not
+-- all that a checker keeps: lists of assertions, and the pairs of variables that were found to be disjoint or not
 pub record Kept : Type 0 where
   pub lists : List Lists
   pub facts : List PairFact
 
--- all of it is so under the frames of these statements
+-- all of it is right under the frames of these statements
 pub record AreKeptFor (S : Database) (names : List Name) (kept : Kept) : Type 0 where
   pub are_lists : AreKeptLists S names kept.lists
   pub are_facts : AreFacts (record { statements = S; names = names }) kept.facts

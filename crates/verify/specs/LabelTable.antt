@@ -1,4 +1,4 @@
--- What the labels of a proof name.
+-- The meanings of the labels of a proof.
 -- Metamath, 4.2.6: a proof cites active hypotheses and earlier assertions by their labels.
 -- The code looks each label up once for a proof; many mandatory hypotheses are not looked up, but found by their index.
 use Rattle.std.specs.Prelude.{◌≡◌, ◌==◌, ℕ, ◌<◌, Bool, false, List, [], length, map, get_or, Option, Some, None}
@@ -9,13 +9,13 @@ use Rattle.verify.specs.declared.label_table.Mandatory.{Mandatory}
 use Rattle.verify.specs.declared.label_table.Mandatory.TheVariants.{Few, Many}
 use Rattle.verify.specs.Spells.{IsCitable}
 
--- what a label names at `at`: an active hypothesis, an earlier assertion, or nothing that may be cited there
+-- the meaning of a label at `at`: an active hypothesis, an earlier assertion, or nothing that may be cited there
 abbrev pub IsEntry : Database → ℕ → Name → LabelEntry → Type 0
 IsEntry S at label (Hypothesis i) = (s : Stmt) × Carries S i s label × IsHypothesis S at i s
 IsEntry S at label (Assertion a) = (s : Stmt) × Carries S a s label × IsCitable S at a s
 IsEntry S at label Nothing = (i : ℕ) (s : Stmt) → Carries S i s label → (IsHypothesis S at i s → ⊥) × (IsCitable S at i s → ⊥)
 
--- what each label of the table names
+-- the table has the meaning of each label
 pub record AreEntries (S : Database) (at : ℕ) (labels : List Name) (table : List LabelEntry) : Type 0 where
   pub count : length table ≡ length labels
   pub each : (k : ℕ) → k < length labels → IsEntry S at (get_or labels k []) (get_or table k Nothing)
@@ -30,7 +30,7 @@ abbrev pub positions_in : Mandatory → List ℕ
 positions_in (Few positions) = positions.now
 positions_in (Many view) = view.now
 
--- what the labels name that are found by their index
+-- the meanings of the labels that are found by their index
 abbrev pub viewed : Option (List ℕ) → List LabelEntry
 viewed None = []
 viewed (Some positions) = map Hypothesis positions

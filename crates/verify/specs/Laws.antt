@@ -1,6 +1,6 @@
--- Laws: a run and a spelling are one thing seen from two sides.
--- Metamath, 4.2.6 and appendix B: a proof is right where its stack ends with the statement's expression alone.
--- The code only runs; that its runs spell derivations, and that it misses none, is said here over names alone.
+-- Laws: items run to a result if and only if they spell a derivation of it.
+-- Metamath, 4.2.6 and appendix B: a proof is right if its stack ends with the statement's expression alone.
+-- The code only runs; that its runs spell derivations, and that it misses none, is stated here over names.
 use Rattle.std.specs.Prelude.{◌≡◌, ℕ, List, [], ◌∷◌, Some}
 use Rattle.verify.specs.Words.{Stmt, Expr, Database, stmt_at, before, Item, IsLegal, IsSingle}
 use Rattle.verify.specs.Derivations.{Derivation}
@@ -29,16 +29,16 @@ abbrev pub RunsSpell : Type 0
 RunsSpell = (S : Database) (at : ℕ) (items : List Item) (end : State) (e : Expr)
     → Runs S at start items end → end.stack ≡ e ∷ [] → IsSpelled S at items e end.weight
 
--- every spelling runs through, where premises determine conclusions
+-- items that spell a derivation run to its conclusion, if an assertion's premises determine its conclusion
 abbrev pub SpellingsRun : Type 0
 SpellingsRun = (S : Database) (at : ℕ) → IsSingle S at → (items : List Item) (t : Derivation) (after : List Derivation) (weight : ℕ)
     → Spells S at [] items t after weight → RunsTo S at items t weight
 
--- each statement keeps the rules after earlier ones
+-- each statement obeys the rules, given the earlier ones
 abbrev pub AreLegalThroughout : Database → Type 0
 AreLegalThroughout S = (j : ℕ) (s : Stmt) → stmt_at S j ≡ Some s → IsLegal (before S j) s
 
--- on legal statements the items spell one derivation at most
+-- on legal statements the items spell at most one derivation
 abbrev pub SpelledOnce : Type 0
 SpelledOnce = (S : Database) (at : ℕ) → AreLegalThroughout S → (items : List Item) (t u : Derivation) (after after' : List Derivation) (weight weight' : ℕ)
     → Spells S at [] items t after weight → Spells S at [] items u after' weight' → t ≡ u

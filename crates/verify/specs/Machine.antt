@@ -1,10 +1,10 @@
--- What one item does to the results so far: a machine over expressions.
+-- The effect of one item on the results so far: a machine over expressions.
 -- Metamath, 4.2.6: the stack of a proof; appendix B: the results that were marked.
 -- The code keeps ranges of one buffer of numbers in place of expressions.
 use Rattle.std.specs.Prelude.{◌≡◌, ℕ, zero, suc, ◌+◌, List, [], ◌∷◌, ◌++◌, length, Some, slice_get}
 use Rattle.verify.specs.Words.{Name, Stmt, Expr, Database, expr_of, Images, applied, Carries, IsHypothesis, IsInstance, premises, Item, Cite, Recall, Mark}
 
--- results that wait, the last on top; results that were marked; the weight so far
+-- the stack of results, the last on top; the results that were marked; the weight so far
 pub record Results (A : Type 0) : Type 0 where
   pub stack : List (List A)
   pub saved : List (List A)
@@ -17,13 +17,13 @@ State = Results Name
 abbrev pub start : State
 start = record { stack = []; saved = []; weight = 0 }
 
--- the citation of a label gives e in place of the results above `below`
+-- the citation of a label replaces the results above `below` with e
 pub data Cites (S : Database) (at : ℕ) (label : Name) (stack below : List Expr) (e : Expr) : Type 0 where
   of_hypothesis : (i : ℕ) (s : Stmt) → Carries S i s label → IsHypothesis S at i s → e ≡ expr_of s → stack ≡ below → Cites S at label stack below e
   of_assertion : (a : ℕ) (s : Stmt) (σ : Images) → Carries S a s label → IsInstance S at a s σ
       → stack ≡ below ++ premises S a s σ → e ≡ applied σ (expr_of s) → Cites S at label stack below e
 
--- the result saved as number k, from 1
+-- e is the result saved as number k, from 1
 abbrev pub IsSaved : {A : Type 0} → List (List A) → ℕ → List A → Type 0
 IsSaved saved zero e = ⊥
 IsSaved saved (suc k) e = slice_get saved k ≡ Some e

@@ -1,6 +1,6 @@
--- A derivation planned: its nodes by number, each after those of its children.
--- A recalled derivation stands in a tree again; a plan has its nodes once.
--- The code makes a plan first, measures it, and makes the tree where it is small.
+-- The plan of a derivation: numbered nodes, each after its children.
+-- In a tree a recalled derivation occurs again; a plan has its nodes once.
+-- The code makes a plan first, measures it, and makes the tree if it is small.
 use Rattle.std.specs.Prelude.{ℕ, ◌+◌, List, [], ◌∷◌, ◌++◌, length, map, get_or}
 use Rattle.frame.specs.Below.{AreBelow}
 use Rattle.verify.specs.declared.plan.Node.{Node}
@@ -13,12 +13,12 @@ use Rattle.verify.specs.Growth.{Trees, trees}
 abbrev pub pick : List Derivation → ℕ → Derivation
 pick ts k = get_or ts k (hyp 0)
 
--- what a node stands for, over the derivations before it
+-- the derivation of a node, given those of earlier nodes
 abbrev pub derive : List Derivation → Node → Derivation
 derive ts (Hyp i) = hyp i
 derive ts (Apply a kids) = apply a (from_list (map (pick ts) kids.items))
 
--- the derivations of nodes, after those that stand already
+-- the derivations of nodes, appended to those of earlier nodes
 abbrev pub built_from : List Derivation → List Node → List Derivation
 built_from ts [] = ts
 built_from ts (n ∷ ns) = built_from (ts ++ derive ts n ∷ []) ns
@@ -31,12 +31,12 @@ abbrev pub IsAfter : ℕ → Node → Type 0
 IsAfter k (Hyp i) = Unit {0}
 IsAfter k (Apply a kids) = AreBelow k kids.items
 
--- each node stands behind its children
+-- each node is after its children
 abbrev pub AreOrdered : ℕ → List Node → Type 0
 AreOrdered k [] = Unit {0}
 AreOrdered k (n ∷ ns) = IsAfter k n × AreOrdered (k + 1) ns
 
--- the trees that numbers stand for
+-- the trees of the numbers on the stack and of those saved
 abbrev pub seen_by : List Node → List ℕ → List ℕ → Trees
 seen_by ns stack saved = trees (map (pick (built ns)) stack) (map (pick (built ns)) saved)
 
@@ -44,7 +44,7 @@ seen_by ns stack saved = trees (map (pick (built ns)) stack) (map (pick (built n
 abbrev pub trees_of : TreePlan → Trees
 trees_of p = seen_by p.nodes.items p.stack.items p.saved.items
 
--- each node stands behind its children, and each number has a node
+-- each node is after its children, and each number has a node
 pub record IsPlan (p : TreePlan) : Type 0 where
   pub ordered : AreOrdered 0 p.nodes.items
   pub stack_below : AreBelow (length p.nodes.items) p.stack.items

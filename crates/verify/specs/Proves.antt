@@ -5,7 +5,7 @@ use Rattle.std.specs.Prelude.{ℕ, List, [], map, Option, Some, None, unwrap_or}
 use Rattle.verify.specs.Words.{Name, Stmt, Database, before, stmt_at, label_of, hypotheses, Item, Writes}
 use Rattle.verify.specs.Right.{IsProvable, IsRight}
 
--- the label of a statement, empty where it has none
+-- the label of a statement, empty if it has none
 abbrev pub label_or_none : Option Stmt → Name
 label_or_none None = []
 label_or_none (Some s) = unwrap_or (label_of s) []

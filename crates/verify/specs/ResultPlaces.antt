@@ -1,6 +1,6 @@
--- Results that lie in one buffer, and images that were read off some of them.
+-- Results that are ranges of one buffer, and images that were read from some of them.
 -- Metamath, 4.2.6: the stack of a proof.
--- The code keeps where each result lies; here they are lists of symbols.
+-- The code keeps the range of each result; here the results are lists of symbols.
 use Rattle.std.specs.Prelude.{◌≡◌, ℕ, ◌+◌, ◌-◌, ◌<◌, ◌≤◌, Bool, true, false, List, [], ◌∷◌, ◌++◌, length, map, drop, take, slice_set, get_or, suc, Option, Some, None}
 use Rattle.verify.specs.Words.{CodeImages, SymbolRange, seen_at, images_at, AreWithin, AreInside, Numbered}
 use Rattle.verify.specs.Machine.{Results, with_result, with_mark, IsSaved}
@@ -25,7 +25,7 @@ pub record AreKept (symbols : List ℕ) (images : List (ℕ × SymbolRange)) (st
   pub few : length symbols ≤ weight
   pub light : weight ≤ weight_limit
 
--- they are kept, and the buffer begins with the symbols over which a cache was filled
+-- besides, the buffer begins with the symbols that it had when facts were last recorded in the cache
 pub record AreHeld (over symbols : List ℕ) (images : List (ℕ × SymbolRange)) (stack saved : List SymbolRange) (weight : ℕ) : Type 0 where
   pub kept : AreKept symbols images stack saved weight
   pub recorded : (more : List ℕ) × (symbols ≡ over ++ more)
@@ -36,17 +36,17 @@ below r stack = take (length stack - r) stack
 abbrev pub top : {A : Type 0} → ℕ → List A → List A
 top r stack = drop (length stack - r) stack
 
--- the result is added, or it is too heavy
+-- the result is pushed, or the proof would be too heavy
 abbrev pub Adds : {A : Type 0} → Bool → Results A → Results A → List (List A) → List A → Type 0
 Adds true old new stack e = new ≡ with_result old stack e
 Adds false old new stack e = weight_limit < old.weight + length e
 
--- where it is not done, the results are as before
+-- if the item is not done, the results are unchanged
 abbrev pub Stays : {A : Type 0} → Bool → Results A → Results A → Type 0
 Stays true old new = Unit {0}
 Stays false old new = new ≡ old
 
--- the last result is kept as number k from 0
+-- the last result is saved as number k, from 0
 abbrev pub Keeps : {A : Type 0} → Results A → Results A → ℕ → Type 0
 Keeps {A} old new k = (stack : List (List A)) (e : List A) → old.stack ≡ stack ++ e ∷ [] → new ≡ record { stack = old.stack; saved = slice_set old.saved k e; weight = old.weight }
 
@@ -55,12 +55,12 @@ abbrev pub Marks : {A : Type 0} → Bool → Results A → Results A → Type 0
 Marks {A} true old new = (stack : List (List A)) × (e : List A) × (old.stack ≡ stack ++ e ∷ []) × (new ≡ with_mark old e)
 Marks false old new = old.stack ≡ []
 
--- a saved result was added; or none has that number, or it is too heavy
+-- the saved result of number k, from 1, is pushed; or there is none, or the proof would be too heavy
 abbrev pub Recalls : {A : Type 0} → Bool → Results A → Results A → ℕ → Type 0
 Recalls {A} true old new k = (e : List A) × IsSaved old.saved k e × (new ≡ with_result old old.stack e)
 Recalls {A} false old new k = (e : List A) → IsSaved old.saved k e → weight_limit < old.weight + length e
 
--- the same at an index from 0; or nothing is done, where the index is that of a label for which nothing is kept
+-- `Recalls` at an index, from 0, where a label has a result with symbols; or nothing is done, and the index is a label's
 abbrev pub Finds : {A : Type 0} → Option Bool → ℕ → Results A → Results A → ℕ → Type 0
 Finds None labels old new k = (k < labels) × (new ≡ old)
 Finds (Some ok) labels old new k = (k < labels → 0 < length (get_or old.saved k [])) × Recalls ok old new (suc k)

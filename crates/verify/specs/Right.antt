@@ -1,6 +1,6 @@
 -- Right proofs.
 -- Metamath, 4.2.6 and appendix B: the items spell a derivation of the statement's expression.
--- The code answers from one run over the items; the limit on the weight is this project's.
+-- The code decides by one run over the items; the limit on the weight is this project's.
 use Rattle.std.specs.Prelude.{◌≡◌, ℕ, ◌≤◌, IsTrue, List, [], Some}
 use Rattle.verify.specs.Words.{Stmt, Database, stmt_at, expr_of, is_provable, Item}
 use Rattle.verify.specs.declared.answer.Answer.{Answer}
@@ -12,14 +12,14 @@ use Rattle.verify.specs.Spells.{Spells}
 abbrev pub weight_limit : ℕ
 weight_limit = 67108864
 
--- how many nodes a derivation that is given out has at most, and how deep it lies
+-- the most nodes of a derivation that is returned, and its greatest depth
 abbrev pub most_nodes : ℕ
 most_nodes = 65536
 
 abbrev pub most_depth : ℕ
 most_depth = 1024
 
--- a `$p` stands there
+-- there is a `$p` at that position
 pub record IsProvable (S : Database) (at : ℕ) (s : Stmt) : Type 0 where
   pub stands : stmt_at S at ≡ Some s
   pub provable : IsTrue (is_provable s)
@@ -37,7 +37,7 @@ pub record Derives (S : Database) (at : ℕ) (items : List Item) (t : Derivation
 abbrev pub IsRight : Database → ℕ → List Item → Type 0
 IsRight S at items = (t : Derivation) × Derives S at items t
 
--- what the verifier's answer says
+-- the meaning of the verifier's answer on whether P holds
 abbrev pub Says : Answer → Type 0 → Type 0
 Says Proved P = P
 Says Wrong P = ¬ P

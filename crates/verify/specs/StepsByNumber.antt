@@ -1,6 +1,6 @@
--- What one item does to results of numbers, said over the names that they stand for.
+-- The effect of one item on results of numbers, stated over the names that they stand for.
 -- Metamath, 4.2.6 and appendix B; `Machine` over names.
--- The code knows numbers alone; each has a name.
+-- The code knows only numbers; each has a name.
 use Rattle.std.specs.Prelude.{◌≡◌, ℕ, ◌<◌, ◌≤◌, Bool, true, false, IsTrue, List, [], length, map, drop, get_or}
 use Rattle.verify.specs.Words.{Name, Stmt, Expr, Database, before, AllBelow, Item, Cite, decode, AreLegal, HasAssertion, Numbered}
 use Rattle.verify.specs.declared.label_table.LabelEntry.{LabelEntry}
@@ -24,17 +24,17 @@ abbrev pub StepsByNumber : Bool → Database → ℕ → List Name → Item → 
 StepsByNumber true S at names item old new = Steps S at (named names old) item (named names new) × AreNamed names new
 StepsByNumber false S at names item old new = (next : State) → Steps S at (named names old) item next → weight_limit < next.weight
 
--- a label that names this was cited, or it cannot be within the limit
+-- a label with this meaning was cited, and nothing was saved, or it cannot be cited within the limit
 abbrev pub HasCited : Database → ℕ → List Name → LabelEntry → Results ℕ → Results ℕ → Bool → Type 0
 HasCited S at names entry old new ok = ((label : Name) → IsEntry S at label entry → StepsByNumber ok S at names (Cite label) old new) × (IsTrue ok → new.saved ≡ old.saved)
 
--- ---- results that are kept for the labels of the table, before those that were marked
+-- ---- results that are cached for the labels of the table, saved before those that were marked
 
--- the results without them
+-- the results without the n cached ones
 abbrev pub behind : ℕ → Results ℕ → Results ℕ
 behind n st = record { stack = st.stack; saved = drop n st.saved; weight = st.weight }
 
--- what is kept for a label is nothing, or what its citation gives over any results, none of which it takes
+-- nothing is cached for the label, or the result of its citation, which is the same over any results and pops none
 abbrev pub IsCached : Database → ℕ → List Name → LabelEntry → List ℕ → Type 0
 IsCached S at names entry e = 0 < length e → (label : Name) → IsEntry S at label entry → (stack : List Expr) → Cites S at label stack stack (decode names e)
 
@@ -46,11 +46,11 @@ pub record AreKnown (S : Database) (at : ℕ) (names : List Name) (table : List 
   pub are_named : AreNamed names st
   pub given : AreCached S at names table st.saved
 
--- what an item does where the first results are kept for labels
+-- the effect of an item if the first saved results are cached for labels
 abbrev pub StepsWithTable : Bool → Database → ℕ → List Name → List LabelEntry → Item → Results ℕ → Results ℕ → Type 0
 StepsWithTable ok S at names table item old new = StepsByNumber ok S at names item (behind (length table) old) (behind (length table) new) × (IsTrue ok → AreKnown S at names table new)
 
--- ---- what an item rests on
+-- ---- the requirements for running an item
 
 -- legal statements, the pairs that are active at the statement, and results that are about these
 pub record IsReady (t : Claim) (about : Numbered) : Type 0 where
@@ -59,7 +59,7 @@ pub record IsReady (t : Claim) (about : Numbered) : Type 0 where
   pub names : t.pairs.names ≡ t.frames.now.names
   pub same : about ≡ t.pairs
 
--- and an earlier assertion at a, over results whose codes have names
+-- besides, an earlier assertion at a, and results whose codes have names
 pub record MayCite (t : Claim) (a : ℕ) (about : Numbered) (st : Results ℕ) : Type 0 where
   pub ready : IsReady t about
   pub named : AreNamed t.frames.now.names st

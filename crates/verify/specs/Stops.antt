@@ -9,23 +9,23 @@ use Rattle.verify.specs.Right.{weight_limit}
 use Rattle.verify.specs.declared.failure.Failure.{Failure}
 use Rattle.verify.specs.declared.failure.Failure.TheVariants as failure
 
--- so many items run to these results, and the item behind them, where there is one, gives nothing or passes the limit
+-- the first `done` items run to these results, and the next item, if there is one, has no step within the limit
 pub record StopsAt (S : Database) (at : ℕ) (names : List Name) (items : List Item) (done : ℕ) (st : Results ℕ) : Type 0 where
   pub within : done ≤ length items
   pub runs : Runs S at start (take done items) (named names st)
   pub are_named : AreNamed names st
   pub stuck : (item : Item) → slice_get items done ≡ Some item → (next : State) → Steps S at (named names st) item next → weight_limit < next.weight
 
--- the results are not the expression alone
+-- the stack is not the expression alone
 abbrev pub IsOther : List Name → Results ℕ → Stmt → Type 0
 IsOther names st s = map (decode names) st.stack ≡ expr_of s ∷ [] → ⊥
 
--- the first item that cannot be done, or the end, where the results are others than the statement's expression; in both
--- cases the results are those before it, within the limit, after those that are kept for labels
+-- the run stops after `done` items with these results, within the limit; the first `labels` saved ones are cached for labels
 pub record IsStopped (S : Database) (at : ℕ) (names : List Name) (items : List Item) (done labels : ℕ) (st : Results ℕ) : Type 0 where
   pub stops : StopsAt S at names items done (behind labels st)
   pub light : st.weight ≤ weight_limit
 
+-- the first item that cannot be done and the results before it, or the results at the end, which are not the expression alone
 abbrev pub IsFirstFailure : Database → ℕ → List Name → List Item → Failure → Type 0
 IsFirstFailure S at names items (failure.Item item labels results) = (item < length items) × IsStopped S at names items item labels results.results
 IsFirstFailure S at names items (failure.End results) =

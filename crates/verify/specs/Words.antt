@@ -1,4 +1,4 @@
--- The words of the layers below in which this crate is specified, passed on from one place.
+-- Re-exports of the definitions of lower layers that the specs of this crate cite.
 pub use Rattle.entries.specs.declared.assertion_view.AssertionView.{AssertionView}
 pub use Rattle.entries.specs.declared.assertion_view.Hypothesis.{Hypothesis}
 pub use Rattle.entries.specs.declared.assertion_view.Hypothesis.TheVariants.{Essential, Float}

@@ -7,18 +7,18 @@ use std::alloc::AllocError;
 /// Whether a proof is right.
 #[derive(Clone, Copy, Debug, Drop, PartialEq, Eq)]
 pub enum Answer {
-    /// The proof is right: its items spell a derivation of the statement.
+    /// The proof is right: its items spell a derivation of the statement, with a weight within the limit.
     Proved,
     /// The proof is not right.
     Wrong,
 }
 
-/// Why no derivation is given out.
+/// The reason why no derivation is returned.
 #[derive(Clone, Copy, Debug, Drop, PartialEq, Eq)]
 pub enum TreeFault {
     /// The proof is not right.
     Wrong,
-    /// The proof is right, and its derivation has more nodes or lies deeper than the limits allow.
+    /// The proof is right, but its derivation has more nodes or a greater depth than the limits allow.
     TooLarge,
     /// An allocation failed.
     Memory,

@@ -25,16 +25,16 @@ use std::alloc::{AllocError, Global};
 use std::marker::Model;
 use subst::Remaining;
 
-/// A checker keeps the memory that proofs up to this size needed: 1 MB for as many symbols.
+/// A checker keeps the memory that proofs up to this size need: 1 MB for this many symbols.
 const KEPT_SIZE: usize = 262_144;
 
-/// A verifier that keeps its buffers from proof to proof. Contracts see the lists of assertions that it keeps, and which pairs
-/// of variables it found to be disjoint or not.
+/// A verifier that reuses its buffers from proof to proof. Contracts see the lists of assertions that it keeps, and the pairs
+/// of variables that it found to be disjoint or not.
 #[derive(Drop)]
 pub struct Checker {
     alloc: Global,
-    /// The size of the largest proof since the last `shrink`: its weight, or the bytes of its tokens or the number of its
-    /// items, as they are given.
+    /// The size of the largest proof since memory was last freed: its weight, or the bytes of its tokens or the number of
+    /// its items, as it was given, whichever is greater.
     largest: usize,
     reader: Reader,
     table: Vec<LabelEntry>,
@@ -71,8 +71,8 @@ impl Checker {
         }
     }
 
-    /// Removes the lists that are kept, which are those of assertions under the frames of earlier proofs, and the facts on
-    /// pairs of variables. So proofs under any frames may follow.
+    /// Removes the lists of assertions and the facts on pairs of variables, which are right only for the frames of earlier
+    /// proofs. After this call proofs under any frames may be checked.
     ///
     /// Does not allocate. Cost: the lists and facts.
     pub fn begin(&mut self)
@@ -82,14 +82,14 @@ impl Checker {
         self.buffers.kept.begin();
     }
 
-    /// Limits the buffer of results to so many symbols, at first `SYMBOLS_LIMIT`. A proof that would pass them gets
-    /// `AllocError` as its answer.
+    /// Limits the buffer of results to `symbols` symbols; at first the limit is `SYMBOLS_LIMIT`. The check of a proof that
+    /// would exceed it returns `AllocError`.
     pub fn limit(&mut self, symbols: usize) {
         self.buffers.results.limit(symbols);
     }
 
-    /// Gives back the memory that large proofs needed, and keeps that of ordinary ones. Tables by the number of a symbol
-    /// stay, so that their cost does not recur.
+    /// Frees the memory that large proofs needed, and keeps that of ordinary ones. Keeps the tables indexed by symbol, so
+    /// that their cost does not recur.
     ///
     /// Does not allocate. Cost: a constant.
     pub fn shrink(&mut self) {
@@ -103,7 +103,7 @@ impl Checker {
         }
     }
 
-    /// Notes the weight of the last proof, and the size of the next one.
+    /// Records the weight of the last proof, and the size of the next one.
     fn record_size(&mut self, next: usize)
         ensures { self.new ≡ self.old }
     {
@@ -113,10 +113,10 @@ impl Checker {
 
     /// Returns whether the items are a right proof of the `$p` at that position.
     ///
-    /// Errors: an allocation fails, or the results would pass the limit of `limit`.
-    /// Cost: each label is looked up once; a recall and a mark are one step, a citation costs the lengths of the result
-    /// that it leaves and of those that it compares with a `$e`, that of the disjoint variable condition, and if its
-    /// lists are long that of `Frames::fill_lists`. Source: Metamath, 4.2.6 and appendix B.
+    /// Errors: an allocation fails, or the results would exceed the limit set by `limit`.
+    /// Cost: each label is looked up once; a recall and a mark are one step; a citation costs the lengths of its result and
+    /// of those that it compares with a `$e`, that of the disjoint variable condition, and if the assertion's lists are
+    /// long that of `Frames::fill_lists`. Source: Metamath, 4.2.6 and appendix B.
     pub fn check(&mut self, frames: &Frames, at: usize, items: &Items) -> Result<Answer, AllocError>
         requires provable { (s : Statement) × IsProvable frames.now.statements at s }
         requires kept { AreKeptFor frames.now.statements frames.now.names self.old }
@@ -131,7 +131,7 @@ impl Checker {
 
     /// Returns whether the tokens write a right proof of the `$p` at that position.
     ///
-    /// Errors: an allocation fails, or the results would pass the limit of `limit`.
+    /// Errors: an allocation fails, or the results would exceed the limit set by `limit`.
     /// Cost: that of reading the tokens and checking their items; in a compressed proof a mandatory hypothesis is known
     /// by its position, so its label is neither copied nor looked up. Source: Metamath, 4.2.6 and appendix B.
     pub fn prove(
@@ -172,7 +172,7 @@ impl Checker {
 
     /// Returns whether the tokens write a right proof, in normal form, of the `$p` at that position.
     ///
-    /// Errors: an allocation fails, or the results would pass the limit of `limit`.
+    /// Errors: an allocation fails, or the results would exceed the limit set by `limit`.
     fn prove_normal(
         &mut self,
         frames: &Frames,
@@ -192,10 +192,10 @@ impl Checker {
         }
     }
 
-    /// Returns whether the tokens write a right proof, in compressed form, of the `$p` at that position, whose mandatory
-    /// hypotheses are many.
+    /// Returns whether the tokens write a right proof, in compressed form, of the `$p` at that position, which has many
+    /// mandatory hypotheses.
     ///
-    /// Errors: an allocation fails, or the results would pass the limit of `limit`.
+    /// Errors: an allocation fails, or the results would exceed the limit set by `limit`.
     #[cold]
     #[inline(never)]
     fn prove_many(
@@ -215,7 +215,7 @@ impl Checker {
         let Some(heading) = self.reader.read(tokens, view.len())? else {
             return Ok(Answer::Wrong);
         };
-        // This call's clause says that the statements are legal.
+        // This call is here for its contract, which says that the statements are legal.
         let _pairs = frames.active_pairs(at);
         self.table.clear();
         if !add_listed(frames, at, Mandatory::Many(view), heading, &mut self.table)? {
@@ -233,7 +233,7 @@ impl Checker {
     }
 }
 
-/// Returns whether the items are a right proof of the `$p` at that position, by a verifier made for it.
+/// Returns whether the items are a right proof of the `$p` at that position, by a verifier made for this call.
 ///
 /// Errors: an allocation fails. Cost: that of `Checker::check`.
 pub fn check(alloc: Global, frames: &Frames, at: usize, items: &Items) -> Result<Answer, AllocError>
@@ -265,8 +265,8 @@ fn run_listed(
     run(frames, at, None, table, numbers, buffers)
 }
 
-/// Returns whether the items with these numbers, over the mandatory hypotheses that are viewed and a table of the meanings of
-/// the other labels, are a right proof of the `$p` at that position.
+/// Returns whether the items with these numbers, over a view of the mandatory hypotheses, if there is one, and a table of the
+/// meanings of the other labels, are a right proof of the `$p` at that position.
 ///
 /// Errors: an allocation fails.
 #[inline(always)]

@@ -1,4 +1,4 @@
-//! One item of a proof.
+//! Runs one item of a proof.
 
 ghost use Rattle.std.specs.Prelude.{◌≡◌, ◌++◌, List, Some, IfOk, map, option_map};
 ghost use Rattle.frame.specs.AtPosition.{AreLegal};
@@ -21,7 +21,7 @@ use frame::{FrameBuffers, Frames, MandatoryView, Pairs};
 use std::alloc::AllocError;
 use subst::Remaining;
 
-/// The statement that a proof is to show: the `$p` at a position, and the pairs that are active there.
+/// The statement to be proved: the `$p` at a position, and the pairs of disjoint variables that are active there.
 #[derive(Drop)]
 pub struct Claim<'a> {
     pub frames: &'a Frames,
@@ -29,8 +29,8 @@ pub struct Claim<'a> {
     pub pairs: Pairs<'a>,
 }
 
-/// The buffers of a run over the items of a proof, one for the long lists of an assertion that is cited, and what is kept of
-/// such lists.
+/// The buffers of a run over the items of a proof: for the long lists of a cited assertion, for such lists that are kept, for
+/// shortened expressions, and for the results.
 #[derive(Drop)]
 pub struct Buffers {
     pub frame_buffers: FrameBuffers,
@@ -39,7 +39,8 @@ pub struct Buffers {
     pub results: Results,
 }
 
-/// Takes the results for the hypotheses of an assertion, by its parts, and adds the result that it gives.
+/// Cites an assertion, given a view of it: pops the results for its hypotheses and pushes its result. Returns `false` if it
+/// cannot be cited.
 ///
 /// Errors: an allocation fails.
 #[inline(always)]
@@ -73,7 +74,7 @@ fn cite_parts(
     results.apply(&claim.pairs, count, conclusion)
 }
 
-/// Cites an assertion whose lists are long, and are written out for this citation.
+/// Cites an assertion whose lists are long. Makes them for this citation.
 ///
 /// Errors: an allocation fails. Cost: that of the citation and of `Frames::fill_lists`.
 #[cold]
@@ -94,7 +95,7 @@ fn cite_anew(claim: &Claim<'_>, position: usize, buffers: &mut Buffers) -> Resul
     cite_parts(claim, position, &cited, remaining, results)
 }
 
-/// Cites an assertion whose lists are long and are to be kept.
+/// Cites an assertion whose lists are long. Keeps them for later citations.
 ///
 /// Errors: an allocation fails. Cost: that of the citation; if the lists are not kept yet, also that of `Frames::fill_lists`
 /// and `KeptLists::keep`.
@@ -121,7 +122,7 @@ fn cite_kept(claim: &Claim<'_>, position: usize, buffers: &mut Buffers) -> Resul
     cite_parts(claim, position, &cited, remaining, results)
 }
 
-/// Returns the index of the lists of an assertion, which are kept from its first citation here on.
+/// Returns the index of the kept lists of an assertion. Makes them if they are not kept yet.
 ///
 /// Errors: an allocation fails. Cost: that of `KeptLists::find`; if the lists are not kept yet, of `Frames::fill_lists` and
 /// `KeptLists::keep`.
@@ -145,7 +146,7 @@ fn kept_index(
     kept.keep(position, &cited)
 }
 
-/// Cites an assertion whose lists are long. They are kept once it was cited a few times.
+/// Cites an assertion whose lists are long. Keeps them once the assertion was cited a few times.
 ///
 /// Errors: an allocation fails. Cost: that of `cite_anew`, or of `cite_kept`.
 #[cold]
@@ -165,7 +166,7 @@ fn cite_long(claim: &Claim<'_>, position: usize, buffers: &mut Buffers) -> Resul
     }
 }
 
-/// Takes the results for the hypotheses of an assertion, and adds the result that it gives.
+/// Cites an assertion: pops the results for its hypotheses and pushes its result. Returns `false` if it cannot be cited.
 #[inline(never)]
 fn cite(claim: &Claim<'_>, position: usize, buffers: &mut Buffers) -> Result<bool, AllocError>
     requires may { MayCite claim.now position buffers.old.results.about buffers.old.results.results }
@@ -183,7 +184,7 @@ fn cite(claim: &Claim<'_>, position: usize, buffers: &mut Buffers) -> Result<boo
     cite_parts(claim, position, &cited, remaining, results)
 }
 
-/// Cites a label by its meaning.
+/// Cites a label by its meaning. Returns `false` if it cannot be cited.
 #[inline(always)]
 fn cite_entry(
     claim: &Claim<'_>,
@@ -206,7 +207,8 @@ fn cite_entry(
     }
 }
 
-/// Runs one item, by its number. The result of a citation that takes no results is kept for its label.
+/// Runs one item, by its number, and returns whether it can be done. Caches the result of a citation that pops no results,
+/// for its label.
 ///
 /// Errors: an allocation fails.
 #[inline(always)]
@@ -241,7 +243,8 @@ pub fn step(
     Ok(done)
 }
 
-/// Runs one item, by its number, where the first numbers may be those of mandatory hypotheses that are viewed.
+/// Runs one item, by its number, and returns whether it can be done. If there is a view of the mandatory hypotheses, the first
+/// numbers are theirs.
 ///
 /// Errors: an allocation fails.
 #[inline(always)]
@@ -268,7 +271,7 @@ pub fn step_at(
     }
 }
 
-/// Runs one item, by its number, where the first numbers are those of many mandatory hypotheses.
+/// Runs one item, by its number, if the first numbers are those of many mandatory hypotheses.
 ///
 /// Errors: an allocation fails. Cost: that of `step`, and of finding the hypothesis by its index.
 #[cold]

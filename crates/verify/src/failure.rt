@@ -22,8 +22,8 @@ use subst::Remaining;
 /// Where the run over the items of a proof fails, and the results before it.
 #[derive(Drop)]
 pub enum Failure {
-    /// The item at this index, from 0, cannot be done, or it would make the proof too heavy. The results begin with one
-    /// that is kept for each of so many labels, before those that were marked.
+    /// The item at this index, from 0, cannot be done, or it would make the proof too heavy. The first `labels` saved results
+    /// are those cached for labels; those that were marked follow.
     Item {
         item: usize,
         labels: usize,
@@ -35,10 +35,10 @@ pub enum Failure {
     },
 }
 
-/// Runs the items with these numbers, over the mandatory hypotheses that are viewed and a table of the meanings of the other
-/// labels, up to the first that cannot be done, and returns how many were done.
+/// Runs the items with these numbers, over a view of the mandatory hypotheses, if there is one, and a table of the meanings of
+/// the other labels, up to the first that cannot be done, and returns how many were done.
 ///
-/// Errors: an allocation fails, or the results would pass the limit of `Results::limit`.
+/// Errors: an allocation fails, or the results would exceed the limit set by `Results::limit`.
 #[inline(always)]
 pub(crate) fn run_items(
     claim: &Claim<'_>,

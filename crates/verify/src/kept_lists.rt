@@ -1,5 +1,5 @@
-//! The lists of assertions that the proofs of a text cite again and again, if these are long; and what was found of pairs of
-//! variables when such lists were made.
+//! Keeps the long lists of assertions that the proofs of a text cite again and again, and the facts on pairs of variables that
+//! were found when such lists were made.
 
 ghost use Rattle.std.specs.Prelude.{◌≡◌, ◌<◌, ◌==◌, ◌++◌, ◌∷◌, [], ℕ, List, length, map, true, get_or, slice_get, Some, IfOk, IfSome, OnOk};
 ghost use Rattle.std.specs.List.{list_all, list_any};
@@ -22,28 +22,28 @@ use std::alloc::{AllocError, Global};
 use std::collections::BTreeMap;
 use std::marker::Model;
 
-/// In so many citations of an assertion its long lists are made anew. After them they are kept.
+/// The number of citations of an assertion in which its long lists are made anew. After these they are kept.
 const FEW: usize = 4;
 
 /// The most numbers that are kept.
 const MOST_NUMBERS: usize = 1_048_576;
 
-/// The numbers that an assertion whose citations are counted takes.
+/// The size, in numbers, of the count of an assertion's citations.
 const COUNT_SIZE: usize = 8;
 
 /// The lists by which an assertion is cited: its mandatory hypotheses, and lists of variables whose images must be disjoint.
-/// These have each mandatory pair, and no list that has only pairs of the others, where pairs are noted (`PairPlaces`).
+/// These lists have each mandatory pair. A list is left out if its pairs are recorded to be all in others (`PairPlaces`).
 #[derive(Drop)]
 pub struct AssertionLists {
     /// The position of the assertion.
     position: usize,
     /// The typecode of each hypothesis.
     typecodes: Vec<u32>,
-    /// Each hypothesis as one number.
+    /// Each hypothesis, encoded as one number.
     required: Vec<u32>,
     /// The variables of the lists, one list after another.
     places: Vec<u32>,
-    /// The lists.
+    /// The range of each list in `places`.
     groups: Vec<BufferPart>,
 }
 
@@ -61,10 +61,10 @@ impl Model for AssertionLists {
 }
 
 impl AssertionLists {
-    /// Returns the lists of an assertion at a position, by its parts.
+    /// Makes the lists of the assertion at a position from a view of it.
     ///
-    /// Errors: an allocation fails. Cost: the hypotheses, times a logarithm; the square of the count of their variables; and
-    /// for each group the square of the count of its variables.
+    /// Errors: an allocation fails. Cost: the hypotheses, times a logarithm; the square of the number of their variables; and
+    /// for each group the square of the number of its variables.
     fn of(
         alloc: Global,
         position: usize,
@@ -90,7 +90,7 @@ impl AssertionLists {
         })
     }
 
-    /// Returns the parts of the assertion, whose expression is given.
+    /// Returns a view of the assertion, given its expression.
     pub fn cited<'a>(&'a self, conclusion: &'a [u32]) -> AssertionView<'a>
         ensures typecodes { result.typecodes.now ≡ self.now.typecodes }
         ensures required { result.hypotheses ≡ self.now.required }
@@ -105,7 +105,7 @@ impl AssertionLists {
         }
     }
 
-    /// Returns how many numbers there are.
+    /// Returns the size of the lists, in numbers.
     fn size(&self) -> usize {
         let hypotheses = self.typecodes.len().saturating_mul(2);
         let groups = self.groups.len().saturating_mul(2);
@@ -115,7 +115,7 @@ impl AssertionLists {
     }
 }
 
-/// Appends the hypotheses, each as one number.
+/// Appends the hypotheses, each encoded as one number.
 fn copy_hypotheses(hypotheses: &Hypotheses<'_>, required: &mut Vec<u32>) -> Result<(), AllocError>
     requires { required.old.items ≡ [] }
     ensures { OnOk result (map told required.new.items ≡ hypotheses.now) }
@@ -126,7 +126,7 @@ fn copy_hypotheses(hypotheses: &Hypotheses<'_>, required: &mut Vec<u32>) -> Resu
     Ok(())
 }
 
-/// Appends the groups, without those whose pairs are noted in others.
+/// Appends the groups, except those whose pairs are all recorded to be in others.
 fn copy_groups(
     from: &Groups<'_>,
     pairs: &mut PairPlaces,
@@ -167,7 +167,7 @@ fn add_group(
     Ok(())
 }
 
-/// Returns whether each two variables of a group are noted in one of the groups.
+/// Returns whether each two variables of a group are recorded to be together in one of the groups.
 fn is_covered(groups: &Groups<'_>, group: &[u32], pairs: &PairPlaces) -> bool
     ensures { result ≡ true → are_covered groups.now group.now ≡ true }
 {
@@ -179,7 +179,7 @@ fn is_covered(groups: &Groups<'_>, group: &[u32], pairs: &PairPlaces) -> bool
     true
 }
 
-/// Returns whether the variable at an index of a group and each other one are noted in one of the groups.
+/// Returns whether the variable at an index of a group and each other one are recorded to be together in one of the groups.
 fn is_one_covered(groups: &Groups<'_>, group: &[u32], index: usize, pairs: &PairPlaces) -> bool
     requires { index < length group.now }
     ensures { result ≡ true → list_all (is_paired groups.now (get_or group.now index 0)) group.now ≡ true }
@@ -194,7 +194,7 @@ fn is_one_covered(groups: &Groups<'_>, group: &[u32], index: usize, pairs: &Pair
     true
 }
 
-/// Returns whether two variables stand at a place.
+/// Returns whether two variables are at a place.
 fn stand_at(groups: &Groups<'_>, place: PairPlace, x: u32, y: u32) -> bool
     ensures { result ≡ true → list_any (has_both x y) groups.now ≡ true }
 {
@@ -206,7 +206,7 @@ fn stand_at(groups: &Groups<'_>, place: PairPlace, x: u32, y: u32) -> bool
     stands_at(group, place.first, x) && stands_at(group, place.second, y)
 }
 
-/// Returns whether a variable stands at an index of a group.
+/// Returns whether a variable is at an index of a group.
 fn stands_at(group: &[u32], index: u32, x: u32) -> bool
     ensures { result ≡ true → list_any (λ c. c == x) group.now ≡ true }
 {
@@ -216,16 +216,16 @@ fn stands_at(group: &[u32], index: u32, x: u32) -> bool
     }
 }
 
-/// What is kept while proofs under the same frames are judged: lists of assertions, and which pairs of variables were found to
-/// be disjoint or not when lists were made. Contracts see both.
+/// A cache for proofs under the same frames: lists of assertions, and the pairs of variables that were found to be disjoint or
+/// not when lists were made. Contracts see both.
 #[derive(Drop)]
 pub struct KeptLists {
     alloc: Global,
-    /// How often the assertion at a position was cited before its lists are kept.
+    /// The number of citations of the assertion at a position, counted until its lists are kept.
     counts: BTreeMap<usize, usize>,
     /// How many numbers are kept.
     size: usize,
-    /// The index of the lists of the assertion at a position. An index only says where to look.
+    /// The index of the lists of the assertion at a position. It is only a guess: the lists at the index are checked.
     indexes: BTreeMap<usize, usize>,
     pairs: PairPlaces,
     lists: Vec<AssertionLists>,
@@ -241,7 +241,7 @@ impl Model for KeptLists {
 }
 
 impl KeptLists {
-    /// Returns a table with no lists and no facts. Does not allocate.
+    /// Returns an empty cache. Does not allocate.
     pub fn new(alloc: Global) -> KeptLists
         ensures lists { result.lists ≡ [] }
         ensures facts { result.facts ≡ [] }
@@ -257,7 +257,7 @@ impl KeptLists {
         }
     }
 
-    /// Removes all lists and facts, and counts citations anew.
+    /// Removes all lists and facts, and resets the counts of citations.
     ///
     /// Cost: the lists and facts that were kept, and the assertions whose citations were counted.
     pub fn begin(&mut self)
@@ -271,7 +271,7 @@ impl KeptLists {
         self.facts.clear();
     }
 
-    /// Returns how often the assertion at a position was cited before its lists are kept.
+    /// Returns how many citations of the assertion at a position were counted.
     fn count(&self, position: usize) -> usize {
         match self.counts.get(&position) {
             Some(count) => *count,
@@ -317,7 +317,7 @@ impl KeptLists {
         &self.lists[index]
     }
 
-    /// Makes the lists of the assertion at a position, for a citation by `Frames::cited_by`.
+    /// Fills the buffers with the lists of the assertion at a position, for a citation by `Frames::cited_by`.
     ///
     /// Errors: an allocation fails. Cost: that of `Frames::fill_lists`.
     pub fn fill(
@@ -334,7 +334,8 @@ impl KeptLists {
         frames.fill_lists(position, &mut self.facts, frame_buffers)
     }
 
-    /// Makes and keeps the lists of an assertion, and returns their index. If many numbers are kept, it begins anew.
+    /// Makes and keeps the lists of an assertion, and returns their index. Removes all others first if too many numbers would
+    /// be kept.
     ///
     /// Errors: an allocation fails. Cost: that of `AssertionLists::of`.
     pub fn keep(&mut self, position: usize, cited: &AssertionView<'_>) -> Result<usize, AllocError>
@@ -350,7 +351,7 @@ impl KeptLists {
         Ok(index)
     }
 
-    /// Counts so many more numbers, before which all lists are removed if there would be too many.
+    /// Counts `size` more numbers. Removes all lists and facts first if there would be too many.
     fn make_room(&mut self, size: usize)
         ensures { (S : Database) (names : List Name) → AreKeptFor S names self.old → AreKeptFor S names self.new }
     {

@@ -94,7 +94,7 @@ pub fn fill_mandatory(
 pub enum Mandatory<'a> {
     /// A list of them, by position, in order.
     Few(&'a [u32]),
-    /// A view of them, where they are many.
+    /// A view of them, if they are many.
     Many(&'a MandatoryView<'a>),
 }
 
@@ -128,8 +128,8 @@ fn is_among(entry: LabelEntry, hypotheses: &[u32]) -> bool
     }
 }
 
-/// Appends the meaning of each listed label at the statement, or returns `false` if one of them is that of a mandatory
-/// hypothesis.
+/// Appends the meaning at the statement of each label in the heading of a compressed proof, or returns `false` if one of them
+/// is that of a mandatory hypothesis.
 ///
 /// Errors: an allocation fails. Cost: that of looking each label up.
 #[inline(always)]

@@ -7,7 +7,8 @@ pub fn runs_spell()
     ensures { RunsSpell }
 {}
 
-/// Every spelling runs through, to the expression that its derivation concludes and with its weight.
+/// Items that spell a derivation run to the expression that it concludes, with the same weight, if an assertion's premises
+/// determine its conclusion.
 pub fn spellings_run()
     ensures { SpellingsRun }
 {}

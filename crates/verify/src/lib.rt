@@ -1,8 +1,8 @@
-//! Proofs: whether the items of a proof are a right proof of a statement, and the derivation that they spell.
+//! The verifier: whether the items of a proof are a right proof of a statement, and the derivation that they spell.
 //!
-//! The crate above uses one contract: `Checker::prove` answers `Proved` exactly where the tokens write items by which some
-//! derivation is spelled that concludes the statement's expression and weighs no more than the limit; else it answers `Wrong`.
-//! `check` answers so for the items themselves, and `first_failure` tells where their run fails.
+//! The main contract is that of `Checker::prove`: it returns `Proved` if and only if the tokens write items that spell a
+//! derivation which concludes the statement's expression, with a weight (the symbols of all that they conclude) within the
+//! limit; else it returns `Wrong`. `check` does so for the items themselves; `first_failure` returns where their run fails.
 //!
 //! Reading order: `answer`, `tree`; `results` (as ranges of one buffer), `label_table`, `pair_places`, `kept_lists`, `citation`
 //! (one item), `failure` (all items), `checker` (a whole proof); `plan` (the derivation); `laws`.

@@ -1,16 +1,16 @@
-//! Where pairs of variables stand together in lists that are kept.
+//! The places of pairs of variables in the lists that are kept of an assertion.
 
 use entries::{Hypotheses, Hypothesis};
 use std::alloc::{AllocError, Global};
 use std::collections::BTreeMap;
 
-/// The most variables of an assertion whose pairs are noted.
+/// The most mandatory hypotheses of an assertion whose pairs are recorded.
 const MOST_VARIABLES: usize = 512;
 
-/// The most variables of a list whose pairs are noted.
+/// The most variables of a list whose pairs are recorded.
 const MOST_LISTED: usize = 256;
 
-/// Where two variables stand together: the index of a list, and the indexes in it.
+/// A place of two variables: the index of a list that has both, and their indexes in it.
 #[derive(Clone, Copy, Drop)]
 pub struct PairPlace {
     pub list: u32,
@@ -18,23 +18,23 @@ pub struct PairPlace {
     pub second: u32,
 }
 
-/// Says that no place was noted.
+/// The place of a pair that was not recorded.
 const NOWHERE: PairPlace = PairPlace {
     list: u32::MAX,
     first: 0,
     second: 0,
 };
 
-/// For each two variables of an assertion a list in which they were noted to stand together.
+/// A place for each two variables of an assertion that were recorded to be together in a list.
 ///
-/// A place only says where to look, so nothing holds of it.
+/// A place is only a guess, which is checked, so no contract says anything of it.
 #[derive(Drop)]
 pub struct PairPlaces {
     /// The number of each variable of the assertion, from 0.
     variables: BTreeMap<u32, u32>,
     /// For each two numbers a place.
     places: Vec<PairPlace>,
-    /// The numbers of the variables of the list that is looked at.
+    /// The numbers of the variables of the list that was looked up last.
     listed: Vec<u32>,
 }
 
@@ -48,9 +48,9 @@ impl PairPlaces {
         }
     }
 
-    /// Begins with no places, for the variables of these hypotheses. If they are too many, no pair of them is noted.
+    /// Removes all places, and numbers the variables of these hypotheses. If these are too many, no pair is recorded.
     ///
-    /// Errors: an allocation fails. Cost: the square of the count of variables.
+    /// Errors: an allocation fails. Cost: the square of the number of variables.
     pub fn begin(&mut self, hypotheses: &Hypotheses<'_>) -> Result<(), AllocError> {
         self.variables.clear();
         self.places.clear();
@@ -68,7 +68,7 @@ impl PairPlaces {
         Ok(())
     }
 
-    /// Looks up the variables of a list, and returns whether pairs of them are noted.
+    /// Looks up the variables of a list, and returns whether pairs of them can be recorded.
     ///
     /// Errors: an allocation fails. Cost: the list, times a logarithm.
     pub fn look_up(&mut self, list: &[u32]) -> Result<bool, AllocError> {
@@ -85,7 +85,7 @@ impl PairPlaces {
         Ok(true)
     }
 
-    /// Returns the index among the places of those that stand at these indexes of the list.
+    /// Returns the index in `places` of the pair at these indexes of the list that was looked up.
     fn index(&self, first: usize, second: usize) -> Option<usize> {
         let first = *self.listed.get(first)? as usize;
         let second = *self.listed.get(second)? as usize;
@@ -93,7 +93,7 @@ impl PairPlaces {
         Some(row.saturating_add(second))
     }
 
-    /// Returns where the variables were noted that stand at these indexes of the list that was looked up.
+    /// Returns the place that was recorded of the pair at these indexes of the list that was looked up.
     pub fn place(&self, first: usize, second: usize) -> PairPlace {
         match self.index(first, second) {
             Some(index) => match self.places.get(index) {
@@ -104,9 +104,9 @@ impl PairPlaces {
         }
     }
 
-    /// Notes that the list that was looked up is kept at an index.
+    /// Records the pairs of the list that was looked up, which is kept at an index.
     ///
-    /// Cost: the square of the count of its variables.
+    /// Cost: the square of the number of its variables.
     pub fn note(&mut self, list: usize) {
         let count = self.listed.len();
         for first in 0..count {

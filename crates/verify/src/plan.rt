@@ -1,7 +1,7 @@
 //! The derivation that the items of a proof spell.
 //!
-//! It is planned: its nodes by number, each after those of its children, and once however often it is recalled; then
-//! measured, before it is made.
+//! A plan of it is made first: numbered nodes, each after its children, and only once however often it is recalled. The plan
+//! is measured before the tree is made.
 
 ghost use Rattle.std.specs.Prelude.{◌≡◌, ℕ, ◌<◌, ◌≤◌, ◌↔◌, [], IsTrue, List, OnOk, IfOk, Some, length, map, slice_get, ◌⊎◌, MatchOption};
 ghost use Rattle.frame.specs.AtPosition.{HasLabelsOnce};
@@ -24,10 +24,10 @@ use frame::Frames;
 use proof_code::Items;
 use std::alloc::{AllocError, Global};
 
-/// The most nodes that a derivation which is given out has.
+/// The most nodes of a derivation that is returned.
 pub const MOST_NODES: usize = 65_536;
 
-/// The depth of the deepest derivation that is given out; a lone node has depth 1.
+/// The greatest depth of a derivation that is returned; a lone node has depth 1.
 pub const MOST_DEPTH: usize = 1_024;
 
 /// A node of a plan.
@@ -39,17 +39,17 @@ pub enum Node {
     Apply(usize, Vec<usize>),
 }
 
-/// The derivations of a proof so far: nodes, and the numbers of those that wait and of those that were marked.
+/// The derivations of a proof so far: nodes, and the numbers of those on the stack and of those that were marked.
 #[derive(Drop)]
 pub struct TreePlan {
     pub nodes: Vec<Node>,
     pub stack: Vec<usize>,
     pub saved: Vec<usize>,
-    /// The mandatory hypotheses of an assertion that is cited.
+    /// A buffer for the mandatory hypotheses of a cited assertion.
     pub mandatory: Vec<u32>,
 }
 
-/// Appends a node, and its number to the stack.
+/// Appends a node, and pushes its number onto the stack.
 fn add(plan: &mut TreePlan, node: Node) -> Result<(), AllocError>
     requires plan { IsPlan plan.old }
     requires after { IsAfter (length plan.old.nodes.items) node }
@@ -62,7 +62,7 @@ fn add(plan: &mut TreePlan, node: Node) -> Result<(), AllocError>
     Ok(())
 }
 
-/// Cites a label by its meaning.
+/// Cites a label by its meaning. Returns `false` if it cannot be cited.
 fn cite(frames: &Frames, entry: LabelEntry, plan: &mut TreePlan) -> Result<bool, AllocError>
     requires plan { IsPlan plan.old }
     requires entry { (at : ℕ) × (label : Name) × IsEntry frames.now.statements at label entry }
@@ -91,7 +91,7 @@ fn cite(frames: &Frames, entry: LabelEntry, plan: &mut TreePlan) -> Result<bool,
     }
 }
 
-/// Runs one item, by its number.
+/// Runs one item, by its number, and returns whether it can be done.
 pub fn grow(
     frames: &Frames,
     table: &[LabelEntry],
@@ -181,7 +181,7 @@ pub fn is_small(extent: Extent) -> bool
 /// Returns the derivation that the items of a right proof of the `$p` at that position spell.
 ///
 /// Errors: `Wrong` if they are no right proof; `TooLarge` if the derivation has more than 65,536 nodes or a depth above
-/// 1,024; or `Memory` in place of either. It is measured before it is made.
+/// 1,024, for which it is measured before it is made; `Memory` if an allocation fails, in place of either too.
 /// Cost: a check, a node for each citation, and the tree. Source: Metamath, 4.2.6 and appendix B.
 pub fn derivation(
     alloc: Global,
@@ -210,7 +210,7 @@ pub fn derivation(
     Ok(expand(alloc, &plan.nodes, root)?)
 }
 
-/// Returns the plan that the items of a right proof make.
+/// Returns the plan of the derivation that the items of a right proof spell.
 fn plan_of(alloc: Global, frames: &Frames, at: usize, items: &Items) -> Result<TreePlan, AllocError>
     requires { IsRight frames.now.statements at items.now }
     ensures once { HasLabelsOnce frames.now.statements }
@@ -234,7 +234,7 @@ fn plan_of(alloc: Global, frames: &Frames, at: usize, items: &Items) -> Result<T
     Ok(plan)
 }
 
-/// Makes the derivation with that number, and those below it once for each time that they stand in it.
+/// Makes the derivation with that number, with a copy of a node for each time that it occurs in it.
 fn expand(alloc: Global, nodes: &[Node], number: usize) -> Result<Tree, AllocError>
     requires ordered { AreOrdered 0 nodes.now }
     requires there { number < length nodes.now }

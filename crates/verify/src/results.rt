@@ -25,10 +25,10 @@ use subst::{
     symbols_at,
 };
 
-/// The results of a proof so far, their symbols in one buffer, and the images that were read off the last of them.
+/// The results of a proof so far, with their symbols in one buffer, and the images that were read from the last of them.
 ///
-/// A label that takes no results has its result written out once, where it is cited first: `saved` begins with a range
-/// for each label, which is empty until then, and goes on with the results that were marked.
+/// The result of a label whose citation pops no results is written once, at its first citation: `saved` begins with a
+/// range for each label, which is empty until then, and continues with the results that were marked.
 #[derive(Drop)]
 pub struct Results {
     symbols: Buffer,
@@ -38,7 +38,7 @@ pub struct Results {
     weight: usize,
     /// How many symbols the buffer may hold.
     share: usize,
-    /// The variables of long results, and which variables are disjoint.
+    /// The variables of long results, and the pairs of variables that were found to be disjoint.
     cache: DisjointCache,
 }
 
@@ -68,17 +68,17 @@ impl Results {
         }
     }
 
-    /// Limits the buffer to so many symbols: a result that would pass them is answered by `AllocError`.
+    /// Limits the buffer to `share` symbols. A call whose result would exceed them returns `AllocError`.
     pub fn limit(&mut self, share: usize)
         ensures { self.new ≡ self.old }
     {
         self.share = share;
     }
 
-    /// Begins a proof under the pairs that are active at its statement: removes all results and images, and makes room
-    /// for the results of so many labels. The buffers stay.
+    /// Begins a proof under the pairs that are active at its statement: removes all results and images, and adds an empty
+    /// saved result for each of `labels` labels. Keeps the buffers.
     ///
-    /// Errors: an allocation fails. Cost: the count of the labels.
+    /// Errors: an allocation fails. Cost: the number of labels.
     pub fn start(&mut self, pairs: &Pairs<'_>, labels: usize) -> Result<(), AllocError>
         ensures about { self.new.about ≡ pairs.now }
         ensures results { OnOk result (self.new.results ≡ record { stack = []; saved = replicate labels []; weight = 0 }) }
@@ -93,7 +93,7 @@ impl Results {
         Ok(())
     }
 
-    /// Appends a result that is written out, or returns `false` if it is too heavy.
+    /// Pushes an expression as a result, or returns `false` if the proof would be too heavy.
     ///
     /// Errors: an allocation fails. Cost: its symbols.
     #[inline(never)]
@@ -119,7 +119,7 @@ impl Results {
         Ok(true)
     }
 
-    /// Keeps the last result for the label with that number.
+    /// Saves the last result for the label with that number.
     pub fn cache_last(&mut self, label: usize)
         requires { label < length self.old.results.saved }
         ensures about { self.new.about ≡ self.old.about }
@@ -144,8 +144,8 @@ impl Results {
         Ok(true)
     }
 
-    /// Appends the result that is saved at that index, or returns `false` if there is none or it is too heavy. Returns
-    /// `None` if the index is that of one of so many labels, and no result with symbols is saved there.
+    /// Pushes the result that is saved at that index, or returns `false` if there is none or the proof would be too heavy.
+    /// Returns `None` if the index is one of the first `labels`, and no result with symbols is saved there.
     ///
     /// Errors: an allocation fails. Cost: a constant.
     #[inline(always)]
@@ -175,8 +175,8 @@ impl Results {
         Ok(Some(true))
     }
 
-    /// Reads the images of the variables of the `$f` off the last results, one for each hypothesis, and returns how many
-    /// `$f` stand before all `$e`; `None` if a result does not begin with the symbol of its `$f`.
+    /// Reads the images of the variables of the `$f` from the last results, one for each hypothesis, and returns how many
+    /// `$f` precede all `$e`, or `None` if a result does not begin with the typecode of its `$f`.
     ///
     /// Errors: an allocation fails. Cost: a step for each hypothesis.
     #[inline(always)]
@@ -198,8 +198,8 @@ impl Results {
         read_off(&mut self.images, symbols, typecodes, hypotheses, places)
     }
 
-    /// Returns whether the last results are the expressions of the `$e`, before which `front` `$f` stand, with the images
-    /// put in. Results for `$f` are not looked at.
+    /// Returns whether the last results for the `$e` are their expressions with the images substituted. `front` is the
+    /// number of `$f` that precede all `$e`. Results for `$f` are not read.
     ///
     /// Cost: the symbols that agree; for each long `$e` that of `shortened`.
     #[inline(always)]
@@ -231,9 +231,9 @@ impl Results {
         true
     }
 
-    /// Returns the symbols of the expression of the statement at a position whose images are not empty, if the expression
-    /// is long and these are few; else the expression, and also if an allocation fails. With the images put in, both give the
-    /// same.
+    /// Returns those symbols of the expression of the statement at a position whose images are not empty, if the expression
+    /// is long and these symbols are few; else, or if an allocation fails, the expression. Substitution gives the same result
+    /// for both.
     ///
     /// Cost: the distinct symbols of a long expression, and the symbols that are returned.
     #[inline(always)]
@@ -304,8 +304,8 @@ impl Results {
             .are_groups_disjoint(pairs, groups, &self.symbols, &self.images)
     }
 
-    /// Removes the last `r` results and appends the expression with the images put in, or returns `false` if it is too
-    /// heavy.
+    /// Pops the last `r` results and pushes the expression with the images substituted, or returns `false` if the proof
+    /// would be too heavy.
     ///
     /// Errors: an allocation fails. Cost: the symbols read and written.
     #[inline(always)]
@@ -336,7 +336,7 @@ impl Results {
         Ok(true)
     }
 
-    /// Removes all results and images, and gives back the memory of the results; that of images by number stays.
+    /// Removes all results and images, and frees the memory of the results, but not that of tables indexed by symbol.
     ///
     /// Does not allocate.
     pub fn release(&mut self, alloc: Global)
@@ -350,21 +350,21 @@ impl Results {
         self.weight = 0;
     }
 
-    /// Returns how many symbols the results had so far, each recall counted.
+    /// Returns the weight of the proof so far: the symbols of all results, counted again for each recall.
     pub fn weight(&self) -> usize
         ensures { result ≡ self.now.results.weight }
     {
         self.weight
     }
 
-    /// Returns how many results there are that no citation has taken.
+    /// Returns the number of results on the stack.
     pub fn len(&self) -> usize
         ensures { result ≡ length self.now.results.stack }
     {
         self.stack.len()
     }
 
-    /// Returns the result at that index, from 0: the last one is that which the next citation takes last.
+    /// Returns the result at that index of the stack, from 0 at its bottom.
     pub fn get(&self, index: usize) -> &[u32]
         requires { index < length self.now.results.stack }
         ensures { slice_get self.now.results.stack index ≡ Some result.now }
@@ -373,7 +373,7 @@ impl Results {
         symbols_at(self.symbols.as_slice(), place)
     }
 
-    /// Returns how many results are saved: one for each label, and those that were marked.
+    /// Returns the number of saved results: one for each label, and those that were marked.
     pub fn saved_len(&self) -> usize
         ensures { result ≡ length self.now.results.saved }
     {
@@ -393,7 +393,7 @@ impl Results {
     }
 }
 
-/// Truncates to the first `keep` places and appends one, mostly over one that stood there.
+/// Truncates to the first `keep` ranges and appends one, mostly by overwriting another.
 #[inline(always)]
 fn put_behind(
     stack: &mut Vec<SymbolRange>,
@@ -413,7 +413,7 @@ fn put_behind(
     Ok(())
 }
 
-/// Sets the image of a variable to a result without its first symbol, if this is the required one.
+/// Sets the image of a variable to a result without its first symbol, or returns `false` if this is not the typecode.
 #[inline(always)]
 fn read_one(
     images: &mut ImageRanges,
@@ -438,7 +438,7 @@ fn read_one(
     Ok(true)
 }
 
-/// Does so for a `$f` that stands after a `$e`.
+/// Calls `read_one` for a `$f` after a `$e`.
 #[cold]
 #[inline(never)]
 fn read_more(
@@ -456,8 +456,8 @@ fn read_more(
     read_one(images, symbols, typecode, variable, place)
 }
 
-/// Sets the images of the variables of the `$f` that stand before all other hypotheses, and returns how many these are;
-/// `None` if a result begins with another symbol than the required one.
+/// Sets the images of the variables of the `$f` that precede all other hypotheses, and returns how many these are, or `None`
+/// if a result does not begin with the typecode of its `$f`.
 #[inline(always)]
 fn read_front(
     images: &mut ImageRanges,
@@ -486,8 +486,8 @@ fn read_front(
     Ok(Some(hypotheses.len()))
 }
 
-/// Sets the images of the variables of all `$f`, and no other, to their results without the first symbols, and returns how
-/// many `$f` stand before all other hypotheses; `None` if a result begins with another symbol than the required one.
+/// Sets the images of the variables of all `$f`, and no others, to their results without the first symbols, and returns how
+/// many `$f` precede all other hypotheses, or `None` if a result does not begin with the typecode of its `$f`.
 ///
 /// Errors: an allocation fails. Cost: a step for each hypothesis.
 #[inline(always)]

@@ -1,4 +1,4 @@
-//! Derivations that are given out.
+//! Derivations as trees.
 
 /// A derivation.
 #[derive(Drop)]

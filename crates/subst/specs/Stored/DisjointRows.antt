@@ -1,6 +1,6 @@
 -- Which variables were found to be disjoint.
--- Metamath, 4.2.6: each two variables, one from each of two images, stand together in an active `$d`.
--- The code keeps words of bits, where a bit that is set is a fact and another one says nothing.
+-- Metamath, 4.2.6: each pair of variables, one from each of two images, is in an active `$d`.
+-- The code keeps words of bits, where a bit that is set is a fact and one that is not says nothing.
 use Rattle.std.specs.Prelude.{◌≡◌, ℕ, ◌+◌, ◌*◌, ◌<◌, ◌⊎◌, Bool, true, false, List, length, get_or}
 use Rattle.subst.specs.Words.{bit_at, Numbered, is_pair, name_at}
 use Rattle.subst.specs.declared.disjoint_rows.RowWord.{RowWord}
@@ -30,21 +30,21 @@ pub record IsFact (v : Numbered) (f : Places) (p q : ℕ) : Type 0 where
   pub place : q < length f.variables
   pub kept : is_kept v f p q ≡ true
 
--- what is recorded is so
+-- all that is recorded is true
 pub record AreFacts (v : Numbered) (f : Places) (ws : List RowWord) : Type 0 where
   pub each : (p q : ℕ) → HasFact ws p q → IsFact v f p q
 
--- each two symbols of the list stand together in an active `$d`
+-- each two distinct symbols of the list are together in an active `$d`
 pub record ArePairs (v : Numbered) (list : List ℕ) : Type 0 where
   pub each :
       (x y : ℕ) → IsAmong (length list) list x → IsAmong (length list) list y → (x ≡ y → ⊥)
       → is_pair v.statements (name_at v.names x) (name_at v.names y) ≡ true
 
--- the places of the word may be recorded besides
+-- no facts are added but those of the places of the word
 pub record RecordsWord (old new : List RowWord) (p : ℕ) (w : PlaceWord) : Type 0 where
   pub only : (r q : ℕ) → HasFact new r q → HasFact old r q ⊎ ((r ≡ p) × HasBit w q)
 
--- the variable at p is disjoint from those of the word, or not from one of them
+-- whether the variable at p is disjoint from each of those at the places of the word
 abbrev pub TellsWord : Numbered → Places → ℕ → PlaceWord → Bool → Type 0
 TellsWord v f p w true = (q : ℕ) → HasBit w q → is_kept v f p q ≡ true
 TellsWord v f p w false = (q : ℕ) × HasBit w q × (is_kept v f p q ≡ false)

@@ -1,6 +1,6 @@
 -- The tables of the cache of one proof.
 -- Metamath, 4.2.6: the pairs of variables that a proof needs.
--- The code keeps its tables from proof to proof.
+-- The code reuses the memory of its tables from proof to proof.
 use Rattle.std.specs.Prelude.{ℕ, Bool, List}
 use Rattle.subst.specs.Words.{Numbered, are_disjoint}
 use Rattle.subst.specs.DisjointImages.{image_named}
@@ -12,7 +12,7 @@ use Rattle.subst.specs.Stored.ImagePairs.{AreDisjointPairs}
 use Rattle.subst.specs.Stored.ImageVariables.{AreImagesRecorded}
 use Rattle.subst.specs.Stored.VariablePlaces.{ArePlaced}
 
--- what they hold is so
+-- all that the tables hold is true
 pub record AreTables (v : Numbered) (symbols : List ℕ) (t : DisjointTables) : Type 0 where
   pub placed : ArePlaced v t.variables
   pub recorded : AreImagesRecorded v t.variables symbols t.images

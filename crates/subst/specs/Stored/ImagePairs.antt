@@ -1,6 +1,6 @@
 -- Pairs of images that were found to be disjoint.
--- Metamath, 4.2.6: no variable stands in both images, and each two variables, one from each, stand together in an active `$d`.
--- The code keeps where the two images lie, for a whole proof: the symbols there stay as they are.
+-- Metamath, 4.2.6: no variable is in both images, and each pair of variables, one from each, is in an active `$d`.
+-- The code keeps the ranges of the two images for a whole proof: the symbols there do not change.
 use Rattle.std.specs.Prelude.{◌≡◌, ℕ, ◌≤◌, ◌⊎◌, true, List, ◌∷◌, [], ◌++◌, length}
 use Rattle.subst.specs.Words.{All, Numbered, decode, are_disjoint}
 use Rattle.subst.specs.SymbolRanges.{seen_at}
@@ -17,10 +17,10 @@ pub record IsDisjointPair (v : Numbered) (symbols : List ℕ) (p : ImagePair) : 
   pub right : IsInside symbols p.right
   pub disjoint : are_disjoint v.statements (decode v.names (seen_at symbols p.left)) (decode v.names (seen_at symbols p.right)) ≡ true
 
--- what is noted is so
+-- all recorded pairs are disjoint
 pub record AreDisjointPairs (v : Numbered) (symbols : List ℕ) (pairs : List ImagePair) : Type 0 where
   pub each : All (IsDisjointPair v symbols) pairs
 
--- the pair may be noted besides
+-- the pair is appended, or nothing changes
 abbrev pub NotesPair : List ImagePair → List ImagePair → ImagePair → Type 0
 NotesPair old new p = (new ≡ old) ⊎ (new ≡ old ++ p ∷ [])

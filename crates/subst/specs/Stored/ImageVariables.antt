@@ -1,6 +1,6 @@
 -- The places of the variables of images.
 -- Metamath, 4.2.6: the images of variables.
--- The code reads an image once, and keeps the words of a long one's variables for a whole proof.
+-- The code reads an image once in a citation, and keeps the words of a long one's variables for a whole proof.
 use Rattle.std.specs.Prelude.{◌≡◌, ℕ, ◌<◌, ◌≤◌, ◌⊎◌, List, ◌∷◌, [], ◌++◌, length, get_or}
 use Rattle.subst.specs.Words.{All, Numbered, code_image}
 use Rattle.subst.specs.SymbolRanges.{seen_at, images_at}
@@ -27,13 +27,13 @@ pub record IsIn (words : List PlaceWord) (r : WordRange) (j : ℕ) : Type 0 wher
   pub there : spot < length words
   pub has : HasBit (get_or words spot no_word) j
 
--- the range has the places of the variables of the image
+-- the words of the range have exactly the places of the variables of the image
 pub record IsRangeOf (v : Numbered) (f : Places) (words : List PlaceWord) (r : WordRange) (image : List ℕ) : Type 0 where
   pub low : r.start ≤ r.end
   pub high : r.end ≤ length words
   pub are : ArePlacesOf v f (IsIn words r) (IsAmong (length image) image)
 
--- what was recorded of a long image
+-- the record of a long image: its range of words has the places of its variables, and is among the kept ones
 pub record IsLong (v : Numbered) (f : Places) (symbols : List ℕ) (words : List PlaceWord) (kept : ℕ) (e : LongImage) : Type 0 where
   pub low : e.image.start ≤ e.image.end
   pub high : e.image.end ≤ length symbols
@@ -44,43 +44,43 @@ pub record AreImagesRecorded (v : Numbered) (f : Places) (symbols : List ℕ) (n
   pub kept : n.kept ≤ length n.words
   pub long : All (IsLong v f symbols n.words n.kept) n.long
 
--- what was recorded in this citation
+-- all that was recorded in this citation is true
 pub record AreRead (v : Numbered) (f : Places) (symbols : List ℕ) (images : List (ℕ × SymbolRange)) (n : RecordedImages) : Type 0 where
   pub each : All (λ (e : ReadImage). IsRangeOf v f n.words e.words (code_image (images_at symbols images) e.symbol)) n.read
 
 -- ---- what the calls change
 
--- words are added at the end, and the list may be another
+-- words are appended, and the list may change
 abbrev pub KeepsMost : RecordedImages → RecordedImages → Type 0
 KeepsMost old new = (more : List PlaceWord) × (list : List PlaceWord) × (new ≡ record { words = old.words ++ more; list = list; kept = old.kept; read = old.read; long = old.long })
 
--- words are added at the end
+-- words are appended
 abbrev pub GrowsWords : RecordedImages → RecordedImages → Type 0
 GrowsWords old new = (more : List PlaceWord) × (new.words ≡ old.words ++ more)
 
--- the list may be another
+-- only the list may change
 abbrev pub KeepsRest : RecordedImages → RecordedImages → Type 0
 KeepsRest old new = (list : List PlaceWord) × (new ≡ record { words = old.words; list = list; kept = old.kept; read = old.read; long = old.long })
 
--- the list stands at the end, in this range
+-- the words of the list are appended, in this range
 pub record Appends (old new : RecordedImages) (r : WordRange) : Type 0 where
   pub whole : new ≡ record { words = old.words ++ old.list; list = old.list; kept = old.kept; read = old.read; long = old.long }
   pub range : r ≡ record { start = length old.words; end = length (old.words ++ old.list) }
 
--- the word stands at the end, in this range
+-- the word is appended, in this range
 pub record AppendsWord (old new : RecordedImages) (w : PlaceWord) (r : WordRange) : Type 0 where
   pub whole : new ≡ record { words = old.words ++ w ∷ []; list = old.list; kept = old.kept; read = old.read; long = old.long }
   pub range : r ≡ record { start = length old.words; end = length (old.words ++ w ∷ []) }
 
--- the list has the places of the variables of an image besides
+-- the places of the variables of an image are added to the list
 abbrev pub AddsImage : Numbered → Places → RecordedImages → RecordedImages → List ℕ → Type 0
 AddsImage v f old new image = AddsSymbols v f (HasPlace old.list) (HasPlace new.list) (length image) image
 
--- the image of a symbol may be recorded besides
+-- the image of a symbol is recorded, or nothing changes
 abbrev pub KeepsImage : RecordedImages → RecordedImages → ℕ → WordRange → Type 0
 KeepsImage old new x r = (new ≡ old) ⊎ (new ≡ record { words = old.words; list = old.list; kept = old.kept; read = old.read ++ (record { symbol = x; words = r }) ∷ []; long = old.long })
 
--- the list may be recorded as that of a long image
+-- the list is recorded as that of a long image, or nothing is recorded
 abbrev pub RecordsImage : RecordedImages → RecordedImages → SymbolRange → Type 0
 RecordsImage old new image =
     KeepsMost old new

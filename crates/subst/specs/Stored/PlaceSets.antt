@@ -1,5 +1,5 @@
 -- Sets of places as words of bits.
--- Source: this project's form of keeping variables.
+-- Source: this project's representation of variables.
 -- The code keeps the words that have bits, in the order in which they were met.
 use Rattle.std.specs.Prelude.{◌≡◌, ℕ, ◌+◌, ◌*◌, ◌<◌, ◌⊎◌, List, length, get_or}
 use Rattle.subst.specs.Words.{bit_at, Numbered}
@@ -32,13 +32,13 @@ HasPlace ws j = HasAmong (length ws) ws j
 abbrev pub ArePlacesBelow : ℕ → List PlaceWord → Type 0
 ArePlacesBelow n ws = (j : ℕ) → HasPlace ws j → j < n
 
--- the places of a word more
+-- the places of a word are added
 pub record AddsWord (old new : List PlaceWord) (w : PlaceWord) : Type 0 where
   pub before : (j : ℕ) → HasPlace old j → HasPlace new j
   pub added : (j : ℕ) → HasBit w j → HasPlace new j
   pub only : (j : ℕ) → HasPlace new j → HasPlace old j ⊎ HasBit w j
 
--- the places of the first n words of a list more
+-- the places of the first n words of a list are added
 pub record AddsFirst (old new : List PlaceWord) (n : ℕ) (ws : List PlaceWord) : Type 0 where
   pub before : (j : ℕ) → HasPlace old j → HasPlace new j
   pub added : (j : ℕ) → HasAmong n ws j → HasPlace new j
@@ -47,17 +47,17 @@ pub record AddsFirst (old new : List PlaceWord) (n : ℕ) (ws : List PlaceWord) 
 abbrev pub AddsWords : List PlaceWord → List PlaceWord → List PlaceWord → Type 0
 AddsWords old new ws = AddsFirst old new (length ws) ws
 
--- the set has the place, or the word at hand
+-- the set or the word at hand has the place
 abbrev pub HasEither : List PlaceWord → PlaceWord → ℕ → Type 0
 HasEither ws w j = HasPlace ws j ⊎ HasBit w j
 
--- a place more, in the set or in the word at hand
+-- a place is added, to the set or to the word at hand
 pub record TakesPlace (old : List PlaceWord) (w : PlaceWord) (new : List PlaceWord) (next : PlaceWord) (place : ℕ) : Type 0 where
   pub before : (j : ℕ) → HasEither old w j → HasEither new next j
   pub added : HasEither new next place
   pub only : (j : ℕ) → HasEither new next j → HasEither old w j ⊎ (j ≡ place)
 
--- the places of the variables among the first n symbols more
+-- the places of the variables among the first n symbols are added
 pub record AddsSymbols (v : Numbered) (f : Places) (Old New : ℕ → Type 0) (n : ℕ) (image : List ℕ) : Type 0 where
   pub before : (j : ℕ) → Old j → New j
   pub added : (x : ℕ) → IsAmong n image x → HasVariable v f New x

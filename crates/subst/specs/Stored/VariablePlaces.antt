@@ -1,6 +1,6 @@
 -- The places of the variables of one proof.
--- Source: this project's form of keeping variables.
--- The code gives each variable a place as it is met, and notes of each other symbol that it is none.
+-- Source: this project's representation of variables.
+-- The code gives each variable a place when it is first met, and records of each other symbol that it is no variable.
 use Rattle.std.specs.Prelude.{◌≡◌, ℕ, ◌<◌, ◌⊎◌, Bool, true, false, List, length, get_or, Option, Some, None}
 use Rattle.subst.specs.Words.{bit_at, All, Contains, Name, is_variable, name_at, is_pair, Numbered}
 use Rattle.subst.specs.declared.variable_places.MetSymbol.{MetSymbol}
@@ -16,7 +16,7 @@ variable_name v f j = name_at v.names (get_or f.variables j 0)
 abbrev pub is_kept : Numbered → Places → ℕ → ℕ → Bool
 is_kept v f i j = is_pair v.statements (variable_name v f i) (variable_name v f j)
 
--- the variable x stands at this place
+-- the variable x is at this place
 pub record IsAt (f : Places) (j x : ℕ) : Type 0 where
   pub there : j < length f.variables
   pub same : get_or f.variables j 0 ≡ x
@@ -25,12 +25,12 @@ pub record IsAt (f : Places) (j x : ℕ) : Type 0 where
 pub record Grows (old new : Places) : Type 0 where
   pub each : (j x : ℕ) → IsAt old j x → IsAt new j x
 
--- x is a variable at this place, or none
+-- x is the variable at this place; without a place it is no variable
 abbrev pub IsPlace : Numbered → Places → ℕ → Option ℕ → Type 0
 IsPlace v f x (Some j) = IsAt f j x
 IsPlace v f x None = is_variable v.statements (name_at v.names x) ≡ false
 
--- the symbol x was met, with this place
+-- the symbol x was met, and has this place
 abbrev pub IsListed : Places → ℕ → Option ℕ → Type 0
 IsListed f x place = Contains f.symbols (record { number = x; place = place })
 
@@ -57,7 +57,7 @@ pub record ArePlacesOf (v : Numbered) (f : Places) (IsIn IsOne : ℕ → Type 0)
 abbrev pub IsAmong : ℕ → List ℕ → ℕ → Type 0
 IsAmong n xs x = (k : ℕ) × (k < n) × (get_or xs k 0 ≡ x)
 
--- each bit is the place of one of the first n symbols, and each symbol has one bit at most
+-- each bit is the place of one of the first n symbols, and each symbol has at most one bit
 pub record AreBitsOf (f : Places) (bits n : ℕ) (list : List ℕ) : Type 0 where
   pub only : (j : ℕ) → bit_at bits j ≡ 1 → (x : ℕ) × IsAmong n list x × IsAt f j x
   pub once : (i j x : ℕ) → bit_at bits i ≡ 1 → bit_at bits j ≡ 1 → IsAt f i x → IsAt f j x → i ≡ j
