@@ -1,5 +1,5 @@
--- A statement as numbers, as plain lists.
--- Metamath, 4.2.6 and 4.2.7: a citation of an assertion needs its mandatory hypotheses. `frame` says what the numbers mean.
+-- A statement as numbers, in plain lists.
+-- Metamath, 4.2.6 and 4.2.7: a citation of an assertion needs its mandatory hypotheses. `frame` says what the numbers denote.
 -- The code keeps the lists of all statements in a few buffers.
 use Rattle.std.specs.Prelude.{◌≡◌, ℕ, Bool, true, List, [], length, map, slice_get, Some}
 use Rattle.entries.specs.declared.assertion_view.Hypothesis.{Hypothesis}
@@ -12,8 +12,8 @@ use Rattle.entries.specs.declared.entry_header.EntryRef.{EntryRef}
 use Rattle.entries.specs.Hypotheses.{told}
 use Rattle.entries.specs.Stored.Spans.{cut, AreSpansIn}
 
--- hypotheses by position, what each is, its typecode, and groups of variables; for most statements all lists are empty.
--- `whole`: whether these are all, or only what the statement adds to what is active
+-- hypotheses by position, the kind and number of each, its typecode, and groups of variables; for most statements all lists
+-- are empty. `whole`: whether these are all, or only those that the statement adds to the active ones
 pub record Assertion : Type 0 where
   pub whole : Bool
   pub hypotheses : List ℕ
@@ -21,7 +21,8 @@ pub record Assertion : Type 0 where
   pub typecodes : List ℕ
   pub groups : List (List ℕ)
 
--- its kind, the counts of labels and names before it, what was active before it, and the numbers of its symbols
+-- its kind, the counts of labels and of declared symbols before it, the last active statements before it, the numbers of its
+-- symbols, and its parts
 pub record Entry : Type 0 where
   pub kind : Kind
   pub label : ℕ
@@ -30,7 +31,7 @@ pub record Entry : Type 0 where
   pub symbols : List ℕ
   pub assertion : Assertion
 
--- the parts of an assertion that is added
+-- the parts of an assertion that is appended
 abbrev pub assertion_of : AssertionParts → Assertion
 assertion_of p = record { whole = p.whole; hypotheses = p.hypotheses.now; required = map told p.required.now; typecodes = p.typecodes.now; groups = cut p.places.now p.groups.now }
 
@@ -48,11 +49,11 @@ made h codes a = record { kind = h.kind; label = h.before.label; names = h.befor
 abbrev pub partless : Bool → Assertion
 partless whole = record { whole = whole; hypotheses = []; required = []; typecodes = []; groups = [] }
 
--- the statement that was read
+-- the statement of which a call of `entry` returned x, with these parts
 abbrev pub seen : EntryRef → Assertion → Entry
 seen x a = record { kind = x.kind; label = x.before.label; names = x.before.names; last_active = x.before.last_active; symbols = x.symbols.now; assertion = a }
 
--- the parts of a statement that are whole
+-- the parts of the statement are whole, and c has them
 pub record AreWhole (e : Entry) (c : AssertionView) : Type 0 where
   pub whole : e.assertion.whole ≡ true
   pub typecodes : c.typecodes.now ≡ e.assertion.typecodes

@@ -26,11 +26,11 @@ is_changed at (v ∷ w ∷ vs) = is_changed at (w ∷ vs)
 abbrev pub changed : ℕ → List ℕ → List StackVersion → List StackVersion
 changed at stack vs = if is_changed at vs then vs else vs ++ record { since = at; stack = stack } ∷ []
 
--- `at` is put on top
+-- the versions after `at` is pushed
 abbrev pub pushed : ℕ → List StackVersion → List StackVersion
 pushed at vs = changed at (at ∷ stack_at vs at) vs
 
--- the stack is again the one that it was at `before`
+-- the versions after the stack is restored as it was at `before`
 abbrev pub gone_back : ℕ → ℕ → List StackVersion → List StackVersion
 gone_back at before vs = changed at (stack_at vs before) vs
 
@@ -38,7 +38,7 @@ gone_back at before vs = changed at (stack_at vs before) vs
 abbrev pub kept_until : ℕ → List StackVersion → List StackVersion
 kept_until last vs = filter (λ v. nat_le v.since last) vs
 
--- none was made at a later position
+-- no version was made after `at`
 abbrev pub IsUntil : ℕ → List StackVersion → Type 0
 IsUntil at [] = Unit {0}
 IsUntil at (v ∷ vs) = (v.since ≤ at) × IsUntil at vs

@@ -1,11 +1,11 @@
 -- A hypothesis as one number: a `$f` by its variable, a `$e` by its position.
 -- Metamath, 4.2.6: a citation reads the variable of a `$f`, and the expression of a `$e`.
--- The code keeps the numbers in one list with the others of its assertion.
+-- The code keeps the numbers in one buffer with the other numbers of the assertion.
 use Rattle.std.specs.Prelude.{ℕ, ◌-◌, nat_lt, if◌then◌else◌}
 use Rattle.entries.specs.declared.assertion_view.Hypothesis.{Hypothesis}
 use Rattle.entries.specs.declared.assertion_view.Hypothesis.TheVariants.{Float, Essential}
 use Rattle.entries.specs.declared.assertion_view.TheConstants.{ESSENTIALS}
 
--- the hypothesis that a number stands for; the numbers of positions are greater than those of variables
+-- the hypothesis that a number encodes; the numbers of `$e` are greater than those of `$f`
 abbrev pub told : ℕ → Hypothesis
 told n = if nat_lt n ESSENTIALS then Float n else Essential (n - ESSENTIALS)

@@ -8,7 +8,7 @@ use Rattle.std.specs.List.{filter, list_any}
 abbrev pub set_at : List (List ℕ) → ℕ → List ℕ
 set_at sets set = get_or sets set []
 
--- each of the list is above the position
+-- each position of the list is above p
 abbrev pub AreAbove : ℕ → List ℕ → Type 0
 AreAbove p [] = Unit {0}
 AreAbove p (q ∷ qs) = (p < q) × AreAbove p qs
@@ -18,17 +18,17 @@ abbrev pub Ascends : List ℕ → Type 0
 Ascends [] = Unit {0}
 Ascends (p ∷ ps) = AreAbove p ps × Ascends ps
 
--- the set with the position, in its place
+-- the set with the position inserted in order, unless it has it
 abbrev pub with_position : ℕ → List ℕ → List ℕ
 with_position p [] = p ∷ []
 with_position p (q ∷ qs) =
     if nat_lt p q then p ∷ (q ∷ qs) else (if nat_lt q p then q ∷ with_position p qs else q ∷ qs)
 
--- whether the position is one of the set
+-- whether the set has the position
 abbrev pub has_position : ℕ → List ℕ → Bool
 has_position p qs = list_any (λ q. q == p) qs
 
--- how many of the set are below the position
+-- how many positions of the set are below p
 abbrev pub count_below : ℕ → List ℕ → ℕ
 count_below p qs = length (filter (λ q. nat_lt q p) qs)
 

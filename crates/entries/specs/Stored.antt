@@ -1,4 +1,5 @@
--- How the statements are kept in a few buffers. Public clauses cite `Extends`, `AreSpansIn` and `cut` of it alone.
+-- How statements, stacks, sets and the places of symbols are stored. Public clauses cite only `Extends`, `AreSpansIn` and
+-- `cut`.
 pub mod Spans
 pub mod Records
 pub mod Versions

@@ -1,11 +1,11 @@
--- Where each symbol of an expression stands.
--- Metamath, 4.2.6: an image is put in for a variable wherever it stands.
+-- The indexes at which each symbol of an expression occurs.
+-- Metamath, 4.2.6: an image is substituted for each occurrence of a variable.
 -- The code keeps the indexes of all symbols in one list, one symbol's after the other's.
 use Rattle.std.specs.Prelude.{◌≡◌, ℕ, suc, ◌<◌, ◌≤◌, ◌⊎◌, List, [], ◌∷◌, length, slice_get, Some}
 use Rattle.std.specs.List.{All, Contains}
 use Rattle.std.specs.List.Sorted.{IsStrictlyIncreasing}
 
--- the group has exactly the indexes at which the symbol stands, in ascending order, and at least one
+-- the group has exactly the indexes at which the symbol occurs, in ascending order, and at least one
 pub record IsGroupOf (expr : List ℕ) (symbol : ℕ) (group : List ℕ) : Type 0 where
   pub rises : IsStrictlyIncreasing group
   pub some : 0 < length group
@@ -19,7 +19,7 @@ AreGroupsFrom expr low (s ∷ symbols) (g ∷ groups) = (low ≤ s) × IsGroupOf
 AreGroupsFrom expr low [] (g ∷ groups) = ⊥
 AreGroupsFrom expr low (s ∷ symbols) [] = ⊥
 
--- the index stands in one of the groups
+-- the index is in one of the groups
 abbrev pub IsGrouped : ℕ → List (List ℕ) → Type 0
 IsGrouped i [] = ⊥
 IsGrouped i (g ∷ groups) = Contains g i ⊎ IsGrouped i groups

@@ -10,10 +10,10 @@ use std::marker::Model;
 /// The typecode of an expression that has no symbols. No symbol has this number.
 pub const NO_TYPECODE: u32 = u32::MAX;
 
-/// Numbers from this one on stand for a `$e` by its position, lower ones for a `$f` by its variable.
+/// The least number of a `$e`: this plus its position. A lower number is that of a `$f`: the number of its variable.
 pub const ESSENTIALS: u32 = 0x8000_0000;
 
-/// A mandatory hypothesis, by a number.
+/// A mandatory hypothesis: a `$f` by its variable, a `$e` by its position.
 #[derive(Clone, Copy, Debug, Drop, PartialEq, Eq)]
 pub enum Hypothesis {
     /// A `$f`: the number of its variable.
@@ -22,7 +22,7 @@ pub enum Hypothesis {
     Essential(u32),
 }
 
-/// Returns the hypothesis as one number.
+/// Returns the number that encodes the hypothesis.
 ///
 /// Errors: a variable or a position of 2^31 or more is reported as a failed allocation.
 pub fn number_of(hypothesis: Hypothesis) -> Result<u32, AllocError>
@@ -35,7 +35,7 @@ pub fn number_of(hypothesis: Hypothesis) -> Result<u32, AllocError>
     }
 }
 
-/// Hypotheses, each as one number. Contracts see the list of the hypotheses.
+/// Hypotheses, each encoded as one number. Contracts see the list of the hypotheses.
 #[derive(Drop)]
 pub struct Hypotheses<'a> {
     numbers: &'a [u32],
@@ -51,7 +51,7 @@ impl<'a> Model for Hypotheses<'a> {
 }
 
 impl<'a> Hypotheses<'a> {
-    /// Returns the hypotheses that these numbers stand for.
+    /// Returns the hypotheses that these numbers encode.
     pub fn new(numbers: &'a [u32]) -> Hypotheses<'a>
         ensures { result ≡ map told numbers.now }
     {
@@ -75,7 +75,7 @@ impl<'a> Hypotheses<'a> {
     }
 }
 
-/// Returns the hypothesis that a number stands for.
+/// Returns the hypothesis that a number encodes.
 #[inline(always)]
 fn hypothesis_of(number: u32) -> Hypothesis
     ensures { result ≡ told number }
@@ -87,7 +87,7 @@ fn hypothesis_of(number: u32) -> Hypothesis
     }
 }
 
-/// An assertion as a verifier reads it, its symbols as numbers.
+/// An assertion as a verifier reads it, with its symbols as numbers.
 #[derive(Drop)]
 pub struct AssertionView<'a> {
     /// The typecode of each mandatory hypothesis, in order.
@@ -96,6 +96,6 @@ pub struct AssertionView<'a> {
     pub hypotheses: Hypotheses<'a>,
     /// The symbols of its expression.
     pub conclusion: &'a [u32],
-    /// The variables whose images must be disjoint, pairwise within a group.
+    /// Groups of variables: any two different ones of a group must have disjoint images.
     pub groups: Groups<'a>,
 }

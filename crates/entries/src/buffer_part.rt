@@ -10,7 +10,7 @@ pub struct BufferPart {
     pub to: u32,
 }
 
-/// Returns an index in 32 bits.
+/// Returns an index as a number of 32 bits.
 ///
 /// Errors: an index of 2^32 or more is reported as a failed allocation.
 pub fn place(at: usize) -> Result<u32, AllocError>

@@ -15,9 +15,9 @@ use std::marker::Model;
 
 /// Statements as numbers. Contracts see the list of them, with plain lists for their parts.
 ///
-/// Inside, a statement is one small record, and the numbers of all stand in one buffer: so what a citation reads of an
-/// assertion is contiguous. Groups, which few assertions have, and the states before, which no citation reads, have buffers
-/// of their own.
+/// Inside, a statement is one small record, and the numbers of all statements are in one buffer, so that a citation reads
+/// contiguous memory. Groups, which few assertions have, and the states before the statements, which no citation reads, have
+/// buffers of their own.
 #[derive(Drop)]
 pub struct Entries {
     records: Vec<StatementRecord>,
@@ -26,7 +26,7 @@ pub struct Entries {
     groups: Vec<BufferPart>,
 }
 
-/// The stored form of one statement: its record, the state before it, its numbers, where its parts stand among them, and
+/// The stored form of one statement: its record, the state before it, its numbers, the layout of its parts among them, and
 /// its groups. A part is read only where it is used.
 #[derive(Clone, Copy, Drop)]
 struct Stored<'a> {
@@ -70,7 +70,7 @@ impl Entries {
         self.records.len()
     }
 
-    /// Returns the statement at an index, from 0.
+    /// Returns the kind and symbols of the statement at an index, from 0, and the state before it.
     #[inline(always)]
     pub fn entry(&self, index: usize) -> EntryRef<'_>
         requires { index < length self.now }
@@ -107,7 +107,7 @@ impl Entries {
         self.stored(index).kept.whole
     }
 
-    /// Returns the parts of the assertion at an index, if they are whole.
+    /// Returns the parts of the assertion at an index, or `None` if they are not whole.
     pub fn cited(&self, index: usize) -> Option<AssertionView<'_>>
         requires { index < length self.now }
         ensures parts { (e : Entry) → slice_get self.now index ≡ Some e → IfSome result (AreWhole e) }
@@ -153,7 +153,7 @@ impl Entries {
 
     /// Appends a statement.
     ///
-    /// Errors: an allocation fails, or the counts no longer fit 32 bits; the list is then as before. Cost: its size.
+    /// Errors: an allocation fails, or a count no longer fits 32 bits; the list is then unchanged. Cost: the statement's size.
     pub fn push(
         &mut self,
         header: EntryHeader,
@@ -209,7 +209,7 @@ impl Entries {
     }
 }
 
-/// Returns the numbers of the statement at an index, whose record is `kept`, and where its parts stand among them.
+/// Returns the numbers of the statement at an index, whose record is `kept`, and the layout of its parts among them.
 #[inline(always)]
 fn run_at<'a>(
     records: &[StatementRecord],
@@ -315,7 +315,7 @@ fn append<T: Copy>(buffer: &mut Vec<T>, items: &[T]) -> Result<(), AllocError>
     Ok(())
 }
 
-/// Reserves room for fifteen times as many items again, so that a growing buffer is seldom copied. Unused room is not touched.
+/// Reserves room for fifteen times as many items again, so that a growing buffer is seldom copied. Unused room is not written.
 /// If that allocation fails, the buffer keeps its room.
 #[cold]
 fn widen<T>(buffer: &mut Vec<T>)

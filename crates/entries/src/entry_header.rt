@@ -1,15 +1,15 @@
-//! The state before a statement, kept beside its parts.
+//! The kind of a statement and the state before it, which are stored apart from its parts.
 use crate::kind::Kind;
 use crate::last_active::LastActive;
 
 /// The state before a statement.
 #[derive(Clone, Copy, Drop)]
 pub struct StateBefore {
-    /// How many labels there were: the number of its own, if it has one.
+    /// How many labels there were: the number of the statement's own label, if it has one.
     pub label: u32,
-    /// How many names there were.
+    /// How many declared symbols there were.
     pub names: u32,
-    /// The last active statements.
+    /// The last active statement of each of four kinds.
     pub last_active: LastActive,
 }
 

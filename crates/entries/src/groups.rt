@@ -1,4 +1,4 @@
-//! Lists of numbers, one after the other.
+//! Lists of numbers, stored in one buffer.
 ghost use Rattle.std.specs.Prelude.{◌≡◌, ◌<◌, length, slice_get, Some};
 ghost use Rattle.entries.specs.Stored.Spans.{cut, AreSpansIn};
 

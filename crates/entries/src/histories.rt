@@ -1,4 +1,4 @@
-//! Stacks of positions by number, with their earlier versions.
+//! A persistent stack of positions for each number: its earlier versions can be read.
 ghost use Rattle.std.specs.Prelude.{◌≡◌, ◌<◌, length, [], OnOk, OnErr};
 ghost use Rattle.{entries.specs.Histories.AreKeptUntil, entries.specs.Histories.AreSame, entries.specs.Histories.AreUntil, entries.specs.Histories.AreWith, entries.specs.Histories.gone_back, entries.specs.Histories.history, entries.specs.Histories.pushed, entries.specs.Histories.stack_at};
 
@@ -10,7 +10,7 @@ use std::marker::Model;
 
 /// A stack of positions for each number, with its earlier versions.
 ///
-/// Contracts see a list that has, by number, the list of its versions. A number beyond the list has none.
+/// Contracts see a list that has, by number, the versions of the stack. A number past its end has none.
 /// Source: Driscoll, Sarnak, Sleator and Tarjan, *Making data structures persistent* (1989).
 #[derive(Drop)]
 pub struct Histories {
@@ -43,9 +43,9 @@ impl Histories {
         }
     }
 
-    /// Puts `at` on top of the stack of a number, unless that stack changed at `at` already.
+    /// Pushes `at` on the stack of a number, unless that stack changed at `at` already.
     ///
-    /// Errors: an allocation fails; everything is then as before. Cost: constant, but for growing tables.
+    /// Errors: an allocation fails; the stacks are then unchanged. Cost: constant, unless a table grows.
     pub fn push(&mut self, number: u32, at: u32) -> Result<(), AllocError>
         requires { AreUntil at self.old }
         ensures pushed { OnOk result (AreWith self.old number (pushed at (history self.old number)) self.new) }
@@ -65,7 +65,7 @@ impl Histories {
 
     /// Restores the stack of a number as it was at `before`, unless that stack changed at `at` already.
     ///
-    /// Errors: an allocation fails; everything is then as before. Cost: a binary search.
+    /// Errors: an allocation fails; the stacks are then unchanged. Cost: a binary search.
     pub fn go_back(&mut self, number: u32, at: u32, before: u32) -> Result<(), AllocError>
         requires { AreUntil at self.old }
         ensures gone_back { OnOk result (AreWith self.old number (gone_back at before (history self.old number)) self.new) }
@@ -97,9 +97,9 @@ impl Histories {
         }
     }
 
-    /// Removes the last numbers from `count` on that have no version, and gives back unused room, as `give_back` does.
+    /// Removes the last numbers that have no version, but none below `count`, and gives back unused room, as `give_back` does.
     ///
-    /// Cost: how many numbers are removed.
+    /// Cost: the count of the numbers that are removed.
     pub fn shrink(&mut self, count: usize)
         ensures { AreSame self.old self.new }
     {
@@ -121,7 +121,7 @@ impl Histories {
     }
 }
 
-/// Removes the last histories as long as they are empty and there are more than `count`.
+/// Removes the last history while it is empty and there are more than `count`.
 fn narrow(histories: &mut Vec<History>, count: usize)
     ensures same { AreSame histories.old.items histories.new.items }
 {
@@ -134,7 +134,7 @@ fn narrow(histories: &mut Vec<History>, count: usize)
     }
 }
 
-/// Makes room for a number.
+/// Appends empty histories until `number` has one.
 fn widen(alloc: Global, histories: &mut Vec<History>, number: usize) -> Result<(), AllocError>
     ensures same { AreSame histories.old.items histories.new.items }
     ensures within { OnOk result (number < length histories.new.items) }

@@ -22,7 +22,7 @@ pub struct Version {
     pub height: u32,
 }
 
-/// Returns a version without positions, made at `since`.
+/// Returns a version with an empty stack, made at `since`.
 pub fn no_positions(since: u32) -> Version
     ensures { (result.since ≡ since) × (result.height ≡ 0) }
 {
@@ -73,9 +73,9 @@ impl History {
         }
     }
 
-    /// Puts `at` on top, unless the last version was made at `at`.
+    /// Pushes `at`, unless the last version was made at `at`.
     ///
-    /// Errors: an allocation fails; everything is then as before.
+    /// Errors: an allocation fails; the history is then unchanged.
     pub fn push(&mut self, at: u32) -> Result<(), AllocError>
         requires { IsUntil at self.old }
         ensures pushed { OnOk result (self.new ≡ pushed at self.old) }
@@ -91,7 +91,7 @@ impl History {
 
     /// Restores the stack as it was at `before`, unless the last version was made at `at`.
     ///
-    /// Errors: an allocation fails; everything is then as before. Cost: a binary search.
+    /// Errors: an allocation fails; the history is then unchanged. Cost: a binary search.
     pub fn go_back(&mut self, at: u32, before: u32) -> Result<(), AllocError>
         requires { IsUntil at self.old }
         ensures gone_back { OnOk result (self.new ≡ gone_back at before self.old) }
@@ -105,7 +105,8 @@ impl History {
         Ok(())
     }
 
-    /// Removes the last version if it was made after `last`, and gives back room if little is left. Returns whether it did.
+    /// Removes the last version if it was made after `last`, and gives back room if little is left. Returns whether a version
+    /// was removed.
     pub fn pop_after(&mut self, last: u32) -> bool
         ensures { (front : List StackVersion) → (v : StackVersion) → self.old ≡ front ++ v ∷ [] → (result ≡ nat_lt last v.since) × (self.new ≡ (if nat_lt last v.since then front else self.old)) }
     {
@@ -141,7 +142,7 @@ impl History {
     }
 }
 
-/// Returns the last version with `at` on top, as made at `at`.
+/// Returns a version made at `at`: the stack of the last version with `at` pushed on it.
 fn above(versions: &[Version], at: u32) -> Result<Version, AllocError>
     requires versions { AreVersions versions.now }
     requires until { IsUntil at (versions_of versions.now) }
@@ -168,7 +169,7 @@ fn above(versions: &[Version], at: u32) -> Result<Version, AllocError>
     })
 }
 
-/// Returns the version that the stack had at `before`, as made at `at`.
+/// Returns a version made at `at`, with the stack as it was at `before`.
 fn again(versions: &[Version], at: u32, before: u32) -> Version
     requires versions { AreVersions versions.now }
     ensures since { result.since ≡ at }

@@ -1,4 +1,4 @@
-//! Where to look for what is active at a position.
+//! The positions from which a search for active statements starts.
 
 /// The last active statement of each of four kinds, by position, or 0 if there is none.
 #[derive(Clone, Copy, Drop)]

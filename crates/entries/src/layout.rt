@@ -1,4 +1,4 @@
-//! Where the parts of a statement stand among its numbers.
+//! The layout of a statement's parts among its numbers.
 ghost use Rattle.std.specs.Prelude.{◌≡◌, ◌≤◌, ◌<◌, ◌^◌, length, IfOk, true};
 ghost use Rattle.{entries.specs.Stored.Records.laid, entries.specs.Stored.Records.layout_in, entries.specs.Stored.Records.counts_of, entries.specs.declared.layout.TheConstants.COUNTS};
 
@@ -6,7 +6,7 @@ use crate::buffer_part::{item, place};
 use crate::parts::AssertionParts;
 use std::alloc::AllocError;
 
-/// How many numbers stand before the parts of an assertion: its counts of hypotheses, symbols, groups and variables of groups.
+/// How many numbers precede the parts of an assertion: its counts of hypotheses, symbols, groups and variables of groups.
 pub const COUNTS: usize = 4;
 
 /// Where each part of a statement begins among its numbers, one after the other, and where the last one ends.
@@ -62,7 +62,7 @@ pub fn assertion_layout(numbers: &[u32]) -> Layout
     )
 }
 
-/// Returns the counts that stand before the parts.
+/// Returns the counts that precede the parts.
 pub fn counts(parts: &AssertionParts<'_>) -> Result<[u32; COUNTS], AllocError>
     ensures { IfOk result (λ counts. counts ≡ counts_of parts.now) }
 {

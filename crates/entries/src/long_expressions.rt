@@ -1,4 +1,4 @@
-//! Where the symbols of long expressions stand, by the index of their statement.
+//! The indexes of each symbol of long expressions, by the index of their statement.
 ghost use Rattle.std.specs.Prelude.{◌≡◌, ◌<◌, ◌++◌, ◌∷◌, [], ℕ, List, nat_eq, nat_lt, Some, None, IfSome, IfNone, OnOk, OnErr};
 ghost use Rattle.std.specs.{List.All, List.filter, Map.lookup};
 ghost use Rattle.entries.specs.SymbolPlaces.{ArePlacesOf, SymbolGroups};
@@ -41,7 +41,7 @@ impl LongExpressions {
         }
     }
 
-    /// Returns the places of the symbols of the expression at an index, or `None` if they are not kept.
+    /// Returns the places of the symbols of the expression at an index, or `None` if the list has none for it.
     ///
     /// Cost: log n for n expressions.
     pub fn get(&self, index: usize) -> Option<&SymbolPlaces>
@@ -56,7 +56,7 @@ impl LongExpressions {
 
     /// Appends the places of the symbols of the expression at an index, which is greater than the earlier ones.
     ///
-    /// Errors: an allocation fails, or the expression has 2^32 symbols or more; the list is then as before.
+    /// Errors: an allocation fails, or the expression has 2^32 symbols or more; the list is then unchanged.
     /// Cost: n log n for n symbols.
     pub fn push(&mut self, index: usize, expr: &[u32]) -> Result<(), AllocError>
         requires { All (λ e. e.0 < index) self.old }
@@ -74,7 +74,7 @@ impl LongExpressions {
         }
     }
 
-    /// Truncates to the expressions of statements with a lower index than `len`. Does not allocate.
+    /// Truncates to the expressions of the statements with an index below `len`. Does not allocate.
     pub fn truncate(&mut self, len: usize)
         ensures { self.new ≡ filter (λ e. nat_lt e.0 len) self.old }
     {

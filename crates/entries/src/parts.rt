@@ -1,18 +1,18 @@
-//! The parts of a statement to be added.
+//! The parts of a statement to be appended.
 use crate::buffer_part::BufferPart;
 
-/// A statement's symbols, and the parts of an assertion. Most other statements have no parts.
+/// A statement's symbols, and its parts: those of an assertion. Most other statements have no parts.
 #[derive(Clone, Copy, Drop)]
 pub struct AssertionParts<'a> {
-    /// Whether these are all hypotheses and groups, or only what the statement adds to what is active.
+    /// Whether these are all of its hypotheses and groups, or only those that it adds to the active ones.
     pub whole: bool,
     /// The numbers of its symbols.
     pub symbols: &'a [u32],
     /// The positions of its hypotheses, in order.
     pub hypotheses: &'a [u32],
-    /// Each of them as one number, by `assertion_view::number_of`.
+    /// Each hypothesis as one number, by `assertion_view::number_of`.
     pub required: &'a [u32],
-    /// The typecode of each.
+    /// The typecode of each hypothesis.
     pub typecodes: &'a [u32],
     /// The variables whose images must be disjoint, one group after another.
     pub places: &'a [u32],

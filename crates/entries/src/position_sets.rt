@@ -1,4 +1,4 @@
-//! Sets of positions, each made from an earlier one.
+//! Sets of positions, each made from earlier ones.
 ghost use Rattle.std.specs.Prelude.{◌≡◌, ℕ, ◌<◌, ◌+◌, ◌^◌, ◌++◌, ◌∷◌, [], length, take, max, slice_get, OnOk, OnErr, IfOk, IfSome, IfNone, Ok, true};
 ghost use Rattle.entries.specs.PositionSets.{Ascends, IsSet, count_below, has_position, set_at, with_position};
 ghost use Rattle.entries.specs.Stored.PositionSets.{IsTop, joined, set_of};
@@ -13,13 +13,13 @@ use std::marker::Model;
 /// The largest number of nodes: sets have numbers of 32 bits.
 const MOST_NODES: usize = 0xffff_fffe;
 
-/// How many times as heavy as the other one side may be. A side weighs one more than it has positions.
+/// One side of a node may weigh at most this many times the other. A side's weight is its number of positions plus one.
 const HEAVIER: usize = 3;
 
-/// A side whose inner part is at least so many times as heavy as its outer part needs two rotations.
+/// A side whose inner part weighs at least this many times its outer part needs a double rotation.
 const INNER: usize = 2;
 
-/// A set that is not empty: a position, and two earlier sets on either side of it.
+/// A set that is not empty: a position, and an earlier set on either side of it.
 #[derive(Clone, Copy, Drop)]
 struct Node {
     /// The set of the positions below.
@@ -27,17 +27,17 @@ struct Node {
     /// The set of the positions above.
     right: u32,
     position: u32,
-    /// How many positions there are in all.
+    /// How many positions the set has.
     count: u32,
 }
 
-/// Sets of positions, each made from an earlier one; they share what they have in common.
+/// Sets of positions, each made from earlier ones, with which it shares nodes.
 ///
-/// A set is known by its number; 0 is the empty set, and so is a number that no set has. Contracts see the list
-/// of the sets by number, each as the list of its positions in ascending order.
+/// A set is known by its number; 0 is the empty set, and a number that no set has is read as the empty set.
+/// Contracts see the list of the sets by number, each as the list of its positions in ascending order.
 ///
-/// Inside, a set is a tree balanced by weight: its height is at most two and a half times the binary logarithm of
-/// its size, whatever positions are put in, and in whatever order.
+/// Inside, a set is a weight-balanced tree: its height is at most 2.5 times the binary logarithm of its size,
+/// whatever positions are inserted, and in whatever order.
 /// Source: Y. Hirai and K. Yamamoto, "Balancing weight-balanced trees", Journal of Functional Programming 21, 2011.
 #[derive(Drop)]
 pub struct PositionSets {
@@ -56,7 +56,7 @@ impl Model for PositionSets {
 }
 
 impl PositionSets {
-    /// Returns the list of the empty set alone. Does not allocate.
+    /// Returns a list that has only the empty set. Does not allocate.
     pub fn new(alloc: Global) -> PositionSets
         ensures { result ≡ [] ∷ [] }
     {
@@ -65,7 +65,7 @@ impl PositionSets {
         }
     }
 
-    /// Returns how many sets there are.
+    /// Returns how many sets there are, with the empty one.
     pub fn size(&self) -> usize
         ensures size { result ≡ length self.now }
         ensures few { result < 2 ^ 32 }
@@ -148,7 +148,7 @@ impl PositionSets {
 
     /// Returns the number of the set with one more position: that of the set itself if it has the position, else a new one.
     ///
-    /// Errors: an allocation fails, or there would be 2^32 sets; all sets are then as before.
+    /// Errors: an allocation fails, or there would be 2^32 sets; the sets are then unchanged.
     /// Cost: the logarithm of the set's size, in time and in memory.
     pub fn insert(&mut self, set: u32, position: u32) -> Result<u32, AllocError>
         ensures inserted { IfOk result (IsSet self.new (with_position position (set_at self.old set))) }
@@ -170,7 +170,7 @@ impl PositionSets {
 
     /// Makes the set of these positions, and returns its number.
     ///
-    /// Errors: an allocation fails, or there would be 2^32 sets; all sets are then as before.
+    /// Errors: an allocation fails, or there would be 2^32 sets; the sets are then unchanged.
     /// Cost: the number of positions, in time and in memory.
     pub fn of_ascending(&mut self, positions: &[u32]) -> Result<u32, AllocError>
         requires { Ascends positions.now }
@@ -201,7 +201,7 @@ impl PositionSets {
         give_back(&mut self.nodes);
     }
 
-    /// Returns the node of a set that is not empty.
+    /// Returns the node of a set, or `None` if the set is empty.
     fn top(&self, set: u32) -> Option<Node>
         ensures some { IfSome result (IsTop self.now set) }
         ensures none { IfNone result (set_at self.now set ≡ []) }
@@ -214,7 +214,7 @@ impl PositionSets {
         Some(item(nodes, set as usize - 1))
     }
 
-    /// Makes the set with one more position, with copies of the nodes on the way to it.
+    /// Makes the set with one more position, copying the nodes on the path to it.
     fn put_in(&mut self, set: u32, position: u32) -> Result<u32, AllocError>
         ensures made { IfOk result (IsSet self.new (with_position position (set_at self.old set))) }
         ensures more { Extends self.old self.new }
@@ -235,7 +235,7 @@ impl PositionSets {
         }
     }
 
-    /// Makes the set of these positions by halves.
+    /// Makes the set of these positions, as the sets of their halves around the middle one.
     fn halve(&mut self, positions: &[u32]) -> Result<u32, AllocError>
         requires empty { IsSet self.old [] 0 }
         requires ascends { Ascends positions.now }
@@ -252,7 +252,7 @@ impl PositionSets {
         self.join(left, positions[middle], right)
     }
 
-    /// Makes the set of both and a position between, if one side may be too heavy by one position.
+    /// Makes the union of two sets and the position between them, where one side may be too heavy by one position.
     fn balance(&mut self, left: u32, position: u32, right: u32) -> Result<u32, AllocError>
         requires left { left < length self.old }
         requires right { right < length self.old }
@@ -275,7 +275,7 @@ impl PositionSets {
         self.join(left, position, right)
     }
 
-    /// Makes the set of both and a position between by a rotation to the left, or two.
+    /// Makes the union of two sets and the position between them by a single or double rotation to the left.
     fn rotate_left(&mut self, left: u32, position: u32, right: Node) -> Result<u32, AllocError>
         requires left { left < length self.old }
         requires inner { right.left < length self.old }
@@ -296,7 +296,7 @@ impl PositionSets {
         self.join(below, right.position, right.right)
     }
 
-    /// Makes the set of both and a position between by a rotation to the right, or two.
+    /// Makes the union of two sets and the position between them by a single or double rotation to the right.
     fn rotate_right(&mut self, left: Node, position: u32, right: u32) -> Result<u32, AllocError>
         requires outer { left.left < length self.old }
         requires inner { left.right < length self.old }
@@ -317,7 +317,7 @@ impl PositionSets {
         self.join(left.left, left.position, above)
     }
 
-    /// Makes the set of both and a position between, as one node.
+    /// Makes the union of two sets and the position between them, as one node.
     fn join(&mut self, left: u32, position: u32, right: u32) -> Result<u32, AllocError>
         requires left { left < length self.old }
         requires right { right < length self.old }

@@ -1,11 +1,11 @@
-//! A stack of positions that is read from the last one back.
+//! A stack of positions that is read from the top down.
 ghost use Rattle.std.specs.Prelude.{◌≡◌, ◌∷◌, [], length, slice_get, true, ◌==◌, IfSome, IfNone};
 ghost use Rattle.{entries.specs.Stored.Versions.IsReadable, entries.specs.Stored.Versions.stack_of, entries.specs.Stored.Versions.versions_of};
 
 use crate::history::{Version, no_positions};
 use std::marker::Model;
 
-/// A stack of positions, as it was at some position. Contracts see the list of its positions, from the last one back.
+/// A stack of positions, as it was at some position. Contracts see the list of its positions, the last one first.
 #[derive(Drop)]
 pub struct PositionStack<'a> {
     before: &'a [Version],
@@ -24,7 +24,7 @@ impl<'a> Model for PositionStack<'a> {
 }
 
 impl<'a> PositionStack<'a> {
-    /// Returns a stack without positions.
+    /// Returns an empty stack.
     pub fn empty() -> PositionStack<'a>
         ensures { result ≡ [] }
     {

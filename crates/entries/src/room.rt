@@ -1,11 +1,11 @@
-//! Gives back the room of items that were removed from a list.
+//! Gives back the capacity that a list no longer uses.
 ghost use Rattle.std.specs.Prelude.{◌≡◌};
 
-/// Shrinks a list to room for twice its items if it has room for more than four times as many. Keeps its room if no smaller
-/// block can be allocated.
+/// Shrinks the capacity of a list to twice its length if it is more than four times its length. Keeps the capacity if no
+/// smaller block can be allocated.
 ///
-/// Cost: the list's length; amortized, a constant for each item that was appended or removed. Removing a few items of many
-/// copies nothing.
+/// Cost: the list's length; amortized, a constant for each item that was appended or removed. After a few items of many are
+/// removed, nothing is copied.
 pub fn give_back<T>(list: &mut Vec<T>)
     ensures { list.new.items ≡ list.old.items }
 {

@@ -1,4 +1,4 @@
-//! Where each symbol of an expression stands.
+//! The indexes at which each symbol of an expression occurs.
 ghost use Rattle.std.specs.Prelude.{◌≡◌, ◌≢◌, ◌+◌, ◌<◌, true, false, length, map, slice_index, IfOk};
 ghost use Rattle.entries.specs.{SymbolPlaces.ArePlacesOf, Stored.Keys.symbol_of, Stored.Keys.symbol_at, Stored.Keys.index_of, Stored.Keys.AreKeys, Stored.Keys.AreKeysOf, Stored.Keys.AreRuns};
 
@@ -7,13 +7,13 @@ use crate::groups::Groups;
 use std::alloc::{AllocError, Global};
 use std::marker::Model;
 
-/// The largest number of indexes: a key is a symbol times this, plus its index.
+/// Each index is less than this. A key is a symbol times this, plus its index.
 const INDEXES: u64 = 4_294_967_296;
 
 /// The indexes of an expression's symbols, grouped by symbol, the least symbol first. Contracts see the list of the distinct
-/// symbols and the list of their groups, each the ascending list of the indexes at which one symbol stands.
+/// symbols and the list of their groups, each the ascending list of the indexes at which one symbol occurs.
 ///
-/// Cost: four bytes for each symbol of the expression, and twelve for each distinct one.
+/// Memory: four bytes for each symbol of the expression, and twelve for each distinct one.
 #[derive(Drop)]
 pub struct SymbolPlaces {
     symbols: Vec<u32>,
@@ -81,7 +81,8 @@ fn keys_of(alloc: Global, expr: &[u32]) -> Result<Vec<u64>, AllocError>
     Ok(keys)
 }
 
-/// Returns the keys in ascending order. No two are equal, so `dedup` removes none: by its contract each is below the next.
+/// Returns the keys in ascending order. No two are equal, so `dedup` removes none: its contract gives that each key is less
+/// than the next.
 fn ordered_keys(alloc: Global, expr: &[u32]) -> Result<Vec<u64>, AllocError>
     ensures { IfOk result (λ keys. AreKeysOf expr.now keys.items) }
 {
@@ -103,7 +104,7 @@ fn is_last(keys: &[u64], at: usize) -> bool
     }
 }
 
-/// Returns the runs of keys of one symbol, in order.
+/// Returns the runs of keys with the same symbol, in order.
 fn runs_of(alloc: Global, keys: &[u64]) -> Result<Vec<BufferPart>, AllocError>
     ensures { IfOk result (λ runs. AreRuns keys.now 0 (length keys.now) runs.items) }
 {
@@ -118,7 +119,7 @@ fn runs_of(alloc: Global, keys: &[u64]) -> Result<Vec<BufferPart>, AllocError>
     Ok(runs)
 }
 
-/// Returns the symbol of the keys of a part.
+/// Returns the symbol of the first key of a part.
 fn symbol_of_part(keys: &[u64], part: BufferPart) -> u32
     ensures { result ≡ symbol_at keys.now part }
 {

@@ -1,11 +1,11 @@
--- Names by number: the code of a name is the index at which it stands first in a list of names.
--- Source: this project's form of keeping names.
+-- Names by number: the code of a name is the index of its first occurrence in a list of names.
+-- Source: this project's form.
 -- The code looks a name up in a table of keys; the model has the list of names.
 use Rattle.std.specs.Prelude.{◌≡◌, ℕ, zero, suc, true, false, IsTrue, nat_lt, List, [], ◌∷◌, ◌++◌, length, map, position, Option, if◌then◌else◌}
 use Rattle.std.specs.List.{list_all, position_or_len}
 use Rattle.mm_lex.specs.Alphabet.{Name, name_eq, has_name}
 
--- the name of a code, and no name past the end
+-- the name of a code, or the empty name past the end
 abbrev pub name_at : List Name → ℕ → Name
 name_at [] n = []
 name_at (x ∷ names) zero = x
@@ -21,7 +21,7 @@ AreCodes names codes = IsTrue (list_all (λ n. nat_lt n (length names)) codes)
 abbrev pub code_of : List Name → Name → Option ℕ
 code_of names x = position (name_eq x) names
 
--- the names after one is given a code: a new name goes last
+-- the names with one appended, if it is new
 abbrev pub with_name : List Name → Name → List Name
 with_name names x = if has_name x names then names else names ++ x ∷ []
 
@@ -29,12 +29,12 @@ abbrev pub with_names : List Name → List Name → List Name
 with_names names [] = names
 with_names names (x ∷ xs) = with_names (with_name names x) xs
 
--- no two codes stand for one name
+-- the names are distinct
 abbrev pub AreDistinct : List Name → Type 0
 AreDistinct [] = Unit {0}
 AreDistinct (x ∷ names) = (has_name x names ≡ false) × AreDistinct names
 
--- the code of a name, or one above the last if it has none
+-- the code of a name, or the number of names if it has none
 abbrev pub number_in : List Name → Name → ℕ
 number_in names x = position_or_len (name_eq x) names
 

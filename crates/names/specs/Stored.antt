@@ -1,4 +1,4 @@
--- How names are kept: keys, the table of slots, the overflow, and the texts. No public clause cites it.
+-- How names are stored: keys, the table of slots, the overflow, and the texts. No public clause cites these.
 pub mod Keys
 pub mod Overflow
 pub mod Table

@@ -13,8 +13,8 @@ use crate::texts::Texts;
 use entries::give_back;
 use std::alloc::{AllocError, Global};
 
-/// The key of each name that stands in the table, and `APART` for one that stands in the overflow. Keys after
-/// that of the last name have no meaning.
+/// The key of each name by its number, or `APART` if the name is in the overflow. Keys after that of the last name
+/// have no meaning.
 #[derive(Drop)]
 pub struct Kept {
     pub keys: Vec<u64>,
@@ -22,7 +22,7 @@ pub struct Kept {
 }
 
 impl Kept {
-    /// Returns the keys of no names.
+    /// Returns an empty list of keys and an empty overflow.
     pub(crate) fn new(alloc: Global) -> Kept {
         Kept {
             keys: Vec::new(alloc),
@@ -30,7 +30,7 @@ impl Kept {
         }
     }
 
-    /// Returns the keys of texts, none of which is in the overflow.
+    /// Returns the keys of the texts, with an empty overflow.
     pub(crate) fn of(alloc: Global, texts: &Texts) -> Result<Kept, AllocError>
         ensures { IfOk result (λ kept. AreKept kept texts.now) }
     {
@@ -41,7 +41,7 @@ impl Kept {
         Ok(kept)
     }
 
-    /// Returns whether the name of a number has this key, and stands in the table.
+    /// Returns whether the name of a number has this key, and is not in the overflow.
     pub(crate) fn has(&self, texts: &Texts, number: u32, key: u64) -> bool
         requires kept { AreKept self.now texts.now }
         requires own { key ≢ APART }
@@ -64,7 +64,7 @@ impl Kept {
         Ok(())
     }
 
-    /// Makes room for the keys of `more` names, if allocation succeeds.
+    /// Reserves room for the keys of `more` names, if allocation succeeds.
     pub(crate) fn reserve(&mut self, more: usize)
         ensures keys { self.new.keys.items ≡ self.old.keys.items }
         ensures overflow { self.new.overflow ≡ self.old.overflow }
@@ -72,7 +72,7 @@ impl Kept {
         let _ = self.keys.reserve(more);
     }
 
-    /// Puts a name that stands in the table into the overflow.
+    /// Moves a name for which the table has no free slot into the overflow.
     pub(crate) fn put_in_overflow(
         &mut self,
         alloc: Global,
@@ -102,7 +102,7 @@ impl Kept {
         give_back(&mut self.keys);
     }
 
-    /// Removes the names from the number `len` on from the overflow.
+    /// Removes the names with the number `len` or a greater one from the overflow.
     pub(crate) fn truncate(&mut self, texts: &Texts, len: usize)
         requires kept { AreKept self.old texts.now }
         requires distinct { AreDistinct texts.now }

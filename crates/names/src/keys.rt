@@ -1,17 +1,17 @@
-//! A 64-bit key for each name, which distinguishes most names.
+//! A 64-bit key for each name: all bytes of a short name, a hash of a longer one.
 ghost use Rattle.std.specs.Prelude.{◌≡◌, ◌≢◌, ◌+◌, ◌*◌, ◌^◌, ◌<◌, ◌≤◌, length};
 ghost use Rattle.names.specs.Stored.Keys.{AreBytes, digits, picked, eight, spread_of, mixed, key_of};
 
-/// From this length on the key of a name is a hint, which other names may share. A shorter name shares its key with no other.
+/// The least length of a name whose key is a hash, which other names may share. A shorter name shares its key with no other.
 pub(crate) const LONG: usize = 8;
 
-/// Hints are the numbers from this one on.
+/// The least hash. Keys of short names are lower.
 const HINTS: u64 = 0x8000_0000_0000_0000;
 
-/// An odd number whose bits are spread evenly: 2^64 by the golden ratio.
+/// 2^64 divided by the golden ratio, rounded to an odd number: its bits are spread evenly.
 const FACTOR: u64 = 0x9e37_79b9_7f4a_7c15;
 
-/// No name has this key.
+/// Marks a name in the overflow. No name has this key.
 pub(crate) const APART: u64 = 0x7fff_ffff_ffff_ffff;
 
 /// Returns the key of a name.
@@ -77,7 +77,7 @@ fn eight_bytes(name: &[u8], at: usize) -> u64
     digit(name[at], digit(name[at + 1], digit(name[at + 2], middle)))
 }
 
-/// Returns a byte with other bytes above it.
+/// Returns a number with this lowest byte, and the others above it.
 fn digit(byte: u8, above: u64) -> u64
     requires { above < 2 ^ 56 }
     ensures { result ≡ byte + 256 * above }
@@ -85,7 +85,8 @@ fn digit(byte: u8, above: u64) -> u64
     byte as u64 + 256 * above
 }
 
-/// Returns the hint of a longer name, which mixes its length and its bytes by eights; the last eight may overlap those before.
+/// Returns the hash of a name of eight bytes or more: of its length and of its bytes, eight at a time. The last eight may
+/// overlap the ones before.
 pub(crate) fn hint(name: &[u8]) -> u64
     requires { LONG ≤ length name.now }
     ensures key { result ≡ key_of name.now }
@@ -99,7 +100,7 @@ pub(crate) fn hint(name: &[u8]) -> u64
     mix(front, eight_bytes(name, len - 8)) % HINTS + HINTS
 }
 
-/// Returns the hint with eight more bytes mixed in.
+/// Returns the hash with eight more bytes mixed in.
 fn mix(hint: u64, bytes: u64) -> u64
     ensures { result ≡ mixed hint bytes }
 {

@@ -1,4 +1,4 @@
-//! Names by number, and the number of each name.
+//! The list of names, which also finds the code of a name.
 ghost use Rattle.std.specs.Prelude.{◌≡◌, ◌<◌, ◌≤◌, ◌^◌, [], ◌∷◌, ◌++◌, length, take, IfOk, IfSome, OnOk, OnErr, false};
 ghost use Rattle.mm_lex.specs.Alphabet.{has_name};
 ghost use Rattle.names.specs.Codes.{name_at, code_of, AreDistinct};
@@ -12,8 +12,8 @@ use std::marker::Model;
 
 /// A list of distinct names. The code of a name is its index. Contracts see the list.
 ///
-/// The bytes of all names stand in one buffer. A table maps a name's key to its code; a name of at most seven bytes shares its
-/// key with no other. A name that finds no free slot within 32 steps goes into a sorted overflow.
+/// The bytes of all names are in one buffer. A hash table maps a name's key to its code; a name of at most seven bytes shares
+/// its key with no other. A name that finds no free slot within 32 steps goes into a sorted overflow.
 #[derive(Drop)]
 pub struct NameTable {
     texts: Texts,
@@ -75,7 +75,7 @@ impl NameTable {
 
     /// Returns the code of a name, or `None` if it has none.
     ///
-    /// Cost: one pass over the name and 32 slots of the table at most; if it is not found there, also the logarithm of the
+    /// Cost: one pass over the name and at most 32 slots of the table; if it is not found there, also the logarithm of the
     /// number of names in the overflow, in comparisons.
     #[inline(always)]
     pub fn find(&self, name: &[u8]) -> Option<usize>
@@ -97,7 +97,7 @@ impl NameTable {
 
     /// Returns the code of a name, and appends the name if it has none.
     ///
-    /// Errors: an allocation fails, or there are 2^32 - 1 names already; the list is then as before.
+    /// Errors: an allocation fails, or there are 2^32 - 1 names already; the list is then unchanged.
     pub fn code(&mut self, alloc: Global, name: &[u8]) -> Result<usize, AllocError>
         ensures name { IfOk result (λ n. (n < length self.new) × (name_at self.new n ≡ name.now)) }
         ensures known { IfOk result (λ n. n < length self.old → self.new ≡ self.old) }
@@ -116,7 +116,7 @@ impl NameTable {
 
     /// Appends a name that is not in the list, and returns its code.
     ///
-    /// Errors: an allocation fails, or there are 2^32 - 1 names already; the list is then as before. Cost: that of `find`; the
+    /// Errors: an allocation fails, or there are 2^32 - 1 names already; the list is then unchanged. Cost: that of `find`; the
     /// number of names if the table grows.
     pub fn add(&mut self, alloc: Global, name: &[u8]) -> Result<usize, AllocError>
         requires { has_name name.now self.old ≡ false }
@@ -147,7 +147,7 @@ impl NameTable {
         Ok(code)
     }
 
-    /// Makes room for `more` names, if allocation succeeds: no new table is made while they are added.
+    /// Reserves room for `more` names, if allocation succeeds, so that adding them makes no new table.
     pub fn reserve(&mut self, alloc: Global, more: usize)
         ensures { self.new ≡ self.old }
     {

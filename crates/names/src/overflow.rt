@@ -8,8 +8,8 @@ use crate::keys::{LONG, key};
 use std::alloc::{AllocError, Global};
 use std::collections::BTreeMap;
 
-/// The numbers of names, of short ones by their keys and of others by their bytes, in sorted maps: a look-up compares a name
-/// with few others, whatever names an author picks.
+/// Sorted maps to the numbers of names, from the keys of short names and from the bytes of others: a look-up compares a name
+/// with few others, even if an adversary chose the names.
 #[derive(Drop)]
 pub struct Overflow {
     pub short: BTreeMap<u64, u32>,
@@ -25,14 +25,14 @@ impl Overflow {
         }
     }
 
-    /// Returns whether no name is there.
+    /// Returns whether the overflow has no name.
     pub(crate) fn is_empty(&self) -> bool
         ensures { IsTrue result → (x : Name) → number_of self.now x ≡ None }
     {
         self.short.is_empty() && self.long.is_empty()
     }
 
-    /// Returns the number of a name, or `None` if it is not there.
+    /// Returns the number of a name, or `None` if it is not in the overflow.
     pub(crate) fn get(&self, name: &[u8]) -> Option<u32>
         ensures { result ≡ number_of self.now name.now }
     {

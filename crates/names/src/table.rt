@@ -1,4 +1,4 @@
-//! The table in which the codes of names are found; it calls them numbers.
+//! The hash table in which the codes of names are found. Here they are called numbers.
 ghost use Rattle.std.specs.Prelude.{◌≡◌, ◌≢◌, ◌+◌, ◌⊎◌, ℕ, ◌<◌, ◌≤◌, ◌^◌, [], length, get_or, IfOk, OnOk, IfSome, None, true, false};
 ghost use Rattle.mm_lex.specs.Alphabet.{Name};
 ghost use Rattle.names.specs.Codes.{name_at, code_of, AreDistinct};
@@ -17,13 +17,13 @@ use std::alloc::{AllocError, Global};
 /// Marks a free slot.
 pub(crate) const NO_NAME: u32 = 4294967295;
 
-/// How many slots are looked at for one name. If none of them is free, the name goes into the overflow.
+/// How many slots are probed for one name. If none of them is free, the name goes into the overflow.
 pub(crate) const REACH: usize = 32;
 
 /// How many slots the first table has.
 pub(crate) const FIRST_SLOTS: usize = 16;
 
-/// How many values half a key has.
+/// How many values the half of a key can have.
 const HALVES: u64 = 0x1_0000_0000;
 
 /// The lower half of the key of a name, and the number of the name, or `NO_NAME`. `Kept` has the whole key.
@@ -50,8 +50,8 @@ pub(crate) fn make_slot(key: u64, number: u32) -> Slot
     }
 }
 
-/// Returns the index of the slot that a step looks at: the first by the key's spread; the nth further step goes on by n slots.
-/// `len` is a power of two.
+/// Returns the index of the slot that a step probes: step 0 by `spread` of the key, and step n at n slots after the one of
+/// step n - 1. `len` is a power of two.
 fn place(key: u64, step: usize, len: usize) -> usize
     requires some { 0 < len }
     requires near { step < REACH }
@@ -61,7 +61,7 @@ fn place(key: u64, step: usize, len: usize) -> usize
     (spread(key) as usize).wrapping_add(step * (step + 1) / 2) & (len - 1)
 }
 
-/// Returns the largest number of steps of a search.
+/// Returns how many steps a search takes at most.
 fn steps(len: usize) -> usize
     ensures within { result ≤ len }
     ensures near { result ≤ REACH }
@@ -70,7 +70,7 @@ fn steps(len: usize) -> usize
     if len < REACH { len } else { REACH }
 }
 
-/// Returns the slot that a step looks at.
+/// Returns the slot that a step probes.
 fn look(slots: &[Slot], key: u64, step: usize) -> Slot
     requires within { step < length slots.now }
     requires near { step < REACH }
@@ -79,7 +79,7 @@ fn look(slots: &[Slot], key: u64, step: usize) -> Slot
     item(slots, place(key, step, slots.len()))
 }
 
-/// Returns the number of a name, or `None` if it has none. Most short names stand in the first slot, and no text is read.
+/// Returns the number of a name, or `None` if it has none. Most short names are in the first slot, so that no text is read.
 #[inline(always)]
 pub(crate) fn search(slots: &[Slot], kept: &Kept, texts: &Texts, name: &[u8]) -> Option<usize>
     requires found { AreFound slots.now kept.now.overflow texts.now }
@@ -102,7 +102,7 @@ pub(crate) fn search(slots: &[Slot], kept: &Kept, texts: &Texts, name: &[u8]) ->
     search_on(slots, kept, texts, name)
 }
 
-/// Returns the number of a name, quickly for a long one that stands in the first slot.
+/// Returns the number of a name, quickly if it is long and in the first slot.
 #[inline(never)]
 fn search_long(slots: &[Slot], kept: &Kept, texts: &Texts, name: &[u8]) -> Option<usize>
     requires found { AreFound slots.now kept.now.overflow texts.now }
@@ -125,7 +125,7 @@ fn search_long(slots: &[Slot], kept: &Kept, texts: &Texts, name: &[u8]) -> Optio
     search_on(slots, kept, texts, name)
 }
 
-/// Returns the number of a name, searching slot by slot.
+/// Returns the number of a name by a search slot by slot.
 #[inline(never)]
 fn search_on(slots: &[Slot], kept: &Kept, texts: &Texts, name: &[u8]) -> Option<usize>
     requires found { AreFound slots.now kept.now.overflow texts.now }
@@ -148,7 +148,7 @@ fn search_on(slots: &[Slot], kept: &Kept, texts: &Texts, name: &[u8]) -> Option<
     search_apart(&kept.overflow, texts, name)
 }
 
-/// Returns whether a name whose first slot is this one has no number.
+/// Returns whether the slot is free and the overflow empty: a name whose first slot this is then has no number.
 fn is_end(slot: Slot, kept: &Kept) -> bool
     ensures { result ≡ true → (slot.number ≡ NO_NAME) × ((x : Name) → number_of kept.now.overflow x ≡ None) }
 {
@@ -266,8 +266,8 @@ fn free_slots(alloc: Global, count: usize) -> Result<Vec<Slot>, AllocError>
     Ok(slots)
 }
 
-/// Returns the length of a table of which `count` texts and as many again, or `more` if that is greater, take at most seven
-/// eighths.
+/// Returns the length of a table with room for `count` texts and as many again, or `more` if that is greater, in seven eighths
+/// of its slots.
 fn slots_for(count: usize, more: usize) -> usize {
     let texts = count.saturating_add(count.max(more));
     let wanted = texts.saturating_add(texts.div_ceil(7)).max(FIRST_SLOTS);

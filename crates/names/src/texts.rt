@@ -36,7 +36,7 @@ impl Texts {
         }
     }
 
-    /// Returns the same texts.
+    /// Returns an equal list.
     pub(crate) fn copy(&self, alloc: Global) -> Result<Texts, AllocError>
         ensures { IfOk result (λ texts. texts ≡ self.now) }
     {
@@ -76,7 +76,7 @@ impl Texts {
         Ok(())
     }
 
-    /// Makes room for `more` texts, though not for their bytes, if allocation succeeds.
+    /// Reserves room for `more` texts, but not for their bytes, if allocation succeeds.
     pub(crate) fn reserve(&mut self, more: usize)
         ensures { self.new ≡ self.old }
     {

@@ -1,6 +1,6 @@
 -- The names of labels as a set.
 -- Source: this project's form.
--- The code makes the set of the mandatory labels before it looks listed labels up among them.
+-- The code makes the set of the mandatory labels once, and then looks up each listed label in it.
 use Rattle.std.specs.Prelude.{◌≡◌, List}
 use Rattle.std.specs.BTreeSet.{BTreeSet, contains}
 use Rattle.std.specs.Ordering.{nat_cmp}

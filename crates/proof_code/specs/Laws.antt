@@ -1,4 +1,4 @@
--- Laws above the definitions.
+-- Laws about the definitions.
 -- Source: Metamath, 4.3 and appendix B.
 -- The code does nothing here: each law is the contract of a function without parameters.
 use Rattle.std.specs.Prelude.{◌≡◌, ℕ, ◌↔◌, ◌⊎◌, IsTrue, List, Some}
@@ -7,7 +7,7 @@ use Rattle.proof_code.specs.declared.item.Item.{Item}
 use Rattle.proof_code.specs.Letters.{IsNumber, number_of}
 use Rattle.proof_code.specs.Writes.{is_unfinished, Writes, IsMalformed}
 
--- a word's place in the order of all words is what the formula of base 5 and base 20 gives
+-- a word's place in the order of all words is the number that the formula in base 5 and base 20 gives
 abbrev pub NumbersByFormula : Type 0
 NumbersByFormula = (word : Name) (n : ℕ) → IsNumber word n ↔ (number_of word ≡ Some n)
 

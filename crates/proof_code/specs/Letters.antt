@@ -4,7 +4,7 @@
 use Rattle.std.specs.Prelude.{◌≡◌, ℕ, zero, suc, ◌+◌, ◌-◌, ◌*◌, Bool, ◌&&◌, nat_le, if◌then◌else◌, List, [], ◌∷◌, ◌++◌, map, flat_map, length, Option, Some, None, slice_get, codes}
 use Rattle.mm_lex.specs.Alphabet.{Name, is_empty}
 
--- the letters that end a word, and those that stand before the end
+-- the letters that end a word, and those before its last letter
 abbrev pub last_letters : List ℕ
 last_letters = codes "ABCDEFGHIJKLMNOPQRST"
 
@@ -26,14 +26,15 @@ abbrev pub IsNumber : Name → ℕ → Type 0
 IsNumber word zero = ⊥
 IsNumber word (suc n) = slice_get (words_below (length word)) n ≡ Some word
 
--- whether the letter is A to T, and U to Y
+-- whether the letter is A to T (`is_last`), and whether it is U to Y (`is_first`)
 abbrev pub is_last : ℕ → Bool
 is_last letter = nat_le 65 letter && nat_le letter 84
 
 abbrev pub is_first : ℕ → Bool
 is_first letter = nat_le 85 letter && nat_le letter 89
 
--- the number by the formula, if the letters before come to n: U to Y count 1 to 5 in base 5, A to T then 1 to 20 in base 20
+-- the number by the formula, if the letters before have the value n: U to Y are the digits 1 to 5 in base 5, and A to T are
+-- 1 to 20 in base 20
 abbrev pub number_from : ℕ → Name → Option ℕ
 number_from n [] = None
 number_from n (letter ∷ word) =

@@ -1,16 +1,16 @@
--- The listed labels of a compressed proof, byte by byte, for the private functions.
+-- The count of the listed labels of a compressed proof, byte by byte, for the clauses of private functions.
 -- Source: Metamath, appendix B.
--- This is the code's way to count; that it counts what `header_of` reads is proved in ListingLemmas.
+-- The code counts in this way; ListingLemmas proves that this counts the labels that `header_of` reads.
 use Rattle.std.specs.Prelude.{ℕ, ◌+◌, Bool, true, false, ◌&&◌, ◌||◌, ◌==◌, if◌then◌else◌, List, [], ◌∷◌, Option, Some, None}
 use Rattle.std.specs.List.{list_all}
 use Rattle.std.specs.Option.{option_map}
 use Rattle.mm_lex.specs.Alphabet.{is_label_byte}
 
--- a byte of a label, a space, or another
+-- 0 for a byte of a label, 1 for a space, 2 for any other
 abbrev pub class_of : ℕ → ℕ
 class_of b = if is_label_byte b then 0 else (if b == 32 then 1 else 2)
 
--- bytes of labels and spaces
+-- a byte of a label or a space
 abbrev pub is_listed : ℕ → Bool
 is_listed b = is_label_byte b || (b == 32)
 
@@ -26,7 +26,7 @@ letters_from (b ∷ c ∷ letters) = if (b == 41) && (c == 32) then Some letters
 abbrev pub more_labels : ℕ → Option (ℕ × List ℕ) → Option (ℕ × List ℕ)
 more_labels n found = option_map (λ f. (n + f.0, f.1)) found
 
--- no labels before the letters
+-- no more labels before the letters, if a word begins here
 abbrev pub after_none : Bool → Option (List ℕ) → Option (ℕ × List ℕ)
 after_none fresh letters = if fresh then option_map (λ l. (0, l)) letters else None
 

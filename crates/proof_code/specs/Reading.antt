@@ -1,4 +1,4 @@
--- A compressed proof that is read: what one byte of the letters does, and what the whole proof writes.
+-- How a compressed proof is read: the effect of one byte of the letters, and the items that the whole proof writes.
 -- Source: Metamath, appendix B.
 -- The code reads without the mandatory labels: the caller tests whether a listed label is one of them.
 use Rattle.std.specs.Prelude.{◌≡◌, ℕ, ◌+◌, ◌-◌, ◌*◌, ◌^◌, ◌≤◌, ◌==◌, Bool, true, false, IsTrue, IsFalse, if◌then◌else◌, List, [], ◌∷◌, ◌++◌, length, Option, Some, None}
@@ -20,13 +20,13 @@ abbrev pub ended : Option Letter → List ℕ
 ended None = []
 ended (Some letter) = if letter.ends == 1 then letter.value ∷ [] else []
 
--- the effect of one byte on limit and digits, and the numbers that it ends, whatever text follows
+-- one byte changes the limit and the digits in this way, and ends these numbers, whatever text follows
 abbrev pub TakesByte : ℕ → ℕ → ℕ → List ℕ → ℕ → ℕ → Type 0
 TakesByte limit digits byte numbers limit' digits' =
     (text : List ℕ) → numbers_from limit digits (letters_of (byte ∷ text)) ≡ before_rest numbers (numbers_from limit' digits' (letters_of text))
 
--- the value of the digits with a letter A to Z after them, and whether it ends a number; for a mark the value is 0, or, after
--- digits, more than any limit
+-- the value of the digits with a letter A to Z after them, and whether it ends a number; for a mark the value is 0, or more
+-- than any limit if there are digits
 pub record IsLetter (letter digits value : ℕ) (ends : Bool) : Type 0 where
   pub last : letter ≤ 84 → (value ≡ 20 * digits + (letter - 64)) × (ends ≡ true)
   pub first : 85 ≤ letter → letter ≤ 89 → (value ≡ 5 * digits + (letter - 84)) × (ends ≡ false)
@@ -36,8 +36,8 @@ pub record IsLetter (letter digits value : ℕ) (ends : Bool) : Type 0 where
 abbrev pub share_label : List Name → List Name → Bool
 share_label mandatory listed = list_any (λ label. has_name label mandatory) listed
 
--- the proof lists the first `count` of the words, and under any mandatory labels of this count it writes the items of the
--- numbers if none of them is listed, else nothing
+-- the proof lists the first `count` of the words, and for any mandatory labels, as many as given, it writes the items of the
+-- numbers if none of these labels is listed, and no items if one is
 pub record IsHeading (tokens : List Name) (mandatory : ℕ) (words : List Name) (count : ℕ) (numbers : List ℕ) : Type 0 where
   pub listed : List Name
   pub rest : List Name

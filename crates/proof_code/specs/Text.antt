@@ -1,6 +1,6 @@
--- Tokens read from left to right, for the private functions.
+-- Tokens read from left to right, for the clauses of private functions.
 -- Source: Metamath, appendix B.
--- This is the code's way to read; that it gives what `Writes` says is proved in LetterItemLemmas and WritesLemmas.
+-- The code reads in this way; LetterItemLemmas and WritesLemmas prove that this gives the items of `Writes`.
 use Rattle.std.specs.Prelude.{ℕ, ◌+◌, ◌-◌, ◌*◌, Bool, false, ◌&&◌, ◌==◌, nat_le, if◌then◌else◌, List, [], ◌∷◌, Option, Some, None}
 use Rattle.std.specs.Option.{option_map}
 use Rattle.mm_lex.specs.Alphabet.{Name, name_eq, is_label}
@@ -16,11 +16,11 @@ abbrev pub starts_with_mark : List ℕ → Bool
 starts_with_mark [] = false
 starts_with_mark (letter ∷ letters) = letter == 90
 
--- a number that is not over the limit, before the others
+-- a number in front of the others, if it is not over the limit
 abbrev pub with_number : ℕ → ℕ → Option (List ℕ) → Option (List ℕ)
 with_number limit number rest = if nat_le number limit then option_map (λ numbers. number ∷ numbers) rest else None
 
--- the numbers of the letters, 0 for a mark, if the letters U to Y of the word that is begun come to `digits`
+-- the numbers of the letters, 0 for a mark, if the letters U to Y read so far of this word have the value `digits`
 abbrev pub numbers_from : ℕ → ℕ → List ℕ → Option (List ℕ)
 numbers_from limit digits [] = if digits == 0 then Some [] else None
 numbers_from limit digits (letter ∷ letters) =
@@ -28,7 +28,7 @@ numbers_from limit digits (letter ∷ letters) =
     else (if is_last letter then with_number limit (20 * digits + (letter - 64)) (numbers_from limit 0 letters)
     else (if (letter == 90) && (digits == 0) then option_map (λ numbers. 0 ∷ numbers) (numbers_from (limit + 1) 0 letters) else None))
 
--- the labels up to `)`, and what follows it
+-- the labels before `)`, and the tokens after it
 pub record Header : Type 0 where
   pub listed : List Name
   pub rest : List Name

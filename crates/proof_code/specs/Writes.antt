@@ -1,6 +1,6 @@
 -- The items that the tokens of a proof write, and the faults of tokens that write none.
 -- Source: Metamath, 4.3 (normal proofs) and appendix B (compressed proofs).
--- The code reads bytes once, left to right; here the tokens are cut into labels and words in whatever way fits.
+-- The code reads bytes once, left to right; here the tokens are split into labels and words in any way that fits.
 use Rattle.std.specs.Prelude.{◌≡◌, ℕ, ◌+◌, ◌≤◌, ◌⊎◌, Bool, true, false, IsTrue, IsFalse, List, [], ◌∷◌, ◌++◌, map, length, flat_map, Some, slice_get, codes}
 use Rattle.std.specs.List.{list_all, list_any}
 use Rattle.mm_lex.specs.Alphabet.{Name, name_eq, has_name, has_byte, is_label}
@@ -31,13 +31,13 @@ abbrev pub is_compressed : List Name → Bool
 is_compressed [] = false
 is_compressed (token ∷ tokens) = name_eq token begin
 
--- with the labels numbered from 1, a number cites one of them, or it recalls one of the results marked so far
+-- a number cites a label, counted from 1, or, if greater than their count, recalls one of the results marked so far
 abbrev pub Means : List Name → ℕ → ℕ → Item → Type 0
 Means labels marks number (Cite label) = (k : ℕ) × (number ≡ k + 1) × (slice_get labels k ≡ Some label)
 Means labels marks number (Recall k) = (number ≡ length labels + k) × (1 ≤ k) × (k ≤ marks)
 Means labels marks number Mark = ⊥
 
--- the row of words and marks gives the items, if `marks` marks stand before it
+-- the row of words and marks gives the items, if `marks` marks precede it
 abbrev pub AreItems : List Name → ℕ → List Name → List Item → Type 0
 AreItems labels marks [] [] = Unit {0}
 AreItems labels marks [] (item ∷ items) = ⊥
@@ -59,8 +59,8 @@ pub record WritesRow (labels : List Name) (letters : List ℕ) (items : List Ite
   pub means : AreItems labels 0 row items
   pub starts : IsTrue (starts_with_result items)
 
--- the tokens are `(`, the listed labels, `)` and the letters, which spaces may cut anywhere; the mandatory labels are numbered
--- before the listed ones
+-- the tokens are `(`, the listed labels, `)` and the letters, with spaces anywhere among them; the mandatory labels are
+-- numbered before the listed ones, and no label is both
 pub record WritesCompressed (tokens mandatory : List Name) (items : List Item) : Type 0 where
   pub listed : List Name
   pub rest : List Name
@@ -69,7 +69,7 @@ pub record WritesCompressed (tokens mandatory : List Name) (items : List Item) :
   pub apart : IsFalse (list_any (λ label. has_name label mandatory) listed)
   pub letters : WritesRow (mandatory ++ listed) (flat_map (λ token. token) rest) items
 
--- each token is a label, and cites
+-- each token is a label, and the items cite these labels
 pub record WritesNormal (tokens : List Name) (items : List Item) : Type 0 where
   pub labels : IsTrue (list_all is_label tokens)
   pub cites : items ≡ map (λ token. Cite token) tokens

@@ -48,7 +48,7 @@ pub fn packed(alloc: Global, tokens: &Words, mandatory: &Words) -> Result<Items,
     }
 }
 
-/// Returns how many labels there are: at most 2^62, since each takes at least a byte, and a space stands between two.
+/// Returns how many labels there are: at most 2^62, since each takes at least a byte, and a space is between two.
 fn count_labels(labels: &Words) -> usize
     ensures count { result ≡ length labels.now }
     ensures few { result ≤ 2 ^ 62 }
@@ -77,7 +77,7 @@ fn is_among(label: &[u8], labels: &Words) -> bool
     labels.iter().any(|other| label == other)
 }
 
-/// Returns the set of the labels, or `None` if an allocation failed.
+/// Returns the set of the labels, or `None` if an allocation fails.
 ///
 /// Cost: the size of the labels, times the logarithm of their number.
 #[tactic(auto, using(crate::proofs::LabelNameLemmas::names_more))]
@@ -94,7 +94,7 @@ pub fn names_of<'a>(alloc: Global, labels: &'a Words) -> Option<BTreeSet<&'a [u8
     Some(names)
 }
 
-/// Returns the mandatory labels and then those that the tokens list, `count` of them.
+/// Returns the mandatory labels, followed by the `count` labels that the tokens list.
 fn table_of(
     alloc: Global,
     tokens: &Words,

@@ -1,4 +1,4 @@
-//! Why tokens write no items.
+//! The faults of tokens that write no items.
 ghost use Rattle.std.specs.Prelude.{◌≡◌, ◌⊎◌, Ok, Err, IfOk, OnErr, MatchOption};
 ghost use Rattle.proof_code.specs.Writes.{is_unfinished};
 
@@ -6,12 +6,12 @@ use crate::items::Items;
 use mm_lex::Words;
 use std::alloc::AllocError;
 
-/// Why tokens write no items.
+/// A fault of tokens that write no items, or a failed allocation.
 #[derive(Clone, Copy, Debug, Drop, PartialEq, Eq)]
 pub enum CodeFault {
     /// Some token has the byte `?`.
     Unfinished,
-    /// No token has it, and the tokens write no items.
+    /// No token has the byte `?`, and the tokens write no items.
     Malformed,
     /// An allocation failed, or there are too many labels or letters (`MOST_LETTERS`).
     Memory,

@@ -7,7 +7,7 @@ use std::marker::Model;
 
 /// The items of a proof. Contracts see the list of them.
 ///
-/// They are stored as a table of labels and one number for each item, so that no item holds a name.
+/// They are stored as a table of labels and one number for each item, so that no item has a label of its own.
 #[derive(Drop)]
 pub struct Items {
     labels: Words,
@@ -26,9 +26,9 @@ impl Model for Items {
 
 /// The contents of `Items`: the labels that may be cited, and for each item its number.
 ///
-/// 0 marks, a number up to the count of the labels cites the label of that number, counted from 1, and a number
-/// greater by k recalls the kth marked result. For a compressed proof the labels are the mandatory ones and then the
-/// listed ones, and the numbers are those that the letters write; for a normal proof the labels are the tokens.
+/// The number 0 is a mark. A number up to the count of labels cites that label, counted from 1, and a number that
+/// exceeds the count by k recalls the kth marked result. In a compressed proof the labels are the mandatory ones and then
+/// the listed ones, and the numbers are those that the letters write; in a normal proof the labels are the tokens.
 #[derive(Clone, Copy)]
 pub struct Parts<'a> {
     /// The labels that may be cited.
@@ -38,7 +38,7 @@ pub struct Parts<'a> {
 }
 
 impl Items {
-    /// Returns the items that these labels and numbers stand for.
+    /// Returns the items that these labels and numbers encode.
     pub fn from_parts(labels: Words, numbers: Vec<u32>) -> Items
         ensures { result ≡ items_of labels numbers.items }
     {

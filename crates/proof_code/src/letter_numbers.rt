@@ -1,7 +1,7 @@
 //! The letters of a compressed proof, and the numbers that they write.
 //!
 //! A processor cannot predict the next letter, so no branch depends on it: a table has the numbers by which a letter
-//! changes the digits before it, and the one test for each letter is whether a number is over the limit.
+//! changes the digits before it, and the only test for each letter is whether a value is over the limit.
 ghost use Rattle.std.specs.Prelude.{◌≡◌, ◌==◌, if◌then◌else◌, ◌+◌, ◌*◌, ◌^◌, ◌<◌, ◌≤◌, ◌∷◌, ℕ, List, length, take, max, None, Some, IfNone, IfSome, MatchOption};
 ghost use Rattle.proof_code.specs.Text.{letters_of, numbers_from, starts_with_mark};
 ghost use Rattle.proof_code.specs.Reading.{TakesByte, IsLetter, ended};
@@ -9,16 +9,16 @@ ghost use Rattle.proof_code.specs.Reading.{TakesByte, IsLetter, ended};
 /// The effect of a letter on the digits before it.
 #[derive(Clone, Copy)]
 struct Letter {
-    /// The value of the digits with the letter; for a mark 0, or after digits more than any limit.
+    /// The value of the digits with the letter. For a mark it is 0, or more than any limit if there are digits.
     value: usize,
     /// The digits before the next letter.
     digits: usize,
-    /// How many numbers it ends: 1 for a mark too.
+    /// How many numbers the letter ends: 0 or 1, and 1 for a mark.
     ends: usize,
 }
 
 /// Four numbers for each letter: the factor of the digits before it (for a mark -1, modulo 2^64), the number that is added,
-/// the mask of the bits of that value which are the digits before the next letter, and how many numbers the letter ends.
+/// a mask that keeps that value as the digits before the next letter, or clears it, and how many numbers the letter ends.
 const STEPS: [usize; 104] = [
     20, 1, 0, 1, 20, 2, 0, 1, 20, 3, 0, 1, 20, 4, 0, 1, 20, 5, 0, 1, 20, 6, 0, 1, 20, 7, 0, 1, 20,
     8, 0, 1, 20, 9, 0, 1, 20, 10, 0, 1, 20, 11, 0, 1, 20, 12, 0, 1, 20, 13, 0, 1, 20, 14, 0, 1, 20,
@@ -53,15 +53,15 @@ fn letter_after(byte: u8, digits: usize) -> Letter
 struct Word {
     /// The largest number that is valid here.
     limit: usize,
-    /// The value of the letters U to Y of the word that is begun, each counting 1 to 5 in base 5.
+    /// The value of the letters U to Y read so far of this word, as the digits 1 to 5 in base 5.
     digits: usize,
 }
 
 impl Word {
     /// Reads one byte, and returns its letter, or `Some(None)` for a space, which is ignored. Returns `None` if the
-    /// letters write nothing with this byte, whatever follows.
+    /// letters with this byte write no numbers, whatever follows.
     ///
-    /// Digits over `most` come to more than the limit, however the word ends.
+    /// A word with digits over `most` has a number over the limit, however it ends.
     #[inline(always)]
     fn read(&mut self, byte: u8, most: usize) -> Option<Option<Letter>>
         requires begun { self.old.digits ≤ most }
@@ -88,10 +88,10 @@ impl Word {
     }
 }
 
-/// Writes the numbers of the letters of a text over `labels` labels, and returns how many there are, or `None` if the
-/// letters write none. Spaces may cut the letters anywhere.
+/// Stores the numbers that the letters of a text write, if there are `labels` labels, and returns how many there are, or
+/// `None` if the letters write no numbers. Spaces may be anywhere among the letters.
 ///
-/// The value of the word is written for each letter, and kept if the letter ends a number.
+/// The value of the word is stored for each letter, and overwritten unless the letter ends a number.
 #[inline(never)]
 pub(crate) fn write_numbers(text: &[u8], labels: usize, numbers: &mut [u32]) -> Option<usize>
     requires small { labels + length text.now < 2 ^ 32 }
@@ -116,7 +116,7 @@ pub(crate) fn write_numbers(text: &[u8], labels: usize, numbers: &mut [u32]) -> 
     if word.digits == 0 { Some(count) } else { None }
 }
 
-/// Returns whether the letters write numbers, as `Some` or `None`, without writing them.
+/// Returns `Some` if the letters write numbers, else `None`, without storing them.
 pub(crate) fn pass_letters(text: &[u8], labels: usize) -> Option<()>
     requires { labels + length text.now < 3 * 2 ^ 62 }
     ensures { MatchOption result (numbers_from labels 0 (letters_of text.now) ≡ None)

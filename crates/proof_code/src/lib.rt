@@ -5,8 +5,8 @@
 //! list of items; it has a table of labels and a number for each item. `Reader::read` reads one compressed proof after
 //! another into one buffer, without the mandatory labels, which the caller has.
 //!
-//! Reading order: `item`, `items`, `fault`, then `normal_proof`; `reader` with its parts `listing` (the labels counted)
-//! and `letter_numbers`; `compressed_proof` above it; and `laws`.
+//! Reading order: `item`, `items`, `fault`, then `normal_proof`; `reader` with its parts `listing` (counts the labels)
+//! and `letter_numbers`; `compressed_proof`, which uses it; and `laws`.
 #![tactic(auto)]
 
 mod compressed_proof;

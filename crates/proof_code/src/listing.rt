@@ -1,4 +1,4 @@
-//! The labels that a compressed proof lists, counted sixteen bytes at a time.
+//! Counts the labels that a compressed proof lists, sixteen bytes at a time.
 ghost use Rattle.std.specs.Prelude.{◌≡◌, ◌==◌, ◌+◌, ◌≤◌, length, take, MatchOption, IfSome, None, Some, true};
 ghost use Rattle.std.specs.List.{count_by};
 ghost use Rattle.proof_code.specs.Listing.{are_listed, class_of, counted};
@@ -8,8 +8,8 @@ use std::simd::prelude::*;
 /// How many bytes are compared at once.
 const LANES: usize = 16;
 
-/// Returns how many labels stand before the word `)`, and the letters after it; `None` if there is no `)` or if
-/// a word before it is no label.
+/// Returns how many labels precede the word `)`, and the letters after it, or `None` if there is no `)` or if a word
+/// before it is not a label.
 pub(crate) fn count_listed(text: &[u8]) -> Option<(usize, &[u8])>
     ensures counted { MatchOption result (counted true text.now ≡ None) (λ r. counted true text.now ≡ Some (r.0, r.1.now)) }
     ensures within { IfSome result (λ r. r.0 + length r.1.now ≤ length text.now) }
@@ -29,7 +29,7 @@ pub(crate) fn count_listed(text: &[u8]) -> Option<(usize, &[u8])>
     Some((count + more, letters))
 }
 
-/// Does the same as `count_listed`, byte by byte; `last` is the byte before the text.
+/// Counts as `count_listed` does, but byte by byte; `last` is the byte before the text.
 fn count_by_byte(text: &[u8], last: u8) -> Option<(usize, &[u8])>
     ensures counted { MatchOption result (counted (last == 32) text.now ≡ None) (λ r. counted (last == 32) text.now ≡ Some (r.0, r.1.now)) }
     ensures within { IfSome result (λ r. r.0 + length r.1.now ≤ length text.now) }
@@ -54,7 +54,7 @@ fn count_by_byte(text: &[u8], last: u8) -> Option<(usize, &[u8])>
     None
 }
 
-/// Returns how many of the first 16 bytes are spaces, or `None` unless all are bytes of labels or spaces.
+/// Returns how many of the first 16 bytes are spaces, or `None` if one is neither a byte of a label nor a space.
 fn count_in_lanes(text: &[u8]) -> Option<usize>
     requires room { 16 ≤ length text.now }
     ensures listed { IfSome result (λ spaces. are_listed (take 16 text.now) ≡ true) }

@@ -12,13 +12,13 @@ use mm_lex::{WordIter, Words};
 use std::alloc::{AllocError, Global};
 use std::marker::Model;
 
-/// The largest number of labels and of letters of one proof; more are reported as out of memory.
+/// The largest number of labels and of letters of one proof; more are reported as a failed allocation.
 pub const MOST_LETTERS: usize = 1 << 30;
 
 /// Reads compressed proofs, one after another. Contracts see the numbers of the last one.
 #[derive(Drop)]
 pub struct Reader {
-    /// The numbers, followed by items without meaning.
+    /// The numbers, followed by unused items.
     buffer: Vec<u32>,
     /// How many numbers there are.
     count: usize,
@@ -65,7 +65,7 @@ impl Reader {
     /// keeps the numbers of its items; returns `None` if it writes no items, whatever the mandatory labels are.
     ///
     /// The proof writes these items only if no listed label is a mandatory one, which the caller has to test.
-    /// Errors: an allocation fails, or there are more than `MOST_LETTERS` labels or letters; the numbers are then as before.
+    /// Errors: an allocation fails, or there are more than `MOST_LETTERS` labels or letters; the numbers are then unchanged.
     /// Cost: the size of the tokens. Source: Metamath, appendix B.
     pub fn read<'a>(
         &mut self,
@@ -88,7 +88,8 @@ impl Reader {
         Ok(Some(heading))
     }
 
-    /// Does the same as `read`, and returns whether the numbers were kept. Returns `None` even if every allocation fails.
+    /// Reads a proof as `read` does, and returns, beside the labels, `Ok` if the numbers were kept. Returns `None` for a proof
+    /// that writes no items even if every allocation fails.
     pub(crate) fn find<'a>(
         &mut self,
         tokens: &'a Words,

@@ -28,7 +28,7 @@ pub record IsAt (S : Database) (i : ℕ) (test : Stmt → Bool) : Type 0 where
   pub stands : stmt_at S i ≡ Some stmt
   pub passes : IsTrue (test stmt)
 
--- .. and is active after S
+-- the statement at i passes the test and is active after S
 pub record IsActiveAt (S : Database) (i : ℕ) (test : Stmt → Bool) : Type 0 where
   pub at : IsAt S i test
   pub stays : IsTrue (stays_open 0 (drop i S))

@@ -1,4 +1,4 @@
--- Violations of rules, one for each of the ten.
+-- The violations of each of the ten rules.
 -- Source: Metamath, 4.2; the rules are those of the crate scope.
 -- The code looks for the first such symbol; here a violation is defined without the search for it.
 use Rattle.std.specs.Prelude.{◌≡◌, ℕ, ◌<◌, Bool, false, ◌⊎◌, List, [], ◌∷◌, Some, slice_get, IsTrue, IsFalse}
@@ -15,7 +15,7 @@ use Rattle.rule_violation.specs.declared.violation.RuleViolation.{RuleViolation}
 use Rattle.rule_violation.specs.declared.violation.RuleViolation.TheVariants.{Statement, Symbol, Twice, Earlier, Label}
 use Rattle.rule_violation.specs.Search.{meets, IsAt, IsActiveAt}
 
--- the symbol at an index has the property
+-- there is a name at the index, and it has the property
 pub record Among (names : List Name) (index : ℕ) (P : Name → Type 0) : Type 0 where
   pub name : Name
   pub stands : slice_get names index ≡ Some name
@@ -26,12 +26,12 @@ abbrev pub IsSymbolOf : List Name → (Name → Bool) → RuleViolation → Type
 IsSymbolOf names test (Symbol k) = Among names k (λ x. IsTrue (test x))
 IsSymbolOf names test w = ⊥
 
--- the violation is a statement that carries or declares the label
+-- the violation is a statement that has the label or declares it as a symbol
 abbrev pub IsLabelOf : Database → Name → RuleViolation → Type 0
 IsLabelOf S x (Label i) = IsAt S i (meets part.Named x)
 IsLabelOf S x w = ⊥
 
--- one symbol stands at both indexes
+-- the same symbol is at both indexes
 abbrev pub IsTwice : List Name → ℕ → ℕ → Type 0
 IsTwice names first second = (first < second) × Among names second (λ x. slice_get names first ≡ Some x)
 
@@ -51,27 +51,28 @@ abbrev pub float_expr : Stmt → Expr
 float_expr (Float label constant variable) = constant ∷ variable ∷ []
 float_expr s = []
 
--- the statement breaks the rule after S by this
+-- the violation is one by which the statement breaks the rule after S
 abbrev pub Violates : Database → Stmt → Rule → RuleViolation → Type 0
 -- a `$c` inside a block, or a `$}` that closes none
 Violates S s G1 Statement = keeps S s G1 ≡ false
 Violates S s G10 Statement = keeps S s G10 ≡ false
--- a constant that an earlier statement carries or declares, or that stands twice
+-- a constant that is an earlier label or was declared as a symbol, with that statement, or that occurs twice
 Violates S s G2 (Earlier k i) = Among (constants s) k (λ x. IsAt S i (meets part.Named x))
 Violates S s G2 (Twice j k) = IsTwice (constants s) j k
--- a variable that an earlier statement carries or declares as a constant, or an active one as a variable, or that stands twice
+-- a variable that is an earlier label, was declared as a constant, or is an active variable, with that statement, or that
+-- occurs twice
 Violates S s G3 (Earlier k i) = Among (variables s) k (λ x. IsAt S i (meets part.Fixed x) ⊎ IsActiveAt S i (meets part.Variable x))
 Violates S s G3 (Twice j k) = IsTwice (variables s) j k
--- the label, which an earlier statement carries or declares
+-- the label, which is an earlier label or was declared as a symbol, with that statement
 Violates S s G4 (Label i) = (x : Name) × (label_of s ≡ Some x) × IsAt S i (meets part.Named x)
 -- a symbol that is neither a constant nor an active variable
 Violates S s G5 (Symbol k) = Among (expr_of s) k (λ x. IsFalse (is_constant S x) × IsFalse (is_variable S x))
--- the first symbol, which is no constant
+-- the first symbol, which is not a constant
 Violates S s G6 (Symbol k) = (k ≡ 0) × Among (expr_of s) k (λ x. IsFalse (is_constant S x))
--- the second symbol of a `$f`, which is no active variable, or has that active `$f`
+-- the second symbol of a `$f`, which is not an active variable, or has an active `$f`, with that statement
 Violates S s G7 (Symbol k) = (k ≡ 1) × Among (float_expr s) k (λ x. IsFalse (is_variable S x))
 Violates S s G7 (Earlier k i) = (k ≡ 1) × Among (float_expr s) k (λ x. IsActiveAt S i (meets part.Float x))
--- a symbol of a `$d` that is no active variable, or that stands twice
+-- a symbol of a `$d` that is not an active variable, or that occurs twice
 Violates S s G8 (Symbol k) = Among (separated s) k (λ x. IsFalse (is_variable S x))
 Violates S s G8 (Twice j k) = IsTwice (separated s) j k
 -- a variable that has no active `$f`

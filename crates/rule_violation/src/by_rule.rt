@@ -1,4 +1,4 @@
-//! The violation of a rule.
+//! Finds the violation of a rule, with a function for each rule that needs a search.
 ghost use Rattle.std.specs.Prelude.{◌≡◌, ◌==◌, ◌&&◌, false, IfOk, IsSomeAnd, IfSome, MatchOption};
 ghost use Rattle.std.specs.List.{list_any};
 ghost use Rattle.scope.specs.Active.{is_open};
@@ -16,7 +16,8 @@ use mm_read::Stmt;
 use scope::Rule;
 use std::alloc::{AllocError, Global};
 
-/// Returns the violation of a rule that a statement breaks after the earlier ones.
+/// Returns a violation of a rule that a statement breaks after the earlier ones. If the statement keeps the rule, the result
+/// is not specified.
 ///
 /// Errors: an allocation fails. Cost: a few passes over the earlier statements, with a look-up of each of their names among
 /// those of the statement.
@@ -96,7 +97,7 @@ fn of_label(earlier: &[Stmt], stmt: &Stmt) -> Option<RuleViolation>
     }
 }
 
-/// Returns the label with the first statement that carries or declares it.
+/// Returns the first statement that has the label or declares it as a symbol, as a violation of G4, or `None`.
 fn carried(earlier: &[Stmt], label: &Word) -> Option<RuleViolation>
     ensures { MatchOption result (list_any (meets part.Named label.now) earlier.now ≡ false) (IsLabelOf earlier.now label.now) }
 {
@@ -125,7 +126,7 @@ fn of_expression(
     }
 }
 
-/// Returns the first of the symbols with this fault, by its index.
+/// Returns the first of the symbols with this fault, by its index, or `None` if none has it.
 fn symbol_of(
     alloc: Global,
     earlier: &[Stmt],
@@ -203,7 +204,7 @@ pub fn never_closed(statements: &[Stmt]) -> Option<usize>
     None
 }
 
-/// Returns whether the statement is a `${` and active. `closed` counts the blocks open after it that are closed later.
+/// Returns whether the statement is a `${` and active. `closed` is the number of blocks open after it that are closed later.
 fn is_active_open(closed: usize, stmt: &Stmt) -> bool
     ensures { result ≡ (closed == 0 && is_open stmt.now) }
 {

@@ -1,7 +1,7 @@
 //! Finds which symbol of a statement breaks a rule, and which earlier statement conflicts with it.
 //!
-//! `violation_of` returns the violation of a broken rule, by the statements themselves, after a refusal. `specs/Violates` says
-//! what a violation means. Read `violation`, `search`, `marks`, `symbol_search`, `by_rule`.
+//! After a statement is refused, `violation_of` searches the statements for the violation of the broken rule. `specs/Violates`
+//! defines violations. Read `violation`, `search`, `marks`, `symbol_search`, `by_rule`.
 #![tactic(auto)]
 
 mod by_rule;

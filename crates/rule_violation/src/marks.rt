@@ -13,7 +13,7 @@ use mm_read::Stmt;
 use names::NameTable;
 use std::alloc::{AllocError, Global};
 
-/// Returns the words, each once.
+/// Returns a table of the distinct words.
 pub(crate) fn names_of(alloc: Global, words: &Words) -> Result<NameTable, AllocError>
     ensures { IfOk result (λ names. AreNamed names words.now) }
 {
@@ -24,7 +24,7 @@ pub(crate) fn names_of(alloc: Global, words: &Words) -> Result<NameTable, AllocE
     Ok(names)
 }
 
-/// Gives the mark to each name that an earlier statement has in that part.
+/// Sets the mark of each name that an earlier statement has in that part to `mark`.
 pub(crate) fn mark_any(
     names: &NameTable,
     earlier: &[Stmt],
@@ -41,7 +41,7 @@ pub(crate) fn mark_any(
     }
 }
 
-/// Gives the mark to each name that an active statement has in that part.
+/// Sets the mark of each name that an active statement has in that part to `mark`.
 pub(crate) fn mark_active(
     names: &NameTable,
     earlier: &[Stmt],
@@ -60,8 +60,8 @@ pub(crate) fn mark_active(
     }
 }
 
-/// Gives the mark to each name that the statement has in that part, if it is active. `closed` counts the blocks open after it
-/// that are closed later.
+/// Sets the mark of each name that the statement has in that part to `mark`, if the statement is active. `closed` is the number
+/// of blocks open after it that are closed later.
 fn mark_where_active(
     closed: usize,
     names: &NameTable,
@@ -78,7 +78,7 @@ fn mark_where_active(
     }
 }
 
-/// Gives the mark to each name that the statement has in that part.
+/// Sets the mark of each name that the statement has in that part to `mark`.
 fn mark_stmt(names: &NameTable, stmt: &Stmt, part: Part, mark: bool, marks: &mut [bool])
     requires { length marks.old ≡ length names.now }
     ensures { marks.new ≡ marked (λ x. meets part x stmt.now) mark names.now marks.old }
@@ -142,7 +142,7 @@ fn mark_float(names: &NameTable, stmt: &Stmt, mark: bool, marks: &mut [bool])
     }
 }
 
-/// Gives the mark to each of the words that is among the names.
+/// Sets the mark of each name that is one of the words to `mark`.
 fn mark_words(names: &NameTable, words: &Words, mark: bool, marks: &mut [bool])
     requires { length marks.old ≡ length names.now }
     ensures { marks.new ≡ marked (λ x. has_name x words.now) mark names.now marks.old }

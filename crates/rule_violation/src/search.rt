@@ -1,4 +1,4 @@
-//! Earlier statements that have a name in some part.
+//! Searches for an earlier statement that has a name in some part.
 ghost use Rattle.std.specs.Prelude.{◌≡◌, ◌+◌, ◌<◌, ◌^◌, ◌==◌, ◌&&◌, ◌||◌, false, MatchOption};
 ghost use Rattle.std.specs.List.{list_any};
 ghost use Rattle.mm_lex.specs.Alphabet.{has_name, name_eq};
@@ -8,7 +8,7 @@ ghost use Rattle.rule_violation.specs.Search.{meets, closed_by, IsAt, IsActiveAt
 use mm_lex::{Word, Words};
 use mm_read::Stmt;
 
-/// The part of a statement in which it may have a name.
+/// A part of a statement that may have a name.
 #[derive(Clone, Copy, Drop)]
 pub(crate) enum Part {
     /// Its label, or a symbol that it declares.
@@ -53,15 +53,16 @@ pub(crate) fn find_active(earlier: &[Stmt], part: Part, name: &[u8]) -> Option<u
     None
 }
 
-/// Returns whether the statement has the name in that part and is active. `closed` counts the blocks open after it that are
-/// closed later.
+/// Returns whether the statement has the name in that part and is active. `closed` is the number of blocks open after it that
+/// are closed later.
 fn is_active_match(closed: usize, stmt: &Stmt, part: Part, name: &[u8]) -> bool
     ensures { result ≡ (closed == 0 && meets part name.now stmt.now) }
 {
     closed == 0 && meets(stmt, part, name)
 }
 
-/// Returns how many blocks that were open before the statement are closed by it or after it.
+/// Returns how many blocks that were open before the statement are closed by it or later, if `closed` of those open after it
+/// are.
 pub(crate) fn closed_by(stmt: &Stmt, closed: usize) -> usize
     requires { closed + 1 < 2 ^ 64 }
     ensures { result ≡ closed_by stmt.now closed }

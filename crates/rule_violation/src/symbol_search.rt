@@ -1,4 +1,4 @@
-//! The first symbol of a list that passes a test, and the first that stands twice.
+//! Finds the first symbol of a list that has a fault, and the first that repeats an earlier one.
 ghost use Rattle.std.specs.Prelude.{◌≡◌, ℕ, Bool, ◌||◌, false, true, IfOk, MatchOption, map, replicate, length};
 ghost use Rattle.std.specs.List.{list_any};
 ghost use Rattle.mm_lex.specs.Alphabet.{Name};
@@ -20,13 +20,13 @@ use std::alloc::{AllocError, Global};
 /// A fault of a symbol.
 #[derive(Clone, Copy, Drop)]
 pub(crate) enum Test {
-    /// An earlier statement carries or declares it.
+    /// It is an earlier label or was declared as a symbol.
     Named,
-    /// It is an active variable, or an earlier statement carries it or declares it as a constant.
+    /// It is an active variable or an earlier label, or was declared as a constant.
     Taken,
     /// It is neither a constant nor an active variable.
     Unknown,
-    /// It is no active variable.
+    /// It is not an active variable.
     Inactive,
     /// It is a variable and has no active `$f`.
     Untyped,
@@ -50,7 +50,7 @@ pub(crate) fn first<'a>(
     Ok(first_marked(&names, &marks, words))
 }
 
-/// Returns whether a name that stands in no statement has this fault.
+/// Returns whether this is a fault of a name that occurs in no statement.
 fn is_wrong_unseen(test: Test) -> bool
     ensures { result ≡ is_wrong_unseen test }
 {
@@ -122,7 +122,7 @@ fn is_variable(earlier: &[Stmt], name: &[u8]) -> bool
     find_active(earlier, Part::Variable, name).is_some()
 }
 
-/// Returns the first repetition of a word, by both indexes, or `None` if no word stands twice.
+/// Returns the first word that repeats an earlier one, by both indexes, or `None` if the words are distinct.
 pub(crate) fn twice(alloc: Global, words: &Words) -> Result<Option<RuleViolation>, AllocError>
     ensures { IfOk result (λ found. MatchOption found (all_different words.now ≡ true) (IsRepeated words.now)) }
 {

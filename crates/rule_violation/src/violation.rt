@@ -1,17 +1,17 @@
 //! The violation of a rule.
 
-/// The part of a statement that breaks a rule. Symbols are indexes among those of the statement, earlier statements are
-/// positions from 1.
+/// The part of a statement that breaks a rule. Symbols are given by their indexes in the statement, earlier statements by
+/// their positions, from 1.
 #[derive(Clone, Copy, Debug, Drop, PartialEq, Eq)]
 pub enum RuleViolation {
-    /// The statement as it stands.
+    /// The statement as a whole.
     Statement,
     /// A symbol.
     Symbol { symbol: usize },
-    /// A symbol that stands twice.
+    /// A symbol that occurs twice.
     Twice { first: usize, second: usize },
-    /// A symbol, with an earlier statement.
+    /// A symbol, and the earlier statement with which it conflicts.
     Earlier { symbol: usize, statement: usize },
-    /// The label, with an earlier statement.
+    /// The label, and the earlier statement with which it conflicts.
     Label { statement: usize },
 }

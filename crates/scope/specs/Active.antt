@@ -1,6 +1,6 @@
 -- The statements that are active after a list of statements. Positions count from 1.
 -- Source: Metamath, 4.2.8 (scoping statements) and 4.2.
--- The code keeps stacks and the places where blocks start; the model counts brackets in what follows a statement.
+-- The code keeps stacks, with their heights at the start of each open block; the model counts brackets after a statement.
 use Rattle.std.specs.Prelude.{ℕ, zero, suc, ◌+◌, ◌-◌, Bool, true, false, ◌&&◌, ◌||◌, ◌==◌, nat_le, nat_lt, if◌then◌else◌, List, [], ◌∷◌, take, drop, map, Option, Some, None, slice_get}
 use Rattle.scope.specs.Words.{list_any, flat_map, Name, name_eq, has_name, Stmt, Open, Close, Const, Var, Disj, Float, Ess, Axiom, Prove, Expr, Database}
 
@@ -13,7 +13,7 @@ stmt_at S (suc n) = slice_get S n
 abbrev pub before : Database → ℕ → Database
 before S at = take (at - 1) S
 
--- no beginning of the statements has more `$}` than `${`, if `depth` more `${` are open before them
+-- no prefix of the statements closes a block that is not open, if `depth` blocks are open before them
 abbrev pub stays_open : ℕ → Database → Bool
 stays_open depth [] = true
 stays_open depth (Open ∷ S) = stays_open (suc depth) S
@@ -21,7 +21,7 @@ stays_open zero (Close ∷ S) = false
 stays_open (suc depth) (Close ∷ S) = stays_open depth S
 stays_open depth (s ∷ S) = stays_open depth S
 
--- the statements that are active after these, of which the first is at `at`: each whose block none of the later ones closes
+-- the active ones of these statements, which have the positions from `at` on: each whose block no later one closes
 abbrev pub active_from : ℕ → Database → List (ℕ × Stmt)
 active_from at [] = []
 active_from at (s ∷ S) =
@@ -105,15 +105,15 @@ abbrev pub has_label : Name → Option Name → Bool
 has_label x None = false
 has_label x (Some label) = name_eq x label
 
--- an active `$v` has it
+-- an active `$v` declares it
 abbrev pub is_variable : Database → Name → Bool
 is_variable S x = list_any (λ p. has_name x (variables p.1)) (active S)
 
--- an earlier `$c` has it
+-- an earlier `$c` declares it
 abbrev pub is_constant : Database → Name → Bool
 is_constant S x = list_any (λ s. has_name x (constants s)) S
 
--- an earlier `$c` or `$v` has it
+-- an earlier `$c` or `$v` declares it
 abbrev pub was_symbol : Database → Name → Bool
 was_symbol S x = list_any (λ s. has_name x (constants s) || has_name x (variables s)) S
 
@@ -123,11 +123,11 @@ was_label S x = list_any (λ s. has_label x (label_of s)) S
 abbrev pub has_float : Database → Name → Bool
 has_float S x = list_any (λ p. is_float_of x p.1) (active S)
 
--- an earlier `$v` has it
+-- an earlier `$v` declares it
 abbrev pub was_variable : Database → Name → Bool
 was_variable S x = list_any (λ s. has_name x (variables s)) S
 
--- the variable whose typecode a `$f` gives
+-- the variable to which a `$f` gives a typecode
 abbrev pub typed_by : Stmt → List Name
 typed_by (Float label constant variable) = variable ∷ []
 typed_by s = []

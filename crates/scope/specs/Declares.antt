@@ -1,5 +1,5 @@
--- The declarations of a statement in the numbering, by its shape.
--- Source: this project's form; what declares a name is Metamath, 4.2.
+-- The names that a statement declares, by its shape.
+-- Source: Metamath, 4.2 (which statements declare a name); the list of the names is this project's form.
 use Rattle.std.specs.Prelude.{◌≡◌, ℕ, true, false, List, Option, None}
 use Rattle.scope.specs.Words.{Name, has_name, Stmt, Const, Var, Float, Ess, Axiom, Prove}
 use Rattle.scope.specs.Kinds.{Declared, declared_symbols, kind_in, is_label_kind, with_kind, with_kinds}
@@ -16,7 +16,7 @@ declared_with names (Axiom label expr) = with_kind names Label label
 declared_with names (Prove label expr proof) = with_kind names Label label
 declared_with names s = names
 
--- the statement's symbols are no labels, and its label is new
+-- no symbol that the statement declares is a label, and its label is new
 abbrev pub MayDeclare : Declared → Stmt → Type 0
 MayDeclare names (Const xs) = (x : Name) → has_name x xs ≡ true → is_label_kind (kind_in names x) ≡ false
 MayDeclare names (Var xs) = (x : Name) → has_name x xs ≡ true → is_label_kind (kind_in names x) ≡ false
@@ -26,7 +26,7 @@ MayDeclare names (Axiom label expr) = kind_in names label ≡ None
 MayDeclare names (Prove label expr proof) = kind_in names label ≡ None
 MayDeclare names s = Unit {0}
 
--- the numbers of the symbols that a `$c` or a `$v` declares are recorded; those of another statement stay as they were
+-- the numbers of the symbols that a `$c` or a `$v` declares are recorded; another statement leaves the numbers as they were
 abbrev pub IsRecordedBy : Declared → Stmt → Option (List ℕ) → Option (List ℕ) → Type 0
 IsRecordedBy names (Const xs) old new = AreRecorded (declared_symbols names) xs new
 IsRecordedBy names (Var xs) old new = AreRecorded (declared_symbols names) xs new

@@ -1,4 +1,4 @@
--- The kinds of declarations of names.
+-- The kinds of declared names: labels, constants and variables.
 -- Source: Metamath, 4.2.
 -- The code keeps a name's kind beside its number; the model looks through the statements.
 use Rattle.std.specs.Prelude.{◌≡◌, ◌<◌, Bool, true, false, List, [], ◌∷◌, ◌++◌, map, length, take, ℕ, Option, Some, None, is_some, if◌then◌else◌}
@@ -8,7 +8,7 @@ use Rattle.scope.specs.Symbols.{symbols_of, labels_of}
 use Rattle.scope.specs.declared.numbering.NameKind.{NameKind}
 use Rattle.scope.specs.declared.numbering.NameKind.TheVariants.{Label, Constant, Variable}
 
--- names with what they were declared as
+-- names, each with the kind that it was declared as
 abbrev pub Declared : Type 0
 Declared = List (Name × NameKind)
 
@@ -46,13 +46,13 @@ abbrev pub is_labelling : NameKind → Bool
 is_labelling Label = true
 is_labelling kind = false
 
--- the names of some kinds, in order
+-- the names whose kind passes the test, in order
 abbrev pub names_that : (NameKind → Bool) → Declared → List Name
 names_that own [] = []
 names_that own (p ∷ names) =
     if own p.1 then p.0 ∷ names_that own names else names_that own names
 
--- the names that are no labels, in order
+-- the names that are not labels, in order
 abbrev pub declared_symbols : Declared → List Name
 declared_symbols names = names_that is_symbol_kind names
 
@@ -60,20 +60,20 @@ declared_symbols names = names_that is_symbol_kind names
 abbrev pub declared_labels : Declared → List Name
 declared_labels names = names_that is_labelling names
 
--- the names among which one of this kind has its number
+-- the list in which a name of this kind has its number
 abbrev pub names_as : NameKind → Declared → List Name
 names_as Label names = declared_labels names
 names_as kind names = declared_symbols names
 
--- the number stands for the name
+-- the number is that of the name
 abbrev pub IsNumberOf : List Name → Name → ℕ → Type 0
 IsNumberOf names x n = (n < length names) × (name_at names n ≡ x)
 
--- how many symbols stand before an index
+-- how many of the names before an index are symbols
 abbrev pub symbols_before : Declared → ℕ → ℕ
 symbols_before names n = length (declared_symbols (take n names))
 
--- the kind is that of the statements' declarations of the name
+-- the kind is the one that the statements declare the name as
 pub record MatchesKind (S : Database) (x : Name) (kind : Option NameKind) : Type 0 where
   pub label : was_label S x ≡ is_label_kind kind
   pub constant : is_constant S x ≡ is_constant_kind kind
@@ -82,13 +82,13 @@ pub record MatchesKind (S : Database) (x : Name) (kind : Option NameKind) : Type
 abbrev pub MatchesKinds : Database → Declared → Type 0
 MatchesKinds S names = (x : Name) → MatchesKind S x (kind_in names x)
 
--- the labels and the symbols of the statements, each with its kind
+-- the names are the labels and the symbols of the statements, each with its kind
 pub record IsNumberingOf (S : Database) (names : Declared) : Type 0 where
   pub told : MatchesKinds S names
   pub symbols : declared_symbols names ≡ symbols_of S
   pub labels : declared_labels names ≡ labels_of S
 
--- the names after one is declared: it keeps the kind that it has
+-- the names after one is declared; a name that has a kind keeps it
 abbrev pub with_kind : Declared → NameKind → Name → Declared
 with_kind names kind x = if is_some (kind_in names x) then names else names ++ (x, kind) ∷ []
 

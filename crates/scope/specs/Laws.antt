@@ -1,12 +1,12 @@
--- Laws of what is active and of the rules, in the book's words.
+-- Laws about active statements and about the rules, in the book's words.
 -- Source: Metamath, 4.2.8 (scoping statements) and 4.2.
--- The test of what is active recurses on the statements; the sentence counts brackets in each beginning of them.
+-- `is_active` recurses on the statements; the law counts brackets in each prefix of them.
 use Rattle.std.specs.Prelude.{◌≡◌, ℕ, ◌+◌, ◌-◌, ◌≤◌, ◌<◌, ◌↔◌, Bool, false, IsTrue, if◌then◌else◌, List, [], ◌∷◌, ◌++◌, length, take, drop}
 use Rattle.scope.specs.Words.{list_any, Stmt, Close, Database}
 use Rattle.scope.specs.Active.{count, is_open, is_close, is_active, active, active_from, bare, bares}
 use Rattle.scope.specs.Legal.{broken_rule, end_rule}
 
--- no beginning of the statements has more `$}` than `${`, of which `d` more are open before them
+-- each prefix of the statements has at most `d` more `$}` than `${`: `d` blocks are open before them
 abbrev pub NeverCloses : ℕ → Database → Type 0
 NeverCloses d S = (k : ℕ) → count is_close (take k S) ≤ count is_open (take k S) + d
 
@@ -14,11 +14,11 @@ NeverCloses d S = (k : ℕ) → count is_close (take k S) ≤ count is_open (tak
 abbrev pub between : Database → ℕ → ℕ → Database
 between S i j = take (j - 1 - i) (drop i S)
 
--- i is active at j exactly if i is before j and no beginning of the statements between has more `$}` than `${`
+-- i is active at j exactly if i is before j and no prefix of the statements between has more `$}` than `${`
 abbrev pub ActiveBySentence : Type 0
 ActiveBySentence = (S : Database) (i j : ℕ) → IsTrue (is_active S i j) ↔ ((1 ≤ i) × (i < j) × NeverCloses 0 (between S i j))
 
--- a statement that closes no block becomes active, and what was active stays so
+-- a statement that closes no block becomes active, and the active ones stay active
 abbrev pub ActiveMore : Type 0
 ActiveMore = (S : Database) (s : Stmt) → is_close s ≡ false → active (S ++ s ∷ []) ≡ active S ++ (1 + length S, s) ∷ []
 
@@ -30,11 +30,11 @@ abbrev pub before_open : List (ℕ × Stmt) → List (ℕ × Stmt)
 before_open [] = []
 before_open (p ∷ es) = if has_open es then p ∷ before_open es else []
 
--- after a `$}` the last open `${` and what became active since are no longer active
+-- after a `$}` the last open `${` and the statements that became active after it are no longer active
 abbrev pub ActiveClosed : Type 0
 ActiveClosed = (S : Database) → active (S ++ Close ∷ []) ≡ before_open (active S) ++ (1 + length S, Close) ∷ []
 
--- what is active stays so after later statements that close none of the earlier blocks
+-- the active statements stay active after later ones that close none of the earlier blocks
 abbrev pub ActiveLater : Type 0
 ActiveLater = (S T : Database) → NeverCloses 0 T → active (S ++ T) ≡ active S ++ active_from (1 + length S) T
 

@@ -1,4 +1,4 @@
--- The ten rules of a statement, after the earlier statements.
+-- The ten rules that a legal statement keeps after the earlier ones.
 -- Source: Metamath, 4.2 (declarations, hypotheses, assertions, scoping) and appendix E; the numbering is this project's.
 -- The code looks each name up once and stops at the least rule broken; the model tests rule by rule.
 use Rattle.std.specs.Prelude.{◌≡◌, ℕ, ◌+◌, Bool, true, not, ◌&&◌, ◌||◌, nat_lt, if◌then◌else◌, List, [], ◌∷◌, ◌++◌, find, Option, Some, None}
@@ -7,7 +7,7 @@ use Rattle.scope.specs.declared.rule.Rule.{Rule}
 use Rattle.scope.specs.declared.rule.Rule.TheVariants.{G1, G2, G3, G4, G5, G6, G7, G8, G9, G10}
 use Rattle.scope.specs.Active.{constants, variables, label_of, expr_of, count, is_open, is_close, is_closed, is_variable, is_constant, was_symbol, was_label, has_float}
 
--- no name stands twice
+-- the names are distinct
 abbrev pub all_different : List Name → Bool
 all_different [] = true
 all_different (x ∷ names) = not (has_name x names) && all_different names
@@ -50,7 +50,7 @@ broken_rule S s = find (λ rule. not (keeps S s rule)) all_rules
 abbrev pub IsLegal : Database → Stmt → Type 0
 IsLegal S s = broken_rule S s ≡ None
 
--- the rule that an open block breaks at the end
+-- the rule that the end of the text breaks if a block is open
 abbrev pub end_rule : Database → Option Rule
 end_rule S = if is_closed S then None else Some G10
 
@@ -62,12 +62,12 @@ abbrev pub or_later : ℕ → Option Rule → Option (ℕ × Rule) → Option (�
 or_later at None later = later
 or_later at (Some rule) later = Some (at, rule)
 
--- the first of the statements T, after S, that breaks a rule, with its number counted from `at` and its least rule; an open
--- block at the end counts as one more statement
+-- the number, counted from `at`, of the first of the statements T after S that breaks a rule, and the least rule that it
+-- breaks; an open block at the end counts as one more statement
 abbrev pub first_broken : ℕ → Database → Database → Option (ℕ × Rule)
 first_broken at S [] = numbered at (end_rule S)
 first_broken at S (s ∷ T) = or_later at (broken_rule S s) (first_broken (at + 1) (S ++ s ∷ []) T)
 
--- each statement keeps the rules, and the blocks close
+-- each statement keeps the rules, and every block is closed at the end
 abbrev pub AllLegal : Database → Type 0
 AllLegal S = first_broken 1 [] S ≡ None

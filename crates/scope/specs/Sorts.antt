@@ -42,7 +42,7 @@ pub record IsSort (S : Database) (x : Name) (sort : Sort) : Type 0 where
 abbrev pub is_symbol_sort : Sort → Bool
 is_symbol_sort sort = is_constant_sort sort || is_variable_sort sort
 
--- the least of the rules G5 to G7 that a `$f` breaks whose symbols have these sorts
+-- the least of the rules G5 to G7 that a `$f` with symbols of these sorts breaks
 abbrev pub sorts_rule : Sort → Sort → Option Rule
 sorts_rule constant variable =
     if not (is_symbol_sort constant && is_symbol_sort variable) then Some G5

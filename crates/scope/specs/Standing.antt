@@ -1,12 +1,12 @@
 -- The active `$f`, `$e` and `$d`, with their positions.
--- Source: Metamath, 4.2.8: what is active, hypothesis by hypothesis.
+-- Source: Metamath, 4.2.8 (scoping statements).
 -- The code keeps them on a stack; the model filters what is active.
 use Rattle.std.specs.Prelude.{ℕ, List, [], ◌∷◌}
 use Rattle.scope.specs.Words.{flat_map, Stmt, Disj, Float, Ess, Database}
 use Rattle.scope.specs.Active.{active}
 use Rattle.scope.specs.declared.standing.Standing.{Standing}
 
--- a `$f`, `$e` or `$d` at its position, and nothing of any other statement
+-- a `$f`, `$e` or `$d` with its position; no entry for any other statement
 abbrev pub stands_at : ℕ → Stmt → List Standing
 stands_at at (Float label constant variable) = record { at = at; stmt = Float label constant variable } ∷ []
 stands_at at (Ess label expr) = record { at = at; stmt = Ess label expr } ∷ []

@@ -1,5 +1,5 @@
 -- Symbols as numbers: each declared symbol has its index in the list of symbols by first declaration.
--- Source: this project's form of keeping symbols; what declares a symbol is Metamath, 4.2.1.
+-- Source: Metamath, 4.2.1 (which statements declare a symbol); the numbers are this project's form.
 use Rattle.std.specs.Prelude.{◌≡◌, ℕ, List, [], ◌∷◌, Option, Some, None}
 use Rattle.scope.specs.Words.{Name, Stmt, Const, Var, Disj, Float, Ess, Axiom, Prove, Expr, Database, decode, with_names, AreCodes}
 use Rattle.scope.specs.Active.{label_of}
@@ -18,7 +18,7 @@ symbols_from symbols (s ∷ S) = symbols_from (with_names symbols (symbols_by s)
 abbrev pub symbols_of : Database → List Name
 symbols_of S = symbols_from [] S
 
--- the symbols that stand in a statement
+-- the symbols that a statement has
 abbrev pub symbols_in : Stmt → Expr
 symbols_in (Const symbols) = symbols
 symbols_in (Var symbols) = symbols
@@ -29,12 +29,12 @@ symbols_in (Axiom label expr) = expr
 symbols_in (Prove label expr proof) = expr
 symbols_in s = []
 
--- the numbers stand for the symbols of an expression
+-- the numbers are those of the symbols of an expression
 abbrev pub AreNumbers : List Name → Expr → List ℕ → Type 0
 AreNumbers symbols xs numbers = AreCodes symbols numbers × (decode symbols numbers ≡ xs)
 
--- the numbers stand for the variables that a `$v` declares, or for the two symbols of a `$f`; for another statement nothing is
--- required
+-- the numbers are those of the variables that a `$v` declares, or of the two symbols of a `$f`; for another statement nothing
+-- is required
 abbrev pub AreVariableNumbers : List Name → Stmt → List ℕ → Type 0
 AreVariableNumbers symbols (Var xs) numbers = AreNumbers symbols xs numbers
 AreVariableNumbers symbols (Float label constant variable) numbers = AreNumbers symbols (constant ∷ variable ∷ []) numbers
@@ -44,7 +44,7 @@ AreVariableNumbers symbols s numbers = Unit {0}
 abbrev pub symbols_after : Database → Stmt → List Name
 symbols_after S s = with_names (symbols_of S) (symbols_by s)
 
--- the content of an option, before a list
+-- a list, with the content of an option put in front
 abbrev pub option_list : {A : Type 0} → Option A → List A → List A
 option_list None xs = xs
 option_list (Some x) xs = x ∷ xs

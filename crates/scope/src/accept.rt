@@ -1,4 +1,4 @@
-//! The changes that a legal statement makes in the state of the rules.
+//! Updates the state of the rules by a legal statement.
 ghost use Rattle.std.specs.Prelude.{◌≡◌, ◌+◌, ◌<◌, ◌≤◌, ◌^◌, ◌++◌, ◌∷◌, [], ℕ, List, length, get_or, true, OnOk, OnErr};
 ghost use Rattle.mm_read.specs.declared.stmt.Stmt.TheVariants as shape;
 ghost use Rattle.scope.specs.Active.{bare};
@@ -16,7 +16,7 @@ impl Rules {
     /// Appends a legal statement. `numbers` are those of the variables that a `$v` declares, or of the two symbols of a `$f`;
     /// for other statements they are ignored.
     ///
-    /// Errors: an allocation fails; the statements are then as before. Cost: the statement's own size.
+    /// Errors: an allocation fails; the statements are then unchanged. Cost: the statement's own size.
     pub fn accept(&mut self, stmt: &Stmt, numbers: &[u32]) -> Result<(), AllocError>
         requires legal { IsLegal self.old.statements stmt.now }
         requires room { length self.old.statements + 1 < 2 ^ 64 }
@@ -99,7 +99,8 @@ impl Rules {
         Ok(())
     }
 
-    /// Accepts a statement that opens and closes no block, and neither declares nor types a variable.
+    /// Appends a statement that neither opens nor closes a block, and neither declares a variable nor gives one a typecode.
+    /// `standing` is 1 for a `$e` or `$d`, else 0.
     fn accept_plain(&mut self, stmt: &Stmt, standing: usize) -> Result<(), AllocError>
         requires plain { IsPlain stmt.now standing }
         requires one { standing ≤ 1 }

@@ -1,4 +1,4 @@
-//! The declarations of a legal statement in the numbering.
+//! Adds the names that a legal statement declares to the numbering.
 ghost use Rattle.std.specs.Prelude.{◌≡◌, ◌++◌, None, true, false, IfOk, OnOk, OnErr};
 ghost use Rattle.mm_lex.specs.Alphabet.{Name, has_name};
 ghost use Rattle.scope.specs.Kinds.{Declared, IsNumberOf, declared_symbols, is_label_kind, is_symbol_kind, kind_in, with_kind, with_kinds};
@@ -15,7 +15,7 @@ use std::alloc::{AllocError, Global};
 /// Appends the symbols and the label that a legal statement declares. The numbers of the symbols of a `$c` or a `$v` are
 /// recorded.
 ///
-/// Errors: an allocation fails; the earlier names are then still the first ones.
+/// Errors: an allocation fails; the earlier names are then unchanged, but new ones may be appended.
 pub fn declare_names(
     names: &mut Numbering,
     alloc: Global,
@@ -46,7 +46,7 @@ pub fn declare_names(
     }
 }
 
-/// Declares a label that is no name yet.
+/// Declares a label that is not yet declared.
 fn declare_label(names: &mut Numbering, alloc: Global, label: &Word) -> Result<(), AllocError>
     requires { kind_in names.old label.now ≡ None }
     ensures ok { OnOk result (names.new ≡ with_kind names.old shape_kind.Label label.now) }
@@ -56,7 +56,7 @@ fn declare_label(names: &mut Numbering, alloc: Global, label: &Word) -> Result<(
     Ok(())
 }
 
-/// Gives a kind to each of the symbols that has none, and records the numbers of all.
+/// Declares each of the symbols that is not yet declared, and records the numbers of all.
 fn declare_symbols(
     names: &mut Numbering,
     alloc: Global,
@@ -78,8 +78,8 @@ fn declare_symbols(
     Ok(())
 }
 
-/// Gives a kind to a symbol that has none, and returns its number. A variable may have had it before, in a block that is
-/// closed.
+/// Declares a symbol if it is not yet declared, and returns its number. A variable may have been declared before, in a block
+/// that is now closed.
 fn declare_symbol(
     names: &mut Numbering,
     alloc: Global,

@@ -1,4 +1,4 @@
-//! The statements that were accepted, which only contracts see.
+//! The statements accepted so far, which only contracts see.
 ghost use Rattle.std.specs.Prelude.{◌≡◌, List, [], ◌∷◌, ◌++◌};
 ghost use Rattle.std.specs.Borrow.{ftrue};
 ghost use Rattle.mm_read.specs.declared.stmt.Stmt.{Stmt as Statement};
@@ -7,7 +7,7 @@ ghost use Rattle.scope.specs.Active.{bare};
 use mm_read::Stmt;
 use std::marker::Model;
 
-/// The statements accepted so far, without their proofs. It takes no bytes.
+/// The statements accepted so far, without their proofs. A value has size 0.
 #[derive(Drop)]
 pub struct History {
     pub ghost statements: { List Statement },
@@ -28,14 +28,14 @@ impl History {
         History {}
     }
 
-    /// Returns the statements with one more.
+    /// Returns a history with one more statement.
     pub fn after(_before: &History, _stmt: &Stmt) -> History
         ensures { result.statements ≡ _before.now.statements ++ bare _stmt.now ∷ [] }
     {
         History {}
     }
 
-    /// Returns the same statements.
+    /// Returns an equal history.
     pub fn same(_of: &History) -> History
         ensures { result.statements ≡ _of.now.statements }
     {

@@ -1,4 +1,4 @@
-//! The rules of a statement, by a function for each shape of statement.
+//! Decides the rules, with a function for each shape of statement.
 ghost use Rattle.std.specs.Prelude.{◌≡◌, ◌==◌, Bool, true, false, not, ◌&&◌, ◌||◌, nat_lt, take, length, Some, None, IfOk, ◌++◌, ◌∷◌, [], is_some, if◌then◌else◌};
 ghost use Rattle.std.specs.List.{list_all, list_any};
 ghost use Rattle.mm_lex.specs.Alphabet.{has_name};
@@ -56,7 +56,7 @@ impl<'a> Model for Judge<'a> {
 }
 
 impl<'a> Judge<'a> {
-    /// Returns the least rule that the statement would break as the next one.
+    /// Returns the least rule that the statement would break as the next one, or `None`.
     ///
     /// If it breaks none and recording has begun, the recorded numbers are those of its symbols, or are discarded if an
     /// allocation fails; for `$c` and `$v` they are discarded.
@@ -182,8 +182,8 @@ impl<'a> Judge<'a> {
         None
     }
 
-    /// Returns `None` unless each symbol is a constant or an active variable; else whether the first is a
-    /// constant, and whether each variable has an active `$f`.
+    /// Returns whether the first symbol is a constant, and whether each variable has an active `$f`, or `None` if a
+    /// symbol is neither a constant nor an active variable.
     fn are_symbols(&self, expr: &Words, recorded: &mut SymbolNumbers) -> Option<(bool, bool)>
         requires { AreRecorded (symbols_of self.now.statements) [] recorded.old }
         ensures symbols { result ≡ (if list_all (λ x. is_constant self.now.statements x || is_variable self.now.statements x) expr.now then Some (starts_with_constant self.now.statements expr.now, are_typed self.now.statements expr.now) else None) }
@@ -234,7 +234,7 @@ impl<'a> Judge<'a> {
         true
     }
 
-    /// Returns whether no symbol stands twice in the list. A short list is decided by the recorded numbers.
+    /// Returns whether the symbols are distinct. Compares the recorded numbers if the list is short.
     fn are_distinct(&self, symbols: &Words, recorded: &SymbolNumbers) -> bool
         requires { AreRecorded (symbols_of self.now.statements) symbols.now recorded.now }
         ensures { result ≡ all_different symbols.now }
@@ -313,7 +313,7 @@ fn broken_by_sorts(constant: Sort, variable: Sort) -> Option<Rule>
     None
 }
 
-/// Returns whether no number stands twice. Cost: the square of their count.
+/// Returns whether the numbers are distinct. Cost: the square of their count.
 fn are_numbers_distinct(numbers: &[u32]) -> bool
     ensures { result ≡ are_numbers_distinct numbers.now }
 {
@@ -327,8 +327,8 @@ fn are_numbers_distinct(numbers: &[u32]) -> bool
     true
 }
 
-/// Returns whether no word stands twice in the list. Cost: that of sorting the list, or, if an allocation fails, the square of
-/// its length.
+/// Returns whether the words are distinct. Cost: that of sorting the list or, if an allocation fails, the square of its
+/// length.
 fn are_words_distinct(alloc: Global, words: &Words) -> bool
     ensures { result ≡ all_different words.now }
 {
@@ -341,7 +341,7 @@ fn are_words_distinct(alloc: Global, words: &Words) -> bool
     }
 }
 
-/// Returns whether no word stands twice in the list, by sorting the words, so that equal words are neighbours.
+/// Returns whether the words are distinct, by sorting them, so that equal words are neighbours.
 fn differ_by_order(alloc: Global, words: &Words) -> Result<bool, AllocError>
     ensures { IfOk result (λ differ. differ ≡ all_different words.now) }
 {
@@ -366,7 +366,7 @@ fn are_neighbours_distinct(words: &[&[u8]]) -> bool
     true
 }
 
-/// Returns whether no word stands twice in the list, without allocating; the cost is the square of the count of words.
+/// Returns whether the words are distinct, without allocating. Cost: the square of their count.
 fn differ_pair_by_pair(words: &Words) -> bool
     ensures { result ≡ all_different words.now }
 {

@@ -26,7 +26,7 @@ pub struct CountedKind {
 /// The labels and the declared symbols, in the order of their first declaration. Contracts see the list of the names,
 /// each with its kind.
 ///
-/// A symbol's number is its index among the symbols, a label's its index among the labels. Both stand in one
+/// A symbol's number is its index among the symbols, a label's number its index among the labels. Both are in one
 /// table, so that a name is looked up once, whatever its kind.
 #[derive(Drop)]
 pub struct Numbering {
@@ -138,7 +138,7 @@ impl Numbering {
 
     /// Appends a name that is not yet declared, and returns its number.
     ///
-    /// Errors: an allocation fails; the names are then as before. Cost: that of `NameTable::add`.
+    /// Errors: an allocation fails; the names are then unchanged. Cost: that of `NameTable::add`.
     pub fn declare(&mut self, alloc: Global, name: &[u8], kind: NameKind) -> Result<u32, AllocError>
         requires { kind_in self.old name.now ≡ None }
         ensures ok { OnOk result (self.new ≡ self.old ++ (name.now, kind) ∷ []) }
@@ -162,7 +162,7 @@ impl Numbering {
         Ok(number_at(entry, place as u32))
     }
 
-    /// Makes room for `labels` more labels, if allocation succeeds.
+    /// Reserves room for `labels` more labels, if allocation succeeds.
     pub fn reserve(&mut self, alloc: Global, labels: usize)
         ensures { self.new ≡ self.old }
     {
@@ -198,7 +198,7 @@ impl Numbering {
     }
 }
 
-/// Returns the number, among the symbols or among the labels, of the name with this entry at an index of the table.
+/// Returns the number of a name among the symbols or among the labels, by its entry and its index in the table.
 #[inline(always)]
 fn number_at(entry: CountedKind, place: u32) -> u32
     requires { entry.before ≤ place }
@@ -219,7 +219,7 @@ fn entry_at(entries: &[CountedKind], index: usize) -> CountedKind
     entries[index]
 }
 
-/// Appends an entry, and its place to those of the symbols or of the labels.
+/// Appends an entry, and its place to `symbols` or to `labels`, by its kind.
 fn push_entry(
     entries: &mut Vec<CountedKind>,
     symbols: &mut Vec<u32>,

@@ -1,14 +1,14 @@
-//! The ten rules of a statement.
+//! The ten rules for a statement.
 
-/// A rule that a statement breaks, or out of memory.
+/// A rule that a statement breaks, or a failed allocation.
 #[derive(Clone, Copy, Debug, Drop, PartialEq, Eq)]
 pub enum Rule {
-    /// `$c` stands in the outermost block.
+    /// `$c` is in the outermost block.
     G1,
-    /// Each symbol of `$c` was never declared as a symbol, is no earlier label, and stands once in the statement.
+    /// Each symbol of `$c` was never declared as a symbol, is not an earlier label, and occurs once in the statement.
     G2,
-    /// Each symbol of `$v` is no active variable, was never declared as a constant, is no earlier label, and stands once in
-    /// the statement.
+    /// Each symbol of `$v` is not an active variable, was never declared as a constant, is not an earlier label, and occurs
+    /// once in the statement.
     G3,
     /// The label was never used as a label and never declared as a symbol.
     G4,
@@ -18,7 +18,7 @@ pub enum Rule {
     G6,
     /// The second symbol of `$f` is a variable that has no active `$f`.
     G7,
-    /// `$d` names different active variables.
+    /// The symbols of `$d` are distinct active variables.
     G8,
     /// Each variable in `$e`, `$a`, `$p` has an active `$f`.
     G9,

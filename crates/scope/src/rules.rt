@@ -1,4 +1,4 @@
-//! The state of the rules: which variables are active, and where the open blocks start.
+//! The state of the rules: which variables are active, and how many were when each open block began.
 ghost use Rattle.std.specs.Prelude.{◌≡◌, ◌==◌, ◌++◌, ◌∷◌, [], length, not, nat_lt, take, None, IfOk, IfSome, OnOk, IsTrue};
 ghost use Rattle.std.specs.List.{list_any};
 ghost use Rattle.names.specs.Codes.{numbers_in};
@@ -23,8 +23,8 @@ use mm_read::Stmt;
 use std::alloc::{AllocError, Global};
 use std::marker::Model;
 
-/// The state of the rules for the statements accepted so far, and for those that are marked: their stacks, by the
-/// numbers of symbols. Callers lend the numbering itself, so that others use it too. Contracts see the statements.
+/// The state of the rules after the statements accepted so far, and at the mark: stacks of the numbers of symbols.
+/// Callers pass the numbering, so that frames use it too. Contracts see the statements.
 #[derive(Drop)]
 pub struct Rules {
     pub(crate) accepted: History,
@@ -48,7 +48,7 @@ impl Model for Rules {
 }
 
 impl Rules {
-    /// Returns rules without statements, of which none is marked.
+    /// Returns the state of no statements, with no marked statements.
     pub fn new(alloc: Global) -> Rules
         ensures statements { result.statements ≡ [] }
         ensures marked { result.marked ≡ [] }
@@ -68,7 +68,7 @@ impl Rules {
         }
     }
 
-    /// Marks the statements accepted so far, for `back`. Does not allocate.
+    /// Marks the statements accepted so far: `back` returns to them. Does not allocate.
     pub fn mark(&mut self)
         requires { IsTrue (is_closed self.old.statements) }
         ensures statements { self.new.statements ≡ self.old.statements }
@@ -82,7 +82,7 @@ impl Rules {
     pub fn back(&mut self)
         ensures statements { self.new.statements ≡ self.old.marked }
         ensures marked { self.new.marked ≡ self.old.marked }
-        // The `$f`, `$e` and `$d` that are active at the mark are the first of those that were active before the call.
+        // The `$f`, `$e` and `$d` that are active at the mark are a prefix of those that were active before the call.
         ensures standing { take (length (standing_of self.old.marked)) (standing_of self.old.statements) ≡ standing_of self.old.marked }
     {
         self.variables.truncate(self.mark.variables);
@@ -101,7 +101,7 @@ impl Rules {
         give_back(&mut self.blocks);
     }
 
-    /// Returns equal rules.
+    /// Returns an equal state.
     ///
     /// Errors: an allocation fails. Cost: the size of the stacks.
     pub fn copy(&self, alloc: Global) -> Result<Rules, AllocError>
@@ -141,12 +141,13 @@ impl Rules {
         }
     }
 
-    /// Returns the least rule that a statement would break as the next one, by the numbering of the names so far.
+    /// Returns the least rule that a statement would break as the next one, or `None`. `names` is the numbering of the
+    /// statements so far.
     ///
     /// If it breaks none and recording has begun, the recorded numbers are those of its symbols, or are discarded if an
-    /// allocation fails; for `$c` and `$v` they are discarded. Allocates for recording that has begun, and for the call
-    /// if a list of names is long; no answer depends on whether that succeeds. Cost: the statement's own size, and for a long
-    /// list of names that of sorting it, or, if that allocation fails, the square of their count.
+    /// allocation fails; for `$c` and `$v` they are discarded. Allocates while it records, and temporarily if a list of names
+    /// is long; the returned rule does not depend on whether an allocation succeeds. Cost: the statement's size; for a long
+    /// list of names also that of sorting it or, if the allocation for that fails, the square of its length.
     /// Source: Metamath, chapter 4; the rules are `specs/Legal.antt`.
     pub fn broken_rule<'a>(
         &'a self,

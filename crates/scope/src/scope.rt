@@ -1,4 +1,4 @@
-//! The statements accepted so far, and what is active after them.
+//! The statements accepted so far, and which of them are active.
 ghost use Rattle.std.specs.Prelude.{◌≡◌, ◌+◌, ◌<◌, ◌^◌, ◌++◌, ◌∷◌, [], List, length, OnOk, OnErr, IfOk, IfErr, IfSome, IsTrue, None};
 ghost use Rattle.mm_read.specs.Statements.{IsShaped};
 ghost use Rattle.scope.specs.Active.{bare, is_closed};
@@ -21,8 +21,8 @@ use mm_read::Stmt;
 use std::alloc::{AllocError, Global};
 use std::marker::Model;
 
-/// The statements accepted so far, and those of them that are marked: the state of the rules with a numbering of its own,
-/// and the `$f`, `$e` and `$d` that are active.
+/// The statements accepted so far, and those of them that are marked: the state of the rules, the numbering of the names,
+/// and the active `$f`, `$e` and `$d`. Contracts see the statements.
 #[derive(Drop)]
 pub struct Scope {
     alloc: Global,
@@ -47,7 +47,7 @@ impl Model for Scope {
 }
 
 impl Scope {
-    /// Returns a scope without statements, of which none is marked.
+    /// Returns a scope with no statements and no marked statements.
     pub fn new(alloc: Global) -> Scope
         ensures statements { result.statements ≡ [] }
         ensures marked { result.marked ≡ [] }
@@ -67,7 +67,7 @@ impl Scope {
     /// Appends the next statement if it breaks none of the rules G1 to G10.
     ///
     /// Errors: the least rule that it breaks, or `Memory` if it breaks none and an allocation fails; the statements are then
-    /// as before. Cost: that of `Rules::broken_rule`; one step is counted, whatever the outcome.
+    /// unchanged. Cost: that of `Rules::broken_rule`; one step is counted, whatever the outcome.
     /// Source: Metamath, chapter 4; the rules are `specs/Legal.antt`.
     pub fn add(&mut self, stmt: &Stmt, steps: &mut Steps) -> Result<(), Rule>
         requires { IsShaped stmt.now }
@@ -123,8 +123,8 @@ impl Scope {
         }
     }
 
-    /// Returns the least rule that the statement would break as the next one. Allocates for the call if a list of names is
-    /// long; no answer depends on whether that succeeds.
+    /// Returns the least rule that the statement would break as the next one, or `None`. Allocates temporarily if a list of
+    /// names is long; the returned rule does not depend on whether that succeeds.
     ///
     /// Cost: that of `Rules::broken_rule`. Source: Metamath, chapter 4; the rules are
     /// `specs/Legal.antt`.
@@ -147,7 +147,7 @@ impl Scope {
         self.rules.close_at_end()
     }
 
-    /// Marks the statements accepted so far, for `back`. Does not allocate.
+    /// Marks the statements accepted so far: `back` returns to them. Does not allocate.
     pub fn mark(&mut self)
         requires { IsTrue (is_closed self.old.statements) }
         ensures statements { self.new.statements ≡ self.old.statements }
@@ -188,9 +188,9 @@ impl Scope {
     }
 }
 
-/// Accepts a legal statement, by the recorded numbers of its symbols.
+/// Appends a legal statement; the recorded numbers are those of its symbols.
 ///
-/// Errors: an allocation fails; the rules are then as before, and `names` and `standing` begin with what they had.
+/// Errors: an allocation fails; the rules are then unchanged, and `names` and `standing` may have items appended.
 fn take_in(
     alloc: Global,
     rules: &mut Rules,

@@ -1,4 +1,4 @@
-//! A stack of distinct numbers that finds the index of a number at once.
+//! A stack of distinct numbers that finds the index of a number in constant time.
 ghost use Rattle.std.specs.Prelude.{◌≡◌, ◌≢◌, ℕ, [], ◌∷◌, ◌++◌, ◌==◌, false, take, length, slice_get, is_some, Some, IfOk, IfSome, OnOk, OnErr};
 ghost use Rattle.std.specs.List.{list_any};
 
@@ -8,8 +8,8 @@ use std::marker::Model;
 
 /// A stack of distinct numbers. Contracts see the list.
 ///
-/// `places` has an index for each number, which is valid only while the number stands there, so
-/// truncating the stack costs nothing.
+/// `places` has an index for each number. It is valid only if the number is at that index, so
+/// truncating the stack leaves `places` as it is.
 #[derive(Drop)]
 pub struct Stack {
     numbers: Vec<u32>,
@@ -60,7 +60,7 @@ impl Stack {
         self.numbers.as_slice()
     }
 
-    /// Returns the index of a number, or `None` if it is not there. Cost: constant.
+    /// Returns the index of a number, or `None` if it is not on the stack. Cost: constant.
     pub fn place(&self, number: u32) -> Option<usize>
         ensures found { IfSome result (λ k. slice_get self.now k ≡ Some number) }
         ensures member { is_some result ≡ list_any (λ n. n == number) self.now }
@@ -76,9 +76,9 @@ impl Stack {
         if there == number { Some(place) } else { None }
     }
 
-    /// Appends a number that is not there.
+    /// Pushes a number that is not on the stack.
     ///
-    /// Errors: an allocation fails; the stack is then as before. Cost: constant, but for growing tables.
+    /// Errors: an allocation fails; the stack is then unchanged. Cost: constant, unless a table grows.
     pub fn push(&mut self, number: u32) -> Result<(), AllocError>
         requires { list_any (λ n. n == number) self.old ≡ false }
         ensures ok { OnOk result (self.new ≡ self.old ++ number ∷ []) }
@@ -105,7 +105,7 @@ impl Stack {
     }
 }
 
-/// Records where a number stands.
+/// Records the index of a number.
 fn record_place(places: &mut Vec<usize>, number: u32, place: usize) -> Result<(), AllocError>
     ensures recorded { OnOk result (slice_get places.new.items number ≡ Some place) }
     ensures others { (n k : ℕ) → n ≢ number → slice_get places.old.items n ≡ Some k → slice_get places.new.items n ≡ Some k }

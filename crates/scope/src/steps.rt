@@ -4,7 +4,7 @@ ghost use Rattle.std.specs.Borrow.{ftrue};
 
 use std::marker::{Model, PhantomData};
 
-/// How many steps were taken: a number that only contracts see.
+/// The number of steps taken, which only contracts see.
 #[derive(Drop)]
 pub struct Steps {
     of: PhantomData<u8>,

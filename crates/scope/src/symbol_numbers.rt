@@ -1,13 +1,13 @@
-//! The numbers of a statement's symbols, recorded while it is judged.
+//! The numbers of a statement's symbols, recorded while its rules are tested.
 ghost use Rattle.std.specs.Prelude.{◌≡◌, None, Some, [], IfSome, is_some};
 ghost use Rattle.scope.specs.Stored.SymbolNumbers.{IsAppended};
 
 use std::alloc::Global;
 use std::marker::Model;
 
-/// Numbers of symbols, or nothing while they are not recorded. Contracts see an option.
+/// The numbers of a statement's symbols, or nothing if they are not recorded. Contracts see an option.
 ///
-/// The buffer is kept from statement to statement.
+/// The buffer is reused from statement to statement.
 #[derive(Drop)]
 pub struct SymbolNumbers {
     numbers: Vec<u32>,
@@ -23,7 +23,7 @@ impl Model for SymbolNumbers {
 }
 
 impl SymbolNumbers {
-    /// Returns an empty buffer; nothing is recorded before `begin`.
+    /// Returns an empty buffer. Nothing is recorded before `begin`.
     pub fn new(alloc: Global) -> SymbolNumbers
         ensures { result ≡ None }
     {

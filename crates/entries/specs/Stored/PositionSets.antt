@@ -1,6 +1,6 @@
--- Sets of positions as trees: a set is its middle position, between those of two earlier sets.
+-- Sets of positions as trees: a set is a position between those of two earlier sets.
 -- The code's own form: no public clause cites it.
--- So more sets change none that were there, and the last ones can be cut off.
+-- So appending sets changes no earlier one, and the last ones can be removed.
 use Rattle.std.specs.Prelude.{◌≡◌, ℕ, ◌+◌, ◌<◌, ◌≤◌, ◌^◌, List, [], ◌∷◌, ◌++◌, length}
 use Rattle.entries.specs.declared.position_sets.Node.{Node}
 use Rattle.entries.specs.PositionSets.{set_at, Ascends}
@@ -12,12 +12,12 @@ joined sets left position right = set_at sets left ++ position ∷ set_at sets r
 abbrev pub set_of : List (List ℕ) → Node → List ℕ
 set_of sets n = joined sets n.left n.position n.right
 
--- the sets there were, and that of each node
+-- the given sets, followed by the set of each node
 abbrev pub sets_from : List (List ℕ) → List Node → List (List ℕ)
 sets_from sets [] = sets
 sets_from sets (n ∷ ns) = sets_from (sets ++ set_of sets n ∷ []) ns
 
--- the first is the empty set
+-- the empty set, followed by the set of each node
 abbrev pub sets_of : List Node → List (List ℕ)
 sets_of ns = sets_from ([] ∷ []) ns
 
@@ -37,7 +37,7 @@ pub record AreSets (ns : List Node) : Type 0 where
   pub nodes : AreNodes ([] ∷ []) ns
   pub few : length ns + 2 ≤ 2 ^ 32
 
--- the node of a set, as it is read
+-- n is the node of the set with this number
 pub record IsTop (sets : List (List ℕ)) (set : ℕ) (n : Node) : Type 0 where
   pub within : set < length sets
   pub left : n.left < set

@@ -1,6 +1,6 @@
 -- Statements in shared buffers: each has the items from where it begins up to where the next one begins.
 -- The code's own form: no public clause cites it.
--- So more after the buffers changes no statement, and the buffers can be cut where a statement begins.
+-- So appending to the buffers changes no statement, and the buffers can be truncated where a statement begins.
 use Rattle.std.specs.Prelude.{◌≡◌, ℕ, ◌+◌, ◌-◌, ◌<◌, ◌≤◌, ◌^◌, Bool, true, false, List, [], ◌∷◌, ◌++◌, length, map, slice_get, slice_range, get_or, nat_lt, Option, Some, None}
 use Rattle.entries.specs.declared.layout.Layout.{Layout}
 use Rattle.entries.specs.declared.layout.TheConstants.{COUNTS}
@@ -100,13 +100,13 @@ with_states_before [] ks = []
 with_states_before (b ∷ bs) [] = []
 with_states_before (b ∷ bs) (k ∷ ks) = with_state_before b k ∷ with_states_before bs ks
 
--- a statement's numbers are within the buffer, as many as it says
+-- a statement's numbers are within the buffer, as many as its layout has
 pub record IsPlaced (numbers : List ℕ) (r : StatementRecord) (next : Option StatementRecord) : Type 0 where
   pub from : r.from ≤ end_by numbers next
   pub end : end_by numbers next ≤ length numbers
   pub whole : (layout_in r.has_parts (run_by numbers r next)).end ≡ length (run_by numbers r next)
 
--- its groups are as many as it says, and parts of its places
+-- a statement's groups are as many as its layout has, and parts of its places
 pub record IsGrouped (groups : List BufferPart) (r : StatementRecord) (next : Option StatementRecord) (at : Layout) : Type 0 where
   pub count : r.groups + at.groups ≡ groups_by groups next
   pub end : groups_by groups next ≤ length groups
@@ -126,7 +126,7 @@ pub record ArePacked (numbers : List ℕ) (groups : List BufferPart) (rs : List 
 
 -- ---- one statement as it is read
 
--- the parts stand one after the other
+-- the parts follow one another
 pub record IsOrdered (at : Layout) : Type 0 where
   pub typecodes : at.typecodes ≤ at.required
   pub required : at.required ≤ at.symbols

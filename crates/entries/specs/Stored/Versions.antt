@@ -1,4 +1,4 @@
--- Versions of a stack as they are kept, and the log of those of all numbers. The code's own form: no public clause cites it.
+-- Versions of a stack as they are stored, and the log of those of all numbers. The code's own form: no public clause cites it.
 -- A version has the index of the version below its top, an earlier one: so a stack is found in one pass over them.
 use Rattle.std.specs.Prelude.{◌≡◌, ℕ, zero, suc, ◌<◌, ◌==◌, List, [], ◌∷◌, ◌++◌, length, map, filter, get_or, Option, Some, None}
 use Rattle.std.specs.List.Sorted.{IsNonDecreasingBy}
@@ -8,7 +8,7 @@ use Rattle.entries.specs.Histories.{StackVersion, stack_at, history}
 abbrev pub no_version : StackVersion
 no_version = record { since = 0; stack = [] }
 
--- a stack so high, with this top above that stack
+-- the stack of this height, with this top above that stack
 abbrev pub stacked : ℕ → ℕ → List ℕ → List ℕ
 stacked zero top below = []
 stacked (suc zero) top below = top ∷ []
@@ -29,12 +29,12 @@ versions_after done (v ∷ vs) = version_of done v ∷ versions_after (done ++ v
 abbrev pub versions_of : List Version → List StackVersion
 versions_of vs = versions_after [] vs
 
--- each has the height of its stack, and they stand in the order in which they were made
+-- each has the height of its stack, and they are in the order in which they were made
 pub record AreVersions (vs : List Version) : Type 0 where
   pub heights : map (λ v. v.height) vs ≡ map (λ v. length v.stack) (versions_of vs)
   pub ordered : IsNonDecreasingBy (λ v. v.since) vs
 
--- a version that can be read, with those before it
+-- a version that can be read, with the versions before it
 pub record IsReadable (before : List Version) (v : Version) : Type 0 where
   pub versions : AreVersions before
   pub height : v.height ≡ length (stack_of (versions_of before) v)
@@ -46,7 +46,7 @@ IsFound vs at None = stack_at (versions_of vs) at ≡ []
 
 -- ---- those of all numbers
 
--- a version of a number was added
+-- the addition of a version to the stack of a number
 pub record Change : Type 0 where
   pub number : ℕ
   pub since : ℕ

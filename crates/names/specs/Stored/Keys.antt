@@ -1,4 +1,4 @@
--- Names as numbers of 64 bits, which distinguish names of at most seven bytes.
+-- The key of a name, a number of 64 bits; names of at most seven bytes have different keys.
 -- The code's own form: no public clause cites it.
 use Rattle.std.specs.Prelude.{ℕ, zero, suc, ◌+◌, ◌-◌, ◌*◌, ◌/◌, ◌%◌, ◌^◌, ◌<◌, List, [], ◌∷◌, length, get_or, nat_lt, if◌then◌else◌}
 use Rattle.std.specs.Int.{w64, swap_bytes}
@@ -13,7 +13,7 @@ abbrev pub digits : List ℕ → ℕ
 digits [] = 0
 digits (byte ∷ bytes) = byte + 256 * digits bytes
 
--- bytes that distinguish a name of at most three bytes from the others of its length
+-- the bytes of a name of at most three bytes, some of them repeated
 abbrev pub ends : Name → List ℕ
 ends x = get_or x 0 0 ∷ get_or x (length x / 2) 0 ∷ get_or x (length x - 1) 0 ∷ []
 
@@ -26,7 +26,7 @@ front_and_back x =
 abbrev pub picked : Name → List ℕ
 picked x = if nat_lt (length x) 4 then ends x else front_and_back x
 
--- eight bytes from an index on
+-- the eight bytes from an index on
 abbrev pub eight : Name → ℕ → List ℕ
 eight x at =
     get_or x at 0 ∷ get_or x (at + 1) 0 ∷ get_or x (at + 2) 0 ∷ get_or x (at + 3) 0

@@ -1,5 +1,5 @@
--- The numbers of the names in the overflow, short ones in the order of their keys and others in the order of their bytes.
--- Source: this project's form of keeping names.
+-- The numbers of the names in the overflow, in maps from the keys of short names and from the bytes of others.
+-- Source: this project's form.
 -- The code's own form: no public clause cites it.
 use Rattle.std.specs.Prelude.{ℕ, Option, length, nat_lt, if◌then◌else◌}
 use Rattle.std.specs.BTreeMap.{get_by}
@@ -10,6 +10,6 @@ use Rattle.names.specs.Stored.Keys.{key_of}
 use Rattle.names.specs.declared.keys.TheConstants.{LONG}
 use Rattle.names.specs.declared.overflow.Overflow.{Overflow}
 
--- the number that is kept for a name
+-- the number of a name in the overflow
 abbrev pub number_of : Overflow → Name → Option ℕ
 number_of a x = if nat_lt (length x) LONG then get_by (nat_cmp (key_of x)) a.short else get_by (λ k. slice_cmp nat_cmp x k.items) a.long

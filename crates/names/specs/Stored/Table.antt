@@ -19,18 +19,18 @@ half_of key = key % HALVES
 abbrev pub slot_of : ℕ → ℕ → Slot
 slot_of key number = record { half = half_of key; number = number }
 
--- the index of the slot that a step looks at, by the key and the table's length
+-- the index of the slot that a step probes, by the key and the table's length
 abbrev pub place_of : ℕ → ℕ → ℕ → ℕ
 place_of key step len = bit_and ((spread_of key + step * (step + 1) / 2) % 2 ^ 64) (len - 1)
 
 abbrev pub slot_at : List Slot → ℕ → ℕ → Slot → Type 0
 slot_at slots key step s = slice_get slots (place_of key step (length slots)) ≡ Some s
 
--- the slot of a step has a number
+-- the slot that a step probes is taken
 abbrev pub IsTaken : List Slot → ℕ → ℕ → Type 0
 IsTaken slots key step = (s : Slot) → slot_at slots key step s → s.number ≢ NO_NAME
 
--- a number is found by its key before a free slot is met
+-- the steps of a key reach the slot of this number before any free slot
 pub record IsHeld (slots : List Slot) (key number : ℕ) : Type 0 where
   pub step : ℕ
   pub within : step < length slots
@@ -41,7 +41,7 @@ pub record IsHeld (slots : List Slot) (key number : ℕ) : Type 0 where
 abbrev pub AreUnused : List Slot → Type 0
 AreUnused slots = (i : ℕ) (s : Slot) → slice_get slots i ≡ Some s → s.number ≡ NO_NAME
 
--- the key of a name, by its number, or the name is in the overflow
+-- the key of a name is stored by its number, or the name is in the overflow
 pub record IsKept (a : Kept) (x : Name) (k : ℕ) : Type 0 where
   pub there : k < length a.keys.items
   pub bytes : AreBytes x
@@ -51,7 +51,7 @@ pub record IsKept (a : Kept) (x : Name) (k : ℕ) : Type 0 where
 abbrev pub AreKept : Kept → List Name → Type 0
 AreKept a names = (k : ℕ) → k < length names → IsKept a (name_at names k) k
 
--- the names of the overflow stay there
+-- the names in the overflow of `a` are in that of `b` too
 abbrev pub AreFewer : Kept → Kept → Type 0
 AreFewer a b = (k : ℕ) → get_or b.keys.items k 0 ≢ APART → get_or a.keys.items k 0 ≢ APART
 
@@ -63,12 +63,12 @@ AreHeld n slots a names = (k : ℕ) → k < n → get_or a.keys.items k 0 ≢ AP
 abbrev pub AreFound : List Slot → Overflow → List Name → Type 0
 AreFound slots a names = (k : ℕ) → k < length names → IsHeld slots (key_of (name_at names k)) k ⊎ (number_of a (name_at names k) ≡ Some k)
 
--- the table of these names
+-- the slots and the overflow are those of these names
 pub record IsTable (slots : List Slot) (a : Kept) (names : List Name) : Type 0 where
   pub kept : AreKept a names
   pub held : AreHeld (length names) slots a names
 
--- the first free slot that the steps of a key meet
+-- `at` is the index of the first free slot that the steps of a key probe
 pub record IsFree (slots : List Slot) (key at : ℕ) : Type 0 where
   pub step : ℕ
   pub within : step < length slots
@@ -78,6 +78,6 @@ pub record IsFree (slots : List Slot) (key at : ℕ) : Type 0 where
   pub free : (s : Slot) → slice_get slots at ≡ Some s → s.number ≡ NO_NAME
   pub before : (i : ℕ) → i < step → IsTaken slots key i
 
--- the slot of a step has a number, and not that of the name
+-- the slot that a step probes is taken by another name
 abbrev pub IsPassed : List Slot → List Name → Name → ℕ → ℕ → Type 0
 IsPassed slots names name key step = (s : Slot) → slot_at slots key step s → (s.number ≢ NO_NAME) × (s.half ≡ half_of key → s.number < length names → name_at names s.number ≢ name)

@@ -1,5 +1,5 @@
--- Texts in one buffer, each from the end of the one before it up to its own.
--- Source: this project's form of keeping names.
+-- Texts in one buffer, each from the end of the one before it up to its own end.
+-- Source: this project's form.
 -- The code's own form: no public clause cites it.
 use Rattle.std.specs.Prelude.{◌≡◌, ℕ, zero, suc, ◌≤◌, List, [], ◌∷◌, slice_range}
 use Rattle.mm_lex.specs.Alphabet.{Name}
@@ -9,7 +9,7 @@ abbrev pub cut : List ℕ → ℕ → List ℕ → List Name
 cut xs from [] = []
 cut xs from (to ∷ ends) = slice_range xs from to ∷ cut xs to ends
 
--- where the part of a number begins
+-- where the part with a number begins
 abbrev pub start_of : ℕ → List ℕ → ℕ → ℕ
 start_of from [] n = from
 start_of from (to ∷ ends) zero = from

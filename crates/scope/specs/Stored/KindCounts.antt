@@ -1,4 +1,4 @@
--- Kinds with the count of the symbols before each, and the places of the names of some kinds.
+-- Kinds with the count of the symbols before each, and the places of the symbols and of the labels.
 -- The code's own form: no public clause cites it.
 use Rattle.std.specs.Prelude.{◌≡◌, ℕ, ◌+◌, Bool, List, [], ◌∷◌, map, length, if◌then◌else◌}
 use Rattle.mm_lex.specs.Alphabet.{Name}
@@ -18,7 +18,7 @@ abbrev pub AreCounted : ℕ → List CountedKind → Type 0
 AreCounted n [] = Unit {0}
 AreCounted n (e ∷ entries) = (e.before ≡ n) × AreCounted (count_after e) entries
 
--- the places of the entries of some kinds, if the first entry has the place n
+-- the places of the entries whose kind passes the test, if the first entry has the place n
 abbrev pub places_that : (NameKind → Bool) → ℕ → List CountedKind → List ℕ
 places_that own n [] = []
 places_that own n (e ∷ entries) =

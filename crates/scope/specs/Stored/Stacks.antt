@@ -23,12 +23,13 @@ blocks_from before (p ∷ es) =
 abbrev pub blocks_of : Database → List StackHeights
 blocks_of S = blocks_from [] (active S)
 
--- whether the numbers may be pushed: none of them is on the stack, and none comes twice
+-- whether the numbers may be pushed: none of them is on the stack, and they are distinct
 abbrev pub can_push : List ℕ → List ℕ → Bool
 can_push stack [] = true
 can_push stack (n ∷ ns) = not (list_any (λ m. m == n) stack) && can_push (stack ++ n ∷ []) ns
 
--- a statement that opens and closes no block, and neither declares nor types a variable; n is 1 for a `$e` or `$d`, else 0
+-- a statement that neither opens nor closes a block, and neither declares a variable nor gives one a typecode; n is 1 for a
+-- `$e` or `$d`, else 0
 pub record IsPlain (s : Stmt) (n : ℕ) : Type 0 where
   pub no_open : is_open s ≡ false
   pub no_close : is_close s ≡ false
