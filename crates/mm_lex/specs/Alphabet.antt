@@ -1,6 +1,6 @@
--- The bytes of a text, its runs of visible bytes, and the kinds of names: labels and symbols.
+-- The bytes of a text, its runs of visible bytes, and the two kinds of names: labels and symbols.
 -- Source: Metamath, 4.1.1 and appendix E.
--- The code reads once, left to right, from one run to the next.
+-- The code reads once, left to right, from one run to the next; here the list of all runs is defined by recursion.
 use Rattle.std.specs.Prelude.{ℕ, ◌+◌, ◌-◌, ◌<◌, ◌≤◌, length, IsTrue, Bool, true, false, not, ◌&&◌, ◌||◌, ◌==◌, if◌then◌else◌, List, [], ◌∷◌, take, drop, bytes_eq, codes}
 use Rattle.std.specs.Char.{is_ascii_whitespace, is_ascii_graphic, is_ascii_alphanumeric}
 use Rattle.std.specs.List.{list_all, list_any}
@@ -26,18 +26,18 @@ is_allowed b = is_visible b || is_white b
 abbrev pub name_eq : Name → Name → Bool
 name_eq = bytes_eq
 
--- no token goes on here
+-- the text is empty or begins with a white byte, so a token before it ends there
 abbrev pub starts_white : List ℕ → Bool
 starts_white [] = true
 starts_white (b ∷ bytes) = is_white b
 
--- a visible byte at `at` before these spans: it is a span of its own if the next byte is white, else it lengthens the first
+-- the spans with a visible byte at `at` in front: a span of its own if the next byte is white, else a part of the first span
 abbrev pub with_byte : ℕ → Bool → List Span → List Span
 with_byte at true spans = record { start = at; end = at + 1 } ∷ spans
 with_byte at false [] = record { start = at; end = at + 1 } ∷ []
 with_byte at false (s ∷ spans) = record { start = at; end = s.end } ∷ spans
 
--- the maximal runs of bytes that are not white, if the first byte is at `at`
+-- the maximal runs of bytes that are not white in a text whose first byte has offset `at`
 abbrev pub runs_from : ℕ → List ℕ → List Span
 runs_from at [] = []
 runs_from at (b ∷ bytes) =
@@ -50,7 +50,7 @@ runs text = runs_from 0 text
 abbrev pub word : List ℕ → Span → Name
 word text s = take (s.end - s.start) (drop s.start text)
 
--- the span is the place of bytes of the text, at least one, none of them white
+-- the span lies in the text and has at least one byte, none of them white
 pub record IsRunAt (text : List ℕ) (s : Span) : Type 0 where
   pub some : s.start < s.end
   pub within : s.end ≤ length text
@@ -72,7 +72,7 @@ is_empty (x ∷ xs) = false
 abbrev pub is_symbol : Name → Bool
 is_symbol w = not (is_empty w) && list_all is_visible w && not (has_byte 36 w)
 
--- letters, digits, `.`, `-`, `_`
+-- the bytes that a label may have: letters, digits, `.`, `-`, `_`
 abbrev pub is_label_byte : ℕ → Bool
 is_label_byte b = is_ascii_alphanumeric b || has_byte b (codes ".-_")
 

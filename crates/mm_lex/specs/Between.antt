@@ -1,6 +1,6 @@
--- The words between two places of a text, and after a place: the tokens outside comments.
+-- The tokens between two offsets of a text, and after an offset: the words outside comments.
 -- Source: Metamath, 4.1.1 and 4.1.2.
--- The code goes on from place to place; here the runs between two places, or after one, are cut at the comments.
+-- The code goes from token to token; here the runs between two offsets, or after one, are split at the comments at once.
 use Rattle.std.specs.Prelude.{◌≡◌, ℕ, ◌<◌, ◌≤◌, List, [], ◌∷◌, ◌++◌, length, Option, Some, None}
 use Rattle.mm_lex.specs.declared.span.Span.{Span}
 use Rattle.mm_lex.specs.declared.fault.LexFault.{LexFault}
@@ -10,7 +10,7 @@ use Rattle.mm_lex.specs.Tokens.{Cuts, IsWordAt, words}
 use Rattle.mm_lex.specs.TextFaults.{StopsAt}
 use Rattle.mm_lex.specs.Comments.{runs_after}
 
--- between the two places stand the tokens that are these words
+-- the tokens from one offset up to the other are these words
 pub record HasBetween (text : List ℕ) (from at : ℕ) (ws : List Name) : Type 0 where
   pub later : from ≤ at
   pub within : at ≤ length text
@@ -20,33 +20,33 @@ pub record HasBetween (text : List ℕ) (from at : ℕ) (ws : List Name) : Type 
   pub cut : Cuts text passed tokens
   pub are : words text tokens ≡ ws
 
--- the tokens after a place, up to the end of the text, are these words
+-- the tokens from an offset to the end of the text are these words
 abbrev pub AreAfter : List ℕ → ℕ → List Name → Type 0
 AreAfter text at ws = (tokens : List Span) × Cuts text (runs_after text at) tokens × (words text tokens ≡ ws)
 
--- `count` tokens stand after a place
+-- there are `count` tokens from an offset to the end of the text
 abbrev pub CountAfter : List ℕ → ℕ → ℕ → Type 0
 CountAfter text at count = (ws : List Name) × AreAfter text at ws × (length ws ≡ count)
 
--- after a place the comments are at fault
+-- the fault is the comment fault of the text after an offset
 abbrev pub StopsAfter : List ℕ → ℕ → LexFault → Type 0
 StopsAfter text at (Text offset) = ⊥
 StopsAfter text at (Comment offset) = StopsAt text (runs_after text at) offset
 StopsAfter text at Memory = ⊥
 
--- .. or an allocation failed
+-- the fault is the comment fault of the text after an offset, or a failed allocation
 abbrev pub FailsAfter : List ℕ → ℕ → LexFault → Type 0
 FailsAfter text at (Text offset) = ⊥
 FailsAfter text at (Comment offset) = StopsAt text (runs_after text at) offset
 FailsAfter text at Memory = Unit {0}
 
--- the next token after a place stands here
+-- the span is the place of the next token after an offset
 pub record IsTokenAfter (text : List ℕ) (at : ℕ) (s : Span) : Type 0 where
   pub token : IsWordAt text s
   pub later : at < s.end
   pub between : HasBetween text at s.end (word text s ∷ [])
 
--- the next token, or none at all
+-- the place of the next token after an offset, or None if no token is left
 abbrev pub IsNextToken : List ℕ → ℕ → Option Span → Type 0
 IsNextToken text at (Some s) = IsTokenAfter text at s
 IsNextToken text at None = AreAfter text at []

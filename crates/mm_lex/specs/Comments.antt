@@ -1,6 +1,6 @@
--- Where the comment ends that is open at a place of the text.
+-- The end of a comment that is open at an offset of the text.
 -- Source: Metamath, 4.1.2 (a comment runs to the next `$)`; comments do not nest).
--- The code goes from one run to the next; here the list of runs after the place is cut once.
+-- The code goes from one run to the next; here the list of runs after the offset is split once.
 use Rattle.std.specs.Prelude.{◌≡◌, ℕ, ◌<◌, ◌≤◌, List, ◌∷◌, ◌++◌, length, drop}
 use Rattle.mm_lex.specs.declared.span.Span.{Span}
 use Rattle.mm_lex.specs.declared.comment.CommentEnd.{CommentEnd}
@@ -8,11 +8,11 @@ use Rattle.mm_lex.specs.declared.comment.CommentEnd.TheVariants.{Closed, Nested,
 use Rattle.mm_lex.specs.Alphabet.{runs_from, word}
 use Rattle.mm_lex.specs.Tokens.{opener, closer, AllPlain}
 
--- the runs that begin at a place or after it
+-- the runs of the text from an offset on
 abbrev pub runs_after : List ℕ → ℕ → List Span
 runs_after text at = runs_from at (drop at text)
 
--- the runs from one place up to another are plain
+-- the runs from one offset up to the other are plain: none is `$(` or `$)`
 pub record PassesPlain (text : List ℕ) (from at : ℕ) : Type 0 where
   pub passed : List Span
   pub later : from ≤ at
@@ -20,7 +20,7 @@ pub record PassesPlain (text : List ℕ) (from at : ℕ) : Type 0 where
   pub whole : runs_after text from ≡ passed ++ runs_after text at
   pub plain : AllPlain text passed
 
--- the next `$)` ends here, and no `$(` stands before it
+-- the next `$)` ends at `end`, with no `$(` before it
 pub record IsClosedAt (text : List ℕ) (from end : ℕ) : Type 0 where
   pub inside : List Span
   pub at : Span
@@ -30,7 +30,7 @@ pub record IsClosedAt (text : List ℕ) (from end : ℕ) : Type 0 where
   pub plain : AllPlain text inside
   pub closes : word text at ≡ closer
 
--- a `$(` stands here, and no `$)` before it
+-- the next `$(` begins at `offset`, with no `$)` before it
 pub record IsNestedAt (text : List ℕ) (from offset : ℕ) : Type 0 where
   pub inside : List Span
   pub at : Span
@@ -40,6 +40,7 @@ pub record IsNestedAt (text : List ℕ) (from offset : ℕ) : Type 0 where
   pub opens_again : word text at ≡ opener
   pub place : at.start ≡ offset
 
+-- the meaning of the end that the code returns
 abbrev pub EndsComment : List ℕ → ℕ → CommentEnd → Type 0
 EndsComment text from (Closed end) = IsClosedAt text from end
 EndsComment text from (Nested offset) = IsNestedAt text from offset

@@ -1,21 +1,21 @@
--- Laws of tokens: the cut into comments is unique, and each text has exactly one of tokens, text fault, comment fault.
+-- Laws of tokens: the split at comments is unique, and each text has exactly one of tokens, text fault, comment fault.
 -- Source: Metamath, 4.1.1 and 4.1.2.
--- The code stands on the same definitions; these laws say that they leave it no choice.
+-- The contracts of the code cite the same definitions; these laws state that they determine its answer.
 use Rattle.std.specs.Prelude.{◌≡◌, ℕ, ◌⊎◌, List}
 use Rattle.mm_lex.specs.declared.span.Span.{Span}
 use Rattle.mm_lex.specs.Tokens.{Cuts, AreTokens}
 use Rattle.mm_lex.specs.TextFaults.{IsFirstBadByte, IsCommentFault}
 
--- two cuts of the same runs leave the same tokens, and have the same comments
+-- two splits of the same runs have the same tokens and the same comments
 abbrev pub OneCut : Type 0
 OneCut = (text : List ℕ) (spans tokens others : List Span) (cut : Cuts text spans tokens) (other : Cuts text spans others)
     → (tokens ≡ others) × (cut.first ≡ other.first) × (cut.parts ≡ other.parts)
 
--- a text has tokens, or a text fault, or a comment fault; ..
+-- a text has tokens, or a text fault, or a comment fault
 abbrev pub SomeAnswer : List ℕ → Type 0
 SomeAnswer text = ((tokens : List Span) × AreTokens text tokens) ⊎ ((offset : ℕ) × IsFirstBadByte text offset) ⊎ ((offset : ℕ) × IsCommentFault text offset)
 
--- .. no two of these; and of each at most one
+-- a text has exactly one of the three, and at most one of its kind
 pub record OneAnswer : Type 0 where
   pub some : (text : List ℕ) → SomeAnswer text
   pub tokens_or_text : (text : List ℕ) (tokens : List Span) (offset : ℕ) → AreTokens text tokens → IsFirstBadByte text offset → ⊥

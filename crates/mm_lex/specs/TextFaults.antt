@@ -1,6 +1,6 @@
 -- Why a text has no tokens.
 -- Source: Metamath, 4.1.1 (the bytes of a text) and 4.1.2 (comments do not nest).
--- The code returns the first fault that it meets; here each fault says what stands before it.
+-- The code returns the first fault that it meets; here each fault has a part that describes the text before it.
 use Rattle.std.specs.Prelude.{◌≡◌, ℕ, ◌<◌, ◌⊎◌, IsFalse, List, ◌∷◌, ◌++◌, length, take, slice_index}
 use Rattle.mm_lex.specs.declared.span.Span.{Span}
 use Rattle.mm_lex.specs.declared.fault.LexFault.{LexFault}
@@ -14,7 +14,7 @@ pub record IsFirstBadByte (text : List ℕ) (offset : ℕ) : Type 0 where
   pub bad : IsFalse (is_allowed (slice_index text offset))
   pub before : IsClean (take offset text)
 
--- the text before is well cut, and then a `$)` stands outside of a comment, ..
+-- a `$)` outside comments, after runs that can be split
 pub record IsStrayCloser (text : List ℕ) (spans : List Span) (offset : ℕ) : Type 0 where
   pub before : List Span
   pub tokens : List Span
@@ -25,7 +25,7 @@ pub record IsStrayCloser (text : List ℕ) (spans : List Span) (offset : ℕ) : 
   pub closes : word text at ≡ closer
   pub place : at.start ≡ offset
 
--- .. or a `$(` inside of a comment, ..
+-- a `$(` inside a comment, after runs that can be split
 pub record IsNestedOpener (text : List ℕ) (spans : List Span) (offset : ℕ) : Type 0 where
   pub before : List Span
   pub tokens : List Span
@@ -40,7 +40,7 @@ pub record IsNestedOpener (text : List ℕ) (spans : List Span) (offset : ℕ) :
   pub opens_again : word text at ≡ opener
   pub place : at.start ≡ offset
 
--- .. or a comment is never closed
+-- a `$(` that is never closed, after runs that can be split
 pub record IsUnclosed (text : List ℕ) (spans : List Span) (offset : ℕ) : Type 0 where
   pub before : List Span
   pub tokens : List Span
@@ -52,10 +52,11 @@ pub record IsUnclosed (text : List ℕ) (spans : List Span) (offset : ℕ) : Typ
   pub plain : AllPlain text inside
   pub place : at.start ≡ offset
 
--- these runs of the text are cut as far as this offset and no further
+-- these runs of the text can be split up to this offset and no further
 abbrev pub StopsAt : List ℕ → List Span → ℕ → Type 0
 StopsAt text spans offset = IsStrayCloser text spans offset ⊎ IsNestedOpener text spans offset ⊎ IsUnclosed text spans offset
 
+-- the comment fault of a text whose bytes are all allowed
 abbrev pub IsCommentFault : List ℕ → ℕ → Type 0
 IsCommentFault text offset = IsClean text × StopsAt text (runs text) offset
 

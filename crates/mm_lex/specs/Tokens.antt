@@ -1,6 +1,6 @@
 -- The tokens of a text: its words outside comments.
 -- Source: Metamath, 4.1.1 and 4.1.2 (comments count as white space).
--- The code reads once, left to right; here the whole list of runs is cut at the comments.
+-- The code reads once, left to right; here the whole list of runs is split at the comments.
 use Rattle.std.specs.Prelude.{◌≡◌, ℕ, ◌<◌, ◌≤◌, length, Bool, not, ◌||◌, IsTrue, List, [], ◌∷◌, ◌++◌, map, flat_map, codes}
 use Rattle.std.specs.List.{list_all}
 use Rattle.mm_lex.specs.declared.span.Span.{Span}
@@ -14,14 +14,14 @@ opener = codes "$("
 abbrev pub closer : Name
 closer = codes "$)"
 
--- neither begins nor ends a comment
+-- whether the run neither begins nor ends a comment
 abbrev pub is_plain : Name → Bool
 is_plain w = not (name_eq w opener || name_eq w closer)
 
 abbrev pub AllPlain : List ℕ → List Span → Type 0
 AllPlain text spans = IsTrue (list_all (λ s. is_plain (word text s)) spans)
 
--- a comment, and what follows it up to the next comment
+-- a comment, and the tokens after it up to the next comment
 pub record Part : Type 0 where
   pub begin : Span
   pub inside : List Span
@@ -41,7 +41,7 @@ abbrev pub AreParts : List ℕ → List Part → Type 0
 AreParts text [] = Unit {0}
 AreParts text (p ∷ ps) = IsPart text p × AreParts text ps
 
--- these runs of the text are plain words and whole comments; the plain words outside the comments are the tokens
+-- the runs split into plain runs and whole comments; the plain runs outside the comments are the tokens
 pub record Cuts (text : List ℕ) (spans tokens : List Span) : Type 0 where
   pub first : List Span
   pub parts : List Part
@@ -54,11 +54,11 @@ pub record Cuts (text : List ℕ) (spans tokens : List Span) : Type 0 where
 abbrev pub IsClean : List ℕ → Type 0
 IsClean text = IsTrue (list_all is_allowed text)
 
--- the tokens of the text, as the places where they stand
+-- the tokens of the text, as spans
 abbrev pub AreTokens : List ℕ → List Span → Type 0
 AreTokens text tokens = IsClean text × Cuts text (runs text) tokens
 
--- the tokens themselves
+-- the bytes of the tokens
 abbrev pub words : List ℕ → List Span → List Name
 words text tokens = map (word text) tokens
 

@@ -10,15 +10,15 @@ use memchr::memchr;
 /// How a comment ends.
 #[derive(Drop)]
 pub(crate) enum CommentEnd {
-    /// At a `$)`: the offset of the byte after it.
+    /// A `$)` ends it: the offset of the byte after that.
     Closed(usize),
-    /// At no `$)` before another `$(`: the offset of that.
+    /// Another `$(` precedes any `$)`: the offset of that `$(`.
     Nested(usize),
     /// Neither follows.
     Unclosed,
 }
 
-/// Returns how the comment ends whose contents begin at `from`.
+/// Returns how a comment ends. Its contents begin at `from`.
 #[inline(never)]
 pub(crate) fn comment_end(text: &[u8], from: usize) -> CommentEnd
     requires clean { IsClean text.now }
@@ -39,7 +39,7 @@ pub(crate) fn comment_end(text: &[u8], from: usize) -> CommentEnd
     CommentEnd::Unclosed
 }
 
-/// Returns the offset from which to look for the run with the next `$`, or the end of the text if there is no `$`.
+/// Returns the start of the run with the next `$`, or the end of the text if there is no `$`. The runs before it have no `$`.
 fn plain_end(text: &[u8], at: usize) -> usize
     requires { at ≤ length text.now }
     ensures { PassesPlain text.now at result }

@@ -6,7 +6,7 @@ use std::alloc::AllocError;
 /// Why a text cannot be split into tokens. Offsets count bytes from 0.
 #[derive(Clone, Copy, Debug, Drop, PartialEq, Eq)]
 pub enum LexFault {
-    /// The first byte that no text may have.
+    /// The first byte that is not allowed in a text.
     Text { offset: usize },
     /// The first token `$(` inside or `$)` outside a comment, or else the `$(` that is never closed.
     Comment { offset: usize },

@@ -1,9 +1,11 @@
-//! Labels among words.
+//! The test for labels.
 ghost use Rattle.std.specs.Prelude.{◌≡◌};
 ghost use Rattle.std.specs.List.{list_all};
 ghost use Rattle.mm_lex.specs.Alphabet.{is_label, is_label_byte};
 
-/// Returns whether the word is a label: some bytes, each a letter, a digit, `.`, `-` or `_` (Metamath book, section 4.1.1).
+/// Returns whether the word is a label: at least one byte, each a letter, a digit, `.`, `-` or `_`.
+///
+/// Source: Metamath, 4.1.1.
 pub fn is_label(word: &[u8]) -> bool
     ensures { result ≡ is_label word.now }
 {

@@ -1,7 +1,7 @@
-//! Laws of tokens. Each function states a law and does nothing.
+//! Laws of tokens, each the contract of a function that does nothing.
 ghost use Rattle.mm_lex.specs.Laws.{OneCut, OneAnswer};
 
-/// States that the cut of a text at its comments is unique.
+/// States that the runs of a text are split into tokens and comments in at most one way.
 pub fn one_cut()
     ensures { OneCut }
 {}

@@ -1,7 +1,8 @@
 //! The lowest layer: the tokens of a Metamath text, and lists of words.
 //!
 //! `tokens` returns the spans of a text's tokens, comments excluded. `next_token`, `symbols` and `count_tokens` walk through a
-//! text without such a list, and return the faults of comments as they meet them. `Word` and `Words` store words compactly.
+//! text without such a list, and return a comment fault when they meet it. `Word` and `Words` store words compactly.
+//!
 //! Reading order: `span`, `fault`, `lanes`, `visible_run`, `comment`, `scan`; `word`, `words`, `word_iter`; `walk`, `stretch`,
 //! `symbol_list`; `label`; `laws`.
 #![tactic(auto)]

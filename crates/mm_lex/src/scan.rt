@@ -13,7 +13,7 @@ use std::alloc::Global;
 
 /// Returns the tokens of a text, in order, comments excluded.
 ///
-/// Errors: `Text`, the first byte that no text may have, also inside a comment; else `Comment`, the
+/// Errors: `Text`, the first byte that is not allowed, also inside a comment; else `Comment`, the
 /// first token that breaks the rules of comments; else `Memory`. The first two are returned even if
 /// every allocation fails. Cost: the size of the text.
 /// Source: Metamath, 4.1.1 and 4.1.2.
@@ -65,7 +65,7 @@ fn cut(alloc: Global, text: &[u8]) -> Result<Vec<Span>, LexFault>
     Ok(spans)
 }
 
-/// Appends a token, unless an allocation failed before; returns whether one failed.
+/// Appends a token, unless an earlier allocation failed. Returns whether an allocation has failed by now.
 fn add_token(spans: &mut Vec<Span>, refused: bool, span: Span) -> bool
     ensures items { spans.new.items ≡ (if result then spans.old.items else spans.old.items ++ span ∷ []) }
     ensures stays { IsTrue refused → IsTrue result }
@@ -73,8 +73,9 @@ fn add_token(spans: &mut Vec<Span>, refused: bool, span: Span) -> bool
     refused || spans.push(span).is_err()
 }
 
-/// Returns the offset of the first byte that no text may have, or `None` if there is none. A text without one is read once,
-/// many bytes at a time.
+/// Returns the offset of the first byte that is not allowed in a text, or `None` if there is none.
+///
+/// Cost: the size of the text, read many bytes at a time; if there is such a byte, it is then looked for one by one.
 pub fn first_bad_byte(text: &[u8]) -> Option<usize>
     ensures { result ≡ position (λ b. not (is_allowed b)) text.now }
 {
@@ -91,7 +92,7 @@ fn find_bad_byte(text: &[u8]) -> Option<usize>
         .position(|b| !(b.is_ascii_graphic() || b.is_ascii_whitespace()))
 }
 
-/// Returns whether each byte is one that a text may have.
+/// Returns whether each byte is allowed in a text.
 fn are_allowed(text: &[u8]) -> bool
     ensures { result ≡ list_all is_allowed text.now }
 {

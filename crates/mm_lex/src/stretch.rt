@@ -1,4 +1,4 @@
-//! Counts the bytes at the start of a text that are symbols with one space between two, many bytes at a time.
+//! Measures the longest start of a text that is symbols separated by single spaces, many bytes at a time.
 ghost use Rattle.std.specs.Prelude.{◌≡◌, ◌+◌, ◌-◌, ◌<◌, ◌≤◌, not, length, take, drop};
 ghost use Rattle.std.specs.List.{prefix_len};
 ghost use Rattle.mm_lex.specs.Stored.Stretch.{stretch, ends_here, lanes_end};
@@ -6,7 +6,7 @@ ghost use Rattle.mm_lex.specs.Stored.Stretch.{stretch, ends_here, lanes_end};
 use crate::lanes::LANES;
 use std::simd::prelude::*;
 
-/// Returns how many bytes at the start of a text are symbols with one space between two.
+/// Returns the number of bytes at the start of a text that are symbols separated by single spaces.
 pub(crate) fn count_spaced(text: &[u8]) -> usize
     ensures count { result ≡ stretch text.now }
     ensures within { result ≤ length text.now }
@@ -22,7 +22,7 @@ pub(crate) fn count_spaced(text: &[u8]) -> usize
     at + count_one_by_one(&text[at..])
 }
 
-/// Returns how many of the first 16 bytes come before the one at which the symbols end.
+/// Returns how many of the first 16 bytes precede the one at which these symbols end.
 fn count_in_lanes(text: &[u8]) -> usize
     requires room { 16 < length text.now }
     ensures count { result ≡ prefix_len not (lanes_end (take 16 text.now) (take 16 (drop 1 text.now))) }
@@ -54,7 +54,7 @@ fn count_one_by_one(text: &[u8]) -> usize
     at
 }
 
-/// Returns whether the symbols end at this byte.
+/// Returns whether these symbols end at this byte.
 fn is_end(text: &[u8], at: usize) -> bool
     requires { at < length text.now }
     ensures { result ≡ ends_here (drop at text.now) }

@@ -1,4 +1,4 @@
-//! A list of symbols up to its end, copied in pieces of many words.
+//! Reads a list of symbols up to its end, copying many words at a time.
 ghost use Rattle.std.specs.Prelude.{◌≡◌, ◌≤◌, [], length, drop, IsTrue, IfOk, IfErr};
 ghost use Rattle.std.specs.List.{list_all};
 ghost use Rattle.mm_lex.specs.Alphabet.{starts_white, is_symbol};
@@ -16,10 +16,10 @@ use crate::words::Words;
 use memchr::memchr;
 use std::alloc::{AllocError, Global};
 
-/// Returns the symbols from `from` on, and the token after them that is no symbol, or `None` at the end of the text.
+/// Returns the symbols from `from` on, and the token after them, which is no symbol, or `None` at the end of the text.
 ///
-/// Errors: `Comment`, if the comments after `from` are at fault before that token; `Memory`. Cost: the size of the text up to
-/// that token.
+/// Errors: `Comment`, if a comment between `from` and that token is malformed; `Memory`. Cost: the size of the text up to that
+/// token.
 pub fn symbols(alloc: Global, text: &[u8], from: usize) -> Result<(Words, Option<Span>), LexFault>
     requires clean { IsClean text.now }
     requires place { from ≤ length text.now }
@@ -40,7 +40,7 @@ pub fn symbols(alloc: Global, text: &[u8], from: usize) -> Result<(Words, Option
     Ok((words, None))
 }
 
-/// Returns whether the word is a symbol, or a token of a proof.
+/// Returns whether the word may be a math symbol or a token of a proof: whether it has no `$`.
 pub fn is_symbol(word: &[u8]) -> bool
     requires { IsTrue (is_word word.now) }
     ensures { result ≡ is_symbol word.now }
@@ -48,7 +48,7 @@ pub fn is_symbol(word: &[u8]) -> bool
     !word.contains(&b'$')
 }
 
-/// Returns an empty list with room for the words up to the next `$`.
+/// Returns an empty list with capacity for the words up to the next `$`.
 fn with_room(alloc: Global, text: &[u8]) -> Result<Words, AllocError>
     ensures { IfOk result (λ words. words ≡ []) }
 {
@@ -56,8 +56,8 @@ fn with_room(alloc: Global, text: &[u8]) -> Result<Words, AllocError>
     Words::with_capacity(alloc, room)
 }
 
-/// Appends the symbols from `from` on in pieces with one space between two, as far as there are such pieces; returns the
-/// offset from which to go on.
+/// Appends symbols from `from` on, in pieces of words separated by single spaces, until no such piece follows. Returns the
+/// offset from which to go on word by word.
 fn push_pieces(words: &mut Words, text: &[u8], from: usize) -> Result<usize, AllocError>
     requires clean { IsClean text.now }
     requires place { from ≤ length text.now }
@@ -76,7 +76,7 @@ fn push_pieces(words: &mut Words, text: &[u8], from: usize) -> Result<usize, All
     Ok(at)
 }
 
-/// Returns whether no word goes on at an offset.
+/// Returns whether a word that reaches `at` ends there: at white space or at the end of the text.
 fn is_after_word(text: &[u8], at: usize) -> bool
     requires { at ≤ length text.now }
     ensures { result ≡ starts_white (drop at text.now) }

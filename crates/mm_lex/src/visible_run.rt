@@ -1,4 +1,4 @@
-//! The runs of visible bytes in a text without a bad byte, one after another.
+//! Finds the runs of visible bytes in a text without a bad byte, one after another.
 ghost use Rattle.std.specs.Prelude.{◌≡◌, ◌-◌, ◌<◌, ◌≤◌, [], ◌∷◌, ℕ, not, length, take, drop, MatchOption, IfSome, IsTrue, slice_index, IsFalse};
 ghost use Rattle.std.specs.List.{position, position_or_len};
 ghost use Rattle.mm_lex.specs.Alphabet.{is_white, starts_white, runs_from, IsRunAt, name_eq};
@@ -7,7 +7,7 @@ ghost use Rattle.mm_lex.specs.Tokens.{opener, closer, IsClean};
 use crate::lanes::{count_visible, count_white};
 use crate::span::Span;
 
-/// Returns the first run that begins at or after `at`.
+/// Returns the first run in the text from `at` on, or `None` if only white space is left.
 pub(crate) fn next_run(text: &[u8], at: usize) -> Option<Span>
     requires clean { IsClean text.now }
     requires place { at ≤ length text.now }
@@ -41,14 +41,14 @@ pub(crate) fn pass_white(text: &[u8], at: usize) -> usize
     at + count_white(&text[at..])
 }
 
-/// Returns whether the word begins a comment.
+/// Returns whether the word is `$(`, which begins a comment.
 pub(crate) fn is_opener(word: &[u8]) -> bool
     ensures { result ≡ name_eq word.now opener }
 {
     word == b"$(".as_slice()
 }
 
-/// Returns whether the word ends a comment.
+/// Returns whether the word is `$)`, which ends a comment.
 pub(crate) fn is_closer(word: &[u8]) -> bool
     ensures { result ≡ name_eq word.now closer }
 {

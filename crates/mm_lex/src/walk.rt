@@ -10,7 +10,7 @@ use crate::visible_run::{is_closer, is_opener, next_run};
 
 /// Returns the next token at or after `at`, or `None` if none is left.
 ///
-/// Errors: `Comment`, if the comments after `at` are at fault before the next token. Cost: the size of the text up to its end.
+/// Errors: `Comment`, if a comment before the next token is malformed. Cost: the size of the text up to the token's end.
 #[inline(always)]
 pub fn next_token(text: &[u8], at: usize) -> Result<Option<Span>, LexFault>
     requires clean { IsClean text.now }
@@ -36,9 +36,9 @@ pub fn next_token(text: &[u8], at: usize) -> Result<Option<Span>, LexFault>
     Ok(None)
 }
 
-/// Returns how many tokens stand at or after `at`.
+/// Returns the number of tokens at or after `at`.
 ///
-/// Errors: `Comment`, if the comments after `at` are at fault. Cost: the size of the rest of the text.
+/// Errors: `Comment`, if a comment after `at` is malformed. Cost: the size of the rest of the text.
 pub fn count_tokens(text: &[u8], at: usize) -> Result<usize, LexFault>
     requires clean { IsClean text.now }
     requires place { at ≤ length text.now }

@@ -6,7 +6,7 @@ ghost use Rattle.mm_lex.specs.Stored.WordBytes.{bytes_of, AreCounted};
 use std::alloc::{AllocError, Global};
 use std::marker::Model;
 
-/// How many bytes may stand in the value itself.
+/// The maximum number of bytes that a `Word` stores inline.
 const INLINE: usize = 22;
 
 /// The bytes of a word.
@@ -14,7 +14,7 @@ const INLINE: usize = 22;
 enum WordBytes {
     /// The first `len` of these.
     Inline { len: u8, bytes: [u8; INLINE] },
-    /// All of these, behind one pointer, so that a `Word` is no larger.
+    /// All of these, boxed so that a `Word` is no larger than an inline one.
     Heap(Box<Vec<u8>>),
 }
 
@@ -37,7 +37,7 @@ impl Model for Word {
 }
 
 impl Word {
-    /// Returns the word with these bytes. Does not allocate for a word of at most 22 bytes.
+    /// Returns the word with these bytes. It does not allocate for a word of at most 22 bytes.
     ///
     /// Errors: an allocation fails.
     pub fn new(alloc: Global, bytes: &[u8]) -> Result<Word, AllocError>
@@ -69,7 +69,7 @@ impl Word {
     }
 }
 
-/// Returns a copy of the bytes.
+/// Returns a copy of the bytes, inline if they fit.
 fn keep(alloc: Global, bytes: &[u8]) -> Result<WordBytes, AllocError>
     ensures bytes { IfOk result (λ kept. bytes_of kept ≡ bytes.now) }
     ensures counted { IfOk result AreCounted }

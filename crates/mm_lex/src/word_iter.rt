@@ -34,7 +34,7 @@ impl<'a> WordIter<'a> {
         WordIter { text }
     }
 
-    /// Returns the words that are left, with one space between two.
+    /// Returns the words that are left, separated by single spaces.
     pub fn as_text(&self) -> &'a [u8]
         ensures text { result.now ≡ spaced self.now }
         ensures words { AreWords self.now }
@@ -62,7 +62,7 @@ impl<'a> Iterator for WordIter<'a> {
     }
 }
 
-/// Returns the first word of a text, and the text after the space that follows the word.
+/// Returns the first word of a text, and the text after the space that follows it, empty after the last word.
 fn split_word<'a>(text: &'a [u8]) -> (&'a [u8], &'a [u8])
     requires some { 0 < length text.now }
     requires words { AreWords (words_of text.now) }
@@ -75,7 +75,7 @@ fn split_word<'a>(text: &'a [u8]) -> (&'a [u8], &'a [u8])
     }
 }
 
-/// Returns the index of the first space. Most words end among the first 8 bytes, which are compared at once.
+/// Returns the index of the first space. It compares the first 8 bytes at once, since most words end there.
 fn find_space(text: &[u8]) -> Option<usize>
     ensures place { result ≡ position (λ b. b == 32) text.now }
     ensures within { IfSome result (λ end. end < length text.now) }
@@ -89,7 +89,7 @@ fn find_space(text: &[u8]) -> Option<usize>
     text.iter().position(|b| *b == b' ')
 }
 
-/// Returns how many of the first 8 bytes come before a space.
+/// Returns how many of the first 8 bytes precede the first space.
 fn count_before_space(text: &[u8]) -> usize
     requires room { 8 ≤ length text.now }
     ensures count { result ≡ position_or_len (λ b. b == 32) (take 8 text.now) }

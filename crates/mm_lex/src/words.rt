@@ -6,7 +6,7 @@ use crate::word_iter::WordIter;
 use std::alloc::{AllocError, Global};
 use std::marker::Model;
 
-/// A list of words in one buffer, with one space between two. Contracts see the list.
+/// A list of words in one buffer, separated by single spaces. Contracts see the list.
 #[derive(Drop)]
 pub struct Words {
     text: Vec<u8>,
@@ -33,7 +33,9 @@ impl Words {
         }
     }
 
-    /// Returns an empty list with room for words whose text has `bytes` bytes.
+    /// Returns an empty list with capacity for `bytes` bytes, the spaces between words included.
+    ///
+    /// Errors: an allocation fails.
     pub fn with_capacity(alloc: Global, bytes: usize) -> Result<Words, AllocError>
         ensures { IfOk result (λ words. words ≡ []) }
     {
@@ -43,7 +45,7 @@ impl Words {
 
     /// Appends a word.
     ///
-    /// Errors: an allocation fails; the list is then as before.
+    /// Errors: an allocation fails; the list is then unchanged.
     pub fn push(&mut self, word: &[u8]) -> Result<(), AllocError>
         requires { IsTrue (is_word word.now) }
         ensures ok { OnOk result (self.new ≡ self.old ++ word.now ∷ []) }
@@ -52,9 +54,9 @@ impl Words {
         push_words(&mut self.text, word)
     }
 
-    /// Appends the words of a text that has one space between two of them.
+    /// Appends the words of a text, in which they are separated by single spaces.
     ///
-    /// Errors: an allocation fails; the list is then as before.
+    /// Errors: an allocation fails; the list is then unchanged.
     pub fn push_text(&mut self, text: &[u8]) -> Result<(), AllocError>
         requires { AreWords (words_of text.now) }
         ensures ok { OnOk result (self.new ≡ self.old ++ words_of text.now) }
@@ -63,7 +65,7 @@ impl Words {
         push_words(&mut self.text, text)
     }
 
-    /// Returns the words, with one space between two.
+    /// Returns the words, separated by single spaces.
     pub fn as_text(&self) -> &[u8]
         ensures text { result.now ≡ spaced self.now }
         ensures words { AreWords self.now }
@@ -71,7 +73,7 @@ impl Words {
         self.text.as_slice()
     }
 
-    /// Returns the words in order.
+    /// Returns an iterator over the words, in order.
     pub fn iter(&self) -> WordIter<'_>
         ensures words { result ≡ self.now }
         ensures visible { AreWords self.now }
@@ -79,7 +81,7 @@ impl Words {
         WordIter::new(self.text.as_slice())
     }
 
-    /// Returns how many words there are. Cost: the size of their text.
+    /// Returns the number of words. Cost: the size of their text.
     pub fn len(&self) -> usize
         ensures { result ≡ length self.now }
     {
@@ -93,7 +95,7 @@ impl Words {
         self.text.is_empty()
     }
 
-    /// Returns an equal list, in a buffer of its own size.
+    /// Returns an equal list, in a buffer that is no larger than needed.
     ///
     /// Errors: an allocation fails.
     pub fn copy(&self, alloc: Global) -> Result<Words, AllocError>
@@ -104,7 +106,7 @@ impl Words {
     }
 }
 
-/// Appends the words of another text.
+/// Appends the words of another text. If an allocation fails, the text is unchanged.
 fn push_words(text: &mut Vec<u8>, more: &[u8]) -> Result<(), AllocError>
     requires words { AreWords (words_of text.old.items) }
     requires more { AreWords (words_of more.now) }
@@ -127,7 +129,7 @@ fn push_words(text: &mut Vec<u8>, more: &[u8]) -> Result<(), AllocError>
     added
 }
 
-/// Returns how many words a text has: one more than its spaces, if it is not empty.
+/// Returns the number of words in a text: one more than its spaces, if it is not empty.
 fn count_words(text: &[u8]) -> usize
     ensures { result ≡ length (words_of text.now) }
 {

@@ -1,6 +1,6 @@
--- The export form: the one text as which a list of statements is exported.
--- Source: this project's choice; each statement is its tokens (Metamath, 4.1).
--- The code copies the words as they are stored.
+-- The export form: the text that a list of statements is exported as.
+-- Source: this project's choice; each statement is written as its tokens (Metamath, 4.1).
+-- The code copies whole lists of words as they are stored.
 use Rattle.std.specs.Prelude.{ℕ, List, [], ◌∷◌, ◌++◌, flat_map}
 use Rattle.mm_lex.specs.Alphabet.{Name}
 use Rattle.mm_lex.specs.Words.{spaced}
@@ -8,7 +8,7 @@ use Rattle.mm_read.specs.declared.stmt.Stmt.{Stmt}
 use Rattle.mm_read.specs.declared.stmt.Stmt.TheVariants.{Prove}
 use Rattle.mm_read.specs.Statements.{Database, stmt_tokens}
 
--- a statement's tokens with one space between two, and a line feed
+-- a statement's tokens, separated by single spaces, and a line feed
 abbrev pub line_of : Stmt → List ℕ
 line_of s = spaced (stmt_tokens s) ++ 10 ∷ []
 

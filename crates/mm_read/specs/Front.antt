@@ -1,6 +1,6 @@
--- The front of the text after a place: a keyword, a list of symbols, one token, or a misplaced token.
+-- The parts of a statement that can follow an offset of the text: a keyword, a list of symbols, one token; and their faults.
 -- Source: Metamath, 4.1 and appendix E.
--- The calls that read the parts of a statement meet these; `Reads` is the same for a whole text.
+-- The functions that read parts of a statement cite these; `Reads` defines reading for a whole text.
 use Rattle.std.specs.Prelude.{◌≡◌, ℕ, Bool, ◌+◌, ◌<◌, ◌≤◌, ◌⊎◌, IsTrue, IsFalse, List, [], ◌∷◌, ◌++◌, length, codes}
 use Rattle.std.specs.List.{list_all}
 use Rattle.mm_lex.specs.Alphabet.{Name, name_eq, has_name, is_symbol}
@@ -15,6 +15,7 @@ abbrev pub keywords : List Name
 keywords =
     codes "${" ∷ codes "$}" ∷ codes "$c" ∷ codes "$v" ∷ codes "$d" ∷ codes "$f" ∷ codes "$e" ∷ codes "$a" ∷ codes "$p" ∷ []
 
+-- the meaning of a keyword that the code returns for a token
 abbrev pub IsKeyword : Keyword → Name → Type 0
 IsKeyword Open w = w ≡ codes "${"
 IsKeyword Close w = w ≡ codes "$}"
@@ -27,13 +28,13 @@ IsKeyword Axiom w = w ≡ codes "$a"
 IsKeyword Prove w = w ≡ codes "$p"
 IsKeyword Other w = IsFalse (has_name w keywords)
 
--- a list of at least `least` symbols with this keyword at its end breaks off after the symbols `ws`: there is no further
--- token, or one that neither continues the list nor ends it
+-- a list that needs at least `least` symbols and then the keyword `end` breaks off after the symbols `ws`: no token follows, or
+-- one that neither continues the list nor ends it
 abbrev pub BreaksList : ℕ → Name → List Name → List Name → Type 0
 BreaksList least end ws [] = Unit {0}
 BreaksList least end ws (t ∷ rest) = IsFalse (is_symbol t) × ((length ws < least) ⊎ IsFalse (name_eq t end))
 
--- these tokens begin with such a list up to where it breaks off, at `token`, counted from `number`
+-- these tokens begin with a list that breaks off at the token numbered `token`, if the first of them is numbered `number`
 pub record BeginsBrokenList (tokens : List Name) (number least : ℕ) (end : Name) (token : ℕ) : Type 0 where
   pub ws : List Name
   pub rest : List Name
@@ -42,23 +43,23 @@ pub record BeginsBrokenList (tokens : List Name) (number least : ℕ) (end : Nam
   pub place : token ≡ number + length ws
   pub stop : BreaksList least end ws rest
 
--- the tokens after a place begin with such a broken list
+-- the tokens after an offset begin with such a list
 pub record HasBrokenList (text : List ℕ) (at number least : ℕ) (end : Name) (token : ℕ) : Type 0 where
   pub few : token + at ≤ number + length text
   pub stops : (tokens : List Name) → AreAfter text at tokens → BeginsBrokenList tokens number least end token
 
--- why the list after a place breaks off, or an allocation failed
+-- why no whole list follows an offset: a comment fault, the token at which it breaks off, or a failed allocation
 abbrev pub IsListFault : List ℕ → ℕ → ℕ → ℕ → Name → ReadFault → Type 0
 IsListFault text at number least end (Text fault) = StopsAfter text at fault
 IsListFault text at number least end (Shape token) = HasBrokenList text at number least end token
 IsListFault text at number least end Memory = Unit {0}
 
--- there is no token, or the first does not fit
+-- there is no token, or the first one does not fit
 abbrev pub StartsOtherwise : (Name → Bool) → List Name → Type 0
 StartsOtherwise fits [] = Unit {0}
 StartsOtherwise fits (t ∷ rest) = IsFalse (fits t)
 
--- why no token that fits stands after a place, or an allocation failed
+-- why no fitting token follows an offset: a comment fault, another token or none, or a failed allocation
 abbrev pub IsTokenFault : List ℕ → ℕ → ℕ → (Name → Bool) → ReadFault → Type 0
 IsTokenFault text at number fits (Text fault) = StopsAfter text at fault
 IsTokenFault text at number fits (Shape token) =

@@ -1,6 +1,6 @@
 -- The laws of reading and writing.
--- Source: Metamath, 4.1; they make "the statements of a text" one thing.
--- The code meets them; they speak of the definitions alone.
+-- Source: Metamath, 4.1; by these laws "the statements of a text" is well defined.
+-- No code is in them; they relate the definitions that the contracts of the code cite.
 use Rattle.std.specs.Prelude.{◌≡◌, ℕ, ◌⊎◌, Bool, true, ◌||◌, IsTrue, List, [], ◌∷◌, ◌++◌}
 use Rattle.mm_lex.specs.Alphabet.{Name, is_white, starts_white}
 use Rattle.mm_read.specs.Statements.{Database, AreShaped, tokens_of}
@@ -11,12 +11,12 @@ use Rattle.mm_read.specs.Export.{export_of}
 abbrev pub OneStatementList : Type 0
 OneStatementList = (S T : Database) → AreShaped S → AreShaped T → tokens_of S ≡ tokens_of T → S ≡ T
 
--- each list of tokens reads as some list of statements, or has a misplaced token
+-- each list of tokens reads as some list of statements, or has a shape fault
 abbrev pub StatementsOrFault : Type 0
 StatementsOrFault =
     (tokens : List Name) → ((S : Database) × AreShaped S × (tokens_of S ≡ tokens)) ⊎ ((token : ℕ) × IsShapeFault tokens token)
 
--- at most one token is misplaced
+-- each list of tokens has at most one shape fault
 abbrev pub OneShapeFault : Type 0
 OneShapeFault = (tokens : List Name) (t u : ℕ) → IsShapeFault tokens t → IsShapeFault tokens u → t ≡ u
 
@@ -24,12 +24,12 @@ OneShapeFault = (tokens : List Name) (t u : ℕ) → IsShapeFault tokens t → I
 abbrev pub ExportReads : Type 0
 ExportReads = (S : Database) → AreShaped S → Reads (export_of S) S
 
--- no word goes on from the one text into the other: the one is empty or ends white, or the other is empty or begins white
+-- joining the texts does not make one word of two: the first is empty or ends white, or the second is empty or begins white
 abbrev pub is_apart : List ℕ → List ℕ → Bool
 is_apart [] other = true
 is_apart (b ∷ []) other = is_white b || starts_white other
 is_apart (b ∷ c ∷ text) other = is_apart (c ∷ text) other
 
--- two joined texts read as the statements of the first and then those of the second
+-- two texts that are so joined read as the statements of the first followed by those of the second
 abbrev pub JoinedReads : Type 0
 JoinedReads = (text other : List ℕ) (S T : Database) → Reads text S → Reads other T → IsTrue (is_apart text other) → Reads (text ++ other) (S ++ T)

@@ -1,6 +1,6 @@
--- The statement after a place of a text, by the tokens between that place and the end of the statement, or why there is none.
+-- The next statement after an offset of a text, by the tokens from there to its end, or why there is none.
 -- Source: Metamath, 4.1.
--- The calls that read one statement meet these; `Reads` is the same for the whole text.
+-- The functions that read one statement cite these; `Reads` defines reading for a whole text.
 use Rattle.std.specs.Prelude.{◌≡◌, ℕ, ◌<◌, List, [], ◌∷◌, ◌++◌, Option, Some, None}
 use Rattle.mm_lex.specs.Alphabet.{Name}
 use Rattle.mm_lex.specs.Between.{HasBetween, AreAfter, StopsAfter}
@@ -10,39 +10,40 @@ use Rattle.mm_read.specs.declared.fault.ReadFault.TheVariants.{Text, Shape, Memo
 use Rattle.mm_read.specs.Statements.{Database, IsShaped, AreShaped, stmt_tokens, tokens_of}
 use Rattle.mm_read.specs.Reads.{IsShapeFault}
 
--- from one place to another stand the tokens of this statement
+-- the tokens from one offset to the other are those of this statement
 pub record IsNext (text : List ℕ) (at : ℕ) (s : Stmt) (next : ℕ) : Type 0 where
   pub shaped : IsShaped s
   pub later : at < next
   pub between : HasBetween text at next (stmt_tokens s)
 
--- the statement begins with these tokens, which end at `at`, and ends at `next`
+-- the statement s begins with the tokens `before`, which end at `at`, and s ends at `next`
 abbrev pub IsNextAfter : List ℕ → List Name → ℕ → Stmt → ℕ → Type 0
 IsNextAfter text before at s next = (from : ℕ) → from < at → HasBetween text from at before → IsNext text from s next
 
--- why there is no such statement: the comments after `at` are at fault, or these tokens and those after `at` begin none
+-- why no statement begins with the tokens `before`, up to `at`: a comment fault after `at`, a shape fault, which is counted from
+-- the first of `before`, or a failed allocation
 abbrev pub IsFaultAfter : List ℕ → List Name → ℕ → ReadFault → Type 0
 IsFaultAfter text before at (Text fault) = StopsAfter text at fault
 IsFaultAfter text before at (Shape token) = (tokens : List Name) → AreAfter text at tokens → IsShapeFault (before ++ tokens) token
 IsFaultAfter text before at Memory = Unit {0}
 
--- one more statement, up to a later place
+-- the new list has one more statement, the next one in the text, which ends at `next`
 pub record IsOneMore (text : List ℕ) (at next : ℕ) (old new : Database) : Type 0 where
   pub statement : Stmt
   pub whole : new ≡ old ++ statement ∷ []
   pub next_is : IsNext text at statement next
 
--- .. or no token is left
+-- the list has one more statement, which ends at `next`; or None, and no token is left
 abbrev pub IsNextStep : List ℕ → ℕ → Database → Database → Option ℕ → Type 0
 IsNextStep text at old new (Some next) = IsOneMore text at next old new
 IsNextStep text at old new None = AreAfter text at [] × (new ≡ old)
 
--- the tokens up to a place read as these statements
+-- the tokens up to an offset read as these statements
 pub record AreBefore (text : List ℕ) (at : ℕ) (S : Database) : Type 0 where
   pub shaped : AreShaped S
   pub between : HasBetween text 0 at (tokens_of S)
 
--- why a text without a bad byte is refused: comments at fault, else a misplaced token or out of memory
+-- why a text without a bad byte is refused: a comment fault, or else a shape fault or a failed allocation
 abbrev pub IsFaultOf : List ℕ → ReadFault → Type 0
 IsFaultOf text (Text fault) = StopsAfter text 0 fault
 IsFaultOf text (Shape token) = (tokens : List Name) × AreAfter text 0 tokens × IsShapeFault tokens token

@@ -1,5 +1,5 @@
--- The statements that a text reads as, and where a text stops being statements. A text or list of tokens reads as statements;
--- statements are written as tokens (`tokens_of`).
+-- The statements that a text reads as, or the token at which it has a shape fault. A text or a list of tokens reads as
+-- statements; statements are written as tokens (`tokens_of`).
 -- Source: Metamath, 4.1 and appendix E.
 -- The code reads once from the left; here reading is the inverse of writing.
 use Rattle.std.specs.Prelude.{◌≡◌, ◌≢◌, ℕ, ◌+◌, ◌-◌, ◌⊎◌, List, ◌++◌, length, take}
@@ -13,7 +13,7 @@ use Rattle.mm_read.specs.declared.fault.ReadFault.{ReadFault}
 use Rattle.mm_read.specs.declared.fault.ReadFault.TheVariants.{Text, Shape, Memory}
 use Rattle.mm_read.specs.Statements.{Database, AreShaped, tokens_of}
 
--- the text's tokens are these
+-- the tokens of the text are these
 abbrev pub HasTokens : List ℕ → List Name → Type 0
 HasTokens text tokens = (spans : List Span) × AreTokens text spans × (words text spans ≡ tokens)
 
@@ -22,7 +22,7 @@ pub record Reads (text : List ℕ) (S : Database) : Type 0 where
   pub shaped : AreShaped S
   pub tokens : HasTokens text (tokens_of S)
 
--- some list of statements is written as these tokens and perhaps more
+-- some list of statements begins with these tokens
 pub record CanGoOn (tokens : List Name) : Type 0 where
   pub statements : Database
   pub rest : List Name
@@ -33,13 +33,14 @@ pub record CanGoOn (tokens : List Name) : Type 0 where
 abbrev pub IsNoDatabase : List Name → Type 0
 IsNoDatabase tokens = (S : Database) → AreShaped S → tokens_of S ≡ tokens → ⊥
 
--- the first token, from 1, after which no list of statements can go on, or the count of tokens plus 1
+-- the number, from 1, of the first token such that no list of statements begins with the tokens up to it; or, if the last
+-- statement is not whole, the number of tokens plus 1
 pub record IsShapeFault (tokens : List Name) (token : ℕ) : Type 0 where
   pub none : IsNoDatabase tokens
   pub before : CanGoOn (take (token - 1) tokens)
   pub here : (CanGoOn (take token tokens) → ⊥) ⊎ (token ≡ length tokens + 1)
 
--- the text has tokens, and this is the first misplaced one
+-- the text has tokens, and this is their shape fault
 abbrev pub HasShapeFault : List ℕ → ℕ → Type 0
 HasShapeFault text token = (tokens : List Name) × HasTokens text tokens × IsShapeFault tokens token
 
@@ -49,7 +50,7 @@ IsReadFault text (Text fault) = IsLexFault text fault × (fault ≢ lex.Memory)
 IsReadFault text (Shape token) = HasShapeFault text token
 IsReadFault text Memory = Unit {0}
 
--- a fault of the tokens as one of reading
+-- a fault of the lexer as a fault of reading
 abbrev pub read_fault : LexFault → ReadFault
 read_fault lex.Memory = Memory
 read_fault fault = Text fault

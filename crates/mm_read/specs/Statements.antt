@@ -1,13 +1,13 @@
--- Statements: what each of the nine shapes may hold, and the tokens that it is written as.
+-- Statements: the words that each of the nine shapes may have, and the tokens that it is written as.
 -- Source: Metamath, 4.1 and appendix E.
--- The code walks over the tokens from the left; here a statement is written out as its tokens.
+-- The code reads tokens from the left; here a statement is written out as its tokens.
 use Rattle.std.specs.Prelude.{Bool, true, false, not, ◌&&◌, IsTrue, List, [], ◌∷◌, ◌++◌, flat_map, codes}
 use Rattle.std.specs.List.{list_all}
 use Rattle.mm_lex.specs.Alphabet.{Name, is_empty, is_symbol, is_label}
 use Rattle.mm_read.specs.declared.stmt.Stmt.{Stmt}
 use Rattle.mm_read.specs.declared.stmt.Stmt.TheVariants.{Open, Close, Const, Var, Disj, Float, Ess, Axiom, Prove}
 
--- a list of symbols, such as an expression or what a `$v` declares
+-- a list of symbols, such as an expression or the variables of a `$v`
 abbrev pub Expr : Type 0
 Expr = List Name
 
@@ -19,12 +19,12 @@ Database = List Stmt
 abbrev pub are_symbols : Expr → Bool
 are_symbols ws = not (is_empty ws) && list_all is_symbol ws
 
--- two or more of them
+-- two or more words
 abbrev pub has_two : Expr → Bool
 has_two [] = false
 has_two (w ∷ ws) = not (is_empty ws)
 
--- the statement holds what its shape may hold
+-- whether the statement is well shaped: its words are such as its shape may have
 abbrev pub is_shaped : Stmt → Bool
 is_shaped Open = true
 is_shaped Close = true

@@ -1,4 +1,4 @@
-//! The export form: statements as a text, a line each.
+//! The export form: statements as a text, one line for each.
 ghost use Rattle.std.specs.Prelude.{◌≡◌, [], ◌∷◌, ◌++◌, if◌then◌else◌, flat_map, codes, IsTrue, IfOk, OnOk, OnErr};
 ghost use Rattle.mm_lex.specs.Alphabet.{is_empty};
 ghost use Rattle.mm_lex.specs.Words.{spaced, words_of, is_word};
@@ -10,10 +10,10 @@ use crate::stmt::Stmt;
 use mm_lex::{Word, Words};
 use std::alloc::{AllocError, Global};
 
-/// Returns the export form of the statements: each is written as its tokens with one space between two, and a line feed.
+/// Returns the export form of the statements: the tokens of each, separated by single spaces, and a line feed.
 ///
 /// Errors: an allocation fails. Cost: the text's own size.
-/// Source: Metamath, 4.1; one space and one line feed are this project's choice.
+/// Source: Metamath, 4.1; single spaces and line feeds are this project's choice.
 pub fn spell(alloc: Global, statements: &[Stmt]) -> Result<Vec<u8>, AllocError>
     requires { AreShaped statements.now }
     ensures text { IfOk result (λ text. text.items ≡ export_of statements.now) }
@@ -28,7 +28,7 @@ pub fn spell(alloc: Global, statements: &[Stmt]) -> Result<Vec<u8>, AllocError>
 
 /// Appends the statement's line.
 ///
-/// Errors: an allocation fails; the text is then as before. Cost: the line's own size.
+/// Errors: an allocation fails; the text is then unchanged. Cost: the line's own size.
 pub fn push_line(text: &mut Vec<u8>, statement: &Stmt) -> Result<(), AllocError>
     requires { IsShaped statement.now }
     ensures line { OnOk result (text.new.items ≡ text.old.items ++ line_of statement.now) }
@@ -51,9 +51,9 @@ pub fn push_line(text: &mut Vec<u8>, statement: &Stmt) -> Result<(), AllocError>
     }
 }
 
-/// Appends the statement's line, with this word in place of its proof if it has one.
+/// Appends the statement's line. If the statement has a proof, the line has this word in place of it.
 ///
-/// Errors: an allocation fails; the text is then as before. Cost: the line's own size.
+/// Errors: an allocation fails; the text is then unchanged. Cost: the line's own size.
 pub fn push_line_with_proof(
     text: &mut Vec<u8>,
     statement: &Stmt,
@@ -71,7 +71,7 @@ pub fn push_line_with_proof(
     }
 }
 
-/// Appends a `$c`, `$v` or `$d`.
+/// Appends the line of a `$c`, `$v` or `$d`.
 fn push_list(text: &mut Vec<u8>, keyword: &[u8], symbols: &Words) -> Result<(), AllocError>
     requires { IsTrue (are_symbols symbols.now) }
     ensures line { OnOk result (text.new.items
@@ -81,7 +81,7 @@ fn push_list(text: &mut Vec<u8>, keyword: &[u8], symbols: &Words) -> Result<(), 
     push_parts(text, &[keyword, b" ", symbols.as_text(), b" $.\n"])
 }
 
-/// Appends a `$e` or `$a`.
+/// Appends the line of a `$e` or `$a`.
 fn push_labelled(
     text: &mut Vec<u8>,
     label: &Word,
@@ -106,7 +106,7 @@ fn push_labelled(
     )
 }
 
-/// Appends a `$f`.
+/// Appends the line of a `$f`.
 fn push_floating(
     text: &mut Vec<u8>,
     label: &Word,
@@ -131,7 +131,7 @@ fn push_floating(
     )
 }
 
-/// Appends a `$p`, with the proof's tokens as a text.
+/// Appends the line of a `$p`. The proof is a text of tokens separated by single spaces, possibly empty.
 fn push_provable(
     text: &mut Vec<u8>,
     label: &Word,
@@ -159,14 +159,14 @@ fn push_provable(
     )
 }
 
-/// Returns a space if words follow, else nothing.
+/// Returns the space to write before a text: none if the text is empty.
 fn gap_before(text: &[u8]) -> &[u8]
     ensures { result.now ≡ (if is_empty text.now then [] else codes " ") }
 {
     if text.is_empty() { b"" } else { b" " }
 }
 
-/// Appends all of the parts, or nothing if an allocation fails.
+/// Appends all parts, or none if an allocation fails.
 fn push_parts(text: &mut Vec<u8>, parts: &[&[u8]]) -> Result<(), AllocError>
     ensures ok { OnOk result (text.new.items ≡ text.old.items ++ flat_map (λ part. part.now) parts.now) }
     ensures same { OnErr result (text.new.items ≡ text.old.items) }

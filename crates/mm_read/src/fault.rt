@@ -7,10 +7,10 @@ use std::alloc::{AllocError, AllocFailed};
 /// Why a text does not read as statements.
 #[derive(Clone, Copy, Debug, Drop, PartialEq, Eq)]
 pub enum ReadFault {
-    /// The text cannot be split into tokens; this holds its `Text` or `Comment`.
+    /// The text cannot be split into tokens. The fault is `LexFault::Text` or `LexFault::Comment`.
     Text(LexFault),
-    /// The first misplaced token, counted from 1 without comments: no list of statements goes on with it. If the text ends
-    /// within a statement, the count of tokens plus 1.
+    /// The number of the first misplaced token, from 1 and without comments: no list of statements begins with the tokens up
+    /// to it. If the text ends within a statement, the number of tokens plus 1.
     Shape { token: usize },
     /// An allocation failed.
     Memory,

@@ -1,4 +1,4 @@
-//! The keywords among the tokens.
+//! The keywords that decide the shape of a statement.
 ghost use Rattle.std.specs.Prelude.{◌≡◌, ◌≤◌, [], ◌∷◌, IsTrue, length};
 ghost use Rattle.mm_lex.specs.Alphabet.{word};
 ghost use Rattle.mm_lex.specs.Words.{is_word};
@@ -6,7 +6,7 @@ ghost use Rattle.mm_read.specs.Front.{IsKeyword};
 
 use mm_lex::Span;
 
-/// A keyword that decides the shape of a statement, or another token.
+/// A keyword that decides the shape of a statement, or `Other` for any other token.
 #[derive(Clone, Copy)]
 pub enum Keyword {
     Open,
@@ -49,7 +49,7 @@ fn keyword_of_letter(letter: u8) -> Keyword
     }
 }
 
-/// Returns the token's bytes.
+/// Returns the bytes of the token at a span of the text.
 pub fn token(text: &[u8], span: Span) -> &[u8]
     requires ordered { span.start ≤ span.end }
     requires within { span.end ≤ length text.now }

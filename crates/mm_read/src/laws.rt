@@ -1,4 +1,4 @@
-//! The laws of reading and writing, each a call that does nothing.
+//! The laws of reading and writing, each the contract of a function that does nothing.
 ghost use Rattle.mm_read.specs.Laws.{OneStatementList, StatementsOrFault, OneShapeFault, ExportReads, JoinedReads};
 
 /// States that each list of tokens reads as at most one list of statements.
@@ -6,12 +6,12 @@ pub fn one_statement_list()
     ensures { OneStatementList }
 {}
 
-/// States that each list of tokens reads as some list of statements, or has a misplaced token.
+/// States that each list of tokens reads as some list of statements, or has a misplaced token, or ends within a statement.
 pub fn statements_or_fault()
     ensures { StatementsOrFault }
 {}
 
-/// States that each list of tokens has at most one misplaced token.
+/// States that each list of tokens has at most one shape fault.
 pub fn one_shape_fault()
     ensures { OneShapeFault }
 {}
@@ -21,8 +21,8 @@ pub fn export_reads()
     ensures { ExportReads }
 {}
 
-/// States that two joined texts read as the statements of the first and then those of the second, if no word goes on from
-/// the first into the second.
+/// States that two joined texts read as the statements of the first followed by those of the second, if joining them does
+/// not make one word of two.
 pub fn joined_reads()
     ensures { JoinedReads }
 {}

@@ -13,16 +13,16 @@ use crate::stmt::Stmt;
 use mm_lex::{LexFault, count_tokens, first_bad_byte, next_token};
 use std::alloc::Global;
 
-/// How many bytes of text are read between two calls of `ask_for_room` that allocate.
+/// The number of bytes of text after which `ask_for_room` allocates again.
 const STRETCH: usize = 90_000;
 
-/// How many bytes are allocated at once: more than the statements of a stretch usually take.
+/// The number of bytes that it allocates: more than the statements of a stretch usually take.
 const ROOM: usize = 120_000;
 
 /// Returns the statements that the text reads as.
 ///
-/// Errors: `Text`, the first bad byte or else the first fault of the comments, even if every allocation fails; else `Shape`,
-/// the first misplaced token; `Memory` in place of that or of the statements. Cost: the size of the text.
+/// Errors: `Text`, the first bad byte or else the comment fault, even if every allocation fails; else `Shape`, the first
+/// misplaced token; or `Memory` instead of `Shape` or of the statements. Cost: the size of the text.
 /// Source: Metamath, 4.1 and appendix E.
 pub fn read(alloc: Global, text: &[u8]) -> Result<Vec<Stmt>, ReadFault>
     ensures found { IfOk result (λ statements. Reads text.now statements.items) }
@@ -84,17 +84,17 @@ fn add_next(
     Ok(Some(next))
 }
 
-/// Allocates room and frees it at once, once a stretch of the text, so that a heap which else grows by each request alone,
-/// as that of a thread may, grows once for hundreds of statements. If the allocation fails, nothing is lost.
+/// Allocates a block and frees it, once for each stretch of the text. A heap that otherwise grows by one request at a time,
+/// as that of a thread may, then grows once for hundreds of statements. A failed allocation is ignored.
 fn ask_for_room(alloc: Global, at: usize, next: usize) {
     if at / STRETCH != next / STRETCH {
         let _ = Vec::<u8>::with_capacity(alloc, ROOM);
     }
 }
 
-/// Returns why the whole text is refused, if the earlier statements end at `at` and `fault` says why none follows.
+/// Returns why the whole text is refused. Its statements up to `at` are read, and `fault` is why none can be read there.
 ///
-/// Errors: the fault of the comments after `at`, which comes before `fault`.
+/// Errors: the comment fault after `at`, if there is one: it takes precedence over `fault`.
 fn first_fault(text: &[u8], at: usize, fault: ReadFault) -> Result<ReadFault, LexFault>
     requires clean { IsClean text.now }
     requires place { at ≤ length text.now }

@@ -1,4 +1,4 @@
-//! The parts of a statement, each from an offset of the text on.
+//! Reads the parts of a statement, each from an offset of the text on.
 ghost use Rattle.std.specs.Prelude.{◌≡◌, ◌<◌, ◌≤◌, ◌∷◌, ◌++◌, [], length, nat_le, IsTrue, IfOk, IfErr};
 ghost use Rattle.std.specs.List.{list_all};
 ghost use Rattle.mm_lex.specs.Alphabet.{name_eq, is_symbol};
@@ -13,8 +13,8 @@ use std::alloc::Global;
 
 /// Returns the symbols after `at`, at least `least` of them, up to the token `end`, and the offset after that token.
 ///
-/// `number` is that of the first token after `at` in its statement. Errors: `Text`, if the comments are at fault
-/// before the end of the list; `Shape`, the number of the token that does not fit; `Memory`.
+/// `number` is the number of the first token after `at`, from 1 within its statement. Errors: `Text`, if a comment
+/// before the end of the list is malformed; `Shape`, the number of the token that does not fit; `Memory`.
 pub fn symbols_until(
     alloc: Global,
     text: &[u8],
@@ -54,10 +54,10 @@ fn has_least(words: &Words, least: usize) -> bool
     }
 }
 
-/// Returns the next token as a word, and the offset after it.
+/// Returns the next token, which has to be a symbol, and the offset after it.
 ///
-/// `number` is that of the token in its statement. Errors: `Text`, if the comments before it are at fault; `Shape`, its
-/// number, if it is no symbol or there is none; `Memory`.
+/// `number` is the number of that token in its statement. Errors: `Text`, if a comment before it is malformed; `Shape`, its
+/// number, if it is no symbol or no token is left; `Memory`.
 pub fn next_symbol(
     alloc: Global,
     text: &[u8],
@@ -82,8 +82,8 @@ pub fn next_symbol(
 
 /// Returns the offset after the next token, which has to be `end`.
 ///
-/// `number` is that of the token in its statement. Errors: `Text`, if the comments before it are at fault; `Shape`, its
-/// number, if it is not `end` or there is none.
+/// `number` is the number of that token in its statement. Errors: `Text`, if a comment before it is malformed; `Shape`, its
+/// number, if it is not `end` or no token is left.
 pub fn pass_token(text: &[u8], at: usize, number: usize, end: &[u8]) -> Result<usize, ReadFault>
     requires clean { IsClean text.now }
     requires place { at ≤ length text.now }

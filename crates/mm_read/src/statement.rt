@@ -1,4 +1,4 @@
-//! One statement of the text, from its first token on.
+//! Reads one statement of the text, from its first token on.
 ghost use Rattle.std.specs.Prelude.{◌∷◌, ◌≤◌, [], length, IsTrue, IfOk, IfErr, codes};
 ghost use Rattle.mm_lex.specs.Alphabet.{word, is_label};
 ghost use Rattle.mm_lex.specs.Words.{is_word};
@@ -12,9 +12,9 @@ use crate::stmt::Stmt;
 use mm_lex::{Span, Word, is_label, next_token};
 use std::alloc::Global;
 
-/// Returns the statement whose first token stands at `first`, and the offset after it.
+/// Returns the statement whose first token is at `first`, and the offset after the statement.
 ///
-/// Errors: `Text`, if the comments are at fault before its end; `Shape`, the number, from 1, of its misplaced token;
+/// Errors: `Text`, if a comment in it is malformed; `Shape`, the number of its misplaced token, from 1 within the statement;
 /// `Memory`. Cost: the statement's own size.
 pub fn statement(alloc: Global, text: &[u8], first: Span) -> Result<(Stmt, usize), ReadFault>
     requires clean { IsClean text.now }
@@ -44,7 +44,7 @@ pub fn statement(alloc: Global, text: &[u8], first: Span) -> Result<(Stmt, usize
     }
 }
 
-/// Returns the statement whose label ends before `at`.
+/// Returns the statement with this label, and the offset after the statement. `at` is the offset after the label.
 fn labelled(alloc: Global, text: &[u8], label: &[u8], at: usize) -> Result<(Stmt, usize), ReadFault>
     requires clean { IsClean text.now }
     requires place { at ≤ length text.now }
@@ -73,7 +73,7 @@ fn labelled(alloc: Global, text: &[u8], label: &[u8], at: usize) -> Result<(Stmt
     }
 }
 
-/// Returns the `$f` whose keyword ends before `at`.
+/// Returns the `$f` with this label, and the offset after the statement. `at` is the offset after the keyword.
 fn floating(alloc: Global, text: &[u8], label: &[u8], at: usize) -> Result<(Stmt, usize), ReadFault>
     requires clean { IsClean text.now }
     requires place { at ≤ length text.now }
@@ -94,7 +94,7 @@ fn floating(alloc: Global, text: &[u8], label: &[u8], at: usize) -> Result<(Stmt
     Ok((statement, next))
 }
 
-/// Returns the `$p` whose keyword ends before `at`.
+/// Returns the `$p` with this label, and the offset after the statement. `at` is the offset after the keyword.
 fn provable(alloc: Global, text: &[u8], label: &[u8], at: usize) -> Result<(Stmt, usize), ReadFault>
     requires clean { IsClean text.now }
     requires place { at ≤ length text.now }

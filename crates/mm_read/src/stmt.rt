@@ -1,9 +1,9 @@
 //! The shapes of a statement.
 use mm_lex::{Word, Words};
 
-/// One statement. Its words are labels, symbols and tokens of a proof as they stand in the text.
+/// One statement. Its words are labels, symbols and tokens of a proof as they are written in the text.
 ///
-/// Source: Metamath, 4.1. Which statements are well shaped is `specs/Statements`.
+/// Source: Metamath, 4.1. `specs/Statements` defines which statements are well shaped.
 #[derive(Drop)]
 pub enum Stmt {
     /// `${`

@@ -1,5 +1,5 @@
--- Agreement, of a world and of two worlds of one run.
--- Source: Lamport, Paxos Made Simple, section 2.2: P2 is that each proposal above a chosen one has its value.
+-- Agreement in one world, and between the worlds at two moments of one run.
+-- Source: Lamport, Paxos Made Simple, section 2.2; LaterValue is his P2b.
 -- No code states this; it follows from the steps of the nodes.
 use Rattle.std.specs.Prelude.{◌≡◌, ℕ, true, List, ◌++◌, Option, Some, Contains, ◌⊎◌, Ok, slice_get}
 use Rattle.net.specs.Words.{Ballot, Packet, Accept, is_under, Event}
@@ -14,11 +14,11 @@ IsAfter size weights events w = after size weights events ≡ Ok w
 abbrev pub IsProposed : {V : Type 0} → World V → Ballot → ℕ → Option V → Type 0
 IsProposed {V} w b s v = (p : Packet V) × Contains w.packets p × (p.body ≡ Accept b s v)
 
--- at most one value for each ballot and slot
+-- under each ballot at most one value is proposed for a slot
 abbrev pub OneValue : {V : Type 0} → World V → Type 0
 OneValue {V} w = (b : Ballot) (s : ℕ) (u v : Option V) → IsProposed w b s u → IsProposed w b s v → u ≡ v
 
--- the value of a later ballot is the one chosen under an earlier ballot
+-- a value proposed for a slot under a later ballot is the one chosen there under an earlier ballot
 abbrev pub LaterValue : {V : Type 0} → World V → Type 0
 LaterValue {V} w = (b c : Ballot) (s : ℕ) (u v : Option V) → IsChosenAt w.weights w.votes_cast b s u → IsProposed w c s v → is_under b c ≡ true → u ≡ v
 
@@ -37,9 +37,10 @@ IsPrefixOf {A} xs ys = (rest : List A) × (xs ++ rest ≡ ys)
 abbrev pub Agree : {A : Type 0} → List A → List A → Type 0
 Agree xs ys = IsPrefixOf xs ys ⊎ IsPrefixOf ys xs
 
+-- of any log in the one world and any log in the other, one is a prefix of the other
 abbrev pub LogsAgree : {V : Type 0} → World V → World V → Type 0
 LogsAgree w x = (j k : ℕ) → Agree (log w j) (log x k)
 
--- each entry of a log is a no-operation, or one of the events offered it
+-- each entry of a log is a no-operation, or was offered by one of the events
 abbrev pub LogsOffered : {V : Type 0} → List (Event V) → World V → Type 0
 LogsOffered {V} events w = (k s : ℕ) (v : V) → slice_get (log w k) s ≡ Some (Some v) → Contains (offers_of events) v

@@ -14,7 +14,7 @@ pub record IsMoment {V : Type 0} (size : V → ℕ) (taken : Taken V) (w : World
   pub is_after : IsAfter size taken.weights early w
 
 pub record Agreement {V : Type 0} (size : V → ℕ) (taken : Taken V) : Type 0 where
-  -- no event of it meets a fault
+  -- no event of the history meets a fault
   pub is_taken : IsOk (world_of size taken)
   -- under one ballot at most one value is proposed for a slot, and a later ballot's value is the one chosen under an earlier
   pub one_value : (w : World V) → IsMoment size taken w → OneValue w
@@ -35,8 +35,8 @@ abbrev pub IsMetOrMemory : {V : Type 0} → Result (World V) StepFault → StepF
 IsMetOrMemory (Ok w) fault = fault ≡ Memory
 IsMetOrMemory (Err met) fault = fault ≡ met
 
--- the first i events are taken, there is an event i, and the fault is the one that it meets, or Memory if it meets none;
--- or an allocation for the new nodes failed before the first event
+-- the run stops at event i, from 0: the first i events are taken, and the fault is the one that event i meets, or Memory if it
+-- meets none; or an allocation for the new nodes failed before the first event
 pub record StopsAt {V : Type 0} (size : V → ℕ) (weights : List ℕ) (events : List (Event V)) (i : ℕ) (fault : StepFault) : Type 0 where
   pub before : IsOk (after size weights (take i events))
   pub fault_is : ((i < length events) × IsMetOrMemory (after size weights (take (suc i) events)) fault) ⊎ ((i ≡ 0) × (fault ≡ Memory))

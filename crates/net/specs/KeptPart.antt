@@ -1,4 +1,4 @@
--- The kept part of a node, and the one change that an event makes to it.
+-- The kept part of a node, which survives a restart, and the one change that an event makes to it.
 -- Source: Lamport, Paxos Made Simple, section 2.5: an acceptor must remember in stable storage what it promised and accepted.
 -- The code stores the change before it posts anything; here both are in one step.
 use Rattle.std.specs.Prelude.{◌≢◌, ℕ, List, [], ◌∷◌, Option, Some, None, Result, Ok, Err, slice_get}
@@ -9,7 +9,7 @@ use Rattle.net.specs.World.{World, happens}
 abbrev pub kept_part : {V : Type 0} → World V → ℕ → Option (Kept V)
 kept_part w k = option_map kept_of (slice_get w.nodes k)
 
--- the node of an event: that of a Deliver is the receiver of the packet
+-- the node at which an event happens; for a Deliver the receiver of the packet, or None if there is no such packet
 abbrev pub addressed : {V : Type 0} → List (Packet V) → Event V → Option ℕ
 addressed packets (Offer k v) = Some k
 addressed packets (Begin k) = Some k
@@ -19,6 +19,7 @@ addressed packets (Restart k) = Some k
 abbrev pub node_of : {V : Type 0} → World V → Event V → Option ℕ
 node_of w e = addressed w.packets e
 
+-- the change of a step; None if the step is refused
 abbrev pub change_answered : {V : Type 0} → Result (Stepped V) Refusal → Option (Change V)
 change_answered (Ok step) = step.change
 change_answered (Err refusal) = None
@@ -38,7 +39,7 @@ change_of size w (Begin k) = change_at begun (slice_get w.nodes k)
 change_of size w (Deliver number) = change_delivered w (slice_get w.packets number)
 change_of size w (Restart k) = change_at (λ n. Ok (restarted n)) (slice_get w.nodes k)
 
--- none of the events that follow is node k's
+-- none of the further events that are taken happens at node k
 abbrev pub AreOfOthers : {V : Type 0} → (V → ℕ) → ℕ → Result (World V) StepFault → List (Event V) → Type 0
 AreOfOthers size k r [] = Unit {0}
 AreOfOthers size k (Err fault) (e ∷ es) = Unit {0}

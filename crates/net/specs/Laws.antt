@@ -1,6 +1,6 @@
--- The laws of the world, each over every list of events that is taken, for any weights and any values.
+-- The laws of the world, after every list of events of which none meets a fault, for any weights and any values.
 -- Source: Lamport, Paxos Made Simple, section 2.2.
--- A law has no code; the steps of the nodes are the definitions that their own contracts cite.
+-- A law has no code; its steps are the definitions that the contracts of the nodes cite.
 use Rattle.std.specs.Prelude.{◌≡◌, ◌≢◌, ℕ, List, [], ◌∷◌, ◌++◌, Some, Ok}
 use Rattle.net.specs.Words.{option_map, changed_by, Event, Restart}
 use Rattle.net.specs.World.{World, happens, log}
@@ -43,8 +43,8 @@ LogEntriesWereOffered V = Always {V = V} (λ events w. LogsOffered events w)
 
 -- The kept part.
 
--- after an event of node k and a restart of k, whatever happens at other nodes in between, and so whether or not any packet of
--- the event is delivered to them, the kept part is the one before the event, with the change of the event
+-- after an event e and then a restart of node k, the kept part of k is the one before e with the change of e, whatever happens
+-- at other nodes in between; so it does not matter whether any packet of e is delivered to them
 abbrev pub KeptPartSurvives : Type 0 → Type 0
 KeptPartSurvives V = (size : V → ℕ) (weights : List ℕ) (events others : List (Event V)) (e : Event V) (k : ℕ) (w x y : World V)
     → IsAfter size weights events w → happens size w e ≡ Ok x → node_of w e ≡ Some k → AreOfOthers size k (Ok x) others
@@ -53,12 +53,12 @@ KeptPartSurvives V = (size : V → ℕ) (weights : List ℕ) (events others : Li
 
 -- Logs.
 
--- after an event that is no restart of node k, the old log of k is a prefix of the new one
+-- after an event other than a restart of node k, the old log of k is a prefix of the new one
 abbrev pub LogsOnlyGrow : Type 0 → Type 0
 LogsOnlyGrow V = (size : V → ℕ) (weights : List ℕ) (events : List (Event V)) (e : Event V) (k : ℕ) (w x : World V)
     → IsAfter size weights events w → happens size w e ≡ Ok x → e ≢ Restart k → IsPrefixOf (log w k) (log x k)
 
--- a restart of node k empties it
+-- a restart of node k empties its log
 abbrev pub RestartEmptiesLog : Type 0 → Type 0
 RestartEmptiesLog V = (size : V → ℕ) (weights : List ℕ) (events : List (Event V)) (k : ℕ) (w x : World V)
     → IsAfter size weights events w → happens size w (Restart k) ≡ Ok x → log x k ≡ []

@@ -1,6 +1,6 @@
--- A staged event: the work of its node, with everything allocated and nothing changed yet.
--- Source: this project stores a change before its effects are visible.
--- The code keeps the step that the node staged; for a restart, its posts and, once it is loaded, the record.
+-- A staged event: all that its step needs is allocated, and nothing is changed yet.
+-- Source: this project's choice, so that a change can be stored before its effects are visible.
+-- The code holds the step that the node staged; for a restart, its posts and, once it is loaded, the record.
 use Rattle.std.specs.Prelude.{◌≡◌, ◌≤◌, ◌+◌, ℕ, List, [], ◌∷◌, ◌++◌, Option, Some, None, Result, Ok, Err, length, slice_get, slice_set}
 use Rattle.net.specs.Words.{AllByRecursion, Packet, Ask, Change, Refusal, IsPost, to_others, Kept, RecordView, Node, Stepped, kept_of, Core, HasAtLeast, Made, offered, begun, on_packet, reloaded, restarted, Event, Offer, Begin, Deliver, Restart, StepFault, Memory}
 use Rattle.net.specs.declared.staged.StagedWork.{StagedWork as RustWork}
@@ -9,7 +9,7 @@ use Rattle.net.specs.World.{World, fault_of, answered, happens_at}
 use Rattle.net.specs.KeptPart.{node_of, change_of, change_answered}
 use Rattle.net.specs.Taken.{Taken, with_event}
 
--- a step; or a restart: its posts, and the record that was loaded, if one was
+-- the work of a node: a step, or a restart with its posts and the record that was loaded, if one was
 pub data StagedWork (V : Type 0) : Type 0 where
   steps : Made V → StagedWork V
   restarts : List (Packet V) → Option (Kept V) → StagedWork V
@@ -35,7 +35,7 @@ abbrev pub change_in : {V : Type 0} → StagedWork V → Option (Change V)
 change_in (steps made) = made.step.change
 change_in (restarts posts loaded) = None
 
--- a restart with a loaded record
+-- the work with this record loaded, if it is a restart
 abbrev pub loads : {V : Type 0} → StagedWork V → Kept V → StagedWork V
 loads (steps made) kept = steps made
 loads (restarts posts loaded) kept = restarts posts (Some kept)
@@ -43,19 +43,20 @@ loads (restarts posts loaded) kept = restarts posts (Some kept)
 abbrev pub with_record : {V : Type 0} → StagedEvent V → Kept V → StagedEvent V
 with_record d kept = record { at = d.at; event = d.event; work = loads d.work kept }
 
--- the step that the work is at a node in that state
+-- the step that the work makes at a node in state n
 abbrev pub step_of : {V : Type 0} → StagedWork V → Node V → Stepped V
 step_of (steps made) n = made.step
 step_of (restarts posts None) n = restarted n
 step_of (restarts posts (Some kept)) n = reloaded n kept
 
--- the node is as it was when it staged the work, with at least that room; a loaded record is its kept part
+-- the work can be committed: for a step, the node is as it was when it staged the step, with at least that room; for a restart,
+-- the posts ask all other nodes, and a loaded record is the kept part of the node
 abbrev pub IsReadyAt : {V : Type 0} → Core V → StagedWork V → Type 0
 IsReadyAt c (steps made) = (c.node ≡ made.before.node) × HasAtLeast made.before c
 IsReadyAt c (restarts posts None) = posts ≡ to_others c.node.me c.node.weights (Ask 0)
 IsReadyAt c (restarts posts (Some kept)) = (posts ≡ to_others c.node.me c.node.weights (Ask 0)) × (kept ≡ kept_of c.node)
 
--- a restart is staged as one, without a record yet, and every other event as a step
+-- the work is of the kind of the event: a restart without a record yet for a restart, a step for every other event
 abbrev pub IsOfEvent : {V : Type 0} → Event V → StagedWork V → Type 0
 IsOfEvent (Offer k v) (steps made) = Unit {0}
 IsOfEvent (Begin k) (steps made) = Unit {0}
@@ -80,6 +81,7 @@ ComesTo {V} size packets k n e r = (w : World V) (more : List (Packet V)) → w.
 
 -- Staging an event at its node.
 
+-- the event e of node k is staged, and its work makes this step
 pub record IsStagedAt {V : Type 0} (old new : Core V) (k : ℕ) (e : Event V) (step : Stepped V) (due : StagedEvent V) : Type 0 where
   pub at : due.at ≡ k
   pub event : due.event ≡ e
@@ -95,7 +97,7 @@ Readies old new k e (Ok step) (Err fault) = fault ≡ Memory
 Readies old new k e (Err met) (Ok due) = ⊥
 Readies old new k e (Err met) (Err fault) = fault ≡ fault_of met
 
--- an event is staged, according to its result at the node
+-- an event of any kind is staged, according to the result that its step has at the node
 abbrev pub ReadiesEvent : {V : Type 0} → (V → ℕ) → List (Packet V) → Core V → Core V → ℕ → Event V → Result (StagedEvent V) StepFault → Type 0
 ReadiesEvent size packets old new k (Offer j v) result = Readies old new k (Offer j v) (offered size old.node v) result
 ReadiesEvent size packets old new k (Begin j) result = Readies old new k (Begin j) (begun old.node) result
@@ -112,7 +114,7 @@ pub record NetView (V : Type 0) : Type 0 where
   pub packet_room : ℕ
   pub event_room : ℕ
 
--- each node is unchanged, with at least the room
+-- each node is unchanged, with at least the room that it had
 abbrev pub AreStill : {V : Type 0} → List (Core V) → List (Core V) → Type 0
 AreStill [] [] = Unit {0}
 AreStill (c ∷ cs) (d ∷ ds) = (d.node ≡ c.node) × HasAtLeast c d × AreStill cs ds

@@ -1,6 +1,6 @@
--- A world as contracts see it: its weights and the events that it took. Its state is that of the world after them.
+-- The history of a net: its weights and the events that it took. Its nodes and packets are those of the world after them.
 -- Source: Lamport, Paxos Made Simple, section 3: the inputs of a state machine determine its run.
--- The code keeps nodes and packets beside the events; by the invariant of `Net` they are those of the world after them.
+-- The code stores nodes and packets too; by the invariant of `Net` they are those of the world after the events.
 use Rattle.std.specs.Prelude.{◌≡◌, ℕ, List, [], ◌∷◌, ◌++◌, Result, length}
 use Rattle.net.specs.Words.{AllByRecursion, Packet, IsWeights, IsPost, Node, Core, Event, StepFault}
 use Rattle.net.specs.World.{World, after}
@@ -10,6 +10,7 @@ pub record Taken (V : Type 0) : Type 0 where
   pub weights : List ℕ
   pub events : List (Event V)
 
+-- the nodes, without their reserved room
 abbrev pub nodes_of : {V : Type 0} → List (Core V) → List (Node V)
 nodes_of [] = []
 nodes_of (core ∷ cores) = core.node ∷ nodes_of cores
@@ -27,6 +28,6 @@ pub record AreOfWorld {V : Type 0} (size : V → ℕ) (taken : Taken V) (cores :
 abbrev pub world_of : {V : Type 0} → (V → ℕ) → Taken V → Result (World V) StepFault
 world_of size taken = after size taken.weights taken.events
 
--- these events and one more
+-- the history with one more event
 abbrev pub with_event : {V : Type 0} → Taken V → Event V → Taken V
 with_event taken e = record { weights = taken.weights; events = taken.events ++ e ∷ [] }

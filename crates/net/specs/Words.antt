@@ -1,4 +1,4 @@
--- The words in which this crate is specified, passed on from one place.
+-- The names that the specifications of this crate use, re-exported from one module.
 pub use Rattle.net.specs.declared.event.Event.{Event}
 pub use Rattle.net.specs.declared.event.Event.TheVariants.{Begin, Deliver, Offer, Restart}
 pub use Rattle.net.specs.declared.event.TheConstants.{MOST_EVENTS}

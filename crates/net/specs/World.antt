@@ -1,6 +1,6 @@
--- The world of the nodes after a list of events: each event is the step of its node, and every packet ever posted is kept.
+-- The world, that is all nodes and packets, after a list of events: each event is a step of one node, and packets stay.
 -- Source: Lamport, Paxos Made Simple, sections 2.1 and 3 (messages may be lost, repeated and delayed, agents restart).
--- The code keeps the nodes and packets of one moment and the events that led there; the world here also has every vote.
+-- The code stores the present nodes, the packets and the events that led there; the world here also has every vote.
 use Rattle.std.specs.Prelude.{ℕ, suc, ◌+◌, ◌==◌, List, [], ◌∷◌, ◌++◌, Option, Some, None, Result, Ok, Err, slice_get, slice_set, if◌then◌else◌}
 use Rattle.net.specs.Words.{Packet, Change, Round, Promise, Entry, Refusal, Node, Stepped, new_node, log_of, offered, begun, on_packet, restarted, MOST_EVENTS, Event, Offer, Begin, Deliver, Restart, StepFault, Busy, LogFull, RoundsSpent, TooLong, Memory, NoNode, NoPacket, EventsSpent}
 use Rattle.synod.specs.declared.refusal.Refusal.TheVariants.{Busy as NodeBusy, LogFull as NodeLogFull, RoundsSpent as NodeRoundsSpent, TooLong as NodeTooLong, Memory as NodeMemory}
@@ -10,9 +10,10 @@ pub record World (V : Type 0) : Type 0 where
   pub weights : List ℕ
   pub nodes : List (Node V)
   pub packets : List (Packet V)  -- every packet ever posted, in the order of posting
-  pub votes_cast : List (Vote V)  -- every vote ever cast, the newest first
-  pub taken : ℕ  -- how many events were taken
+  pub votes_cast : List (Vote V)  -- every vote ever cast, newest first
+  pub taken : ℕ  -- the number of events taken
 
+-- a new node for each of the last weights, numbered from k
 abbrev pub nodes_from : {V : Type 0} → List ℕ → ℕ → List ℕ → List (Node V)
 nodes_from weights k [] = []
 nodes_from weights k (w ∷ ws) = new_node k weights ∷ nodes_from weights (suc k) ws
@@ -21,7 +22,7 @@ nodes_from weights k (w ∷ ws) = new_node k weights ∷ nodes_from weights (suc
 abbrev pub start : {V : Type 0} → List ℕ → World V
 start weights = record { weights = weights; nodes = nodes_from weights 0 weights; packets = []; votes_cast = []; taken = 0 }
 
--- a node's refusal, as a fault of the event
+-- the refusal of a node, as the fault of the event
 abbrev pub fault_of : Refusal → StepFault
 fault_of NodeBusy = Busy
 fault_of NodeLogFull = LogFull
@@ -29,14 +30,14 @@ fault_of NodeRoundsSpent = RoundsSpent
 fault_of NodeTooLong = TooLong
 fault_of NodeMemory = Memory
 
--- the votes once node k made the change: an accepted entry is one more
+-- the votes cast once node k has made the change: an accepted entry is one more vote
 abbrev pub votes_after : {V : Type 0} → ℕ → Option (Change V) → List (Vote V) → List (Vote V)
 votes_after k None votes = votes
 votes_after k (Some (Round r)) votes = votes
 votes_after k (Some (Promise b)) votes = votes
 votes_after k (Some (Entry s h)) votes = vote k h.ballot s h.value ∷ votes
 
--- node k made the step, and its posts are appended to the packets
+-- the world once node k has made the step, whose posts are appended to the packets
 abbrev pub stepped : {V : Type 0} → World V → ℕ → Stepped V → World V
 stepped w k step = record {
   weights = w.weights;
@@ -46,19 +47,22 @@ stepped w k step = record {
   taken = w.taken + 1;
 }
 
+-- the world after a step of node k, or the refusal as a fault
 abbrev pub answered : {V : Type 0} → World V → ℕ → Result (Stepped V) Refusal → Result (World V) StepFault
 answered w k (Ok step) = Ok (stepped w k step)
 answered w k (Err refusal) = Err (fault_of refusal)
 
--- the step of node k, if there is one
+-- the world after the step that node k makes, or a fault if there is no node k or it refuses
 abbrev pub at_node : {V : Type 0} → World V → ℕ → (Node V → Result (Stepped V) Refusal) → Option (Node V) → Result (World V) StepFault
 at_node w k make None = Err NoNode
 at_node w k make (Some n) = answered w k (make n)
 
+-- the world after the packet is delivered to its receiver, or NoPacket if there is none
 abbrev pub delivered : {V : Type 0} → World V → Option (Packet V) → Result (World V) StepFault
 delivered w None = Err NoPacket
 delivered w (Some p) = at_node w p.to (λ n. Ok (on_packet n p)) (slice_get w.nodes p.to)
 
+-- the world after the event, or the fault that it meets, whatever the number of events taken
 abbrev pub happens_at : {V : Type 0} → (V → ℕ) → World V → Event V → Result (World V) StepFault
 happens_at size w (Offer k v) = at_node w k (λ n. offered size n v) (slice_get w.nodes k)
 happens_at size w (Begin k) = at_node w k begun (slice_get w.nodes k)
@@ -69,6 +73,7 @@ happens_at size w (Restart k) = at_node w k (λ n. Ok (restarted n)) (slice_get 
 abbrev pub happens : {V : Type 0} → (V → ℕ) → World V → Event V → Result (World V) StepFault
 happens size w e = if w.taken == MOST_EVENTS then Err EventsSpent else happens_at size w e
 
+-- the world after these events in turn, or the first fault
 abbrev pub all_happen : {V : Type 0} → (V → ℕ) → List (Event V) → Result (World V) StepFault → Result (World V) StepFault
 all_happen size [] r = r
 all_happen size (e ∷ es) (Err fault) = Err fault
@@ -86,7 +91,7 @@ log_at (Some n) = log_of n
 abbrev pub log : {V : Type 0} → World V → ℕ → List (Option V)
 log w k = log_at (slice_get w.nodes k)
 
--- the log of node k and the packets after some events; empty if one of them meets a fault
+-- the log of node k, and the packets, after some events; empty if one of the events meets a fault
 abbrev pub log_after : {V : Type 0} → Result (World V) StepFault → ℕ → List (Option V)
 log_after (Ok w) k = log w k
 log_after (Err fault) k = []
@@ -95,7 +100,7 @@ abbrev pub packets_after : {V : Type 0} → Result (World V) StepFault → List 
 packets_after (Ok w) = w.packets
 packets_after (Err fault) = []
 
--- the values offered
+-- the values that the events offer
 abbrev pub offers_of : {V : Type 0} → List (Event V) → List V
 offers_of [] = []
 offers_of (Offer k v ∷ es) = v ∷ offers_of es

@@ -1,17 +1,18 @@
 //! The events of a world.
 
-/// The most events of a run.
+/// The maximum number of events that a world takes.
 pub const MOST_EVENTS: u64 = 1_000_000;
 
-/// An event at a node.
+/// An event: a step of one node.
 #[derive(Drop)]
 pub enum Event<V> {
     /// A value is offered to the node.
     Offer(u8, V),
     /// The node begins a ballot.
     Begin(u8),
-    /// The packet of this number, from 0 in the order of posting, is delivered to its receiver, perhaps again.
+    /// The packet with this number is delivered to its receiver, perhaps not for the first time. Numbers count from 0 in the
+    /// order of posting.
     Deliver(u64),
-    /// The node restarts with its kept part.
+    /// The node restarts. It keeps its promise, round and accepted entries, and loses everything else.
     Restart(u8),
 }

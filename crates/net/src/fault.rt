@@ -5,7 +5,7 @@ use std::alloc::AllocError;
 use synod::{Failed, Refusal};
 use thiserror::Error;
 
-/// Why an event was refused. A world returns the first fault that applies, in this order: `EventsSpent`, `NoNode`,
+/// Why an event was refused. If several faults apply, a world returns the first in this order: `EventsSpent`, `NoNode`,
 /// `NoPacket`, `TooLong`, `LogFull`, `RoundsSpent`, `Busy`, `Memory`.
 #[derive(Debug, Clone, Copy, PartialEq, Eq, Error)]
 pub enum StepFault {
@@ -30,7 +30,7 @@ pub enum StepFault {
     /// No packet has this number.
     #[error("no such packet")]
     NoPacket,
-    /// The run has `MOST_EVENTS` events.
+    /// The world has taken `MOST_EVENTS` events.
     #[error("no event is left")]
     EventsSpent,
     /// A store or a load failed. Only in a cluster.
@@ -42,7 +42,7 @@ pub enum StepFault {
     /// The cluster was stopped. Only in a cluster.
     #[error("the cluster is stopped")]
     Stopped,
-    /// A cell is not its node's, or does not belong to the switch. Only in a cluster.
+    /// The given cell belongs to another node or another switch. Only in a cluster.
     #[error("the libraries are apart")]
     Apart,
 }

@@ -1,11 +1,11 @@
-//! All nodes and all packets of one agreement on any values, driven by events.
+//! All nodes and all packets of one replicated log of any values, driven by events.
 //!
 //! The contract that the crates above use is `agreement`, which `Net::history` states for every net: whatever was lost,
-//! repeated or delayed and whichever nodes restarted, the logs of any two nodes at any two moments agree. `kept_part` states
-//! what survives a restart, `logs_grow` that nothing else shortens a log.
+//! repeated or delayed and whichever nodes restarted, of the logs of any two nodes at any two moments one is a prefix of the
+//! other. `kept_part` states which part of a node survives a restart; `logs_grow` states that only a restart shortens a log.
 //!
 //! Read `event` and `fault`, then the definitions: specs/World, Chosen, Agree, KeptPart, Laws, Taken, History; then `laws`,
-//! `staged` (an event that is ready to be taken), `net` and `node_state`.
+//! `staged` (an event that is ready to be committed), `net` and `node_state`.
 #![tactic(auto)]
 
 mod event;

@@ -1,4 +1,4 @@
-//! The nodes, all packets that they posted, and the events that led there, over any values.
+//! A net: the nodes of a log, all packets that they posted, and the events that led there, over any values.
 ghost use Rattle.synod.specs.Weights.{IsWeights};
 ghost use Rattle.net.specs.Taken.{nodes_of};
 ghost use Rattle.net.specs.World.{nodes_from};
@@ -11,10 +11,10 @@ use std::alloc::{AllocError, Global};
 use std::marker::Model;
 use synod::{NodeCore, Packet, Value, Weights};
 
-/// The nodes of a world and their packets. Contracts see the weights, the events taken, the state of the world after them,
-/// and the reserved room.
+/// The nodes of a world and their packets. Contracts see the weights, the events taken, the nodes and packets of the world
+/// after them, and the reserved room.
 ///
-/// Source: Lamport, Paxos Made Simple, 2 and 3; the world after a list of events is in `specs/World.antt`.
+/// Source: Lamport, Paxos Made Simple, sections 2 and 3; `specs/World.antt` defines the world after a list of events.
 #[derive(Drop)]
 pub struct Net<V: Value> {
     weights: Weights,
@@ -51,7 +51,7 @@ impl<V: Value> Net<V> {
     ghost use Rattle.net.specs.History.{Agreement};
     ghost use Rattle.net.specs.declared.fault.StepFault.TheVariants.{NoNode, NoPacket, Memory};
 
-    /// Creates a world of new nodes.
+    /// Creates a world with a new node for each weight. It has taken no events.
     ///
     /// Errors: `Memory`.
     pub fn new(alloc: Global, weights: Weights) -> Result<Self, StepFault>
@@ -67,9 +67,9 @@ impl<V: Value> Net<V> {
         })
     }
 
-    /// Stages an event, or returns the first fault that it meets, or `Memory` if it meets none. Only reserved room changes.
+    /// Stages an event: allocates all that its step needs, and changes nothing but reserved room.
     ///
-    /// Cost: that of the step at its node.
+    /// Errors: the first fault that the event meets, or `Memory` if it meets none. Cost: that of the step at its node.
     pub fn ready(&mut self, event: Event<V>) -> Result<StagedEvent<V>, StepFault>
         ensures due { IfOk result (IsStaged V.bytes self.new) }
         ensures event { IfOk result (λ due. due.event ≡ event) }
@@ -90,7 +90,8 @@ impl<V: Value> Net<V> {
         Ok(due)
     }
 
-    /// Returns the node of an event: for a delivery the receiver of the packet, or `None` if there is no such packet.
+    /// Returns the node at which an event happens; for a delivery the receiver of the packet, or `None` if there is no such
+    /// packet.
     pub fn node_of(&self, event: &Event<V>) -> Option<u8>
         ensures { result ≡ addressed self.now.packets event.now }
     {
@@ -105,7 +106,7 @@ impl<V: Value> Net<V> {
         }
     }
 
-    /// Stages an event at its node.
+    /// Stages an event at its node, without room for its posts in the world.
     fn ready_at_node(&mut self, event: Event<V>) -> Result<StagedEvent<V>, StepFault>
         requires { length self.old.taken.events < MOST_EVENTS }
         ensures gives { Gives V.bytes self.new event (world_of V.bytes (with_event self.old.taken event)) result }
@@ -133,7 +134,7 @@ impl<V: Value> Net<V> {
         Ok(())
     }
 
-    /// Takes a staged event, and returns the number of packets posted so far. It does not allocate.
+    /// Commits a staged event, and returns the number of packets posted so far. It does not allocate.
     pub fn commit(&mut self, due: StagedEvent<V>) -> u64
         requires due { IsStaged V.bytes self.old due }
         requires room { HasRoom self.old (length (posts_of due.work)) 1 }
@@ -143,13 +144,13 @@ impl<V: Value> Net<V> {
     {
         let (at, event, work) = due.into_parts();
         let mut posts = commit_at(&mut self.nodes[at as usize], work);
-        // There is room for the posts.
+        // This cannot fail: there is room for the posts.
         let _added = self.packets.append(&mut posts);
         self.events.push_reserved(event);
         self.packets.len() as u64
     }
 
-    /// Takes an event, and returns the number of packets posted so far.
+    /// Stages an event and commits it. Returns the number of packets posted so far.
     ///
     /// Errors: the first fault that the event meets, or `Memory` if it meets none; the world is then unchanged.
     pub fn step(&mut self, event: Event<V>) -> Result<u64, StepFault>
@@ -165,7 +166,7 @@ impl<V: Value> Net<V> {
         Ok(self.commit(due))
     }
 
-    /// Returns the events taken, the oldest first. None of them meets a fault, and agreement holds after every prefix of them.
+    /// Returns the events taken, oldest first. None of them meets a fault, and agreement holds after every prefix of them.
     pub fn history(&self) -> &[Event<V>]
         ensures events { result.now ≡ self.now.taken.events }
         ensures few { length self.now.taken.events ≤ MOST_EVENTS }
@@ -175,7 +176,9 @@ impl<V: Value> Net<V> {
         &self.events
     }
 
-    /// Returns entry `slot` of the log of node `k`, or `NoNode`. It does not allocate.
+    /// Returns entry `slot` of the log of node `k`, or `None` if the log is not that long. It does not allocate.
+    ///
+    /// Errors: `NoNode`.
     pub fn entry(&self, k: u8, slot: u32) -> Result<Option<&Option<V>>, StepFault>
         ensures entry { IfOk result (λ found. MatchOption found (slice_get (log_after (world_of V.bytes self.now.taken) k) slot ≡ None) (λ entry. slice_get (log_after (world_of V.bytes self.now.taken) k) slot ≡ Some entry.now)) }
         ensures below { IfOk result (λ found. IsSome found → slot < SLOTS) }
@@ -190,7 +193,7 @@ impl<V: Value> Net<V> {
 
     /// Returns the log of node `k`: the entries that it learned, up to its first gap.
     ///
-    /// Errors: `NoNode`; else `Memory`. Cost: the log; each value is copied once.
+    /// Errors: `NoNode`; else `Memory`. Cost: the size of the log; each value is copied once.
     pub fn log(&self, k: u8) -> Result<Vec<Option<V>>, StepFault>
         ensures log { IfOk result (λ entries. entries.items ≡ log_after (world_of V.bytes self.now.taken) k) }
         ensures no_node { length self.now.taken.weights ≤ k → result ≡ Err NoNode }
@@ -202,7 +205,9 @@ impl<V: Value> Net<V> {
         }
     }
 
-    /// Returns the packet of a number, from 0 in the order of posting, or `NoPacket`. It does not allocate.
+    /// Returns the packet with this number, counted from 0 in the order of posting. It does not allocate.
+    ///
+    /// Errors: `NoPacket`.
     pub fn packet(&self, number: u64) -> Result<&Packet<V>, StepFault>
         ensures found { IfOk result (λ packet. slice_get (packets_after (world_of V.bytes self.now.taken)) number ≡ Some packet.now) }
         ensures no_packet { (result ≡ Err NoPacket) ↔ (slice_get (packets_after (world_of V.bytes self.now.taken)) number ≡ None) }

@@ -1,4 +1,4 @@
-//! The state that a node of a world reports.
+//! The state that a node of a world reports: role, promise, length of the log, count of waiting values.
 ghost use Rattle.std.specs.Prelude.{◌≡◌, ◌≤◌, ◌<◌, Err, Some, length, IfOk, IsOk, IsOkUnless};
 
 use crate::fault::StepFault;
@@ -10,7 +10,9 @@ impl<V: Value> Net<V> {
     ghost use Rattle.net.specs.Taken.{world_of};
     ghost use Rattle.net.specs.declared.fault.StepFault.TheVariants.{NoNode};
 
-    /// Returns the state of node `k`, or `NoNode`. It does not allocate.
+    /// Returns the state of node `k`. It does not allocate.
+    ///
+    /// Errors: `NoNode`.
     pub fn state(&self, k: u8) -> Result<NodeState, StepFault>
         ensures state { IfOk result
             (λ state. state_after (world_of V.bytes self.now.taken) k ≡ Some state) }

@@ -1,4 +1,4 @@
-//! A staged event: everything is allocated, and nothing is changed yet.
+//! A staged event: all that its step needs is allocated, and nothing is changed yet.
 ghost use Rattle.std.specs.Prelude.{◌≡◌, Some, None, MatchOption, length};
 ghost use Rattle.std.specs.List.{AllByRecursion};
 ghost use Rattle.synod.specs.Packets.{IsPost};
@@ -11,15 +11,15 @@ use crate::fault::StepFault;
 use std::marker::Model;
 use synod::{Change, NodeCore, Packet, Ready, Record, Value};
 
-/// The staged work of a node.
+/// The part of a staged event that its node commits.
 #[derive(Drop)]
 pub(crate) enum StagedWork<V> {
     Step(Ready<V>),
-    /// A restart: its posts, and the record that it starts from, if one was loaded.
+    /// A restart: its posts, and the record that the node starts from, if one was loaded.
     Restart(Vec<Packet<V>>, Option<Record<V>>),
 }
 
-/// An event of one node, ready to be taken.
+/// An event of one node, ready to be committed.
 #[derive(Drop)]
 pub struct StagedEvent<V> {
     at: u8,
@@ -38,7 +38,7 @@ impl<V> Model for StagedEvent<V> {
 impl<V: Value> StagedEvent<V> {
     ghost use Rattle.net.specs.Staged.{change_in, with_record};
 
-    /// Returns the node of the event.
+    /// Returns the number of the node at which the event happens.
     pub fn at(&self) -> u8
         ensures { result ≡ self.now.at }
     {
@@ -74,7 +74,7 @@ impl<V: Value> StagedEvent<V> {
         }
     }
 
-    /// Returns the parts. It does not allocate.
+    /// Splits the event into node, event and work. It does not allocate.
     pub(crate) fn into_parts(self) -> (u8, Event<V>, StagedWork<V>)
         ensures at { result.0 ≡ self.at }
         ensures event { result.1 ≡ self.event }
@@ -86,7 +86,7 @@ impl<V: Value> StagedEvent<V> {
 
 /// Stages an event at its node.
 ///
-/// Cost: that of the step; an offer copies its value once, for the history.
+/// Errors: the node's refusal, or `Memory`. Cost: that of the step; an offer copies its value once, for the history.
 pub(crate) fn ready_event<V: Value>(
     node: &mut NodeCore<V>,
     k: u8,

@@ -1,15 +1,15 @@
 -- A finite map from slots to entries.
--- Source: the log of Lamport's Paxos Made Simple, section 3, where each instance has its place.
--- The code has pages of options. The map is a list of options that is empty or ends in an entry.
+-- Source: the log of Lamport's Paxos Made Simple, section 3, where each instance of the algorithm has a number.
+-- The code has pages of options. Here a map is a list of options, by slot, that is empty or ends in an entry.
 use Rattle.std.specs.Prelude.{ℕ, zero, suc, List, [], ◌∷◌, Option, Some, None, length}
 
--- the entry at a slot
+-- the entry at slot s; None if the slot is empty
 abbrev pub entry_at : {T : Type 0} → List (Option T) → ℕ → Option T
 entry_at [] s = None
 entry_at (x ∷ xs) zero = x
 entry_at (x ∷ xs) (suc s) = entry_at xs s
 
--- the same map with an entry at s
+-- the map with the entry v at slot s
 abbrev pub put_at : {T : Type 0} → List (Option T) → ℕ → T → List (Option T)
 put_at [] zero v = Some v ∷ []
 put_at [] (suc s) v = None ∷ put_at [] s v
@@ -22,25 +22,26 @@ entries_to_gap [] = []
 entries_to_gap (None ∷ xs) = []
 entries_to_gap (Some x ∷ xs) = x ∷ entries_to_gap xs
 
--- the least slot that is empty
+-- the least empty slot
 abbrev pub front_of : {T : Type 0} → List (Option T) → ℕ
 front_of xs = length (entries_to_gap xs)
 
--- one above the greatest slot that is not empty
+-- one above the greatest slot with an entry, or 0, since the list of a map ends in an entry
 abbrev pub top_of : {T : Type 0} → List (Option T) → ℕ
 top_of xs = length xs
 
+-- a slot in front of a trimmed list: an empty slot in front of no others is dropped
 abbrev pub trim_head : {T : Type 0} → Option T → List (Option T) → List (Option T)
 trim_head None [] = []
 trim_head None (y ∷ ys) = None ∷ y ∷ ys
 trim_head (Some v) ys = Some v ∷ ys
 
--- the list without the gaps at its end
+-- the list without the empty slots at its end
 abbrev pub trimmed : {T : Type 0} → List (Option T) → List (Option T)
 trimmed [] = []
 trimmed (x ∷ xs) = trim_head x (trimmed xs)
 
--- slots as contracts see them: the map, and the number of slots from 0 on that have room
+-- `Slots` as contracts see it: the map, and the number of slots, from 0 on, for which memory is reserved
 pub record SlotsView (T : Type 0) : Type 0 where
   pub entries : List (Option T)
   pub room : ℕ

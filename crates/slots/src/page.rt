@@ -8,7 +8,7 @@ use std::marker::Model;
 /// The number of slots of a page.
 pub const PAGE_SLOTS: usize = 256;
 
-/// A page of slots. Slots after the last one that was filled are not stored, so an empty page costs one allocation.
+/// A page of slots. Its vector has capacity for all of them, but ends at the last slot that was filled.
 #[derive(Drop)]
 pub struct Page<T> {
     slots: Vec<Option<T>>,
@@ -34,7 +34,7 @@ impl<T: Drop> Page<T> {
         Ok(Page { slots })
     }
 
-    /// Returns the entry at a slot of the page.
+    /// Returns the entry at a slot of the page, or `None` if the slot is empty.
     pub fn get(&self, slot: usize) -> Option<&T>
         requires { slot < PAGE_SLOTS }
         ensures { MatchOption result (entry_at self.now slot ≡ None) (λ entry. entry_at self.now slot ≡ Some entry.now) }
@@ -45,7 +45,7 @@ impl<T: Drop> Page<T> {
         }
     }
 
-    /// Puts an entry at a slot of the page, and returns the old one.
+    /// Puts an entry at a slot of the page, and returns the one that was there, if any. It does not allocate.
     pub fn put(&mut self, slot: usize, entry: T) -> Option<T>
         requires { slot < PAGE_SLOTS }
         ensures put { self.new ≡ slice_set self.old slot (Some entry) }

@@ -7,7 +7,7 @@ use crate::page::{PAGE_SLOTS, Page};
 use std::alloc::{AllocError, Global};
 use std::marker::Model;
 
-/// Slots in pages.
+/// A list of slots, stored in pages.
 #[derive(Drop)]
 pub struct Pages<T> {
     alloc: Global,
@@ -26,7 +26,7 @@ impl<T> Model for Pages<T> {
 }
 
 impl<T: Drop> Pages<T> {
-    /// Creates an empty list. It does not allocate.
+    /// Creates a list without pages. It does not allocate.
     pub fn new(alloc: Global) -> Self
         ensures { result ≡ [] }
     {
@@ -43,7 +43,7 @@ impl<T: Drop> Pages<T> {
         self.pages.len()
     }
 
-    /// Appends `count` empty pages.
+    /// Appends `count` empty pages. If an allocation fails, the list is unchanged.
     pub fn add(&mut self, count: usize) -> Result<(), AllocError>
         ensures added { OnOk result (self.new ≡ self.old ++ replicate (PAGE_SLOTS * count) None) }
         ensures same { OnErr result (self.new ≡ self.old) }
@@ -53,7 +53,7 @@ impl<T: Drop> Pages<T> {
         Ok(())
     }
 
-    /// Returns the entry at a slot.
+    /// Returns the entry at a slot, or `None` if the slot is empty.
     pub fn get(&self, slot: usize) -> Option<&T>
         requires { slot < length self.now }
         ensures { MatchOption result (entry_at self.now slot ≡ None) (λ entry. entry_at self.now slot ≡ Some entry.now) }
@@ -62,7 +62,7 @@ impl<T: Drop> Pages<T> {
         page.get(slot % PAGE_SLOTS)
     }
 
-    /// Puts an entry at a slot, and returns the old one.
+    /// Puts an entry at a slot, and returns the one that was there, if any. It does not allocate.
     pub fn put(&mut self, slot: usize, entry: T) -> Option<T>
         requires { slot < length self.old }
         ensures put { self.new ≡ slice_set self.old slot (Some entry) }

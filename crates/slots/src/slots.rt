@@ -1,4 +1,4 @@
-//! The finite map.
+//! The finite map from slots to entries.
 ghost use Rattle.std.specs.Prelude.{◌≡◌, ◌<◌, ◌≤◌, ◌+◌, ◌↔◌, [], drop, max, IsTrue, IsOk, OnOk, OnErr, Some, None, length, MatchOption};
 ghost use Rattle.slots.specs.FiniteMap.{entry_at, put_at, front_of, top_of};
 
@@ -43,9 +43,9 @@ impl<T: Drop> Slots<T> {
         }
     }
 
-    /// Reserves room at a slot. The entries are unchanged, and after an error the room too.
+    /// Reserves room at a slot and at all slots below it. The entries do not change.
     ///
-    /// Cost: the pages that it adds, up to the one of the slot.
+    /// Errors: an allocation fails; the room is then unchanged too. Cost: the pages that it adds.
     pub fn room(&mut self, slot: u32) -> Result<(), AllocError>
         requires { slot < SLOTS }
         ensures ok { OnOk result (slot < self.new.room) }
@@ -70,9 +70,9 @@ impl<T: Drop> Slots<T> {
         (slot as usize) < self.pages.count() * PAGE_SLOTS
     }
 
-    /// Puts an entry at a slot, and returns the old one. It does not allocate.
+    /// Puts an entry at a slot, and returns the one that was there, if any. It does not allocate.
     ///
-    /// Cost: amortized constant; filling the first gap passes the entries after it, each once until `clear`.
+    /// Cost: amortized constant. Filling the first gap scans on to the next gap; each entry is scanned once until `clear`.
     pub fn put(&mut self, slot: u32, entry: T) -> Option<T>
         requires { slot < self.old.room }
         ensures entries { self.new.entries ≡ put_at self.old.entries slot entry }
@@ -86,7 +86,7 @@ impl<T: Drop> Slots<T> {
         before
     }
 
-    /// Returns the entry at a slot.
+    /// Returns the entry at a slot, or `None` if the slot is empty.
     pub fn get(&self, slot: u32) -> Option<&T>
         ensures { MatchOption result (entry_at self.now.entries slot ≡ None) (λ entry. entry_at self.now.entries slot ≡ Some entry.now) }
     {
@@ -105,9 +105,9 @@ impl<T: Drop> Slots<T> {
         self.front
     }
 
-    /// Returns what `front` would be with an entry at `slot`.
+    /// Returns the front that the map would have with an entry at `slot`.
     ///
-    /// Cost: constant, unless `slot` is the front: then the entries after it up to the next gap.
+    /// Cost: constant, unless `slot` is the front: then the number of entries from there to the next gap.
     pub fn front_with(&self, slot: u32) -> u32
         requires { slot < SLOTS }
         ensures front { (entry : T) → front_of (put_at self.now.entries slot entry) ≡ result }
@@ -123,7 +123,7 @@ impl<T: Drop> Slots<T> {
         }
     }
 
-    /// Returns one above the greatest slot with an entry, or 0.
+    /// Returns one above the greatest slot with an entry, or 0 if there are no entries.
     pub fn top(&self) -> u32
         ensures top { result ≡ top_of self.now.entries }
         ensures within { result ≤ SLOTS }
@@ -141,7 +141,7 @@ impl<T: Drop> Slots<T> {
     }
 }
 
-/// Returns the first empty slot from `from` on, or the end of the pages.
+/// Returns the first empty slot from `from` on, or the number of slots of all pages if there is none.
 fn gap_from<T: Drop>(pages: &Pages<T>, from: u32) -> u32
     requires pages { length pages.now ≤ SLOTS }
     requires from { from ≤ length pages.now }
@@ -155,7 +155,7 @@ fn gap_from<T: Drop>(pages: &Pages<T>, from: u32) -> u32
     slot
 }
 
-/// Returns the top with an entry at `slot`.
+/// Returns the top that the map has once there is an entry at `slot`.
 fn top_with(top: u32, slot: u32) -> u32
     requires { slot < SLOTS }
     ensures { result ≡ max top (slot + 1) }

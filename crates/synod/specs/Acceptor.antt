@@ -1,6 +1,6 @@
 -- The acceptor: its promises and its accepted entries.
--- Source: Lamport, Paxos Made Simple, 2.2, phases 1(b) and 2(b); a refused proposer is told (2.5).
--- The code makes the pages of a promise straight from the slots. The model cuts the list of all reports into pages.
+-- Source: Lamport, Paxos Made Simple, 2.2: phases 1(b) and 2(b), and its end, on informing a refused proposer.
+-- The code makes the pages of a promise directly from the slots. Here the list of all reports is cut into pages.
 use Rattle.std.specs.Prelude.{ℕ, suc, nat_lt, List, [], ◌∷◌, Option, Some, None, length, if◌then◌else◌}
 use Rattle.synod.specs.Words.{put_at, Ballot, SlotReport, Packet, Promise, Accepted, Nack, AcceptedEntry, Entry}
 use Rattle.synod.specs.declared.change.Change.TheVariants.{Promise as PromiseChange}
@@ -18,7 +18,7 @@ reports_from first s (Some h ∷ hs) =
     then reports_from first (suc s) hs
     else (record { slot = s; ballot = h.ballot; value = h.value } ∷ reports_from first (suc s) hs)
 
--- the packets of a promise, numbered from i
+-- the packets of a promise to p, one for each page, numbered from i
 abbrev pub promise_pages : {V : Type 0} → ℕ → ℕ → Ballot → ℕ → ℕ → List (List (SlotReport V)) → List (Packet V)
 promise_pages me p b count i [] = []
 promise_pages me p b count i (page ∷ pages) = packet me p (Promise b i count page) ∷ promise_pages me p b count (suc i) pages
@@ -34,18 +34,18 @@ promises n p b first = record {
   posts = promise_posts n.me p b (pages_of (reports_from first 0 n.accepted));
 }
 
--- p is told of the promise that stands against its ballot
+-- p is informed of the promise for which its ballot b is refused
 abbrev pub refuses : {V : Type 0} → Node V → ℕ → Ballot → Stepped V
 refuses n p b = answers n (packet n.me p (Nack b n.promise) ∷ [])
 
--- Prepare(b, first) from p: a ballot above the promise is promised
+-- Prepare(b, first) from p: the ballot is promised if it is above the promise, else refused
 abbrev pub on_prepare : {V : Type 0} → Node V → ℕ → Ballot → ℕ → Stepped V
 on_prepare n p b first = if is_under n.promise b then promises n p b first else refuses n p b
 
 abbrev pub held : {V : Type 0} → Ballot → Option V → AcceptedEntry V
 held b v = record { ballot = b; value = v }
 
--- the value is accepted, and the ballot is promised with it
+-- the value is accepted, and its ballot becomes the promise
 abbrev pub takes_value : {V : Type 0} → Node V → Ballot → ℕ → Option V → Stepped V
 takes_value n b s v = record {
   node = record n { promise = b; accepted = put_at n.accepted s (held b v) };
@@ -53,6 +53,6 @@ takes_value n b s v = record {
   posts = to_all n.me n.weights (Accepted b s v);
 }
 
--- Accept(b, s, v) from p: a ballot not below the promise is accepted
+-- Accept(b, s, v) from p: the value is accepted unless the ballot is below the promise
 abbrev pub on_accept : {V : Type 0} → Node V → ℕ → Ballot → ℕ → Option V → Stepped V
 on_accept n p b s v = if is_under b n.promise then refuses n p b else takes_value n b s v

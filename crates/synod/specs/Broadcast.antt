@@ -1,6 +1,6 @@
 -- A message to all nodes, or to all others.
 -- Source: Lamport, Paxos Made Simple, 2.2 and 2.3.
--- The code lends the value, and copies it once for each packet that carries it.
+-- The code borrows the value, and copies it once for each packet with it.
 use Rattle.std.specs.Prelude.{ℕ, Bool, true, false, ◌==◌, List, [], ◌∷◌, if◌then◌else◌}
 use Rattle.synod.specs.Words.{Packet, Body, Prepare, Accept, Accepted, Ask}
 use Rattle.synod.specs.declared.posts.Broadcast.{Broadcast}
@@ -13,7 +13,7 @@ body_of (ToAccept b s v) = Accept b s v.now
 body_of (ToAccepted b s v) = Accepted b s v.now
 body_of (ToAsk s) = Ask s
 
--- the sender does not ask itself
+-- whether the message is an Ask, which is not sent to the sender
 abbrev pub is_ask : {V : Type 0} → Broadcast V → Bool
 is_ask (ToPrepare b first) = false
 is_ask (ToAccept b s v) = false

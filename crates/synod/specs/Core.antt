@@ -24,7 +24,7 @@ pub record LearnerState (V : Type 0) : Type 0 where
   pub tallies : List (Option (List Tally))
   pub learned : List (Option (Option V))
 
--- the votes under later ballots, by slot and ballot, and how many more there is room for
+-- the votes under other ballots than the one first counted at a slot, by slot and ballot, and the room for more tallies
 pub record LaterView : Type 0 where
   pub votes : List ((ℕ × Ballot) × List Bool)
   pub room : ℕ

@@ -1,6 +1,6 @@
--- The highest report of each slot, in a table.
+-- The report of the highest ballot at each slot, in a table, and the proposals of a new leader.
 -- Source: Lamport, Paxos Made Simple, 2.2: the value of the highest-numbered proposal among the responses.
--- The code has a table by slot, and goes through the pages once. The definition searches one list of all reports.
+-- The code has a table by slot, and reads the pages once. The definition searches one list of all reports.
 use Rattle.std.specs.Prelude.{◌≡◌, ◌<◌, ◌≤◌, ◌+◌, ◌-◌, ℕ, List, [], ◌∷◌, ◌++◌, Option, Some, None, length, map, take, drop, slice_index_or}
 use Rattle.synod.specs.Words.{Bor, option_copied, SlotReport, SLOTS, Ballot, Packet}
 use Rattle.synod.specs.Packets.{accepts}
@@ -11,7 +11,7 @@ abbrev pub all_of : {V : Type 0} → List (Bor (List (SlotReport V))) → List (
 all_of [] = []
 all_of (page ∷ pages) = page.now ++ all_of pages
 
--- the table has the highest of the reports at each slot, from the first on
+-- the table has, for each slot from `first` on, the report of the highest ballot
 abbrev pub AreHighest : {V : Type 0} → ℕ → List (Option (Bor (SlotReport V))) → List (SlotReport V) → Type 0
 AreHighest first table reports = (k : ℕ) → k < length table → option_copied (slice_index_or table k None) ≡ highest_at (first + k) reports
 

@@ -1,6 +1,6 @@
 -- The learner: the votes that it counts, and the values that it learns and tells.
 -- Source: Lamport, Paxos Made Simple, 2.3.
--- The code keeps the first tally of each slot by slot, and all later ones in a table. Votes are sets of nodes, never counters.
+-- The code has the tally of the first ballot at each slot in a map, and all others in a table. A tally is a set of nodes.
 use Rattle.std.specs.Prelude.{ℕ, Bool, false, true, nat_lt, List, [], ◌∷◌, Option, Some, None, slice_set, slice_index_or, replicate, if◌then◌else◌}
 use Rattle.synod.specs.Words.{SLOTS, entry_at, put_at, MOST_NODES, Ballot, Packet, Ask, Told, Tally}
 use Rattle.synod.specs.Weights.{is_quorum}
@@ -24,6 +24,7 @@ abbrev pub voted_in : List Tally → Ballot → ℕ → Bool
 voted_in [] b k = false
 voted_in (t ∷ ts) b k = if is_same t.ballot b then is_voter t.voters k else voted_in ts b k
 
+-- the tallies of one slot with node k counted under the ballot
 abbrev pub counted_in : List Tally → Ballot → ℕ → List Tally
 counted_in [] b k = record { ballot = b; voters = with_voter no_voters k } ∷ []
 counted_in (t ∷ ts) b k =
@@ -37,25 +38,25 @@ tallies_at (Some ts) = ts
 abbrev pub has_voter : List (Option (List Tally)) → ℕ → Ballot → ℕ → Bool
 has_voter tallies s b k = voted_in (tallies_at (entry_at tallies s)) b k
 
--- each node is counted once for a slot and a ballot
+-- the tallies with node k counted at the slot under the ballot; counting it again changes nothing
 abbrev pub counted : List (Option (List Tally)) → ℕ → Ballot → ℕ → List (Option (List Tally))
 counted tallies s b k = put_at tallies s (counted_in (tallies_at (entry_at tallies s)) b k)
 
 abbrev pub learns : {V : Type 0} → Node V → ℕ → Option V → Node V
 learns n s v = record n { learned = put_at n.learned s v }
 
--- if a gap is left below, the others are asked
+-- if the gap is below slot s, all other nodes are asked for it
 abbrev pub asks_below : {V : Type 0} → Node V → ℕ → ℕ → List (Packet V)
 asks_below n s gap = if nat_lt gap s then to_others n.me n.weights (Ask gap) else []
 
 abbrev pub ask_below : {V : Type 0} → Node V → ℕ → List (Packet V)
 ask_below n s = asks_below n s (log_length n)
 
--- a quorum accepted it under one ballot
+-- the value is learned, since a quorum accepted it under one ballot
 abbrev pub chooses : {V : Type 0} → Node V → ℕ → Option V → Stepped V
 chooses n s v = answers (learns n s v) (ask_below (learns n s v) s)
 
--- the step once the vote is counted: the value is learned if a quorum voted
+-- the step once the vote is counted: the value is learned if the voters are a quorum
 abbrev pub counts : {V : Type 0} → Node V → Ballot → ℕ → Option V → Stepped V
 counts n b s v = if is_quorum n.weights (has_voter n.tallies s b) then chooses n s v else unchanged n
 
@@ -63,7 +64,7 @@ abbrev pub on_accepted_at : {V : Type 0} → Option (Option V) → Node V → �
 on_accepted_at (Some u) n p b s v = unchanged n
 on_accepted_at None n p b s v = counts (record n { tallies = counted n.tallies s b p }) b s v
 
--- Accepted(b, s, v) from p: the vote of p is counted, unless the slot is learned
+-- Accepted(b, s, v) from p: the vote of p is counted, unless a value is learned at the slot
 abbrev pub on_accepted : {V : Type 0} → Node V → ℕ → Ballot → ℕ → Option V → Stepped V
 on_accepted n p b s v = on_accepted_at (entry_at n.learned s) n p b s v
 
@@ -71,11 +72,11 @@ abbrev pub on_ask_at : {V : Type 0} → Option (Option V) → Node V → ℕ →
 on_ask_at None n p s = unchanged n
 on_ask_at (Some v) n p s = answers n (packet n.me p (Told s v) ∷ [])
 
--- Ask(s) from p: the value is told, if the slot is learned
+-- Ask(s) from p: the value learned at the slot is sent to p, if there is one
 abbrev pub on_ask : {V : Type 0} → Node V → ℕ → ℕ → Stepped V
 on_ask n p s = on_ask_at (entry_at n.learned s) n p s
 
--- the next gap is asked for, unless the log is full
+-- p is asked for the next gap, unless the log is full
 abbrev pub asks_for : {V : Type 0} → Node V → ℕ → ℕ → List (Packet V)
 asks_for n p gap = if nat_lt gap SLOTS then (packet n.me p (Ask gap) ∷ []) else []
 
@@ -89,6 +90,6 @@ abbrev pub on_told_at : {V : Type 0} → Option (Option V) → Node V → ℕ �
 on_told_at (Some u) n p s v = unchanged n
 on_told_at None n p s v = hears_told n p s v
 
--- Told(s, v) from p: the value is learned, unless the slot is
+-- Told(s, v) from p: the value is learned, unless a value is learned at the slot
 abbrev pub on_told : {V : Type 0} → Node V → ℕ → ℕ → Option V → Stepped V
 on_told n p s v = on_told_at (entry_at n.learned s) n p s v

@@ -1,6 +1,6 @@
 -- The state of a node: proposer, acceptor and learner at once.
 -- Source: Lamport, Paxos Made Simple, 2.1 to 2.3 and 3.
--- The code also has reserved room, and keeps the maps in pages.
+-- The code also has reserved room, and stores the maps in pages.
 use Rattle.std.specs.Prelude.{ℕ, Bool, false, ◌==◌, ◌||◌, List, [], ◌∷◌, Option, None, is_some, map, slice_set, slice_index_or, if◌then◌else◌}
 use Rattle.synod.specs.Words.{entry_at, put_at, Ballot, SlotReport, Packet, AcceptedEntry, Change, Role, Idle, Heard, Tally}
 use Rattle.synod.specs.Record.{Kept, new_kept}
@@ -18,11 +18,11 @@ pub record Node (V : Type 0) : Type 0 where
   pub learned : List (Option (Option V))  -- by slot
   pub waiting : List V  -- the oldest first
 
--- the part that outlives a restart
+-- the part that survives a restart
 abbrev pub kept_of : {V : Type 0} → Node V → Kept V
 kept_of n = record { promise = n.promise; round = n.round; accepted = n.accepted }
 
--- a node as it is after a restart
+-- the node after a restart with this kept part
 abbrev pub rest_of : {V : Type 0} → ℕ → List ℕ → Kept V → Node V
 rest_of me weights kept = record {
   me = me;
@@ -51,11 +51,11 @@ pub record Stepped (V : Type 0) : Type 0 where
 abbrev pub unchanged : {V : Type 0} → Node V → Stepped V
 unchanged n = record { node = n; change = None; posts = [] }
 
--- the step to the node n that leaves the kept part unchanged and has these posts
+-- a step that leaves the kept part unchanged: the node is n after it, and these are its posts
 abbrev pub answers : {V : Type 0} → Node V → List (Packet V) → Stepped V
 answers n posts = record { node = n; change = None; posts = posts }
 
--- the pages received of node k
+-- the pages received from node k
 abbrev pub pages_from : {V : Type 0} → List (List (Option (List (SlotReport V)))) → ℕ → List (Option (List (SlotReport V)))
 pages_from pages k = slice_index_or pages k []
 
@@ -63,12 +63,12 @@ pages_from pages k = slice_index_or pages k []
 abbrev pub page_of : {V : Type 0} → List (List (Option (List (SlotReport V)))) → ℕ → ℕ → Option (List (SlotReport V))
 page_of pages k i = entry_at (pages_from pages k) i
 
--- a page is kept, unless it was received before
+-- the pages once page i of node k is received; one that was received before stays
 abbrev pub with_page : {V : Type 0} → List (List (Option (List (SlotReport V)))) → ℕ → ℕ → List (SlotReport V) → List (List (Option (List (SlotReport V))))
 with_page pages k i reports =
     if is_some (page_of pages k i) then pages else slice_set pages k (put_at (pages_from pages k) i reports)
 
--- no page was received of any node
+-- no page was received from any node
 abbrev pub no_pages : {V : Type 0} → List ℕ → List (List (Option (List (SlotReport V))))
 no_pages weights = map (λ w. []) weights
 

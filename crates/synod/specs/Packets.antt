@@ -1,13 +1,13 @@
--- Packets: their receivers, and the limits that every packet keeps.
+-- Packets: their receivers, and the limits that hold for every packet.
 -- Source: Lamport, Paxos Made Simple, 2.2 (the messages of the two phases) and 2.3 (learning).
--- The code posts them one after another into one list, as here.
+-- The code appends them to one list, one after another, as here.
 use Rattle.std.specs.Prelude.{ℕ, suc, ◌<◌, ◌≤◌, ◌==◌, List, [], ◌∷◌, ◌++◌, Option, if◌then◌else◌}
 use Rattle.synod.specs.Words.{AllByRecursion, SLOTS, MOST_PAGES, Ballot, SlotReport, Packet, Body, Prepare, Promise, Accept, Accepted, Nack, Ask, Told}
 
 abbrev pub packet : {V : Type 0} → ℕ → ℕ → Body V → Packet V
 packet from to body = record { from = from; to = to; body = body }
 
--- one packet to each of the nodes from k on, as many as there are weights
+-- one packet to each of the nodes from k on, one for each of these weights
 abbrev pub to_all_from : {V : Type 0} → ℕ → Body V → ℕ → List ℕ → List (Packet V)
 to_all_from me body k [] = []
 to_all_from me body k (w ∷ ws) = packet me k body ∷ to_all_from me body (suc k) ws
@@ -30,8 +30,8 @@ abbrev pub accepts : {V : Type 0} → ℕ → List ℕ → Ballot → ℕ → Li
 accepts me weights ballot s [] = []
 accepts me weights ballot s (v ∷ vs) = to_all me weights (Accept ballot s v) ++ accepts me weights ballot (suc s) vs
 
--- The limits of every packet: each slot that it names is below the limit, that of a Prepare at most the limit,
--- and a page is one of those counted.
+-- The limits of every packet: each slot in it is below SLOTS, the first slot of a Prepare is at most SLOTS, and the number of a
+-- page is from 1 to the count of pages.
 
 abbrev pub IsReport : {V : Type 0} → SlotReport V → Type 0
 IsReport report = report.slot < SLOTS

@@ -1,6 +1,6 @@
 -- The pages of a promise: its reports are sent in pages of 256.
--- Source: this project's profile of Lamport, Paxos Made Simple, 2.5, where one promise serves all instances.
--- The code keeps the received pages by sender and number. The model cuts a list, and joins the received pages.
+-- Source: this project's profile of Lamport, Paxos Made Simple, section 3, where one promise serves all instances.
+-- The code stores the received pages by sender and number. Here a list is cut into pages, and received pages are joined.
 use Rattle.std.specs.Prelude.{ℕ, zero, suc, Bool, not, nat_lt, List, [], ◌∷◌, ◌++◌, Option, Some, None}
 use Rattle.synod.specs.Words.{front_of}
 
@@ -8,7 +8,7 @@ abbrev pub onto_first : {T : Type 0} → T → List (List T) → List (List T)
 onto_first x [] = (x ∷ []) ∷ []
 onto_first x (page ∷ pages) = (x ∷ page) ∷ pages
 
--- the pages of a list; the first has room for `room` elements
+-- the pages that a list is cut into; the first has at most `room` elements, and each other one at most 256
 abbrev pub cut : {T : Type 0} → ℕ → List T → List (List T)
 cut room [] = [] ∷ []
 cut (suc room) (x ∷ xs) = onto_first x (cut room xs)
@@ -18,7 +18,7 @@ cut zero (x ∷ xs) = [] ∷ onto_first x (cut 255 xs)
 abbrev pub pages_of : {T : Type 0} → List T → List (List T)
 pages_of xs = cut 256 xs
 
--- the first `count` pages are there
+-- whether the first `count` pages are received
 abbrev pub all_had : {T : Type 0} → List (Option (List T)) → ℕ → Bool
 all_had pages count = not (nat_lt (front_of pages) count)
 

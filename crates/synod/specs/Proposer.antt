@@ -1,6 +1,6 @@
 -- The proposer: its offers, ballots, promises and proposals.
 -- Source: Lamport, Paxos Made Simple, 2.2, phases 1(a) and 2(a), and section 3 for a leader of all instances.
--- The code looks the highest report up by slot. The model finds it in one list of all reports heard.
+-- The code has a table of the highest reports by slot. The definition finds each in one list of all reports heard.
 use Rattle.std.specs.Prelude.{ℕ, zero, suc, ◌+◌, ◌-◌, ◌^◌, max, Bool, false, not, ◌==◌, ◌&&◌, nat_lt, List, [], ◌∷◌, ◌++◌, map, take, drop, length, Option, Some, None, Result, Ok, Err, if◌then◌else◌}
 use Rattle.synod.specs.Words.{SLOTS, MOST_BYTES, MOST_WAITING, Ballot, SlotReport, Prepare, Accept, Round, Heard, Role, Idle, Preparing, Leading, Refusal, Busy, LogFull, RoundsSpent, TooLong}
 use Rattle.synod.specs.Weights.{is_quorum}
@@ -12,7 +12,7 @@ use Rattle.synod.specs.Log.{log_length}
 
 -- A value is offered.
 
--- it joins the waiting values
+-- the value is added to those that wait
 abbrev pub waits : {V : Type 0} → Node V → V → Stepped V
 waits n v = answers (record n { waiting = n.waiting ++ v ∷ [] }) []
 
@@ -22,7 +22,7 @@ offer_waits n v =
     else if nat_lt (length n.waiting) MOST_WAITING then Ok (waits n v)
     else Err Busy
 
--- it takes the next slot
+-- the value is proposed at the leader's next slot
 abbrev pub takes_slot : {V : Type 0} → Node V → Ballot → ℕ → V → Stepped V
 takes_slot n b next v =
     answers (record n { role = Leading b (next + 1) }) (to_all n.me n.weights (Accept b next (Some v)))
@@ -48,7 +48,7 @@ next_round n = max n.round n.promise.round + 1
 abbrev pub next_ballot : {V : Type 0} → Node V → Ballot
 next_ballot n = record { round = next_round n; node = n.me }
 
--- promises and pages heard are forgotten
+-- the node begins its next ballot, and discards the pages that it received for an earlier one
 abbrev pub begins : {V : Type 0} → Node V → Stepped V
 begins n = record {
   node = record n {
@@ -67,7 +67,7 @@ begun n = if nat_lt (next_round n) (2 ^ 64) then Ok (begins n) else Err RoundsSp
 
 -- The proposals.
 
--- the earlier one, unless the later is of a higher ballot
+-- the first report, unless the second is of a higher ballot
 abbrev pub higher : {V : Type 0} → SlotReport V → Option (SlotReport V) → Option (SlotReport V)
 higher r None = Some r
 higher r (Some q) = if is_under r.ballot q.ballot then Some q else Some r
@@ -77,7 +77,7 @@ abbrev pub highest_at : {V : Type 0} → ℕ → List (SlotReport V) → Option 
 highest_at s [] = None
 highest_at s (r ∷ rs) = if r.slot == s then higher r (highest_at s rs) else highest_at s rs
 
--- its value, or the no-operation
+-- the value of the report, or the no-operation if there is none
 abbrev pub reported_value : {V : Type 0} → Option (SlotReport V) → Option V
 reported_value None = None
 reported_value (Some r) = r.value
@@ -87,11 +87,12 @@ abbrev pub above_all : {V : Type 0} → List (SlotReport V) → ℕ
 above_all [] = 0
 above_all (r ∷ rs) = max (r.slot + 1) (above_all rs)
 
+-- one above the greatest slot reported, or `first` if nothing is reported
 abbrev pub top_reported : {V : Type 0} → ℕ → List (SlotReport V) → ℕ
 top_reported first [] = first
 top_reported first (r ∷ rs) = above_all (r ∷ rs)
 
--- the values for `count` slots from s on
+-- the values to propose at `count` slots from s on
 abbrev pub fills : {V : Type 0} → List (SlotReport V) → ℕ → ℕ → List (Option V)
 fills reports s zero = []
 fills reports s (suc count) = reported_value (highest_at s reports) ∷ fills reports (suc s) count
@@ -101,7 +102,7 @@ abbrev pub all_reports : {V : Type 0} → List (List (Option (List (SlotReport V
 all_reports pages [] = []
 all_reports pages (h ∷ hs) = joined_pages (pages_from pages h.node) h.count ++ all_reports pages hs
 
--- it leads: reported values go to the slots from first to top, waiting values to those after
+-- the node leads: it proposes reported values or no-operations at the slots from first up to top, and waiting values from top on
 abbrev pub leads : {V : Type 0} → Node V → Ballot → ℕ → List (SlotReport V) → ℕ → Stepped V
 leads n b first reports top =
     let taken = take (SLOTS - top) n.waiting in
@@ -109,21 +110,21 @@ leads n b first reports top =
     (record n { role = Leading b (top + length taken); pages = []; heard = []; waiting = drop (SLOTS - top) n.waiting })
     (accepts n.me n.weights b first (fills reports first (top - first)) ++ accepts n.me n.weights b top (map (λ v. Some v) taken))
 
--- it leads, with the reports of the nodes heard
+-- the node leads, with the reports of the nodes heard
 abbrev pub leads_with : {V : Type 0} → Node V → Ballot → ℕ → List (List (Option (List (SlotReport V)))) → List Heard → Stepped V
 leads_with n b first pages heard = leads n b first (all_reports pages heard) (top_reported first (all_reports pages heard))
 
--- A page of a promise comes.
+-- A page of a promise arrives. A node is heard once all pages of its promise are received.
 
--- the page is kept, and more pages of the promise are to come
+-- the page is kept, and further pages of the promise are missing
 abbrev pub keeps_page : {V : Type 0} → Node V → List (List (Option (List (SlotReport V)))) → Stepped V
 keeps_page n pages = answers (record n { pages = pages }) []
 
--- the sender is heard, and those heard are no quorum yet
+-- the sender is heard, and the nodes heard are no quorum yet
 abbrev pub keeps_promise : {V : Type 0} → Node V → List (List (Option (List (SlotReport V)))) → List Heard → Stepped V
 keeps_promise n pages heard = answers (record n { pages = pages; heard = heard }) []
 
--- the sender is heard
+-- the sender is heard, and the node leads if the nodes heard are a quorum
 abbrev pub hears : {V : Type 0} → Node V → Ballot → ℕ → List (List (Option (List (SlotReport V)))) → List Heard → Stepped V
 hears n b first pages heard =
     if is_quorum n.weights (is_heard heard)

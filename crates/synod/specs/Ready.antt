@@ -1,6 +1,6 @@
 -- A staged step: the node that staged it, and the step.
 -- Source: this project stores a change before its effects are visible.
--- The code keeps the updates to apply. The step is their result.
+-- The code stores the updates to apply. The step is their result.
 use Rattle.std.specs.Prelude.{◌≡◌, Some, Result, Ok, Err}
 use Rattle.synod.specs.Words.{Refusal, Memory}
 use Rattle.synod.specs.declared.ready.StagedStep.{StagedStep}
@@ -12,7 +12,7 @@ use Rattle.synod.specs.Step.{IsNode}
 use Rattle.synod.specs.Core.{Core, ProposerView, LearnerView, proposer_state, learner_state, assembled}
 use Rattle.synod.specs.Updates.{proposer_after, learner_after, CanUpdateProposer, CanUpdateLearner}
 
--- the node as it was, and the step
+-- the node as it was when it staged the step, and the step
 pub record Made (V : Type 0) : Type 0 where
   pub before : Core V
   pub step : Stepped V
@@ -28,7 +28,7 @@ proposer_of c = record { state = proposer_state c.node; page_rooms = c.page_room
 abbrev pub learner_of : {V : Type 0} → Core V → LearnerView V
 learner_of c = record { state = learner_state c.node; tallies_room = c.tallies_room; later_room = c.later_room; learned_room = c.learned_room }
 
--- there is room for all updates, and they give a node
+-- there is room for all updates, and the node after them meets the invariant
 pub record CanCommit {V : Type 0} (c : Core V) (staged : StagedStep V) : Type 0 where
   pub change : HasRoomFor c.accepted_room staged.change
   pub proposer : CanUpdateProposer (proposer_of c) staged.proposer

@@ -1,6 +1,6 @@
 -- The kept part of a node, and its changes.
 -- Source: Lamport, Paxos Made Simple, 2.5, on stable storage.
--- The code stores one change at a time and loads a record. The kept part is that record.
+-- The code stores one change at a time and loads the whole record, which is the kept part.
 use Rattle.std.specs.Prelude.{ℕ, ◌<◌, List, [], Option, Some, None}
 use Rattle.synod.specs.Words.{put_at, Ballot, AcceptedEntry, Change, Round, Entry}
 use Rattle.synod.specs.declared.change.Change.TheVariants.{Promise}
@@ -16,7 +16,7 @@ pub record Kept (V : Type 0) : Type 0 where
 abbrev pub new_kept : {V : Type 0} → Kept V
 new_kept = record { promise = no_ballot; round = 0; accepted = [] }
 
--- the ballot of an accepted entry becomes the promise
+-- the kept part after a change; the ballot of an accepted entry becomes the promise
 abbrev pub changed : {V : Type 0} → Kept V → Change V → Kept V
 changed kept (Round r) = record kept { round = r }
 changed kept (Promise b) = record kept { promise = b }
@@ -27,7 +27,7 @@ abbrev pub changed_by : {V : Type 0} → Kept V → Option (Change V) → Kept V
 changed_by kept None = kept
 changed_by kept (Some change) = changed kept change
 
--- a record as contracts see it: the kept part, and the number of slots from 0 on that have room
+-- a record as contracts see it: the kept part, and the number of slots, from 0 on, with room for an accepted entry
 pub record RecordView (V : Type 0) : Type 0 where
   pub kept : Kept V
   pub room : ℕ

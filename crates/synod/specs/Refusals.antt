@@ -5,7 +5,8 @@ use Rattle.std.specs.Prelude.{◌≡◌, Result, Ok, Err, Vec}
 use Rattle.synod.specs.Words.{Global, Packet, Refusal, Memory}
 use Rattle.synod.specs.Node.{Node, Stepped}
 
--- the node takes the step and returns its posts; or it returns the refusal, or Memory if there is none, and is unchanged
+-- the node takes the step, and the call returns its posts; or the node is unchanged, and the call returns the refusal that the
+-- event meets, or Memory if it meets none
 abbrev pub Makes : {V : Type 0} → Node V → Node V → Result (Stepped V) Refusal → Result (Vec (Packet V) Global) Refusal → Type 0
 Makes old new (Ok step) (Ok posts) = (new ≡ step.node) × (posts.items ≡ step.posts)
 Makes old new (Ok step) (Err refusal) = (refusal ≡ Memory) × (new ≡ old)

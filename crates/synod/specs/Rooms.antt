@@ -1,6 +1,6 @@
 -- How the room of a node grows: a step that is staged and then dropped leaves its room reserved.
 -- Source: this project stages a step before it commits it.
--- Only a restart or a committed step takes reserved room from a node.
+-- In the code only a restart or a committed step lowers the reserved room of a node.
 use Rattle.std.specs.Prelude.{◌≤◌, ℕ, List, slice_index_or}
 use Rattle.synod.specs.Core.{Core}
 

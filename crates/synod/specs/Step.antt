@@ -1,6 +1,6 @@
 -- One node and one event: the step that the packet or the restart makes.
 -- Source: Lamport, Paxos Made Simple, 2.2 to 2.5.
--- The code makes a step in two halves, ready and commit. The step is one.
+-- The code takes a step in two parts, stage and commit. Here it is one.
 use Rattle.std.specs.Prelude.{◌<◌, ◌≤◌, ℕ, List, Option, Some, None, length}
 use Rattle.synod.specs.Words.{AllByRecursion, SLOTS, SlotReport, Packet, Body, Prepare, Promise, Accept, Accepted, Nack, Ask, Told, Role, Idle, Preparing, Leading}
 use Rattle.synod.specs.Weights.{IsWeights}
@@ -20,19 +20,19 @@ on_body n p (Nack b c) = on_nack n b c
 on_body n p (Ask s) = on_ask n p s
 on_body n p (Told s v) = on_told n p s v
 
--- a packet comes
+-- a packet arrives
 abbrev pub on_packet : {V : Type 0} → Node V → Packet V → Stepped V
 on_packet n p = on_body n p.from p.body
 
--- the node restarts with a kept part, and asks the others for missed entries
+-- the node restarts with this kept part, and asks all others for the first entry
 abbrev pub reloaded : {V : Type 0} → Node V → Kept V → Stepped V
 reloaded n kept = record { node = rest_of n.me n.weights kept; change = None; posts = to_others n.me n.weights (Ask 0) }
 
--- restart
+-- the node restarts with its own kept part
 abbrev pub restarted : {V : Type 0} → Node V → Stepped V
 restarted n = reloaded n (kept_of n)
 
--- The invariant of a node: it is one of the nodes, and each slot that it knows of is below the limit.
+-- The invariant of a node: it is one of the nodes, and each slot with an entry or a report is below SLOTS.
 
 abbrev pub IsRole : Role → Type 0
 IsRole Idle = Unit {0}
@@ -51,7 +51,7 @@ pub record IsNode {V : Type 0} (n : Node V) : Type 0 where
   pub role : IsRole n.role
   pub pages : AllByRecursion (AllByRecursion ArePages) n.pages
 
--- the step leaves a node, and posts packets for the nodes
+-- the node after the step meets the invariant, and each post is a packet to one of the nodes
 pub record Keeps {V : Type 0} (nodes : ℕ) (step : Stepped V) : Type 0 where
   pub node : IsNode step.node
   pub posts : AllByRecursion (IsPost nodes) step.posts

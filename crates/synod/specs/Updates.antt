@@ -1,6 +1,6 @@
 -- The updates that a staged step makes to the proposer and to the learner.
 -- Source: this project stages a step before it commits it.
--- The code moves them into the node, and allocates nothing.
+-- The code moves them into the node, which does not allocate.
 use Rattle.std.specs.Prelude.{◌<◌, ◌≤◌, ◌++◌, ℕ, [], ◌∷◌, Option, Some, None, length, drop, slice_index_or}
 use Rattle.synod.specs.Words.{put_at, Preparing, Leading, MOST_NODES}
 use Rattle.synod.specs.declared.proposer.Role.TheVariants.{Idle as RoleIdle}

@@ -1,6 +1,6 @@
--- The weights of the nodes, and quorums: sets of nodes that weigh more than half of all.
+-- The weights of the nodes, and quorums: sets of nodes with more than half of the total weight.
 -- Source: Lamport, Paxos Made Simple, 2.2, where a majority of the acceptors is such a set.
--- The code keeps nine places and a count. A set of nodes is here a test on their numbers.
+-- The code stores nine places and a count. Here a set of nodes is a test on their numbers.
 use Rattle.std.specs.Prelude.{ℕ, suc, ◌+◌, ◌*◌, ◌≤◌, Bool, true, nat_lt, List, [], ◌∷◌, length, if◌then◌else◌, All}
 use Rattle.synod.specs.Words.{MOST_NODES, MOST_WEIGHT}
 

@@ -1,4 +1,4 @@
--- The words in which this crate is specified, passed on from one place.
+-- The names that the specifications of this crate use, re-exported from one module.
 pub use Rattle.slots.specs.FiniteMap.{SlotsView, entries_to_gap, entry_at, front_of, put_at}
 pub use Rattle.slots.specs.declared.slots.TheConstants.{SLOTS}
 pub use Rattle.std.specs.Borrow.{Bor}

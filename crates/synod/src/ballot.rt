@@ -1,7 +1,7 @@
 //! Ballot numbers.
 ghost use Rattle.std.specs.Prelude.{◌≡◌};
 
-/// A ballot, written R.N: ordered by round, then by node.
+/// A ballot number, written ROUND.NODE. Ballots are ordered by round, then by node.
 ///
 /// Source: Lamport, Paxos Made Simple, 2.2, where each proposal has a number.
 #[derive(Clone, Copy, PartialEq, Eq, Hash)]

@@ -1,20 +1,20 @@
-//! Changes of the kept part of a node.
+//! Changes to the kept part of a node.
 use crate::ballot::Ballot;
 
-/// The entry that an acceptor holds at a slot; a value of `None` is the no-operation.
+/// The entry that an acceptor last accepted at a slot. A value of `None` is the no-operation.
 #[derive(Drop)]
 pub struct AcceptedEntry<V> {
     pub ballot: Ballot,
     pub value: Option<V>,
 }
 
-/// A change of the kept part; an event makes at most one.
+/// A change to the kept part. An event makes at most one.
 #[derive(Drop)]
 pub enum Change<V> {
-    /// The round last begun.
+    /// Sets the round last begun.
     Round(u64),
-    /// The ballot promised.
+    /// Sets the promise.
     Promise(Ballot),
-    /// An accepted entry; its ballot becomes the promise.
+    /// Accepts an entry; its ballot becomes the promise.
     Entry { slot: u32, held: AcceptedEntry<V> },
 }

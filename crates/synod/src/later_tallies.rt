@@ -1,4 +1,4 @@
-//! The votes under later ballots, by slot and ballot.
+//! The votes at a slot under other ballots than the one first counted there, by slot and ballot.
 ghost use Rattle.std.specs.Prelude.{◌≡◌, ◌<◌, ◌≤◌, ◌≢◌, ℕ, [], OnOk};
 ghost use Rattle.synod.specs.Learner.{counted_in, with_voter};
 ghost use Rattle.synod.specs.Stored.LaterTallies.{later_at, voters_among};
@@ -10,9 +10,9 @@ use indexmap::IndexMap;
 use std::alloc::{AllocError, Global};
 use std::marker::Model;
 
-/// The votes at slots where another ballot was counted first, in the order in which their ballots came.
+/// The votes at slots where another ballot was counted first, in the order in which their ballots were first counted.
 ///
-/// A table by slot and ballot: a vote costs one look-up, however many ballots a slot has seen.
+/// A table by slot and ballot: counting a vote costs one look-up, however many ballots have votes at the slot.
 #[derive(Drop)]
 pub struct LaterTallies {
     voters: IndexMap<(u32, Ballot), [bool; MOST_NODES]>,
@@ -46,7 +46,7 @@ impl LaterTallies {
         self.voters.reserve(1)
     }
 
-    /// Returns the voters at a slot under a ballot once `node` is counted.
+    /// Returns the voters in the table at a slot under a ballot, and `node`.
     pub(crate) fn voters_with(&self, slot: u32, ballot: Ballot, node: u8) -> [bool; MOST_NODES]
         requires { node < MOST_NODES }
         ensures { result ≡ with_voter (voters_among self.now.votes slot ballot) node }

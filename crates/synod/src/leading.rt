@@ -1,4 +1,4 @@
-//! The proposals of a new leader: at each slot the value of the highest ballot reported there.
+//! Builds the proposals of a new leader: at each slot the value of the highest ballot reported there.
 ghost use Rattle.std.specs.Prelude.{◌≡◌, ◌<◌, ◌≤◌, ◌+◌, ◌-◌, ◌++◌, [], ◌∷◌, ℕ, List, Option, Some, None, max, min, map, length, OnOk, IfOk, slice_index_or};
 ghost use Rattle.std.specs.List.{AllByRecursion};
 ghost use Rattle.slots.specs.declared.slots.TheConstants.{SLOTS};
@@ -33,7 +33,7 @@ fn above_page<V>(above: u32, reports: &[SlotReport<V>]) -> u32
     most
 }
 
-/// Returns one above the greatest slot reported, or `first` if none is.
+/// Returns one above the greatest slot reported, or `first` if nothing is reported.
 fn top_of_reports<V>(first: u32, pages: &[&[SlotReport<V>]]) -> u32
     requires { AllByRecursion IsReport (all_of pages.now) }
     ensures { result ≡ top_reported first (all_of pages.now) }
@@ -45,7 +45,8 @@ fn top_of_reports<V>(first: u32, pages: &[&[SlotReport<V>]]) -> u32
     if above == 0 { first } else { above }
 }
 
-/// Enters a report in the table if its ballot is higher than the one at its slot.
+/// Enters a report in the table if its ballot is higher than that of the report at its slot. Place `i` of the table is for slot
+/// `first + i`; reports of other slots are ignored.
 fn keep_report<'a, V>(
     table: &mut Vec<Option<&'a SlotReport<V>>>,
     first: u32,
@@ -70,7 +71,7 @@ fn keep_report<'a, V>(
     }
 }
 
-/// Enters the reports of a page.
+/// Enters the reports of a page in the table.
 fn keep_page<'a, V>(
     table: &mut Vec<Option<&'a SlotReport<V>>>,
     first: u32,
@@ -84,7 +85,7 @@ fn keep_page<'a, V>(
     }
 }
 
-/// Returns the report of the highest ballot in all pages for each slot from `first` to `top`.
+/// Returns the report of the highest ballot in all pages for each slot from `first` up to `top`, `top` excluded.
 fn highest_reports<'a, V>(
     alloc: Global,
     first: u32,
@@ -114,7 +115,8 @@ fn value_of<V: Value>(highest: Option<&SlotReport<V>>) -> Result<Option<V>, Allo
     }
 }
 
-/// Appends an Accept to all for each slot from `first` to `top`, with the value of the highest report.
+/// Appends an Accept to all nodes for each slot from `first` up to `top`, `top` excluded, with the value of the report of the
+/// highest ballot.
 fn fill_posts<V: Value>(
     alloc: Global,
     posts: &mut Vec<Packet<V>>,
@@ -176,7 +178,7 @@ fn heard_pages<'a, V: Drop>(
     Ok(all)
 }
 
-/// Appends an Accept to all for each waiting value, from slot `top` on.
+/// Appends an Accept to all nodes for each waiting value, from slot `top` on.
 fn post_waiting<V: Value>(
     posts: &mut Vec<Packet<V>>,
     me: u8,

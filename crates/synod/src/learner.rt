@@ -27,14 +27,15 @@ pub enum LearnerUpdate<V> {
         node: u8,
         value: Option<V>,
     },
-    /// A chosen value came in a Told.
+    /// A chosen value arrived in a Told.
     Learn {
         slot: u32,
         value: Option<V>,
     },
 }
 
-/// The learner's part of a node: the first tally of each slot, the later ones, and the learned values.
+/// The learner's part of a node: the tally of the first ballot counted at each slot, those of other ballots, and the learned
+/// values.
 #[derive(Drop)]
 pub struct Learner<V> {
     first: Slots<Tally>,
@@ -75,7 +76,7 @@ impl<V: Drop> Learner<V> {
         }
     }
 
-    /// Returns the value learned at a slot.
+    /// Returns the value learned at a slot, if there is one.
     pub(crate) fn learned(&self, slot: u32) -> Option<&Option<V>>
         ensures { MatchOption result (entry_at self.now.state.learned slot ≡ None) (λ value. entry_at self.now.state.learned slot ≡ Some value.now) }
     {
@@ -134,7 +135,7 @@ impl<V: Drop> Learner<V> {
 
     /// Counts a vote. It does not allocate.
     ///
-    /// Cost: a look-up, however many ballots the slot has seen.
+    /// Cost: one look-up, however many ballots have votes at the slot.
     fn count(&mut self, slot: u32, ballot: Ballot, node: u8)
         requires { CanCount self.old slot node }
         ensures tallies { self.new.state.tallies ≡ counted self.old.state.tallies slot ballot node }

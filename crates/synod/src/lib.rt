@@ -1,9 +1,9 @@
-//! One node of the agreement: proposer, acceptor and learner at once.
+//! One node of Multi-Paxos: proposer, acceptor and learner at once.
 //!
 //! `NodeCore` takes the steps of Multi-Paxos: the contract of each call cites the definition of its step in
-//! `specs/Step.antt` or `specs/Proposer.antt`, with the packets that it posts and the refusal that it meets.
-//! A step is staged first: that allocates, may fail and changes nothing. Then it is committed, which does not
-//! allocate.
+//! `specs/Step.antt` or `specs/Proposer.antt`, with the packets that it posts and the refusal that it may meet.
+//! A step is staged first: staging allocates, may fail and changes nothing but reserved room. Then the step is
+//! committed, which does not allocate.
 //!
 //! Reading order: `value`, `weights`, `ballot`, `packet`, `change`, `record`, `keep`; `proposer` with `promise_pages` and
 //! `leading`, `tally`, `later_tallies`, `learner`, `promise` and `posts`; `refusal`, `ready`, `node`.

@@ -23,9 +23,9 @@ pub use state::NodeState;
 use std::alloc::{AllocError, Global};
 use std::marker::Model;
 
-/// One node of the agreement, generic over the values.
+/// One node of a replicated log, generic over its values.
 ///
-/// Source: Lamport, Paxos Made Simple, 2 and 3; the steps are in `specs/Step.antt` and `specs/Proposer.antt`.
+/// Source: Lamport, Paxos Made Simple, 2 and 3; `specs/Step.antt` and `specs/Proposer.antt` define the steps.
 #[derive(Drop)]
 pub struct NodeCore<V> {
     alloc: Global,
@@ -60,7 +60,7 @@ impl<V: Value> NodeCore<V> {
     ghost use Rattle.synod.specs.Rooms.{HasAtLeast};
     ghost use Rattle.synod.specs.declared.refusal.Refusal.TheVariants.{Memory};
 
-    /// Creates node `me` of a world with these weights. It does not allocate.
+    /// Creates the new node `me` among nodes with these weights. It does not allocate.
     pub fn new(alloc: Global, me: u8, weights: Weights) -> Self
         requires { me < length weights }
         ensures { result.node ≡ new_node me weights }
@@ -128,7 +128,7 @@ impl<V: Value> NodeCore<V> {
         }
     }
 
-    /// Stages an offer to a node that does not lead.
+    /// Stages an offer to a node that does not lead: the value waits.
     fn ready_offer_waiting(&mut self, value: V) -> Result<Ready<V>, Refusal>
         ensures ready { Readies self.new (offer_waits self.old.node value) result }
         ensures node { self.new.node ≡ self.old.node }
@@ -158,7 +158,7 @@ impl<V: Value> NodeCore<V> {
         or_memory(self.ready_body(packet.from, &packet.body))
     }
 
-    /// Stages the step of a body.
+    /// Stages the step of a packet with this body.
     fn ready_body(&mut self, from: u8, body: &Body<V>) -> Result<Ready<V>, AllocError>
         requires from { from < length self.old.node.weights }
         requires body { IsBody body.now }
@@ -191,8 +191,8 @@ impl<V: Value> NodeCore<V> {
         }
     }
 
-    /// Commits a staged step, and returns its posts. It does not allocate. Other steps may have been staged since, and
-    /// dropped.
+    /// Commits a staged step, and returns its posts. It does not allocate. Steps that were staged since and not committed
+    /// do no harm.
     pub fn commit(&mut self, ready: Ready<V>) -> Vec<Packet<V>>
         requires node { self.old.node ≡ ready.before.node }
         requires room { HasAtLeast ready.before self.old }
@@ -214,7 +214,8 @@ impl<V: Value> NodeCore<V> {
         self.learner.learn(staged.learner);
     }
 
-    /// Begins a ballot, and returns the posts. After an error the node is unchanged.
+    /// Begins a ballot above all that the node has begun or promised, and returns the posts. After an error the node is
+    /// unchanged.
     ///
     /// Errors, the first that applies: `RoundsSpent`, `Memory`. Cost: the posts.
     pub fn begin(&mut self) -> Result<Vec<Packet<V>>, Refusal>
@@ -247,7 +248,8 @@ impl<V: Value> NodeCore<V> {
         self.ready_posts(Vec::new(self.alloc))
     }
 
-    /// Offers a value, and returns the posts. After an error the node is unchanged.
+    /// Offers a value, and returns the posts. A leader proposes it; at another node it waits. After an error the node is
+    /// unchanged.
     ///
     /// Errors, the first that applies: `TooLong`, `LogFull`, `Busy`, `Memory`. Cost: the posts, each with a copy of the
     /// value.
@@ -261,7 +263,7 @@ impl<V: Value> NodeCore<V> {
         }
     }
 
-    /// Takes a packet, and returns the posts. After `Memory` the node is unchanged, as if the packet were lost.
+    /// Receives a packet, and returns the posts. After `Memory` the node is unchanged, as if the packet were lost.
     ///
     /// Cost: the packet and the posts; a promise costs its reports.
     pub fn on_packet(&mut self, packet: &Packet<V>) -> Result<Vec<Packet<V>>, Refusal>
@@ -287,9 +289,9 @@ impl<V: Value> NodeCore<V> {
         }
     }
 
-    /// Returns the log: the learned entries of the slots from 0 to the first gap.
+    /// Returns the log: the values learned at the slots from 0 up to the first gap.
     ///
-    /// Errors: an allocation fails. Cost: the log; each value is copied once.
+    /// Errors: an allocation fails. Cost: the size of the log; each value is copied once.
     pub fn log(&self) -> Result<Vec<Option<V>>, AllocError>
         ensures { IfOk result (λ log. log.items ≡ log_of self.now.node) }
     {
@@ -344,7 +346,8 @@ impl<V: Value> NodeCore<V> {
         Ok(posts)
     }
 
-    /// Restarts as `restart` does, with a loaded record as the kept part. After `Memory` the node is unchanged.
+    /// Restarts with a loaded record as the kept part, and returns posts as `restart` does. After `Memory` the node is
+    /// unchanged.
     pub fn reload(&mut self, stored: Record<V>) -> Result<Vec<Packet<V>>, Refusal>
         ensures makes { Makes self.old.node self.new.node (Ok (reloaded self.old.node stored.kept)) result }
         ensures posts { IfOk result (λ posts. AllByRecursion (IsPost (length self.old.node.weights)) posts.items) }

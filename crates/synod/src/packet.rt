@@ -9,10 +9,10 @@ use std::marker::Model;
 /// The number of reports in a full page of a promise.
 pub const PAGE_REPORTS: usize = 256;
 
-/// The most pages of one promise: enough to report every slot.
+/// The maximum number of pages of one promise: enough to report every slot.
 pub const MOST_PAGES: u32 = 4096;
 
-/// The entry that an acceptor accepted at a slot; a value of `None` is the no-operation.
+/// A report of the entry that an acceptor accepted at a slot. A value of `None` is the no-operation.
 #[derive(Drop)]
 pub struct SlotReport<V> {
     pub slot: u32,
@@ -20,7 +20,7 @@ pub struct SlotReport<V> {
     pub value: Option<V>,
 }
 
-/// The reports of one page; contracts see the list.
+/// The reports of one page of a promise. Contracts see the list.
 #[derive(Drop)]
 pub struct Reports<V> {
     all: Vec<SlotReport<V>>,
@@ -55,7 +55,7 @@ impl<V> Reports<V> {
 
 /// Returns a copy of the reports.
 ///
-/// Cost: each value is copied once.
+/// Errors: an allocation fails. Cost: each value is copied once.
 pub(crate) fn copy_reports<V: Value>(
     alloc: Global,
     reports: &Reports<V>,
@@ -76,7 +76,7 @@ pub(crate) fn copy_reports<V: Value>(
 
 /// The message of a packet.
 ///
-/// Source: Lamport, Paxos Made Simple, 2.2 and 2.3. `Nack` tells a proposer of the promise that refused it;
+/// Source: Lamport, Paxos Made Simple, 2.2 and 2.3. A `Nack` informs a proposer of the promise for which it is refused;
 /// `Ask` and `Told` pass on learned values.
 #[derive(Drop)]
 pub enum Body<V> {
@@ -104,7 +104,7 @@ pub enum Body<V> {
         slot: u32,
         value: Option<V>,
     },
-    /// The refused ballot, and the promise that refused it.
+    /// The refused ballot, and the promise for which it is refused.
     Nack {
         ballot: Ballot,
         promise: Ballot,
@@ -113,7 +113,7 @@ pub enum Body<V> {
     Ask {
         slot: u32,
     },
-    /// The value chosen at a slot.
+    /// The value chosen at a slot, in answer to an Ask.
     Told {
         slot: u32,
         value: Option<V>,

@@ -1,4 +1,4 @@
-//! Packets to several nodes, in the order of the nodes.
+//! Builds packets to several nodes, in the order of the nodes.
 ghost use Rattle.std.specs.Prelude.{◌≡◌, ◌++◌, [], ◌∷◌, IfOk, OnOk};
 ghost use Rattle.synod.specs.Packets.{packet};
 ghost use Rattle.synod.specs.Broadcast.{body_of, is_ask, to_node, broadcast_posts};
@@ -9,7 +9,7 @@ use crate::value::{Value, copy_value};
 use crate::weights::Weights;
 use std::alloc::{AllocError, Global};
 
-/// A message to all nodes, the sender among them, or an Ask to all others. Each packet has its own copy of the value.
+/// A message to all nodes including the sender, or an Ask to all others. Each packet has its own copy of the value.
 #[derive(Drop)]
 pub enum Broadcast<'a, V> {
     Prepare {
@@ -32,7 +32,7 @@ pub enum Broadcast<'a, V> {
 }
 
 impl<V> Broadcast<'_, V> {
-    /// Returns whether the message is an Ask, which the sender does not get.
+    /// Returns whether the message is an Ask, which is not sent to the sender.
     fn is_ask(&self) -> bool
         ensures { result ≡ is_ask self.now }
     {
@@ -88,7 +88,7 @@ fn post<V: Value>(
     Ok(())
 }
 
-/// Appends the packet for one node, unless the node would ask itself.
+/// Appends the packet to one node, unless it is an Ask to the sender.
 fn post_to_node<V: Value>(
     posts: &mut Vec<Packet<V>>,
     from: u8,
@@ -107,9 +107,9 @@ fn post_to_node<V: Value>(
     }
 }
 
-/// Appends the packets of a message, one for each node that it is for.
+/// Appends the packets of a message, one for each receiver.
 ///
-/// Cost: the packets.
+/// Errors: an allocation fails; some packets may have been appended. Cost: the packets.
 pub(crate) fn post_broadcast<V: Value>(
     posts: &mut Vec<Packet<V>>,
     me: u8,
@@ -127,7 +127,7 @@ pub(crate) fn post_broadcast<V: Value>(
     Ok(())
 }
 
-/// Returns the packets of a message, one for each node that it is for.
+/// Returns the packets of a message, one for each receiver.
 ///
 /// Errors: an allocation fails. Cost: the packets.
 pub(crate) fn broadcast_posts<V: Value>(

@@ -1,4 +1,4 @@
-//! The reports of a promise: the accepted entries from a slot on, in pages.
+//! Builds the packets of a promise: reports of the accepted entries from a slot on, in pages.
 ghost use Rattle.std.specs.Prelude.{◌≡◌, ◌≤◌, ◌<◌, IfOk, length};
 ghost use Rattle.slots.specs.declared.slots.TheConstants.{SLOTS};
 ghost use Rattle.synod.specs.declared.packet.TheConstants.{MOST_PAGES};

@@ -13,7 +13,7 @@ use slots::Slots;
 use std::alloc::{AllocError, Global};
 use std::marker::Model;
 
-/// The received pages: a finite map for each node.
+/// The received pages: for each node a finite map from page numbers to pages.
 #[derive(Drop)]
 pub struct ReceivedPages<V> {
     by_node: Vec<Slots<Reports<V>>>,
@@ -32,7 +32,7 @@ impl<V> Model for ReceivedPages<V> {
 impl<V: Drop> ReceivedPages<V> {
     ghost use Rattle.std.specs.Prelude.{[]};
 
-    /// Creates a map for no node. It does not allocate.
+    /// Creates an empty list of maps. It does not allocate.
     pub(crate) fn none(alloc: Global) -> Self
         ensures { result ≡ [] }
     {
@@ -83,7 +83,7 @@ impl<V: Drop> ReceivedPages<V> {
         }
     }
 
-    /// Returns the first page of a node that is missing.
+    /// Returns the number of the first page of a node that is missing.
     pub(crate) fn front(&self, node: u8) -> u32
         ensures { result ≡ front_of (pages_from (entries_of self.now) node) }
     {
@@ -100,7 +100,7 @@ impl<V: Drop> ReceivedPages<V> {
         self.by_node.len()
     }
 
-    /// Returns the first page of a node that is missing once `page` is added.
+    /// Returns the number of the first page of a node that is missing once `page` is added.
     pub(crate) fn front_with(&self, node: u8, page: u32) -> u32
         requires node { node < length self.now }
         requires page { page < SLOTS }
@@ -111,7 +111,7 @@ impl<V: Drop> ReceivedPages<V> {
     }
 }
 
-/// Returns the first page of a node that is missing once `page` is received, perhaps again.
+/// Returns the number of the first page of a node that is missing once `page` is received, perhaps not for the first time.
 pub(crate) fn front_after<V: Drop>(pages: &ReceivedPages<V>, node: u8, page: u32) -> u32
     requires node { node < length pages.now }
     requires page { page < SLOTS }
@@ -124,7 +124,7 @@ pub(crate) fn front_after<V: Drop>(pages: &ReceivedPages<V>, node: u8, page: u32
     }
 }
 
-/// The received pages, with the one just delivered.
+/// The pages received before, and the one just delivered.
 #[derive(Drop)]
 pub struct PagesWithDelivered<'a, V> {
     pub pages: &'a ReceivedPages<V>,

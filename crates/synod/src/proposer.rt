@@ -1,4 +1,4 @@
-//! The proposer: its role, the promises that it has received, and the waiting values.
+//! The proposer: its role, the pages of promises that it has received, and the waiting values.
 ghost use Rattle.std.specs.Prelude.{◌≡◌, ◌<◌, ◌≤◌, ℕ, OnOk, IfOk, Some, false, length, slice_index_or};
 
 use crate::ballot::Ballot;
@@ -8,7 +8,7 @@ use crate::weights::MOST_NODES;
 use std::alloc::{AllocError, Global};
 use std::marker::Model;
 
-/// The most values that may wait at a node.
+/// The maximum number of values that wait at a node.
 pub const MOST_WAITING: usize = 64;
 
 /// The role of a proposer.
@@ -18,7 +18,7 @@ pub const MOST_WAITING: usize = 64;
 pub enum Role {
     /// It has no ballot.
     Idle,
-    /// It has sent Prepare for every slot from `first` on.
+    /// It has sent a Prepare for all slots from `first` on.
     Preparing { ballot: Ballot, first: u32 },
     /// A quorum has promised its ballot; `next` is the slot of its next proposal.
     Leading { ballot: Ballot, next: u32 },
@@ -40,7 +40,7 @@ impl Role {
     }
 }
 
-/// A node whose promise is complete, with the number of its pages.
+/// A node that is heard: all pages of its promise are received. `count` is their number.
 #[derive(Clone, Copy, PartialEq, Eq)]
 pub struct Heard {
     pub node: u8,
@@ -50,7 +50,7 @@ pub struct Heard {
 /// The change that a step makes to the proposer.
 #[derive(Drop)]
 pub enum ProposerUpdate<V> {
-    /// A value joins the waiting ones.
+    /// A value is added to those that wait.
     Wait(V),
     /// It proposed at the slot before `next`.
     Propose {
@@ -63,21 +63,21 @@ pub enum ProposerUpdate<V> {
         first: u32,
         pages: ReceivedPages<V>,
     },
-    /// A page of a promise came.
+    /// A page of a promise arrived.
     Page {
         node: u8,
         page: u32,
         reports: Reports<V>,
     },
-    /// A promise is complete; its pages were all received before.
+    /// A promise is complete, and all its pages were received before.
     Hear(Heard),
-    /// The page that completes a promise came.
+    /// The page that completes a promise arrived.
     CompletePromise {
         heard: Heard,
         page: u32,
         reports: Reports<V>,
     },
-    /// It leads, and has proposed the first `taken` waiting values.
+    /// It begins to lead, and has proposed the first `taken` waiting values.
     Lead {
         ballot: Ballot,
         next: u32,
@@ -143,7 +143,7 @@ impl<V: Drop> Proposer<V> {
         self.role
     }
 
-    /// Returns the waiting values, the oldest first.
+    /// Returns the waiting values, oldest first.
     pub(crate) fn waiting(&self) -> &[V]
         ensures { result.now ≡ self.now.state.waiting }
     {
@@ -261,7 +261,7 @@ impl<V: Drop> Proposer<V> {
         self.heard.push_reserved(heard);
     }
 
-    /// Leads from the slot `next` on, and removes the first `taken` waiting values.
+    /// Begins to lead: `next` is the slot of the next proposal, and the first `taken` waiting values are removed.
     fn lead(&mut self, ballot: Ballot, next: u32, taken: usize)
         requires { taken ≤ length self.old.state.waiting }
         ensures { self.new.state ≡ proposer_after self.old.state (Some (ProposerUpdate.Lead ballot next taken)) }
@@ -287,7 +287,7 @@ pub(crate) fn is_heard(heard: &[Heard], node: u8) -> bool
     false
 }
 
-/// Returns a mark for each node: whether it is heard.
+/// Returns a mark for each node that is heard.
 pub(crate) fn marks_of(heard: &[Heard]) -> [bool; MOST_NODES]
     ensures { (k : ℕ) → k < MOST_NODES → slice_index_or result k false ≡ is_heard heard.now k }
 {

@@ -1,4 +1,4 @@
-//! A staged step: everything is allocated, and nothing is changed yet.
+//! A staged step: all that it needs is allocated, and nothing is changed yet.
 ghost use Rattle.std.specs.Prelude.{◌≡◌, MatchOption, Some, None};
 ghost use Rattle.std.specs.Borrow.{ftrue};
 
@@ -17,7 +17,7 @@ pub struct StagedStep<V> {
     pub learner: Option<LearnerUpdate<V>>,
 }
 
-/// A value that only contracts see. It has no bytes.
+/// A value that only contracts see. At run time it has no bytes.
 #[derive(Drop)]
 struct Past<T> {
     marker: PhantomData<T>,
@@ -66,7 +66,7 @@ impl<V> Model for Ready<V> {
 impl<V: Drop> Ready<V> {
     ghost use Rattle.synod.specs.Ready.{staged_node, CanCommit};
 
-    /// Stages a step of a node.
+    /// Creates a staged step of a node. It does not allocate.
     pub(crate) fn new(node: &NodeCore<V>, staged: StagedStep<V>, posts: Vec<Packet<V>>) -> Self
         requires { CanCommit node.now staged }
         ensures before { result.before ≡ node.now }
@@ -88,7 +88,7 @@ impl<V: Drop> Ready<V> {
         (self.staged, self.posts)
     }
 
-    /// Returns the change of the kept part that the step makes, if any.
+    /// Returns the change that the step makes to the kept part, if any.
     pub fn change(&self) -> Option<&Change<V>>
         ensures { MatchOption result (self.now.step.change ≡ None) (λ change. self.now.step.change ≡ Some change.now) }
     {

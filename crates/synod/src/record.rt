@@ -1,4 +1,4 @@
-//! The kept part of a node, which outlives a restart.
+//! The kept part of a node, which survives a restart.
 ghost use Rattle.std.specs.Prelude.{◌≡◌, ◌<◌, ◌≤◌, OnOk, Some, None, MatchOption, length};
 ghost use Rattle.slots.specs.declared.slots.TheConstants.{SLOTS};
 ghost use Rattle.slots.specs.FiniteMap.{entry_at, top_of};

@@ -5,7 +5,7 @@ ghost use Rattle.synod.specs.Learner.{with_voter, no_voters};
 use crate::ballot::Ballot;
 use crate::weights::MOST_NODES;
 
-/// The nodes that accepted at a slot under a ballot: a mark for each node.
+/// The nodes whose votes at a slot under a ballot were counted: a mark for each node.
 #[derive(Clone, Copy)]
 pub struct Tally {
     pub ballot: Ballot,
@@ -38,7 +38,7 @@ impl Tally {
     }
 }
 
-/// Returns the marks with one more node.
+/// Returns the marks with `node` marked too.
 pub(crate) fn with_mark(mut voters: [bool; MOST_NODES], node: u8) -> [bool; MOST_NODES]
     requires { node < MOST_NODES }
     ensures { result ≡ with_voter voters node }

@@ -1,12 +1,12 @@
-//! The values that the nodes agree upon.
+//! The values that the nodes agree on.
 ghost use Rattle.std.specs.Prelude.{◌≡◌, IfOk};
 
 use std::alloc::AllocError;
 
-/// The largest value that may be offered, in bytes.
+/// The maximum size of a value that is offered, in bytes.
 pub const MOST_BYTES: u64 = 67_108_864;
 
-/// A value that the nodes agree upon.
+/// A value that the nodes agree on.
 pub trait Value: Sized + Drop {
     ghost use Rattle.std.specs.Prelude.{ℕ};
 

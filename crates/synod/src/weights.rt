@@ -4,13 +4,13 @@ ghost use Rattle.synod.specs.Weights.{IsWeights, is_quorum};
 
 use std::marker::Model;
 
-/// The greatest number of nodes.
+/// The maximum number of nodes.
 pub const MOST_NODES: usize = 9;
 
-/// The greatest weight of a node.
+/// The maximum weight of a node.
 pub const MOST_WEIGHT: u8 = 100;
 
-/// The weights of 1 to 9 nodes, each from 1 to 100. It holds no allocation.
+/// The weights of 1 to 9 nodes, each from 1 to 100. They are stored inline.
 ///
 /// Source: Lamport, Paxos Made Simple, 2.2; a majority is more than half of the total weight.
 #[derive(Clone, Copy)]
@@ -90,7 +90,7 @@ impl Weights {
         &self.places[..self.count]
     }
 
-    /// Returns whether the marked nodes are a quorum: whether they weigh more than half of all.
+    /// Returns whether the marked nodes are a quorum: whether their weight is more than half of the total.
     pub fn is_quorum(&self, marks: &[bool]) -> bool
         requires { length self.now ≤ length marks.now }
         ensures { result ≡ is_quorum self.now (λ k. slice_index_or marks.now k false) }

@@ -1,6 +1,6 @@
--- How far a text goes on as symbols with one space between two.
--- Source: this project's choice; such symbols are copied in one piece.
--- The code looks at many bytes at a time; the model at one byte and the next.
+-- The longest start of a text that is symbols separated by single spaces.
+-- Source: this project's choice; such symbols are copied at once.
+-- The code compares many bytes at a time; the definition one byte and the next.
 use Rattle.std.specs.Prelude.{ℕ, zero, suc, Bool, true, ◌||◌, ◌&&◌, ◌==◌, if◌then◌else◌, List, [], ◌∷◌, nat_lt, nat_le}
 use Rattle.std.specs.Simd.Lanes.{zip2}
 
@@ -14,11 +14,11 @@ ends_here [] = true
 ends_here (b ∷ []) = ends_between b 32
 ends_here (b ∷ c ∷ bytes) = ends_between b c
 
--- how many bytes come before the end of the symbols
+-- the number of bytes before the end of the symbols
 abbrev pub stretch : List ℕ → ℕ
 stretch [] = zero
 stretch (b ∷ bytes) = if ends_here (b ∷ bytes) then zero else suc (stretch bytes)
 
--- whether they end between each of these bytes and the one that follows it
+-- for each of these bytes and the one after it, whether the symbols end between the two
 abbrev pub lanes_end : List ℕ → List ℕ → List Bool
 lanes_end bytes next = zip2 ends_between bytes next

@@ -6,7 +6,7 @@ use Rattle.slots.specs.declared.page.TheConstants.{PAGE_SLOTS}
 use Rattle.slots.specs.declared.slots.TheConstants.{SLOTS}
 use Rattle.slots.specs.FiniteMap.{front_of, top_of, trimmed}
 
--- the slots of a page, of which only the first are stored
+-- all slots of a page: those stored, and empty ones up to the end of the page
 abbrev pub padded : {T : Type 0} → List (Option T) → List (Option T)
 padded stored = stored ++ replicate (PAGE_SLOTS - length stored) None
 
@@ -24,7 +24,7 @@ abbrev pub AreWhole : {T : Type 0} → List (List T) → Type 0
 AreWhole [] = Unit {0}
 AreWhole (page ∷ pages) = (length page ≡ PAGE_SLOTS) × AreWhole pages
 
--- the invariant of slots: they are below the limit, and front and top are stored
+-- the invariant of `Slots`: at most SLOTS slots, and the stored front and top are those of the map
 pub record AreSlots {T : Type 0} (slots : List (Option T)) (front top : ℕ) : Type 0 where
   pub within : length slots ≤ SLOTS
   pub front_is : front ≡ front_of slots

@@ -6,17 +6,17 @@ use Rattle.synod.specs.Words.{SlotsView, put_at, SlotReport}
 use Rattle.synod.specs.declared.promise_pages.PagesWithDelivered.{PagesWithDelivered}
 use Rattle.synod.specs.Node.{pages_from, with_page}
 
--- the entries of several maps
+-- the entries of each map
 abbrev pub entries_of : {T : Type 0} → List (SlotsView T) → List (List (Option T))
 entries_of maps = map (λ m. m.entries) maps
 
 abbrev pub rooms_of : {T : Type 0} → List (SlotsView T) → List ℕ
 rooms_of maps = map (λ m. m.room) maps
 
--- a page is put into the map of its node
+-- the pages with page i of node k put into the map of the node
 abbrev pub put_page : {V : Type 0} → List (List (Option (List (SlotReport V)))) → ℕ → ℕ → List (SlotReport V) → List (List (Option (List (SlotReport V))))
 put_page pages k i reports = slice_set pages k (put_at (pages_from pages k) i reports)
 
--- the received pages, with the one just delivered
+-- the pages received before, and the one just delivered
 abbrev pub pages_with : {V : Type 0} → PagesWithDelivered V → List (List (Option (List (SlotReport V))))
 pages_with w = with_page (entries_of w.pages.now) w.node w.page w.reports.now

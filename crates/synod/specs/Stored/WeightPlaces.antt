@@ -1,6 +1,6 @@
 -- The nine places that store the weights.
 -- Source: this project's representation.
--- The places after the last weight are 0, so the list determines them.
+-- The places after the last weight are 0, so the list of weights determines all nine.
 use Rattle.std.specs.Prelude.{◌≡◌, ◌≤◌, ◌-◌, ℕ, List, ◌++◌, length, take, replicate}
 use Rattle.synod.specs.Words.{MOST_NODES}
 use Rattle.synod.specs.Weights.{IsWeights}

@@ -18,7 +18,7 @@ impl<V: Value> NodeCore<V> {
     ghost use Rattle.synod.specs.Rooms.{HasAtLeast};
     ghost use Rattle.synod.specs.Ready.{IsReadyFor};
 
-    /// Stages a Nack to a proposer, with the promise that refuses its ballot.
+    /// Stages a Nack to a proposer, with the promise for which its ballot is refused.
     fn ready_refusal(&self, from: u8, ballot: Ballot) -> Result<Ready<V>, AllocError>
         ensures { IfOk result (IsReadyFor self.now (refuses self.now.node from ballot)) }
     {
@@ -80,7 +80,7 @@ impl<V: Value> NodeCore<V> {
         self.ready_entry(slot, AcceptedEntry { ballot, value })
     }
 
-    /// Stages an accepted entry, which is told to all.
+    /// Stages accepting an entry, and posts Accepted to all nodes.
     fn ready_entry(&self, slot: u32, held: AcceptedEntry<V>) -> Result<Ready<V>, AllocError>
         requires room { slot < self.now.accepted_room }
         requires keeps { Keeps (length self.now.node.weights) (takes_value self.now.node held.ballot slot held.value) }

@@ -1,4 +1,4 @@
-//! Stages the steps of a proposer that gathers the pages of promises.
+//! Stages the steps of a proposer that gathers pages of promises. A node is heard once all pages of its promise are received.
 ghost use Rattle.std.specs.Prelude.{◌≡◌, ◌<◌, ◌≤◌, ◌++◌, ◌∷◌, [], IfOk, Some, List, length};
 ghost use Rattle.std.specs.List.{AllByRecursion};
 ghost use Rattle.slots.specs.declared.slots.TheConstants.{SLOTS};
@@ -49,7 +49,7 @@ impl<V: Value> NodeCore<V> {
         Ok(self.ready_proposer(update, Vec::new(self.alloc)))
     }
 
-    /// Stages keeping a page that completes a promise, but no quorum.
+    /// Stages keeping a page that completes a promise without completing a quorum.
     fn ready_to_hear(
         &mut self,
         heard: Heard,
@@ -117,7 +117,7 @@ impl<V: Value> NodeCore<V> {
         }
     }
 
-    /// Returns the nodes heard, with one more.
+    /// Returns the nodes heard and one more.
     fn heard_with(&self, heard: Heard) -> Result<Vec<Heard>, AllocError>
         ensures { IfOk result (λ nodes. nodes.items ≡ self.now.node.heard ++ heard ∷ []) }
     {
@@ -126,7 +126,7 @@ impl<V: Value> NodeCore<V> {
         Ok(nodes)
     }
 
-    /// Stages leading, since a quorum is heard.
+    /// Stages the start of leading, once a quorum is heard.
     fn ready_to_lead(
         &self,
         ballot: Ballot,

@@ -110,7 +110,7 @@ impl<V: Value> NodeCore<V> {
         self.weights.is_quorum(&voters)
     }
 
-    /// Returns the Asks for the first gap, if it is below the slot.
+    /// Returns Asks to all other nodes for the first gap, if it is below the slot.
     fn ask_below(&self, slot: u32, gap: u32) -> Result<Vec<Packet<V>>, AllocError>
         ensures { IfOk result (λ posts. posts.items ≡ asks_below self.now.node slot gap) }
     {
@@ -136,7 +136,7 @@ impl<V: Value> NodeCore<V> {
         Ok(self.ready_learner(update, posts))
     }
 
-    /// Stages an update that learns a value told by `from`, and asks it for the next gap.
+    /// Stages an update that learns a value told by `from`, and asks `from` for the next gap.
     fn ready_told_next(
         &self,
         update: LearnerUpdate<V>,

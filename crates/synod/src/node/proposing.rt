@@ -39,7 +39,7 @@ impl<V: Value> NodeCore<V> {
         Ready::new(self, staged, posts)
     }
 
-    /// Stages a value that waits.
+    /// Stages adding a value to those that wait.
     pub(crate) fn ready_waiting(&mut self, value: V) -> Result<Ready<V>, AllocError>
         requires keeps { Keeps (length self.old.node.weights) (waits self.old.node value) }
         ensures ready { IfOk result (IsReadyFor self.new (waits self.old.node value)) }
@@ -50,7 +50,7 @@ impl<V: Value> NodeCore<V> {
         Ok(self.ready_proposer(ProposerUpdate::Wait(value), Vec::new(self.alloc)))
     }
 
-    /// Stages a value that takes the next slot.
+    /// Stages proposing a value at the next slot.
     pub(crate) fn ready_slot(
         &mut self,
         ballot: Ballot,
@@ -98,7 +98,7 @@ impl<V: Value> NodeCore<V> {
         Ok(Ready::new(self, staged, posts))
     }
 
-    /// Stages the step of a Nack.
+    /// Stages the step of a Nack: giving up the ballot if a higher one is promised.
     pub(crate) fn ready_nack(&self, ballot: Ballot, promise: Ballot) -> Ready<V>
         requires { Keeps (length self.now.node.weights) (on_nack self.now.node ballot promise) }
         ensures { IsReadyFor self.now (on_nack self.now.node ballot promise) result }

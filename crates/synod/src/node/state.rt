@@ -11,11 +11,11 @@ use crate::value::Value;
 pub struct NodeState {
     /// The role of its proposer.
     pub role: Role,
-    /// The ballot that it promised.
+    /// The ballot that its acceptor promised.
     pub promise: Ballot,
     /// The number of entries of its log.
     pub learned: u32,
-    /// The number of values that wait at it.
+    /// The number of offered values that wait until it leads.
     pub waiting: usize,
 }
 
