@@ -1,6 +1,6 @@
 use Rattle.unproved.proofs.Words.{◌≡◌, ◌+◌, ◌-◌, ◌<◌, ◌≤◌, ◌∙◌, IfOk, Some, ap, arith, length, subst, sym, bares, proof_of, is_provable, StandsProved, not-provable, stands_index, judged-stands, not-there, provable-bare, AreKeptFor, Says}
 use Rattle.library.specs.Words.{stmt_at}
-use Rattle.unproved.proofs.stretch.StretchWork.judge.Goals as goal
+use Rattle.unproved.proofs.stretch.StatementRangeWork.judge.Goals as goal
 
 pub prove-requires-clause-provable : goal.prove-requires-clause-provable
 prove-requires-clause-provable c =
