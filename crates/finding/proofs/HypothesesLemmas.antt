@@ -200,9 +200,9 @@ module _ (p : List Part) (S : Database) where
               omega (arith, f1)
 
 -- nothing is kept before the first statement
-pub noted_none : (sought : SearchQuery) (S : Database) → AreRecorded sought S 0 []
-noted_none (WithHypotheses p) S = kept-none p S
-noted_none sought S = tt
+pub recorded_none : (query : SearchQuery) (S : Database) → AreRecorded query S 0 []
+recorded_none (WithHypotheses p) S = kept-none p S
+recorded_none query S = tt
 
 -- ---- how many are left
 

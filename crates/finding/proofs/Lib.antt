@@ -1,4 +1,4 @@
 pub mod Words
-pub mod FoundLemmas
+pub mod LineLemmas
 pub mod HypothesesLemmas
 mod Rows

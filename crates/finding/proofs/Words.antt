@@ -1,9 +1,9 @@
 -- The words in which this crate is proved, passed on from one place.
 pub use Rattle.finding.specs.Essentials.{AreMatchingEssentials, AreRecorded, IsTrimmedLength, IsActiveHypothesis}
-pub use Rattle.finding.specs.Found.{Counts, Has, HasPattern, SomeEssentialHas, essential_at, essential_expr}
+pub use Rattle.finding.specs.Matching.{IsMatch, AssertionMatches, HasPattern, SomeEssentialHas, essential_at, essential_expr}
 pub use Rattle.finding.specs.Lines.{AreFoundLines, IsLineIf, found_line, line_if}
-pub use Rattle.finding.specs.declared.sought.SearchQuery.{SearchQuery}
-pub use Rattle.finding.specs.declared.sought.SearchQuery.TheVariants.{WithHypotheses}
+pub use Rattle.finding.specs.declared.query.SearchQuery.{SearchQuery}
+pub use Rattle.finding.specs.declared.query.SearchQuery.TheVariants.{WithHypotheses}
 pub use Rattle.frame.proofs.ActivePositions.{IsActiveAt, active-members, members-active}
 pub use Rattle.frame.proofs.BlockWalkLemmas.{active-stays, get-take}
 pub use Rattle.frame.proofs.LastActiveLemmas.{cut-here, drop-front, length-cut}

@@ -1,5 +1,5 @@
 -- The list of the `$e` with a pattern, which a search carries from statement to statement.
--- Source: none; for the private functions of `hypotheses` and `found`.
+-- Source: none; for the private functions of `hypotheses` and `lines`.
 -- The code keeps the positions of those that may still be active, and removes from the end those that no longer are.
 use Rattle.std.specs.Prelude.{◌≡◌, ℕ, suc, ◌+◌, ◌<◌, ◌≤◌, true, List, length, get_or}
 use Rattle.mm_read.specs.Statements.{Database}
@@ -7,9 +7,9 @@ use Rattle.mm_read.specs.declared.stmt.Stmt.{Stmt}
 use Rattle.scope.specs.Active.{bares, is_active}
 use Rattle.frame.specs.Citations.{IsHypothesis}
 use Rattle.patterns.specs.Matches.{Part}
-use Rattle.finding.specs.declared.sought.SearchQuery.{SearchQuery}
-use Rattle.finding.specs.declared.sought.SearchQuery.TheVariants.{WithHypotheses}
-use Rattle.finding.specs.Found.{HasPattern, essential_at}
+use Rattle.finding.specs.declared.query.SearchQuery.{SearchQuery}
+use Rattle.finding.specs.declared.query.SearchQuery.TheVariants.{WithHypotheses}
+use Rattle.finding.specs.Matching.{HasPattern, essential_at}
 
 -- the list has positions of `$e` with the pattern among the first n statements, and all of those that are active after them
 pub record AreMatchingEssentials (p : List Part) (S : Database) (n : ℕ) (list : List ℕ) : Type 0 where
@@ -19,7 +19,7 @@ pub record AreMatchingEssentials (p : List Part) (S : Database) (n : ℕ) (list 
 -- the list is such a list if hypotheses are searched for a pattern, and any list otherwise
 abbrev pub AreRecorded : SearchQuery → Database → ℕ → List ℕ → Type 0
 AreRecorded (WithHypotheses p) S n list = AreMatchingEssentials p S n list
-AreRecorded sought S n list = Unit {0}
+AreRecorded query S n list = Unit {0}
 
 -- the statement at i is a hypothesis that is active at `at`
 abbrev pub IsActiveHypothesis : Database → ℕ → ℕ → Type 0

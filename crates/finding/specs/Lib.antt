@@ -1,3 +1,3 @@
 pub mod Essentials
-pub mod Found
+pub mod Matching
 pub mod Lines

@@ -16,12 +16,12 @@ found_line s = []
 abbrev pub line_if : Bool → Stmt → List ℕ
 line_if is s = if is then found_line s else []
 
--- the line of a statement if it matches (`counts`), else nothing
+-- the line of a statement if it matches (`matches`), else nothing
 abbrev pub IsLineIf : Type 0 → Stmt → List ℕ → Type 0
-IsLineIf counts s line = (counts × (line ≡ found_line s)) ⊎ ((counts → ⊥) × (line ≡ []))
+IsLineIf matches s line = (matches × (line ≡ found_line s)) ⊎ ((matches → ⊥) × (line ≡ []))
 
--- the lines of exactly the statements that match (`counts`), in order; `index` is that of the first statement
+-- the lines of exactly the statements that match (`matches`), in order; `index` is that of the first statement
 abbrev pub AreFoundLines : (ℕ → Stmt → Type 0) → ℕ → Database → List ℕ → Type 0
-AreFoundLines counts index [] lines = lines ≡ []
-AreFoundLines counts index (s ∷ S) lines =
-    (line : List ℕ) × (rest : List ℕ) × (lines ≡ line ++ rest) × IsLineIf (counts index s) s line × AreFoundLines counts (index + 1) S rest
+AreFoundLines matches index [] lines = lines ≡ []
+AreFoundLines matches index (s ∷ S) lines =
+    (line : List ℕ) × (rest : List ℕ) × (lines ≡ line ++ rest) × IsLineIf (matches index s) s line × AreFoundLines matches (index + 1) S rest

@@ -1,6 +1,6 @@
 //! Searches an expression for a pattern.
 ghost use Rattle.std.specs.Prelude.{◌≡◌, ◌↔◌, IfOk, IsTrue, map, option_map};
-ghost use Rattle.finding.specs.Found.{HasPattern, assertion_expr, essential_expr};
+ghost use Rattle.finding.specs.Matching.{HasPattern, assertion_expr, essential_expr};
 
 use mm_lex::Words;
 use mm_read::Stmt;

@@ -25,16 +25,20 @@ pub(crate) fn record_essential(
         → AreMatchingEssentials pattern.now S n essentials.old.items
         → OnOk result (AreMatchingEssentials pattern.now S at essentials.new.items) }
 {
-    let has = has_pattern(alloc, pattern, essential_expr(statement))?;
-    push_if(essentials, has, at)
+    let matches = has_pattern(alloc, pattern, essential_expr(statement))?;
+    push_position_if(essentials, matches, at)
 }
 
-/// Appends a position if `is` is true.
-fn push_if(positions: &mut Vec<usize>, is: bool, at: usize) -> Result<(), AllocError>
-    ensures pushed { IsTrue is → OnOk result (positions.new.items ≡ positions.old.items ++ at ∷ []) }
-    ensures same { IsFalse is → OnOk result (positions.new.items ≡ positions.old.items) }
+/// Appends a position if `condition` is true.
+fn push_position_if(
+    positions: &mut Vec<usize>,
+    condition: bool,
+    at: usize,
+) -> Result<(), AllocError>
+    ensures pushed { IsTrue condition → OnOk result (positions.new.items ≡ positions.old.items ++ at ∷ []) }
+    ensures same { IsFalse condition → OnOk result (positions.new.items ≡ positions.old.items) }
 {
-    if is {
+    if condition {
         positions.push(at)?;
     }
     Ok(())

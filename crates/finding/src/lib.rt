@@ -2,14 +2,14 @@
 //!
 //! The crate above calls `found_lines`, which returns a line for exactly the assertions that match, in order.
 //!
-//! Reading order: `sought` (the pattern or words, and where they are searched for), `expressions` (a pattern in an
-//! expression), `hypotheses` (a pattern in a mandatory `$e`), `found` (the lines).
+//! Reading order: `query` (the pattern or words, and where they are searched for), `expressions` (a pattern in an
+//! expression), `hypotheses` (a pattern in a mandatory `$e`), `lines` (`found_lines`).
 #![tactic(auto)]
 
 mod expressions;
-mod found;
 mod hypotheses;
-mod sought;
+mod lines;
+mod query;
 
-pub use found::found_lines;
-pub use sought::{SearchQuery, SearchedDatabase};
+pub use lines::found_lines;
+pub use query::{SearchQuery, SearchedDatabase};

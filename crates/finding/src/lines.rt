@@ -4,12 +4,12 @@ ghost use Rattle.mm_read.specs.Statements.{Database};
 ghost use Rattle.scope.specs.Active.{bares, is_assertion, stmt_at};
 ghost use Rattle.mm_lex.specs.Alphabet.{word};
 ghost use Rattle.finding.specs.Essentials.{AreRecorded};
-ghost use Rattle.finding.specs.Found.{Counts, Has, description_at};
+ghost use Rattle.finding.specs.Matching.{IsMatch, AssertionMatches, description_at};
 ghost use Rattle.finding.specs.Lines.{AreFoundLines, found_line, line_if};
 
 use crate::expressions::{assertion_expr, has_pattern};
 use crate::hypotheses::{record_essential, trim_to_active};
-use crate::sought::{SearchQuery, SearchedDatabase};
+use crate::query::{SearchQuery, SearchedDatabase};
 use frame::is_assertion;
 use mm_lex::Span;
 use mm_read::Stmt;
@@ -20,41 +20,41 @@ use std::alloc::{AllocError, Global};
 /// Errors: an allocation fails. Cost: at most the size of the statements, or of the descriptions,
 /// times the size of the pattern or of the words; each `$e` is searched once, however many
 /// assertions it is a hypothesis of.
-#[tactic(auto, using(crate::proofs::HypothesesLemmas::noted_none))]
+#[tactic(auto, using(crate::proofs::HypothesesLemmas::recorded_none))]
 pub fn found_lines(
     alloc: Global,
     searched: &SearchedDatabase<'_>,
-    sought: &SearchQuery<'_>,
+    query: &SearchQuery<'_>,
 ) -> Result<Vec<u8>, AllocError>
     requires { searched.now.frames.now.statements ≡ bares searched.now.statements.now }
     ensures { IfOk result (λ lines. AreFoundLines
-        (Counts searched.now.text.now searched.now.statements.now searched.now.descriptions.now
-        sought.now) 0 searched.now.statements.now lines.items) }
+        (IsMatch searched.now.text.now searched.now.statements.now searched.now.descriptions.now
+        query.now) 0 searched.now.statements.now lines.items) }
 {
     let mut lines = Vec::new(alloc);
     let mut essentials = Vec::new(alloc);
     for (index, statement) in searched.statements.iter().enumerate() {
-        let is_found = counts(alloc, searched, sought, &mut essentials, index, statement)?;
-        push_if(&mut lines, is_found, statement)?;
-        note(alloc, sought, &mut essentials, index + 1, statement)?;
+        let is_found = is_match(alloc, searched, query, &mut essentials, index, statement)?;
+        push_line_if(&mut lines, is_found, statement)?;
+        record_statement(alloc, query, &mut essentials, index + 1, statement)?;
     }
     Ok(lines)
 }
 
 /// Appends the position of a statement to those of the matching `$e`, if hypotheses are searched
 /// and the statement is an `$e` that has the pattern.
-fn note(
+fn record_statement(
     alloc: Global,
-    sought: &SearchQuery<'_>,
+    query: &SearchQuery<'_>,
     essentials: &mut Vec<usize>,
     at: usize,
     statement: &Stmt,
 ) -> Result<(), AllocError>
     ensures { (S : Database) (n : ℕ) → n + 1 ≡ at → stmt_at S at ≡ Some statement.now
-        → AreRecorded sought.now S n essentials.old.items
-        → OnOk result (AreRecorded sought.now S at essentials.new.items) }
+        → AreRecorded query.now S n essentials.old.items
+        → OnOk result (AreRecorded query.now S at essentials.new.items) }
 {
-    match sought {
+    match query {
         SearchQuery::WithHypotheses(pattern) => {
             record_essential(alloc, pattern, essentials, at, statement)
         }
@@ -64,33 +64,33 @@ fn note(
 }
 
 /// Returns whether the statement at an index is an assertion that matches.
-fn counts(
+fn is_match(
     alloc: Global,
     searched: &SearchedDatabase<'_>,
-    sought: &SearchQuery<'_>,
+    query: &SearchQuery<'_>,
     essentials: &mut Vec<usize>,
     index: usize,
     statement: &Stmt,
 ) -> Result<bool, AllocError>
     requires same { searched.now.frames.now.statements ≡ bares searched.now.statements.now }
     requires stands { stmt_at searched.now.statements.now (index + 1) ≡ Some statement.now }
-    requires noted { AreRecorded sought.now searched.now.statements.now index essentials.old.items }
-    ensures counts { IfOk result (λ is. IsTrue is ↔ Counts searched.now.text.now
-        searched.now.statements.now searched.now.descriptions.now sought.now index
+    requires recorded { AreRecorded query.now searched.now.statements.now index essentials.old.items }
+    ensures matches { IfOk result (λ is. IsTrue is ↔ IsMatch searched.now.text.now
+        searched.now.statements.now searched.now.descriptions.now query.now index
         statement.now) }
-    ensures noted { AreRecorded sought.now searched.now.statements.now index essentials.new.items }
+    ensures recorded { AreRecorded query.now searched.now.statements.now index essentials.new.items }
 {
     if !is_assertion(statement) {
         return Ok(false);
     }
-    has(alloc, searched, sought, essentials, index, statement)
+    assertion_matches(alloc, searched, query, essentials, index, statement)
 }
 
 /// Returns whether the assertion at an index matches.
-fn has(
+fn assertion_matches(
     alloc: Global,
     searched: &SearchedDatabase<'_>,
-    sought: &SearchQuery<'_>,
+    query: &SearchQuery<'_>,
     essentials: &mut Vec<usize>,
     index: usize,
     statement: &Stmt,
@@ -98,17 +98,17 @@ fn has(
     requires same { searched.now.frames.now.statements ≡ bares searched.now.statements.now }
     requires stands { stmt_at searched.now.statements.now (index + 1) ≡ Some statement.now }
     requires assertion { IsTrue (is_assertion statement.now) }
-    requires noted { AreRecorded sought.now searched.now.statements.now index essentials.old.items }
-    ensures has { IfOk result (λ is. IsTrue is ↔ Has searched.now.text.now
-        searched.now.statements.now searched.now.descriptions.now sought.now index
+    requires recorded { AreRecorded query.now searched.now.statements.now index essentials.old.items }
+    ensures matches { IfOk result (λ is. IsTrue is ↔ AssertionMatches searched.now.text.now
+        searched.now.statements.now searched.now.descriptions.now query.now index
         statement.now) }
-    ensures noted { AreRecorded sought.now searched.now.statements.now index essentials.new.items }
+    ensures recorded { AreRecorded query.now searched.now.statements.now index essentials.new.items }
 {
-    match sought {
+    match query {
         SearchQuery::Pattern(pattern) => has_pattern(alloc, pattern, assertion_expr(statement)),
         SearchQuery::WithHypotheses(pattern) => {
-            let own = has_pattern(alloc, pattern, assertion_expr(statement))?;
-            if own {
+            let expr_matches = has_pattern(alloc, pattern, assertion_expr(statement))?;
+            if expr_matches {
                 return Ok(true);
             }
             Ok(trim_to_active(searched.frames, index + 1, essentials))
@@ -129,13 +129,13 @@ fn description_at<'a>(text: &'a [u8], descriptions: &[Option<Span>], index: usiz
         return &[];
     }
     match descriptions[index] {
-        Some(span) => contents(text, span),
+        Some(span) => span_bytes(text, span),
         None => &[],
     }
 }
 
 /// Returns the bytes of a span, as far as it lies in the text.
-fn contents(text: &[u8], span: Span) -> &[u8]
+fn span_bytes(text: &[u8], span: Span) -> &[u8]
     ensures { result.now ≡ word text.now span }
 {
     if span.start >= span.end || span.start >= text.len() {
@@ -150,18 +150,18 @@ fn contents(text: &[u8], span: Span) -> &[u8]
 }
 
 /// Appends the line of an assertion if `is_found` is true.
-fn push_if(lines: &mut Vec<u8>, is_found: bool, statement: &Stmt) -> Result<(), AllocError>
+fn push_line_if(lines: &mut Vec<u8>, is_found: bool, statement: &Stmt) -> Result<(), AllocError>
     ensures { OnOk result (lines.new.items ≡ lines.old.items ++ line_if is_found statement.now) }
 {
     if is_found {
-        push_found(lines, statement)
+        push_found_line(lines, statement)
     } else {
         Ok(())
     }
 }
 
 /// Appends the line of an assertion, or nothing for another statement.
-fn push_found(lines: &mut Vec<u8>, statement: &Stmt) -> Result<(), AllocError>
+fn push_found_line(lines: &mut Vec<u8>, statement: &Stmt) -> Result<(), AllocError>
     ensures { OnOk result (lines.new.items ≡ lines.old.items ++ found_line statement.now) }
 {
     match statement {

@@ -11,8 +11,8 @@ use Rattle.scope.specs.Active.{bares, before, stmt_at, is_assertion}
 use Rattle.frame.specs.FrameOf.{hypotheses}
 use Rattle.patterns.specs.Matches.{Part, Matches}
 use Rattle.patterns.specs.Described.{HasWords}
-use Rattle.finding.specs.declared.sought.SearchQuery.{SearchQuery}
-use Rattle.finding.specs.declared.sought.SearchQuery.TheVariants.{Pattern, WithHypotheses, Words}
+use Rattle.finding.specs.declared.query.SearchQuery.{SearchQuery}
+use Rattle.finding.specs.declared.query.SearchQuery.TheVariants.{Pattern, WithHypotheses, Words}
 
 -- the expression of an assertion
 abbrev pub assertion_expr : Stmt → Option Expr
@@ -39,20 +39,20 @@ SomeEssentialHas p S [] = ⊥
 SomeEssentialHas p S (position ∷ positions) = HasPattern p (essential_at S position) ⊎ SomeEssentialHas p S positions
 
 -- the description of the statement at an index
-abbrev pub described : List ℕ → Option (Option Span) → List ℕ
-described text None = []
-described text (Some None) = []
-described text (Some (Some s)) = word text s
+abbrev pub description_or_empty : List ℕ → Option (Option Span) → List ℕ
+description_or_empty text None = []
+description_or_empty text (Some None) = []
+description_or_empty text (Some (Some s)) = word text s
 
 abbrev pub description_at : List ℕ → List (Option Span) → ℕ → List ℕ
-description_at text descriptions index = described text (slice_get descriptions index)
+description_at text descriptions index = description_or_empty text (slice_get descriptions index)
 
 -- the assertion at an index matches
-abbrev pub Has : List ℕ → Database → List (Option Span) → SearchQuery → ℕ → Stmt → Type 0
-Has text S descriptions (Pattern p) index s = HasPattern p (assertion_expr s)
-Has text S descriptions (WithHypotheses p) index s = HasPattern p (assertion_expr s) ⊎ SomeEssentialHas p S (hypotheses (before (bares S) (index + 1)) s)
-Has text S descriptions (Words ws) index s = HasWords (description_at text descriptions index) ws
+abbrev pub AssertionMatches : List ℕ → Database → List (Option Span) → SearchQuery → ℕ → Stmt → Type 0
+AssertionMatches text S descriptions (Pattern p) index s = HasPattern p (assertion_expr s)
+AssertionMatches text S descriptions (WithHypotheses p) index s = HasPattern p (assertion_expr s) ⊎ SomeEssentialHas p S (hypotheses (before (bares S) (index + 1)) s)
+AssertionMatches text S descriptions (Words ws) index s = HasWords (description_at text descriptions index) ws
 
 -- the statement at an index is an assertion that matches
-abbrev pub Counts : List ℕ → Database → List (Option Span) → SearchQuery → ℕ → Stmt → Type 0
-Counts text S descriptions sought index s = IsTrue (is_assertion s) × Has text S descriptions sought index s
+abbrev pub IsMatch : List ℕ → Database → List (Option Span) → SearchQuery → ℕ → Stmt → Type 0
+IsMatch text S descriptions query index s = IsTrue (is_assertion s) × AssertionMatches text S descriptions query index s
