@@ -1,5 +1,5 @@
 -- The statements that items cite, as a list of positions.
-use Rattle.cross_references.proofs.Words.{◌≡◌, ◌⊎◌, ℕ, zero, suc, ◌+◌, ◌-◌, ◌<◌, ◌≤◌, true, List, [], ◌∷◌, ◌++◌, length, take, get_or, filter_map, Option, Some, None, option_map, slice_get, cons_option, sym, ◌∙◌, ap, subst, refl, arith, inl, inr, append_assoc, cases_lt, get_or_past, take_more, filter_map-append, slice_get-map, ArePositions, HasLabelsOnce, IsPosition, Carries, In, AreThose, those-by, map-back, legal-labels, Good, IsProofOf, place_of, HasItems, ItemsCite, Cites, position-is, legal-each, not-there, cites-of, cited-of, Name, Database, Stmt, Prove, item_of, items_of, Item, Cite, Recall, item-cite, item-recall, listed_place, bares, is_provable, label_of, stmt_at}
+use Rattle.cross_references.proofs.Words.{◌≡◌, ◌⊎◌, ℕ, zero, suc, ◌+◌, ◌-◌, ◌<◌, ◌≤◌, true, List, [], ◌∷◌, ◌++◌, length, take, get_or, filter_map, Option, Some, None, option_map, slice_get, cons_option, sym, ◌∙◌, ap, subst, refl, arith, inl, inr, append_assoc, cases_lt, get_or_past, take_more, filter_map-append, slice_get-map, ArePositions, HasLabelsOnce, IsPosition, Carries, In, AreThose, those-by, map-back, legal-labels, Good, IsProofOf, place_of, HasItems, ItemsCite, Cites, position-is, legal-each, not-there, cites-of, cited-of, Name, Database, Stmt, Prove, item_of, items_of, Item, Cite, Recall, item-cite, item-recall, position_list, bares, is_provable, label_of, stmt_at}
 
 -- ---- the positions that numbers stand for
 
@@ -99,22 +99,22 @@ cites-nothing S at s stands other = record {
 
 -- the places of one number more
 pub places-more : (places : List (Option ℕ)) (numbers : List ℕ) (i : ℕ) → i < length numbers
-    → filter_map (place_of places) (take (i + 1) numbers) ≡ filter_map (place_of places) (take i numbers) ++ listed_place (place_of places (get_or numbers i 0))
+    → filter_map (place_of places) (take (i + 1) numbers) ≡ filter_map (place_of places) (take i numbers) ++ position_list (place_of places (get_or numbers i 0))
 places-more places numbers i h =
     ap (filter_map (place_of places)) (take_more numbers i 0 h)
     ∙ (filter_map-append (place_of places) (take i numbers) (get_or numbers i 0 ∷ [])
     ∙ ap (λ l. filter_map (place_of places) (take i numbers) ++ l) (one (place_of places (get_or numbers i 0))))
   where
-    one : (o : Option ℕ) → cons_option o [] ≡ listed_place o
+    one : (o : Option ℕ) → cons_option o [] ≡ position_list o
     one None = refl
     one (Some p) = refl
 
 pub places-pushed : (places : List (Option ℕ)) (numbers : List ℕ) (i : ℕ) (start old new : List ℕ) (o : Option ℕ) → i < length numbers
-    → old ≡ start ++ filter_map (place_of places) (take i numbers) → o ≡ place_of places (get_or numbers i 0) → new ≡ old ++ listed_place o → new ≡ start ++ filter_map (place_of places) (take (i + 1) numbers)
+    → old ≡ start ++ filter_map (place_of places) (take i numbers) → o ≡ place_of places (get_or numbers i 0) → new ≡ old ++ position_list o → new ≡ start ++ filter_map (place_of places) (take (i + 1) numbers)
 places-pushed places numbers i start old new o h before is after =
     let front = filter_map (place_of places) (take i numbers) in
     let last = place_of places (get_or numbers i 0) in
     after
-    ∙ (ap (λ l. l ++ listed_place o) before
-    ∙ (ap (λ q. (start ++ front) ++ listed_place q) is
-    ∙ (append_assoc start front (listed_place last) ∙ ap (λ l. start ++ l) (sym (places-more places numbers i h)))))
+    ∙ (ap (λ l. l ++ position_list o) before
+    ∙ (ap (λ q. (start ++ front) ++ position_list q) is
+    ∙ (append_assoc start front (position_list last) ∙ ap (λ l. start ++ l) (sym (places-more places numbers i h)))))

@@ -1,5 +1,5 @@
 -- Lists that positions are added to.
-use Rattle.cross_references.proofs.Words.{◌≡◌, ◌≢◌, ◌⊎◌, ◌↔◌, ℕ, zero, suc, ◌+◌, ◌-◌, ◌<◌, ◌≤◌, List, [], ◌∷◌, ◌++◌, length, take, get_or, slice_set, Some, slice_get, Result, Ok, Err, OnOk, sym, ◌∙◌, ap, subst, refl, arith, inl, inr, take_all, cases_eq, cases_lt, take_more, get_or_past, get_or-set_other, get_or-set_same, length-set, slice_get-get_or, Ascends, AreAbove, In, AreThose, HasMore, OfSome, in-place, place-in, last-in, last-out, those-by, Rises, IsIn, AreThosePassing, IsRoundTable}
+use Rattle.cross_references.proofs.Words.{◌≡◌, ◌≢◌, ◌⊎◌, ◌↔◌, ℕ, zero, suc, ◌+◌, ◌-◌, ◌<◌, ◌≤◌, List, [], ◌∷◌, ◌++◌, length, take, get_or, slice_set, Some, slice_get, Result, Ok, Err, OnOk, sym, ◌∙◌, ap, subst, refl, arith, inl, inr, take_all, cases_eq, cases_lt, take_more, get_or_past, get_or-set_other, get_or-set_same, length-set, slice_get-get_or, Ascends, AreAbove, In, AreThose, HasMore, OfSome, in-place, place-in, last-in, last-out, those-by, Rises, IsIn, ArePositionsWhere, IsRoundTable}
 
 pub has-nothing : (P : ℕ → Type 0) (list : List ℕ) → ((p : ℕ) → P p → ⊥) → HasMore P list list
 has-nothing P list none = record { stays = λ p i. i; all = λ p q. absurd (none p q); only = λ p i. inl i }
@@ -103,10 +103,10 @@ above-zero [] h = tt
 above-zero (p ∷ ps) h = (h p (inl refl), above-zero ps (λ q i. h q (inr i)))
 
 -- positions above 0 that pass, said in the words of questions
-pub those-passing : (P : ℕ → Type 0) (list : List ℕ) → AreThose P list → ((p : ℕ) → P p → 0 < p) → AreThosePassing P list
-those-passing P list those some = record {
+pub those-where : (P : ℕ → Type 0) (list : List ℕ) → AreThose P list → ((p : ℕ) → P p → 0 < p) → ArePositionsWhere P list
+those-where P list those some = record {
   rising = rises-from 0 list (above-zero list (λ p i. some p (those.only p i))) those.ascends;
-  passing = λ a. ((λ i. those.only a (place-in list i.0 a i.1)), λ p. in-place a list (those.all a p));
+  holding = λ a. ((λ i. those.only a (place-in list i.0 a i.1)), λ p. in-place a list (those.all a p));
 }
 
 -- one more, above all that are there

@@ -1,6 +1,6 @@
 -- The steps of the pass over the statements.
-use Rattle.cross_references.proofs.Words.{◌≡◌, ◌⊎◌, ◌↔◌, ℕ, zero, suc, ◌+◌, ◌-◌, ◌<◌, ◌≤◌, Bool, true, false, IsTrue, List, [], ◌∷◌, ◌++◌, length, map, take, drop, get_or, replicate, slice_set, Some, sym, ◌∙◌, ap, subst, refl, arith, inl, inr, take_all, length-append, append-nil, cases_eq, cases_lt, Vec, drop_all, get_or-map, map-append, map-set, get_or-set_other, get_or-set_same, get_or_append_left, get_or_past, length-map, length-set, length-replicate, Ascends, has_position, In, AreThose, HasMore, OfSome, last-in, last-out, those-by, in-has, has-in, Good, Cites, RestsOn, directly, through, Uses, IsAxiomAt, IsUser, is_axiom, cites-below, Database, Stmt, stmt_at, stands-within, AreThosePassing, AreListsOf, AreReferences, lists_of, Gives, AreWithin, HaveUserAdded, AreDone}
-use Rattle.cross_references.proofs.ListLemmas.{has-as, has-both, in-more, more-in, next-apart, those-passing, ascends-last}
+use Rattle.cross_references.proofs.Words.{◌≡◌, ◌⊎◌, ◌↔◌, ℕ, zero, suc, ◌+◌, ◌-◌, ◌<◌, ◌≤◌, Bool, true, false, IsTrue, List, [], ◌∷◌, ◌++◌, length, map, take, drop, get_or, replicate, slice_set, Some, sym, ◌∙◌, ap, subst, refl, arith, inl, inr, take_all, length-append, append-nil, cases_eq, cases_lt, Vec, drop_all, get_or-map, map-append, map-set, get_or-set_other, get_or-set_same, get_or_append_left, get_or_past, length-map, length-set, length-replicate, Ascends, has_position, In, AreThose, HasMore, OfSome, last-in, last-out, those-by, in-has, has-in, Good, Cites, RestsOn, directly, through, Uses, IsAxiomAt, IsUser, is_axiom, cites-below, Database, Stmt, stmt_at, stands-within, ArePositionsWhere, AreListsOf, AreReferences, lists_of, AddsAxiom, AreWithin, HaveCitingAdded, AreDone}
+use Rattle.cross_references.proofs.ListLemmas.{has-as, has-both, in-more, more-in, next-apart, those-where, ascends-last}
 
 -- what is cited stands before
 pub cites-within : (S : Database) (n a : ℕ) → Good S → Cites S (suc n) a → (0 < a) × (a ≤ n)
@@ -26,30 +26,30 @@ module _ (S : Database) (good : Good S) (n : ℕ) (axioms : List (List ℕ)) (ci
           let e : suc k - 1 ≡ k = omega arith in
           subst (λ i. AreThose (Uses S (suc k)) (get_or axioms i [])) (sym e) (are k (let h = w.1 in omega (arith, h)))
 
-  uses-given : (a : ℕ) → RestsOn S (suc n) a → IsAxiomAt S a → OfSome (Gives S axioms) cited a
-  uses-given a (directly c) ax = record { one = a; among = those.all a c; is = inl (ax, refl) }
-  uses-given a (through {b = b} c r) ax = record { one = b; among = those.all b c; is = inr ((list-of b c).all a (r, ax)) }
+  uses-added : (a : ℕ) → RestsOn S (suc n) a → IsAxiomAt S a → OfSome (AddsAxiom S axioms) cited a
+  uses-added a (directly c) ax = record { one = a; among = those.all a c; is = inl (ax, refl) }
+  uses-added a (through {b = b} c r) ax = record { one = b; among = those.all b c; is = inr ((list-of b c).all a (r, ax)) }
 
-  given-uses : (a : ℕ) → OfSome (Gives S axioms) cited a → Uses S (suc n) a
-  given-uses a g =
+  added-uses : (a : ℕ) → OfSome (AddsAxiom S axioms) cited a → Uses S (suc n) a
+  added-uses a g =
       let c = those.only g.one g.among in
       elim g.is [
         | inl h ↦ (directly (subst (Cites S (suc n)) (sym h.1) c), subst (IsAxiomAt S) (sym h.1) h.0)
         | inr i ↦ (let u = (list-of g.one c).only a i in (through c u.0, u.1))
       ]
 
-  pub uses-those : (list : List ℕ) → AreThose (OfSome (Gives S axioms) cited) list → AreThose (Uses S (suc n)) list
-  uses-those list given = those-by given given-uses (λ a u. uses-given a u.0 u.1)
+  pub uses-those : (list : List ℕ) → AreThose (OfSome (AddsAxiom S axioms) cited) list → AreThose (Uses S (suc n)) list
+  uses-those list given = those-by given added-uses (λ a u. uses-added a u.0 u.1)
 
--- ---- the users
+-- ---- the citing statements
 
 -- those of the first statements that cite the one at the index k
 abbrev pub CiteUpto : Database → ℕ → ℕ → ℕ → Type 0
 CiteUpto S n k j = (j ≤ n) × Cites S j (suc k)
 
 module _ (S : Database) (n k : ℕ) (old new : List ℕ) (are : AreThose (CiteUpto S n k) old) where
-  user-more : new ≡ old ++ suc n ∷ [] → Cites S (suc n) (suc k) → AreThose (CiteUpto S (suc n) k) new
-  user-more is c =
+  citing-more : new ≡ old ++ suc n ∷ [] → Cites S (suc n) (suc k) → AreThose (CiteUpto S (suc n) k) new
+  citing-more is c =
       subst (AreThose (CiteUpto S (suc n) k)) (sym is) (record {
         ascends = ascends-last old (suc n) are.ascends (λ p i. let u = are.only p i in let h = u.0 in omega (arith, h));
         all = λ p u. last-in p (suc n) old (elim (cases_eq p (suc n)) [
@@ -62,8 +62,8 @@ module _ (S : Database) (n k : ℕ) (old new : List ℕ) (are : AreThose (CiteUp
         ];
       })
 
-  user-same : new ≡ old → (Cites S (suc n) (suc k) → ⊥) → AreThose (CiteUpto S (suc n) k) new
-  user-same is none =
+  citing-same : new ≡ old → (Cites S (suc n) (suc k) → ⊥) → AreThose (CiteUpto S (suc n) k) new
+  citing-same is none =
       subst (AreThose (CiteUpto S (suc n) k)) (sym is) (those-by are
       (λ p u. let h = u.0 in (omega (arith, h), u.1))
       (λ p u. elim (cases_eq p (suc n)) [
@@ -71,24 +71,24 @@ module _ (S : Database) (n k : ℕ) (old new : List ℕ) (are : AreThose (CiteUp
         | inr apart ↦ (let h = u.0 in omega (arith, h, apart), u.1)
       ]))
 
-users-next : (S : Database) (n k : ℕ) (cited : List ℕ) (old new : List (List ℕ)) → AreThose (Cites S (suc n)) cited → HaveUserAdded (suc n) cited old new
+citing-next : (S : Database) (n k : ℕ) (cited : List ℕ) (old new : List (List ℕ)) → AreThose (Cites S (suc n)) cited → HaveCitingAdded (suc n) cited old new
     → AreThose (CiteUpto S n k) (get_or old k []) → AreThose (CiteUpto S (suc n) k) (get_or new k [])
-users-next S n k cited old new those have are = by (has_position (suc k) cited) refl
+citing-next S n k cited old new those have are = by (has_position (suc k) cited) refl
   where
     by : (b : Bool) → has_position (suc k) cited ≡ b → AreThose (CiteUpto S (suc n) k) (get_or new k [])
     by true e =
         let i = has-in (suc k) cited e in
-        user-more S n k (get_or old k []) (get_or new k []) are (have.those k i) (those.only (suc k) i)
+        citing-more S n k (get_or old k []) (get_or new k []) are (have.those k i) (those.only (suc k) i)
     by false e =
-        user-same S n k (get_or old k []) (get_or new k []) are
+        citing-same S n k (get_or old k []) (get_or new k []) are
         (have.others k (λ i. let f : true ≡ false = sym (in-has (suc k) cited i) ∙ e in cc))
         (λ c. let f : true ≡ false = sym (in-has (suc k) cited (those.all (suc k) c)) ∙ e in cc)
 
--- one list more has the user
-pub user-pushed : (at : ℕ) (positions : List ℕ) (i p : ℕ) (first old new : List (List ℕ)) → Ascends positions → i < length positions → p ≡ get_or positions i 0 → 0 < p → p ≤ length first
-    → new ≡ slice_set old (p - 1) (get_or old (p - 1) [] ++ at ∷ []) → HaveUserAdded at (take i positions) first old → HaveUserAdded at (take (i + 1) positions) first new
-user-pushed at positions i zero first old new asc h is some within set have = absurd (omega (arith, some))
-user-pushed at positions i (suc m) first old new asc h is some within set have = record {
+-- one list more has the citing statement
+pub citing-pushed : (at : ℕ) (positions : List ℕ) (i p : ℕ) (first old new : List (List ℕ)) → Ascends positions → i < length positions → p ≡ get_or positions i 0 → 0 < p → p ≤ length first
+    → new ≡ slice_set old (p - 1) (get_or old (p - 1) [] ++ at ∷ []) → HaveCitingAdded at (take i positions) first old → HaveCitingAdded at (take (i + 1) positions) first new
+citing-pushed at positions i zero first old new asc h is some within set have = absurd (omega (arith, some))
+citing-pushed at positions i (suc m) first old new asc h is some within set have = record {
   count = ap length made ∙ (length-set old m (get_or old m [] ++ at ∷ []) ∙ have.count);
   those = λ k j. elim (in-more positions i (suc k) h j) [ inl before ↦ earlier k before | inr e ↦ here k (let f : suc k ≡ suc m = e ∙ sym is in omega (arith, f)) ];
   others = λ k none. other k none;
@@ -120,11 +120,11 @@ user-pushed at positions i (suc m) first old new asc h is some within set have =
         elsewhere k (λ e. none (more-in positions i (suc k) h (inr (ap suc e ∙ is))))
         ∙ have.others k (λ before. none (more-in positions i (suc k) h (inl before)))
 
-pub user-none : (at : ℕ) (lists : List (List ℕ)) → HaveUserAdded at [] lists lists
-user-none at lists = record { count = refl; those = λ k i. absurd i; others = λ k none. refl }
+pub citing-none : (at : ℕ) (lists : List (List ℕ)) → HaveCitingAdded at [] lists lists
+citing-none at lists = record { count = refl; those = λ k i. absurd i; others = λ k none. refl }
 
-pub user-all : (at : ℕ) (positions : List ℕ) (i : ℕ) (old new : List (List ℕ)) → length positions ≤ i → HaveUserAdded at (take i positions) old new → HaveUserAdded at positions old new
-user-all at positions i old new h have = subst (λ ps. HaveUserAdded at ps old new) (take_all i positions h) have
+pub citing-all : (at : ℕ) (positions : List ℕ) (i : ℕ) (old new : List (List ℕ)) → length positions ≤ i → HaveCitingAdded at (take i positions) old new → HaveCitingAdded at positions old new
+citing-all at positions i old new h have = subst (λ ps. HaveCitingAdded at ps old new) (take_all i positions h) have
 
 -- ---- all statements
 
@@ -148,28 +148,28 @@ module _ (S : Database) where
   cites-some : (j a : ℕ) → Cites S j a → (1 ≤ j) × (j ≤ length S)
   cites-some j a c = stands-within S j c.has.stmt c.has.provable.stands
 
-  pub done-start : (axioms users : List (List ℕ)) → axioms ≡ [] → users ≡ replicate (length S) [] → AreDone S 0 axioms users
-  done-start axioms users none empty = record {
+  pub done-start : (axioms cited_by : List (List ℕ)) → axioms ≡ [] → cited_by ≡ replicate (length S) [] → AreDone S 0 axioms cited_by
+  done-start axioms cited_by none empty = record {
     within = omega arith;
     axioms_count = ap length none;
-    users_count = ap length empty ∙ length-replicate (length S) [];
+    cited_by_count = ap length empty ∙ length-replicate (length S) [];
     axioms_are = λ k h. absurd (omega (arith, h));
-    users_are = λ k h. subst (AreThose (CiteUpto S 0 k)) (sym (ap (λ l. get_or l k []) empty ∙ no-list (length S) k)) (record {
+    cited_by_are = λ k h. subst (AreThose (CiteUpto S 0 k)) (sym (ap (λ l. get_or l k []) empty ∙ no-list (length S) k)) (record {
       ascends = tt;
       all = λ p u. absurd (let c = cites-some p (suc k) u.1 in let h = u.0 in let w = c.0 in omega (arith, h, w));
       only = λ p i. absurd i;
     });
   }
 
-  pub done-next : (n m : ℕ) (axioms users new news : List (List ℕ)) (cited list : List ℕ) → Good S → m ≡ suc n → n < length S → AreThose (Cites S (suc n)) cited
-      → HaveUserAdded (suc n) cited users news → AreThose (OfSome (Gives S axioms) cited) list → new ≡ axioms ++ list ∷ [] → AreDone S n axioms users → AreDone S m new news
-  done-next n m axioms users new news cited list good is h those have given more done =
+  pub done-next : (n m : ℕ) (axioms cited_by new news : List (List ℕ)) (cited list : List ℕ) → Good S → m ≡ suc n → n < length S → AreThose (Cites S (suc n)) cited
+      → HaveCitingAdded (suc n) cited cited_by news → AreThose (OfSome (AddsAxiom S axioms) cited) list → new ≡ axioms ++ list ∷ [] → AreDone S n axioms cited_by → AreDone S m new news
+  done-next n m axioms cited_by new news cited list good is h those have given more done =
       subst (λ q. AreDone S q new news) (sym is) (subst (λ l. AreDone S (suc n) l news) (sym more) (record {
         within = omega (arith, h);
         axioms_count = let c = done.axioms_count in let l = length-append axioms (list ∷ []) in omega (arith, c, l);
-        users_count = have.count ∙ done.users_count;
+        cited_by_count = have.count ∙ done.cited_by_count;
         axioms_are = axioms_next;
-        users_are = λ k w. users-next S n k cited users news those have (done.users_are k w);
+        cited_by_are = λ k w. citing-next S n k cited cited_by news those have (done.cited_by_are k w);
       }))
     where
       own : AreThose (Uses S (suc n)) list
@@ -188,17 +188,17 @@ module _ (S : Database) where
             (subst (AreThose (Uses S (suc n))) (sym (ap (λ q. get_or (axioms ++ list ∷ []) q []) (sym done.axioms_count) ∙ last axioms)) own))
       ]
 
-  pub done-all : (n : ℕ) (axioms users : List (List ℕ)) → length S ≤ n → AreDone S n axioms users → AreReferences S axioms users
-  done-all n axioms users h done = record {
-    axioms_of = record {
+  pub done-all : (n : ℕ) (axioms cited_by : List (List ℕ)) → length S ≤ n → AreDone S n axioms cited_by → AreReferences S axioms cited_by
+  done-all n axioms cited_by h done = record {
+    axioms_listed = record {
       count = let c = done.axioms_count in let w = done.within in omega (arith, c, w, h);
-      each = λ k w. those-passing (Uses S (suc k)) (get_or axioms k []) (done.axioms_are k (omega (arith, w, h)))
+      each = λ k w. those-where (Uses S (suc k)) (get_or axioms k []) (done.axioms_are k (omega (arith, w, h)))
           (λ p u. let ax = u.1 in let l = stands-within S p ax.stmt ax.stands in let f = l.0 in omega (arith, f));
     };
-    users_of = record {
-      count = done.users_count;
-      each = λ k w. those-passing (IsUser S false (suc k)) (get_or users k [])
-          (those-by (done.users_are k w) (λ j u. u.1) (λ j c. (let l = cites-some j (suc k) c in let f = l.1 in omega (arith, f, h), c)))
+    cited_by_listed = record {
+      count = done.cited_by_count;
+      each = λ k w. those-where (IsUser S false (suc k)) (get_or cited_by k [])
+          (those-by (done.cited_by_are k w) (λ j u. u.1) (λ j c. (let l = cites-some j (suc k) c in let f = l.1 in omega (arith, f, h), c)))
           (λ j c. let l = cites-some j (suc k) c in let f = l.0 in omega (arith, f));
     };
   }
@@ -222,16 +222,16 @@ lists-push us vs v is = ap lists_of is ∙ map-append (λ (w : Vec ℕ). w.items
 
 -- ---- what one position gives
 
-pub given-more : (S : Database) (axioms : List (List ℕ)) (p : ℕ) (old mid new : List ℕ) (s : Stmt) (list : List ℕ) → stmt_at S p ≡ Some s
-    → HasMore (λ q. IsTrue (is_axiom s) × (q ≡ p)) old mid → list ≡ get_or axioms (p - 1) [] → HasMore (λ q. In q list) mid new → HasMore (Gives S axioms p) old new
-given-more S axioms p old mid new s list stands first is more =
-    has-as (λ q. (IsTrue (is_axiom s) × (q ≡ p)) ⊎ In q list) (Gives S axioms p) old new to from (has-both (λ q. IsTrue (is_axiom s) × (q ≡ p)) (λ q. In q list) old mid new first more)
+pub added-more : (S : Database) (axioms : List (List ℕ)) (p : ℕ) (old mid new : List ℕ) (s : Stmt) (list : List ℕ) → stmt_at S p ≡ Some s
+    → HasMore (λ q. IsTrue (is_axiom s) × (q ≡ p)) old mid → list ≡ get_or axioms (p - 1) [] → HasMore (λ q. In q list) mid new → HasMore (AddsAxiom S axioms p) old new
+added-more S axioms p old mid new s list stands first is more =
+    has-as (λ q. (IsTrue (is_axiom s) × (q ≡ p)) ⊎ In q list) (AddsAxiom S axioms p) old new to from (has-both (λ q. IsTrue (is_axiom s) × (q ≡ p)) (λ q. In q list) old mid new first more)
   where
-    to : (q : ℕ) → (IsTrue (is_axiom s) × (q ≡ p)) ⊎ In q list → Gives S axioms p q
+    to : (q : ℕ) → (IsTrue (is_axiom s) × (q ≡ p)) ⊎ In q list → AddsAxiom S axioms p q
     to q (inl h) = inl (record { stmt = s; stands = stands; kind = h.0 }, h.1)
     to q (inr i) = inr (subst (In q) is i)
 
-    from : (q : ℕ) → Gives S axioms p q → (IsTrue (is_axiom s) × (q ≡ p)) ⊎ In q list
+    from : (q : ℕ) → AddsAxiom S axioms p q → (IsTrue (is_axiom s) × (q ≡ p)) ⊎ In q list
     from q (inl h) =
         let there = h.0 in
         let e : Some there.stmt ≡ Some s = sym there.stands ∙ stands in
@@ -246,14 +246,14 @@ lent-lists n s old same all =
 
 -- ---- what the calls say, in the words of the pass
 
-pub have-as : (at m : ℕ) (ps qs : List ℕ) (lent old new : List (Vec ℕ)) → m ≡ at → ps ≡ qs → lent ≡ old → HaveUserAdded m ps (lists_of lent) (lists_of new) → HaveUserAdded at qs (lists_of old) (lists_of new)
+pub have-as : (at m : ℕ) (ps qs : List ℕ) (lent old new : List (Vec ℕ)) → m ≡ at → ps ≡ qs → lent ≡ old → HaveCitingAdded m ps (lists_of lent) (lists_of new) → HaveCitingAdded at qs (lists_of old) (lists_of new)
 have-as at m ps qs lent old new same is all have =
-    subst (λ a. HaveUserAdded a qs (lists_of old) (lists_of new)) same
-    (subst (λ (l : List ℕ). HaveUserAdded m l (lists_of old) (lists_of new)) is
-    (subst (λ (us : List (Vec ℕ)). HaveUserAdded m ps (lists_of us) (lists_of new)) all have))
+    subst (λ a. HaveCitingAdded a qs (lists_of old) (lists_of new)) same
+    (subst (λ (l : List ℕ). HaveCitingAdded m l (lists_of old) (lists_of new)) is
+    (subst (λ (us : List (Vec ℕ)). HaveCitingAdded m ps (lists_of us) (lists_of new)) all have))
 
-pub given-as : (S T : Database) (ps qs list : List ℕ) (lent axioms : List (Vec ℕ)) → T ≡ S → ps ≡ qs → lent ≡ axioms → AreThose (OfSome (Gives T (lists_of lent)) ps) list → AreThose (OfSome (Gives S (lists_of axioms)) qs) list
-given-as S T ps qs list lent axioms same is all given =
-    subst (λ (U : Database). AreThose (OfSome (Gives U (lists_of axioms)) qs) list) same
-    (subst (λ (l : List ℕ). AreThose (OfSome (Gives T (lists_of axioms)) l) list) is
-    (subst (λ (us : List (Vec ℕ)). AreThose (OfSome (Gives T (lists_of us)) ps) list) all given))
+pub added-as : (S T : Database) (ps qs list : List ℕ) (lent axioms : List (Vec ℕ)) → T ≡ S → ps ≡ qs → lent ≡ axioms → AreThose (OfSome (AddsAxiom T (lists_of lent)) ps) list → AreThose (OfSome (AddsAxiom S (lists_of axioms)) qs) list
+added-as S T ps qs list lent axioms same is all given =
+    subst (λ (U : Database). AreThose (OfSome (AddsAxiom U (lists_of axioms)) qs) list) same
+    (subst (λ (l : List ℕ). AreThose (OfSome (AddsAxiom T (lists_of axioms)) l) list) is
+    (subst (λ (us : List (Vec ℕ)). AreThose (OfSome (AddsAxiom T (lists_of us)) ps) list) all given))

@@ -1,6 +1,6 @@
 -- The words in which this crate is proved, passed on from one place.
-pub use Rattle.cross_references.specs.Passes.{AreDone, IsRoundTable, AreWithin, Gives, HaveUserAdded, listed_place, lists_of}
-pub use Rattle.cross_references.specs.References.{AreListsOf, AreReferences, AreThosePassing}
+pub use Rattle.cross_references.specs.PassState.{AreDone, IsRoundTable, AreWithin, AddsAxiom, HaveCitingAdded, position_list, lists_of}
+pub use Rattle.cross_references.specs.References.{AreListsOf, AreReferences, ArePositionsWhere}
 pub use Rattle.entries.specs.PositionSets.{AreAbove, Ascends, has_position}
 pub use Rattle.frame.proofs.AscendingLists.{in-place, place-in}
 pub use Rattle.frame.proofs.CollectLemmas.{last-in, last-out, ordered, those-by}

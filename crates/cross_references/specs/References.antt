@@ -5,17 +5,17 @@ use Rattle.std.specs.Prelude.{◌≡◌, ◌↔◌, ℕ, suc, ◌<◌, false, Li
 use Rattle.mm_read.specs.Statements.{Database}
 use Rattle.library.specs.Uses.{Uses, IsUser, Rises, IsIn}
 
--- the positions that pass, in ascending order, each once
-pub record AreThosePassing (Passes : ℕ → Type 0) (positions : List ℕ) : Type 0 where
+-- the positions for which it holds, in ascending order, each once
+pub record ArePositionsWhere (Holds : ℕ → Type 0) (positions : List ℕ) : Type 0 where
   pub rising : Rises 0 positions
-  pub passing : (a : ℕ) → IsIn a positions ↔ Passes a
+  pub holding : (a : ℕ) → IsIn a positions ↔ Holds a
 
 -- a list for each statement, the first for position 1: the positions that the statement's own relates to
 pub record AreListsOf (S : Database) (Relates : ℕ → ℕ → Type 0) (lists : List (List ℕ)) : Type 0 where
   pub count : length lists ≡ length S
-  pub each : (k : ℕ) → k < length S → AreThosePassing (Relates (suc k)) (get_or lists k [])
+  pub each : (k : ℕ) → k < length S → ArePositionsWhere (Relates (suc k)) (get_or lists k [])
 
 -- the `$a` that each statement rests on, and the `$p` whose proofs cite it
-pub record AreReferences (S : Database) (axioms users : List (List ℕ)) : Type 0 where
-  pub axioms_of : AreListsOf S (Uses S) axioms
-  pub users_of : AreListsOf S (IsUser S false) users
+pub record AreReferences (S : Database) (axioms cited_by : List (List ℕ)) : Type 0 where
+  pub axioms_listed : AreListsOf S (Uses S) axioms
+  pub cited_by_listed : AreListsOf S (IsUser S false) cited_by

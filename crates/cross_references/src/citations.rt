@@ -1,6 +1,6 @@
 //! The statements that one proof cites.
 ghost use Rattle.std.specs.Prelude.{◌≡◌, suc, ◌<◌, ◌++◌, length, filter_map, IfOk, OnOk};
-ghost use Rattle.cross_references.specs.Passes.{listed_place};
+ghost use Rattle.cross_references.specs.PassState.{position_list};
 ghost use Rattle.frame.specs.AtPosition.{HasLabelsOnce};
 ghost use Rattle.frame.specs.Stored.Hypotheses.{In, AreThose};
 ghost use Rattle.library.specs.UseMarks.{place_of};
@@ -38,7 +38,7 @@ fn cited_positions(alloc: Global, frames: &Frames, items: &Items) -> Result<Vec<
     let places = frames.positions(parts.labels)?;
     let mut cited = Vec::new(alloc);
     push_positions(&mut cited, places.as_slice(), parts.numbers)?;
-    order(&mut cited);
+    sort_dedup(&mut cited);
     Ok(cited)
 }
 
@@ -58,7 +58,7 @@ fn push_positions(
 
 /// Appends a position, if there is one.
 fn push_place(cited: &mut Vec<usize>, place: Option<usize>) -> Result<(), AllocError>
-    ensures { OnOk result (cited.new.items ≡ cited.old.items ++ listed_place place) }
+    ensures { OnOk result (cited.new.items ≡ cited.old.items ++ position_list place) }
 {
     if let Some(position) = place {
         cited.push(position)?;
@@ -75,7 +75,7 @@ fn place_of(places: &[Option<usize>], number: u32) -> Option<usize>
 }
 
 /// Sorts positions in ascending order and removes repetitions.
-pub fn order(list: &mut Vec<usize>)
+pub fn sort_dedup(list: &mut Vec<usize>)
     ensures { AreThose (λ p. In p list.old.items) list.new.items }
 {
     list.sort_unstable();

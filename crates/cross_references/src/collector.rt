@@ -2,7 +2,7 @@
 ghost use Rattle.std.specs.Prelude.{◌≡◌, [], true, get_or, slice_set, IfOk, OnOk};
 ghost use Rattle.frame.specs.Stored.Hypotheses.{In, AreThose, HasMore};
 
-use crate::citations::order;
+use crate::citations::sort_dedup;
 use std::alloc::{AllocError, Global};
 use std::marker::Model;
 
@@ -19,7 +19,7 @@ pub struct Collector {
 
 impl Model for Collector {
     ghost use Rattle.std.specs.Prelude.{List, ℕ};
-    ghost use Rattle.cross_references.specs.Passes.{IsRoundTable};
+    ghost use Rattle.cross_references.specs.PassState.{IsRoundTable};
 
     ghost Value = { List ℕ };
 
@@ -43,7 +43,7 @@ impl Collector {
     }
 
     /// Begins a new round, in which no position is collected yet.
-    pub fn begin(&mut self) -> Result<(), AllocError>
+    pub fn begin_round(&mut self) -> Result<(), AllocError>
         ensures { OnOk result (self.new ≡ []) }
     {
         self.round = self.round.checked_add(1).ok_or(AllocError)?;
@@ -60,7 +60,7 @@ impl Collector {
             return Ok(());
         }
         self.list.push(position)?;
-        note(&mut self.rounds, position, self.round);
+        record_round(&mut self.rounds, position, self.round);
         Ok(())
     }
 
@@ -79,7 +79,7 @@ impl Collector {
         ensures { IfOk result (λ list. AreThose (λ p. In p self.now) list.items) }
     {
         let mut list = Vec::from_slice(self.alloc, self.list.as_slice())?;
-        order(&mut list);
+        sort_dedup(&mut list);
         Ok(list)
     }
 }
@@ -92,7 +92,7 @@ fn is_collected(rounds: &Vec<usize>, position: usize, round: usize) -> bool
 }
 
 /// Records the round in which a position was added, if the table has an entry for the position.
-fn note(rounds: &mut Vec<usize>, position: usize, round: usize)
+fn record_round(rounds: &mut Vec<usize>, position: usize, round: usize)
     ensures { rounds.new.items ≡ slice_set rounds.old.items position round }
 {
     if position < rounds.len() {

@@ -5,7 +5,7 @@ ghost use Rattle.frame.specs.Stored.Hypotheses.{AreThose, HasMore, OfSome};
 ghost use Rattle.library.specs.Good.{Good};
 ghost use Rattle.library.specs.Uses.{Cites, Uses, is_axiom};
 ghost use Rattle.cross_references.specs.References.{AreReferences};
-ghost use Rattle.cross_references.specs.Passes.{lists_of, Gives, AreWithin, HaveUserAdded, AreDone};
+ghost use Rattle.cross_references.specs.PassState.{lists_of, AddsAxiom, AreWithin, HaveCitingAdded, AreDone};
 
 use crate::citations::cited_at;
 use crate::collector::Collector;
@@ -20,7 +20,7 @@ pub struct CrossReferences {
     /// The positions of the `$a` that a `$p` rests on; empty for another statement.
     pub axioms: Vec<Vec<usize>>,
     /// The positions of the `$p` whose proofs cite the statement.
-    pub users: Vec<Vec<usize>>,
+    pub cited_by: Vec<Vec<usize>>,
 }
 
 /// Returns the cross references of a library: the answers of `Library::trace` for each `$p` and of `Library::usage` for each
@@ -30,15 +30,15 @@ pub struct CrossReferences {
 /// length of the cited statement's list of axioms. Source: Metamath, 4.2.6 and appendix B.
 pub fn cross_references(alloc: Global, library: &Library) -> Result<CrossReferences, AllocError>
     ensures { IfOk result (λ found. AreReferences library.now.replica.statements
-        (lists_of found.axioms.items) (lists_of found.users.items)) }
+        (lists_of found.axioms.items) (lists_of found.cited_by.items)) }
 {
     let count = library.statements().len();
     let mut collector = Collector::new(alloc, count)?;
     let mut axioms = Vec::new(alloc);
-    let mut users = empty_lists(alloc, count)?;
+    let mut cited_by = empty_lists(alloc, count)?;
     for index in 0..count {
         let cited = cited_at(alloc, library, index)?;
-        add_user(&mut users, cited.as_slice(), index + 1)?;
+        add_citing(&mut cited_by, cited.as_slice(), index + 1)?;
         let list = axioms_at(
             library.statements(),
             &axioms,
@@ -47,7 +47,7 @@ pub fn cross_references(alloc: Global, library: &Library) -> Result<CrossReferen
         )?;
         axioms.push(list)?;
     }
-    Ok(CrossReferences { axioms, users })
+    Ok(CrossReferences { axioms, cited_by })
 }
 
 /// Returns `count` empty lists.
@@ -61,25 +61,25 @@ fn empty_lists(alloc: Global, count: usize) -> Result<Vec<Vec<usize>>, AllocErro
     Ok(lists)
 }
 
-/// Appends the user at `at` to the list of each of the cited positions.
-fn add_user(users: &mut [Vec<usize>], cited: &[usize], at: usize) -> Result<(), AllocError>
+/// Appends the position `at` of a citing statement to the list of each of the cited positions.
+fn add_citing(cited_by: &mut [Vec<usize>], cited: &[usize], at: usize) -> Result<(), AllocError>
     requires ascends { Ascends cited.now }
-    requires within { AreWithin (length users.old) cited.now }
-    ensures { OnOk result (HaveUserAdded at cited.now (lists_of users.old) (lists_of users.new)) }
+    requires within { AreWithin (length cited_by.old) cited.now }
+    ensures { OnOk result (HaveCitingAdded at cited.now (lists_of cited_by.old) (lists_of cited_by.new)) }
 {
     for position in cited {
-        push_user(users, *position, at)?;
+        push_citing(cited_by, *position, at)?;
     }
     Ok(())
 }
 
-/// Appends the user at `at` to the list of a position.
-fn push_user(users: &mut [Vec<usize>], position: usize, at: usize) -> Result<(), AllocError>
-    requires { (0 < position) × (position ≤ length users.old) }
-    ensures { OnOk result (lists_of users.new ≡ slice_set (lists_of users.old) (position - 1)
-        (get_or (lists_of users.old) (position - 1) [] ++ at ∷ [])) }
+/// Appends the position `at` of a citing statement to the list of a position.
+fn push_citing(cited_by: &mut [Vec<usize>], position: usize, at: usize) -> Result<(), AllocError>
+    requires { (0 < position) × (position ≤ length cited_by.old) }
+    ensures { OnOk result (lists_of cited_by.new ≡ slice_set (lists_of cited_by.old) (position - 1)
+        (get_or (lists_of cited_by.old) (position - 1) [] ++ at ∷ [])) }
 {
-    let list = &mut users[position - 1];
+    let list = &mut cited_by[position - 1];
     list.push(at)?;
     Ok(())
 }
@@ -94,9 +94,9 @@ fn axioms_at(
 ) -> Result<Vec<usize>, AllocError>
     requires axioms { AreWithin (length axioms.now) cited.now }
     requires statements { length axioms.now ≤ length statements.now }
-    ensures { IfOk result (λ list. AreThose (OfSome (Gives statements.now (lists_of axioms.now)) cited.now) list.items) }
+    ensures { IfOk result (λ list. AreThose (OfSome (AddsAxiom statements.now (lists_of axioms.now)) cited.now) list.items) }
 {
-    collector.begin()?;
+    collector.begin_round()?;
     for position in cited {
         add_axioms_of(statements, axioms, *position, collector)?;
     }
@@ -112,7 +112,7 @@ fn add_axioms_of(
 ) -> Result<(), AllocError>
     requires axioms { (0 < position) × (position ≤ length axioms.now) }
     requires statements { length axioms.now ≤ length statements.now }
-    ensures { OnOk result (HasMore (Gives statements.now (lists_of axioms.now) position) collector.old collector.new) }
+    ensures { OnOk result (HasMore (AddsAxiom statements.now (lists_of axioms.now) position) collector.old collector.new) }
 {
     add_axiom(&statements[position - 1], position, collector)?;
     collector.add_all(axioms[position - 1].as_slice())

@@ -79,7 +79,7 @@ fn write_assertion(
 {
     let index = at.saturating_sub(1);
     let axioms = positions_at(alloc, contents.references.axioms.as_slice(), index)?;
-    let users = positions_at(alloc, contents.references.users.as_slice(), index)?;
+    let users = positions_at(alloc, contents.references.cited_by.as_slice(), index)?;
     let library = contents.site.library;
     let assertion = PageContents {
         statements: library.statements(),

@@ -10,4 +10,4 @@ returns c =
     let read = slice_get_read c.statements.result.now (length c.statements.result.now) c.args.index s refl less c.index-statements-index.is in
     let stands = subst (λ T. slice_get T c.args.index ≡ Some s) c.statements.ensures.statements read in
     let has = proof-items S (suc c.args.index) c.in-Ok.field-0-0 s c.as_bytes.result.now _ c.statements.ensures.good stands (ap label_of c.in-Prove.is ∙ ap Some (sym c.as_bytes.ensures.bytes)) c.in-Ok.ensures.items in
-    on_ok c.cited_positions.result (λ list told. cited-those S c.frames.result.now.statements c.frames.ensures.same (suc c.args.index) _ list.items has told) c.cited_positions.ensures
+    on_ok c.cited_positions.result (λ list those. cited-those S c.frames.result.now.statements c.frames.ensures.same (suc c.args.index) _ list.items has those) c.cited_positions.ensures

@@ -1,4 +1,4 @@
-use Rattle.cross_references.proofs.Words.{[], arith, refl, OfSome, on_ok, lists_of, Gives}
+use Rattle.cross_references.proofs.Words.{[], arith, refl, OfSome, on_ok, lists_of, AddsAxiom}
 use Rattle.cross_references.proofs.ListLemmas.{in-at, has-some-next, has-some-all, those-collected}
 use Rattle.cross_references.proofs.references.axioms_at.Goals as goal
 
@@ -7,13 +7,13 @@ add_axioms_of-requires-clause-axioms c = c.requires.axioms _ (in-at c.args.cited
 
 pub loop-position-preserved : goal.loop-position-preserved
 loop-position-preserved c =
-    has-some-next (Gives c.args.statements.now (lists_of c.args.axioms.now)) c.args.cited.now c.loop-position.position-index [] c.loop-position.collector c.add_axioms_of.new.collector
+    has-some-next (AddsAxiom c.args.statements.now (lists_of c.args.axioms.now)) c.args.cited.now c.loop-position.position-index [] c.loop-position.collector c.add_axioms_of.new.collector
     (omega (arith, c.loop-position-test.true)) c.loop-position.invariant c.in_ok-add_axioms_of.ensures
 
 pub returns : goal.returns
 returns c =
-    let R = Gives c.args.statements.now (lists_of c.args.axioms.now) in
+    let R = AddsAxiom c.args.statements.now (lists_of c.args.axioms.now) in
     on_ok c.ordered.result
-    (λ list told. those-collected (OfSome R c.args.cited.now) [] c.loop-position.collector list.items refl
-    (has-some-all R c.args.cited.now c.loop-position.position-index [] c.loop-position.collector (omega (arith, c.loop-position-test.false)) c.loop-position.invariant) told)
+    (λ list those. those-collected (OfSome R c.args.cited.now) [] c.loop-position.collector list.items refl
+    (has-some-all R c.args.cited.now c.loop-position.position-index [] c.loop-position.collector (omega (arith, c.loop-position-test.false)) c.loop-position.invariant) those)
     c.ordered.ensures

@@ -3,4 +3,4 @@ use Rattle.cross_references.proofs.collector.Collector.ordered.Goals as goal
 
 pub returns : goal.returns
 returns c =
-    subst (λ (l : List ℕ). AreThose (λ p. In p l) c.order.new.list.items) (c.in_ok-list.ensures.items ∙ (c.as_slice.ensures.value ∙ c.self.view_is)) c.order.ensures
+    subst (λ (l : List ℕ). AreThose (λ p. In p l) c.sort_dedup.new.list.items) (c.in_ok-list.ensures.items ∙ (c.as_slice.ensures.value ∙ c.self.view_is)) c.sort_dedup.ensures

@@ -11,9 +11,9 @@ abbrev pub lists_of : List (Vec ℕ) → List (List ℕ)
 lists_of vectors = map (λ (v : Vec ℕ). v.items) vectors
 
 -- an optional position as a list
-abbrev pub listed_place : Option ℕ → List ℕ
-listed_place None = []
-listed_place (Some position) = position ∷ []
+abbrev pub position_list : Option ℕ → List ℕ
+position_list None = []
+position_list (Some position) = position ∷ []
 
 -- each position was last added in this round, in an earlier one or never; those added in this round are in the list
 pub record IsRoundTable (list rounds : List ℕ) (round : ℕ) : Type 0 where
@@ -22,23 +22,23 @@ pub record IsRoundTable (list rounds : List ℕ) (round : ℕ) : Type 0 where
   pub among : (k : ℕ) → get_or rounds k 0 ≡ round → In k list
 
 -- a is c and the statement at c is a `$a`, or a is in the list of c
-abbrev pub Gives : Database → List (List ℕ) → ℕ → ℕ → Type 0
-Gives S lists c a = (IsAxiomAt S c × (a ≡ c)) ⊎ In a (get_or lists (c - 1) [])
+abbrev pub AddsAxiom : Database → List (List ℕ) → ℕ → ℕ → Type 0
+AddsAxiom S lists c a = (IsAxiomAt S c × (a ≡ c)) ⊎ In a (get_or lists (c - 1) [])
 
 -- each position is one of 1 to `count`
 abbrev pub AreWithin : ℕ → List ℕ → Type 0
 AreWithin count positions = (p : ℕ) → In p positions → (0 < p) × (p ≤ count)
 
--- the user at `at` was added to the lists of exactly these positions
-pub record HaveUserAdded (at : ℕ) (positions : List ℕ) (old new : List (List ℕ)) : Type 0 where
+-- the citing statement at `at` was added to the lists of exactly these positions
+pub record HaveCitingAdded (at : ℕ) (positions : List ℕ) (old new : List (List ℕ)) : Type 0 where
   pub count : length new ≡ length old
   pub those : (k : ℕ) → In (suc k) positions → get_or new k [] ≡ get_or old k [] ++ at ∷ []
   pub others : (k : ℕ) → (In (suc k) positions → ⊥) → get_or new k [] ≡ get_or old k []
 
 -- the first n statements are done: the lists have the `$a` that each of them rests on, and which of them cite each statement
-pub record AreDone (S : Database) (n : ℕ) (axioms users : List (List ℕ)) : Type 0 where
+pub record AreDone (S : Database) (n : ℕ) (axioms cited_by : List (List ℕ)) : Type 0 where
   pub within : n ≤ length S
   pub axioms_count : length axioms ≡ n
-  pub users_count : length users ≡ length S
+  pub cited_by_count : length cited_by ≡ length S
   pub axioms_are : (k : ℕ) → k < n → AreThose (Uses S (suc k)) (get_or axioms k [])
-  pub users_are : (k : ℕ) → k < length S → AreThose (λ j. (j ≤ n) × Cites S j (suc k)) (get_or users k [])
+  pub cited_by_are : (k : ℕ) → k < length S → AreThose (λ j. (j ≤ n) × Cites S j (suc k)) (get_or cited_by k [])

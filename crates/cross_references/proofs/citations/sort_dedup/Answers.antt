@@ -1,5 +1,5 @@
 use Rattle.cross_references.proofs.Words.{eqb, dedup_is, ordered}
-use Rattle.cross_references.proofs.citations.order.Goals as goal
+use Rattle.cross_references.proofs.citations.sort_dedup.Goals as goal
 
 pub returns : goal.returns
 returns c =
