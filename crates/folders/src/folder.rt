@@ -32,7 +32,7 @@ impl From<io::Error> for FolderFault {
 pub trait Folder {
     /// Relates the folder before a file is written, the name and the bytes of the file, and the
     /// folder after it. The default says nothing.
-    ghost gains: { Self → List ℕ → List ℕ → Self → Type 0 } = { λ _ _ _ _. ⊤ };
+    ghost writes: { Self → List ℕ → List ℕ → Self → Type 0 } = { λ _ _ _ _. ⊤ };
 
     /// Opens the folder at a path. A folder of the file system is created if it does not exist.
     ///
@@ -45,5 +45,5 @@ pub trait Folder {
     /// Errors: `Memory`, `Refused`. After an error no file of that name holds a part of these
     /// bytes.
     fn write(&mut self, name: &str, bytes: &[u8]) -> Result<(), FolderFault>
-        ensures { OnOk result (gains self.old name.now bytes.now self.new) };
+        ensures { OnOk result (writes self.old name.now bytes.now self.new) };
 }

@@ -32,7 +32,7 @@ impl MemoryFolder {
 }
 
 impl Folder for MemoryFolder {
-    ghost gains = { λ old name bytes new. files_of new.files.items ≡ files_of old.files.items ++ (name, bytes) ∷ [] };
+    ghost writes = { λ old name bytes new. files_of new.files.items ≡ files_of old.files.items ++ (name, bytes) ∷ [] };
 
     fn open(&mut self, _path: &str) -> Result<(), FolderFault> {
         Ok(())

@@ -35,7 +35,7 @@ impl<'a, R: Files + AllocGlobal> SystemFolder<'a, R> {
     }
 
     /// Writes the bytes into the unfinished file, and renames it to `path`.
-    fn write_renamed(
+    fn write_then_rename(
         &self,
         mut file: R::File,
         unfinished: &str,
@@ -61,7 +61,7 @@ impl<'a, R: Files + AllocGlobal> Folder for SystemFolder<'a, R> {
         let unfinished = self.path_of(UNFINISHED)?;
         let path = self.path_of(name)?;
         let file = File::create_new(self.rt, unfinished.as_str())?;
-        let written = self.write_renamed(file, unfinished.as_str(), path.as_str(), bytes);
+        let written = self.write_then_rename(file, unfinished.as_str(), path.as_str(), bytes);
         if written.is_err() {
             let _ = fs::remove_file(self.rt, unfinished.as_str());
         }

@@ -6,7 +6,7 @@ pub use Rattle.mm_read.specs.declared.stmt.Stmt.{Stmt}
 pub use Rattle.mm_read.specs.declared.stmt.Stmt.TheVariants.{Axiom, Open, Prove}
 pub use Rattle.scope.proofs.StatementPlaces.{stands-within, stmt_at-bares}
 pub use Rattle.scope.specs.Active.{bare, bares, is_assertion, is_provable, stmt_at}
-pub use Rattle.sites.specs.SiteFiles.{WritesNamed, page_name, page_names}
+pub use Rattle.sites.specs.SiteFiles.{WritesNamed, page_file, page_files}
 pub use Rattle.std.proofs.Common.{ap, append-nil, append_assoc, arith, refl, subst, sym, ◌∙◌}
 pub use Rattle.std.proofs.lemmas.List.{length-take-le, take_more}
 pub use Rattle.std.proofs.lemmas.Option.{slice_get-get_or}

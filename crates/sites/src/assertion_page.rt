@@ -24,13 +24,13 @@ pub struct PageSources<'a> {
 /// Appends the page of the assertion at an index, or nothing if the statement there is not an assertion.
 pub fn push_page(
     alloc: Global,
-    contents: &PageSources<'_>,
+    sources: &PageSources<'_>,
     index: usize,
     page: &mut Vec<u8>,
 ) -> Result<(), SiteFault> {
-    match contents.site.library.statements().get(index) {
-        Some(Stmt::Axiom { .. }) => push_axiom(alloc, contents, index + 1, page),
-        Some(Stmt::Prove { label, .. }) => push_theorem(alloc, contents, label.as_bytes(), page),
+    match sources.site.library.statements().get(index) {
+        Some(Stmt::Axiom { .. }) => push_axiom(alloc, sources, index + 1, page),
+        Some(Stmt::Prove { label, .. }) => push_theorem(alloc, sources, label.as_bytes(), page),
         _ => Ok(()),
     }
 }
@@ -38,49 +38,49 @@ pub fn push_page(
 /// Appends the page of the `$a` at a position.
 fn push_axiom(
     alloc: Global,
-    contents: &PageSources<'_>,
+    sources: &PageSources<'_>,
     at: usize,
     page: &mut Vec<u8>,
 ) -> Result<(), SiteFault>
     requires { (s : Statement)
-        × HasAssertion (bares contents.now.site.now.library.now.replica.statements) at s }
+        × HasAssertion (bares sources.now.site.now.library.now.replica.statements) at s }
 {
-    write_assertion(alloc, contents, at, None, page)
+    push_assertion(alloc, sources, at, None, page)
 }
 
 /// Appends the page of the `$p` with a label.
 fn push_theorem(
     alloc: Global,
-    contents: &PageSources<'_>,
+    sources: &PageSources<'_>,
     label: &[u8],
     page: &mut Vec<u8>,
 ) -> Result<(), SiteFault> {
-    let (at, items) = contents.site.library.items(label)?;
-    let frames = contents.site.library.frames();
+    let (at, items) = sources.site.library.items(label)?;
+    let frames = sources.site.library.frames();
     let steps = proof_table(alloc, frames, at, &items)?;
     let essential = essential_table(alloc, frames, at, &steps)?;
     let proof = ProofSteps {
         steps: &steps,
         essential: &essential,
     };
-    write_assertion(alloc, contents, at, Some(proof), page)
+    push_assertion(alloc, sources, at, Some(proof), page)
 }
 
 /// Appends the page of the assertion at a position, with the steps of its proof if it has one.
-fn write_assertion(
+fn push_assertion(
     alloc: Global,
-    contents: &PageSources<'_>,
+    sources: &PageSources<'_>,
     at: usize,
     proof: Option<ProofSteps<'_>>,
     page: &mut Vec<u8>,
 ) -> Result<(), SiteFault>
     requires { (s : Statement)
-        × HasAssertion (bares contents.now.site.now.library.now.replica.statements) at s }
+        × HasAssertion (bares sources.now.site.now.library.now.replica.statements) at s }
 {
     let index = at.saturating_sub(1);
-    let axioms = positions_at(alloc, contents.references.axioms.as_slice(), index)?;
-    let users = positions_at(alloc, contents.references.cited_by.as_slice(), index)?;
-    let library = contents.site.library;
+    let axioms = positions_at(alloc, sources.references.axioms.as_slice(), index)?;
+    let cited_by = positions_at(alloc, sources.references.cited_by.as_slice(), index)?;
+    let library = sources.site.library;
     let assertion = PageContents {
         statements: library.statements(),
         frames: library.frames(),
@@ -88,8 +88,8 @@ fn write_assertion(
         proof,
         neighbours: RelatedItems {
             axioms: axioms.as_slice(),
-            users: users.as_slice(),
-            description: described(contents, index),
+            users: cited_by.as_slice(),
+            description: description_at(sources, index),
         },
     };
     Ok(write_site_page(alloc, page, &assertion)?)
@@ -97,19 +97,19 @@ fn write_assertion(
 
 /// Returns the positions of the list at an index, or an empty list if there is none.
 fn positions_at(alloc: Global, lists: &[Vec<usize>], index: usize) -> Result<Vec<u32>, AllocError> {
-    let mut numbers = Vec::new(alloc);
+    let mut positions = Vec::new(alloc);
     if let Some(list) = lists.get(index) {
         for position in list {
-            numbers.push(u32::try_from(*position).map_err(|_| AllocError)?)?;
+            positions.push(u32::try_from(*position).map_err(|_| AllocError)?)?;
         }
     }
-    Ok(numbers)
+    Ok(positions)
 }
 
 /// Returns the description of the statement at an index, if it has one.
-fn described<'a>(contents: &'a PageSources<'a>, index: usize) -> Option<&'a [u8]> {
-    let Some(Some(span)) = contents.descriptions.as_slice().get(index) else {
+fn description_at<'a>(sources: &'a PageSources<'a>, index: usize) -> Option<&'a [u8]> {
+    let Some(Some(span)) = sources.descriptions.as_slice().get(index) else {
         return None;
     };
-    contents.site.text.get(span.start..span.end)
+    sources.site.text.get(span.start..span.end)
 }

@@ -1,7 +1,7 @@
 //! Writes the files of a site.
 ghost use Rattle.std.specs.Prelude.{◌≡◌, ℕ, ◌+◌, ◌<◌, ◌∷◌, [], length, get_or, option_map, codes, OnOk};
 ghost use Rattle.mm_read.specs.declared.stmt.Stmt.TheVariants.{Open};
-ghost use Rattle.sites.specs.SiteFiles.{WritesNamed, named_page, page_name, page_names, site_names};
+ghost use Rattle.sites.specs.SiteFiles.{WritesNamed, page_file_of_label, page_file, page_files, site_files};
 
 use crate::assertion_page::{PageSources, push_page};
 use crate::progress::print_progress;
@@ -55,7 +55,7 @@ impl From<AskFault> for SiteFault {
 }
 
 /// Writes the style sheet, a page for each assertion and an index of them into the folder at a path. The
-/// progress of a site with many pages is printed to `faults`.
+/// progress of a site with many pages is printed to `progress`.
 ///
 /// Errors: `Memory`, `Folder` or `File`; the files before the error are written. Cost: that of
 /// `cross_references`, of each proof's steps, and the bytes written; one page is in memory at a time.
@@ -64,14 +64,14 @@ pub fn write_site<F: Write, S: Folder>(
     site: &Site<'_>,
     path: &str,
     folder: &mut S,
-    faults: &mut F,
+    progress: &mut F,
 ) -> Result<(), SiteFault>
-    ensures { OnOk result ((opened : S) × WritesNamed S.gains opened
-        (site_names site.now.library.now.replica.statements) folder.new) }
+    ensures { OnOk result ((opened : S) × WritesNamed S.writes opened
+        (site_files site.now.library.now.replica.statements) folder.new) }
 {
     open_folder(path, folder)?;
     write_file(alloc, folder, STYLE.as_bytes(), style_sheet())?;
-    write_pages(alloc, site, folder, faults)?;
+    write_pages(alloc, site, folder, progress)?;
     write_index_page(alloc, site.library, folder)
 }
 
@@ -90,7 +90,7 @@ fn write_index_page<S: Folder>(
     library: &Library,
     folder: &mut S,
 ) -> Result<(), SiteFault>
-    ensures { OnOk result (WritesNamed S.gains folder.old (codes "index.html" ∷ []) folder.new) }
+    ensures { OnOk result (WritesNamed S.writes folder.old (codes "index.html" ∷ []) folder.new) }
 {
     let mut page = Vec::new(alloc);
     write_index(alloc, &mut page, library.statements())?;
@@ -104,7 +104,7 @@ fn write_file<S: Folder>(
     name: &[u8],
     bytes: &[u8],
 ) -> Result<(), SiteFault>
-    ensures { OnOk result (WritesNamed S.gains folder.old (name.now ∷ []) folder.new) }
+    ensures { OnOk result (WritesNamed S.writes folder.old (name.now ∷ []) folder.new) }
 {
     let Ok(text) = from_utf8(name) else {
         return Err(SiteFault::File(Vec::from_slice(alloc, name)?));
@@ -121,23 +121,23 @@ fn write_pages<F: Write, S: Folder>(
     alloc: Global,
     site: &Site<'_>,
     folder: &mut S,
-    faults: &mut F,
+    progress: &mut F,
 ) -> Result<(), SiteFault>
-    ensures { OnOk result (WritesNamed S.gains folder.old
-        (page_names 1 site.now.library.now.replica.statements) folder.new) }
+    ensures { OnOk result (WritesNamed S.writes folder.old
+        (page_files 1 site.now.library.now.replica.statements) folder.new) }
 {
-    let contents = PageSources {
+    let sources = PageSources {
         site,
         references: cross_references(alloc, site.library)?,
         descriptions: descriptions(alloc, site.text)?,
     };
     let statements = site.library.statements();
-    let all = count_of_assertions(statements);
+    let total = count_of_assertions(statements);
     let mut written = 0u64;
     for index in 0..statements.len() {
-        if write_page(alloc, &contents, index, folder)? {
+        if write_page(alloc, &sources, index, folder)? {
             written = written.saturating_add(1);
-            print_progress(alloc, faults, written, all);
+            print_progress(alloc, progress, written, total);
         }
     }
     Ok(())
@@ -146,20 +146,20 @@ fn write_pages<F: Write, S: Folder>(
 /// Writes the page of the assertion at an index. Returns whether the statement there is an assertion.
 fn write_page<S: Folder>(
     alloc: Global,
-    contents: &PageSources<'_>,
+    sources: &PageSources<'_>,
     index: usize,
     folder: &mut S,
 ) -> Result<bool, SiteFault>
-    requires { index < length contents.now.site.now.library.now.replica.statements }
-    ensures { OnOk result (WritesNamed S.gains folder.old
-        (page_name (index + 1) (get_or contents.now.site.now.library.now.replica.statements index Open))
+    requires { index < length sources.now.site.now.library.now.replica.statements }
+    ensures { OnOk result (WritesNamed S.writes folder.old
+        (page_file (index + 1) (get_or sources.now.site.now.library.now.replica.statements index Open))
         folder.new) }
 {
-    let Some(label) = label_of(&contents.site.library.statements()[index]) else {
+    let Some(label) = label_of(&sources.site.library.statements()[index]) else {
         return Ok(false);
     };
     let mut page = Vec::new(alloc);
-    push_page(alloc, contents, index, &mut page)?;
+    push_page(alloc, sources, index, &mut page)?;
     let mut name = Vec::new(alloc);
     push_file_name(&mut name, label.as_bytes(), index + 1)?;
     write_file(alloc, folder, name.as_slice(), page.as_slice())?;
@@ -168,7 +168,7 @@ fn write_page<S: Folder>(
 
 /// Returns the label of an assertion, or `None` if the statement is not an assertion.
 fn label_of(statement: &Stmt) -> Option<&Word>
-    ensures { (at : ℕ) → page_name at statement.now ≡ named_page at (option_map (λ label. label.now) result) }
+    ensures { (at : ℕ) → page_file at statement.now ≡ page_file_of_label at (option_map (λ label. label.now) result) }
 {
     match statement {
         Stmt::Axiom { label, .. } => Some(label),

@@ -12,12 +12,12 @@ asserted s h = cc
 pub essential_table-requires-clause-at : goal.essential_table-requires-clause-at
 essential_table-requires-clause-at c =
     let named = c.in_ok-at.ensures.items.named in
-    within c.args.contents.now.site.now.library.now.replica.statements c.frames-frames.result.now.statements c.in_ok-at.at named.stmt
+    within c.args.sources.now.site.now.library.now.replica.statements c.frames-frames.result.now.statements c.in_ok-at.at named.stmt
     c.frames-frames.ensures.same named.provable
 
-pub write_assertion-requires : goal.write_assertion-requires
-write_assertion-requires c =
+pub push_assertion-requires : goal.push_assertion-requires
+push_assertion-requires c =
     let named = c.in_ok-at.ensures.items.named in
-    let S = c.args.contents.now.site.now.library.now.replica.statements in
+    let S = c.args.sources.now.site.now.library.now.replica.statements in
     let provable = provable-bare S (bares S) c.in_ok-at.at named.stmt refl named.provable in
     (bare named.stmt, (provable.stands, asserted (bare named.stmt) provable.provable))
