@@ -135,7 +135,7 @@ fn sought<'a>(alloc: Global, options: &ArgMatches<'a>) -> Result<SearchQuery<'a>
     match Pattern::parse(alloc, text) {
         Ok(pattern) if options.get_flag("hypotheses") => Ok(SearchQuery::WithHypotheses(pattern)),
         Ok(pattern) => Ok(SearchQuery::Pattern(pattern)),
-        Err(BadPattern::Word(_)) => Err(invalid(
+        Err(BadPattern::UnknownWord(_)) => Err(invalid(
             alloc,
             "a word of a pattern is $?, $* or a symbol, which has no $",
         )),

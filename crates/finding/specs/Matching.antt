@@ -10,7 +10,7 @@ use Rattle.mm_read.specs.Statements.{Expr, Database}
 use Rattle.scope.specs.Active.{bares, before, stmt_at, is_assertion}
 use Rattle.frame.specs.FrameOf.{hypotheses}
 use Rattle.patterns.specs.Matches.{Part, Matches}
-use Rattle.patterns.specs.Described.{HasWords}
+use Rattle.patterns.specs.DescriptionWords.{HasWords}
 use Rattle.finding.specs.declared.query.SearchQuery.{SearchQuery}
 use Rattle.finding.specs.declared.query.SearchQuery.TheVariants.{Pattern, WithHypotheses, Words}
 

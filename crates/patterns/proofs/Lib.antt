@@ -2,5 +2,5 @@ pub mod Prelude
 pub mod WordsLemmas
 pub mod SegmentLemmas
 pub mod PatternLemmas
-pub mod PartLemmas
+pub mod HasWordLemmas
 mod Rows

@@ -1,60 +1,60 @@
 -- The parts stand for a contiguous part of an expression exactly if some tail of it begins with what they stand for.
-use Rattle.patterns.proofs.Prelude.{◌≡◌, ◌↔◌, ℕ, ◌+◌, ◌≤◌, IsTrue, Some, None, Bool, true, false, List, [], ◌∷◌, ◌++◌, length, take, drop, map, refl, ap, sym, ◌∙◌, subst, arith, append_assoc, length-append, drop-append_seam, and_parts, and_from, both_ways, take-append-drop, drop-map, Name, name_eq, name_same, same_name, Part, Symbol, One, Many, StandsFor, Matches, part_view, segment_len, begins_with, IsFirstPlace}
+use Rattle.patterns.proofs.Prelude.{◌≡◌, ◌↔◌, ℕ, ◌+◌, ◌≤◌, IsTrue, Some, None, Bool, true, false, List, [], ◌∷◌, ◌++◌, length, take, drop, map, refl, ap, sym, ◌∙◌, subst, arith, append_assoc, length-append, drop-append_seam, and_parts, and_from, both_ways, take-append-drop, drop-map, Name, name_eq, name_same, same_name, Part, Symbol, AnySymbol, AnySequence, MatchesExactly, Matches, part_view, segment_len, matches_prefix, IsFirstMatch}
 use Rattle.patterns.proofs.SegmentLemmas.{Begins, IsSomewhere, GoesOn, none_found, all_found, goes_past}
 
 -- symbols that the parts stand for, before others
-begins_from : (p : List Part) (part after : List Name) → StandsFor (map part_view p) part → Begins p (part ++ after)
-begins_from [] part after s = tt
-begins_from (Symbol w ∷ p) part after s =
+begins_from : (p : List Part) (run after : List Name) → MatchesExactly (map part_view p) run → Begins p (run ++ after)
+begins_from [] run after s = tt
+begins_from (Symbol w ∷ p) run after s =
     subst (λ r. Begins (Symbol w ∷ p) (r ++ after)) (sym s.1) (and_from (name_eq w.now w.now) true (name_same w.now) refl, begins_from p s.0 after s.2)
-begins_from (One ∷ p) part after s =
-    subst (λ r. Begins (One ∷ p) (r ++ after)) (sym s.2) (refl, begins_from p s.1 after s.3)
-begins_from (Many ∷ p) part after s =
+begins_from (AnySymbol ∷ p) run after s =
+    subst (λ r. Begins (AnySymbol ∷ p) (r ++ after)) (sym s.2) (refl, begins_from p s.1 after s.3)
+begins_from (AnySequence ∷ p) run after s =
     let rest : (s.0 ++ s.1) ++ after ≡ s.0 ++ (s.1 ++ after) = append_assoc s.0 s.1 after in
     let there : Begins p (drop (length s.0) (s.0 ++ (s.1 ++ after))) = subst (Begins p) (sym (drop-append_seam s.0 (s.1 ++ after))) (begins_from p s.1 after s.3) in
     let far : length s.0 ≤ length (s.0 ++ (s.1 ++ after)) = omega (arith, length-append s.0 (s.1 ++ after)) in
-    let whole : part ++ after ≡ s.0 ++ (s.1 ++ after) = ap (λ r. r ++ after) s.2 ∙ rest in
-    subst (Begins (Many ∷ p)) (sym whole) (length s.0, far, there)
+    let whole : run ++ after ≡ s.0 ++ (s.1 ++ after) = ap (λ r. r ++ after) s.2 ∙ rest in
+    subst (Begins (AnySequence ∷ p)) (sym whole) (length s.0, far, there)
 
 -- symbols that begin so are symbols that the parts stand for, and others
 record Front (p : List Part) (e : List Name) : Type 0 where
-  part : List Name
+  run : List Name
   after : List Name
-  whole : e ≡ part ++ after
-  stands : StandsFor (map part_view p) part
+  whole : e ≡ run ++ after
+  exact : MatchesExactly (map part_view p) run
 
 front_of : (p : List Part) (e : List Name) → Begins p e → Front p e
-front_of [] e b = record { part = []; after = e; whole = refl; stands = refl }
+front_of [] e b = record { run = []; after = e; whole = refl; exact = refl }
 front_of (Symbol w ∷ p) [] b = absurd (both_ways false refl b.0)
 front_of (Symbol w ∷ p) (x ∷ e) b =
     let r : Front p e = front_of p e b.1 in
     let same : w.now ≡ x = same_name w.now x (and_parts (name_eq w.now x) true b.0).0 in
-    record { part = x ∷ r.part; after = r.after; whole = ap (λ q. x ∷ q) r.whole; stands = (r.part, ap (λ y. y ∷ r.part) (sym same), r.stands) }
-front_of (One ∷ p) [] b = absurd (both_ways false refl b.0)
-front_of (One ∷ p) (x ∷ e) b =
+    record { run = x ∷ r.run; after = r.after; whole = ap (λ q. x ∷ q) r.whole; exact = (r.run, ap (λ y. y ∷ r.run) (sym same), r.exact) }
+front_of (AnySymbol ∷ p) [] b = absurd (both_ways false refl b.0)
+front_of (AnySymbol ∷ p) (x ∷ e) b =
     let r : Front p e = front_of p e b.1 in
-    record { part = x ∷ r.part; after = r.after; whole = ap (λ q. x ∷ q) r.whole; stands = (x, r.part, refl, r.stands) }
-front_of (Many ∷ p) e b =
+    record { run = x ∷ r.run; after = r.after; whole = ap (λ q. x ∷ q) r.whole; exact = (x, r.run, refl, r.exact) }
+front_of (AnySequence ∷ p) e b =
     let r : Front p (drop b.0 e) = front_of p (drop b.0 e) b.2 in
     record {
-      part = take b.0 e ++ r.part;
+      run = take b.0 e ++ r.run;
       after = r.after;
-      whole = sym (take-append-drop b.0 e) ∙ (ap (λ q. take b.0 e ++ q) r.whole ∙ sym (append_assoc (take b.0 e) r.part r.after));
-      stands = (take b.0 e, r.part, refl, r.stands);
+      whole = sym (take-append-drop b.0 e) ∙ (ap (λ q. take b.0 e ++ q) r.whole ∙ sym (append_assoc (take b.0 e) r.run r.after));
+      exact = (take b.0 e, r.run, refl, r.exact);
     }
 
 -- a match is a tail that begins so ..
 pub somewhere_of : (p : List Part) (e : List Name) → Matches (map part_view p) e → IsSomewhere p e
 somewhere_of p e m =
-    let tail : drop (length m.before) (m.before ++ (m.part ++ m.after)) ≡ m.part ++ m.after = drop-append_seam m.before (m.part ++ m.after) in
-    let far : length m.before ≤ length (m.before ++ (m.part ++ m.after)) = omega (arith, length-append m.before (m.part ++ m.after)) in
-    subst (IsSomewhere p) (sym m.whole) (length m.before, far, subst (Begins p) (sym tail) (begins_from p m.part m.after m.stands))
+    let tail : drop (length m.before) (m.before ++ (m.run ++ m.after)) ≡ m.run ++ m.after = drop-append_seam m.before (m.run ++ m.after) in
+    let far : length m.before ≤ length (m.before ++ (m.run ++ m.after)) = omega (arith, length-append m.before (m.run ++ m.after)) in
+    subst (IsSomewhere p) (sym m.whole) (length m.before, far, subst (Begins p) (sym tail) (begins_from p m.run m.after m.exact))
 
 -- .. and back
 pub match_of : (p : List Part) (e : List Name) → IsSomewhere p e → Matches (map part_view p) e
 match_of p e there =
     let r : Front p (drop there.0 e) = front_of p (drop there.0 e) there.2 in
-    record { before = take there.0 e; part = r.part; after = r.after; whole = sym (take-append-drop there.0 e) ∙ ap (λ q. take there.0 e ++ q) r.whole; stands = r.stands }
+    record { before = take there.0 e; run = r.run; after = r.after; whole = sym (take-append-drop there.0 e) ∙ ap (λ q. take there.0 e ++ q) r.whole; exact = r.exact }
 
 -- ---- a segment of the pattern
 
@@ -77,30 +77,30 @@ module _ {R : Type 0} (f : R → Name) (p : List Part) (symbols : List R) (from 
   len_here = is.len_is ∙ ap segment_len is.left_is
 
   -- it stands nowhere
-  pub no_match : IsFirstPlace segment (map f rest) None → IsTrue false ↔ Matches (map part_view p) (map f symbols)
+  pub no_match : IsFirstMatch segment (map f rest) None → IsTrue false ↔ Matches (map part_view p) (map f symbols)
   no_match none = (
     λ t. absurd (both_ways false refl t),
-    λ m. absurd (none_found p (map f symbols) from at goes segment same (subst (λ e. IsFirstPlace segment e None) symbols_are none) (somewhere_of p (map f symbols) m)),
+    λ m. absurd (none_found p (map f symbols) from at goes segment same (subst (λ e. IsFirstMatch segment e None) symbols_are none) (somewhere_of p (map f symbols) m)),
   )
 
-  module _ (place : ℕ) (first : IsFirstPlace segment (map f rest) (Some place)) where
-    first_is : IsFirstPlace segment (drop at (map f symbols)) (Some place)
-    first_is = subst (λ e. IsFirstPlace segment e (Some place)) symbols_are first
+  module _ (index : ℕ) (first : IsFirstMatch segment (map f rest) (Some index)) where
+    first_is : IsFirstMatch segment (drop at (map f symbols)) (Some index)
+    first_is = subst (λ e. IsFirstMatch segment e (Some index)) symbols_are first
 
     -- it is the last one
     pub last_match : len ≡ length left → IsTrue true ↔ Matches (map part_view p) (map f symbols)
     last_match all =
         let left_len = ap length is.left_is in
         let here = len_here in
-        (λ _. match_of p (map f symbols) (all_found p (map f symbols) from at goes place segment same first_is (omega (arith, all, left_len, here))), λ _. refl)
+        (λ _. match_of p (map f symbols) (all_found p (map f symbols) from at goes index segment same first_is (omega (arith, all, left_len, here))), λ _. refl)
 
     -- a `$*` stands after it
     pub next_segment : (len ≡ length left → ⊥) → len ≤ length left
-        → GoesOn p (drop (from + (len + 1)) p) (map f symbols) (drop (at + (place + len)) (map f symbols))
+        → GoesOn p (drop (from + (len + 1)) p) (map f symbols) (drop (at + (index + len)) (map f symbols))
     next_segment more within =
         let left_len = ap length is.left_is in
         let here = len_here in
         let e : List Name = map f symbols in
-        let on : GoesOn p (drop (from + (segment_len (drop from p) + 1)) p) e (drop (at + (place + segment_len (drop from p))) e)
-        = goes_past p e from at goes place segment same first_is (omega (arith, more, within, left_len, here)) in
-        subst (λ n. GoesOn p (drop (from + (n + 1)) p) e (drop (at + (place + n)) e)) (sym here) on
+        let on : GoesOn p (drop (from + (segment_len (drop from p) + 1)) p) e (drop (at + (index + segment_len (drop from p))) e)
+        = goes_past p e from at goes index segment same first_is (omega (arith, more, within, left_len, here)) in
+        subst (λ n. GoesOn p (drop (from + (n + 1)) p) e (drop (at + (index + n)) e)) (sym here) on

@@ -1,13 +1,13 @@
 -- The words in which this crate is proved, passed on from one place.
 pub use Rattle.mm_lex.proofs.NameLemmas.{name_same, same_name}
 pub use Rattle.mm_lex.specs.Alphabet.{Name, name_eq, word}
-pub use Rattle.patterns.specs.Described.{HasPart, HasWords}
-pub use Rattle.patterns.specs.Matches.{Matches, StandsFor, many, one, part_of, symbol}
-pub use Rattle.patterns.specs.Parsing.{is_symbol_word, is_unknown}
-pub use Rattle.patterns.specs.Segments.{IsFirstPlace, begins_with, is_many, may_be, part_view, segment_len}
+pub use Rattle.patterns.specs.DescriptionWords.{HasWord, HasWords}
+pub use Rattle.patterns.specs.Matches.{Matches, MatchesExactly, any_symbol, any_sequence, part_of, symbol}
+pub use Rattle.patterns.specs.Parsing.{is_symbol_word, is_unknown_word}
+pub use Rattle.patterns.specs.Segments.{IsFirstMatch, matches_prefix, is_any_sequence, matches_symbol, part_view, segment_len}
 pub use Rattle.patterns.specs.Words.{words_after, words_in}
 pub use Rattle.patterns.specs.declared.part.Part.{Part}
-pub use Rattle.patterns.specs.declared.part.Part.TheVariants.{Many, One, Symbol}
+pub use Rattle.patterns.specs.declared.part.Part.TheVariants.{AnySequence, AnySymbol, Symbol}
 pub use Rattle.std.proofs.Common.{Bool, IsTrue, List, None, Option, Some, [], ap, append_assoc, arith, below_more, codes, drop, false, get_or, length, length-append, ltb, map, refl, subst, suc, sym, take, true, ℕ, ◌&&◌, ◌++◌, ◌+◌, ◌-◌, ◌<◌, ◌↔◌, ◌∙◌, ◌∷◌, ◌≡◌, ◌≤◌}
 pub use Rattle.std.proofs.Math.ListN.{drop_of_length-le}
 pub use Rattle.std.proofs.Math.Seq.{drop-append_seam, drop-cons, take-append_seam}

@@ -17,7 +17,7 @@ module _ (p : Name → Bool) (ws : List Name) (w : Name) (rest : List Name) (e :
   pub any_on : p w ≡ false → list_any p ws ≡ list_any p rest
   any_on fails = ap (list_any p) e ∙ rw fails refl
 
--- the words before a place are these parts
+-- the words before an index are these parts
 abbrev pub AreBefore : List ℕ → ℕ → List Part → Type 0
 AreBefore text at parts = map part_view parts ++ map part_of (words_after text at) ≡ map part_of (words_in text)
 

@@ -2,4 +2,4 @@ pub mod Words
 pub mod Matches
 pub mod Parsing
 pub mod Segments
-pub mod Described
+pub mod DescriptionWords

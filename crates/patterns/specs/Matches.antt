@@ -7,24 +7,24 @@ use Rattle.mm_lex.specs.Alphabet.{Name, name_eq}
 -- a part of a pattern: a symbol, `$?` or `$*`
 pub data Part : Type 0 where
   symbol : Name → Part
-  one : Part
-  many : Part
+  any_symbol : Part
+  any_sequence : Part
 
 -- a word of the pattern as a part
 abbrev pub part_of : Name → Part
-part_of w = if name_eq w (codes "$?") then one else if name_eq w (codes "$*") then many else symbol w
+part_of w = if name_eq w (codes "$?") then any_symbol else if name_eq w (codes "$*") then any_sequence else symbol w
 
 -- the parts match exactly these symbols, in order
-abbrev pub StandsFor : List Part → List Name → Type 0
-StandsFor [] e = e ≡ []
-StandsFor (symbol s ∷ p) e = (rest : List Name) × (e ≡ s ∷ rest) × StandsFor p rest
-StandsFor (one ∷ p) e = (any : Name) × (rest : List Name) × (e ≡ any ∷ rest) × StandsFor p rest
-StandsFor (many ∷ p) e = (any : List Name) × (rest : List Name) × (e ≡ any ++ rest) × StandsFor p rest
+abbrev pub MatchesExactly : List Part → List Name → Type 0
+MatchesExactly [] e = e ≡ []
+MatchesExactly (symbol s ∷ p) e = (rest : List Name) × (e ≡ s ∷ rest) × MatchesExactly p rest
+MatchesExactly (any_symbol ∷ p) e = (any : Name) × (rest : List Name) × (e ≡ any ∷ rest) × MatchesExactly p rest
+MatchesExactly (any_sequence ∷ p) e = (any : List Name) × (rest : List Name) × (e ≡ any ++ rest) × MatchesExactly p rest
 
 -- the parts match a contiguous run of the symbols of the expression
 pub record Matches (p : List Part) (e : List Name) : Type 0 where
   pub before : List Name
-  pub part : List Name
+  pub run : List Name
   pub after : List Name
-  pub whole : e ≡ before ++ (part ++ after)
-  pub stands : StandsFor p part
+  pub whole : e ≡ before ++ (run ++ after)
+  pub exact : MatchesExactly p run

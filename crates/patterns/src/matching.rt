@@ -4,7 +4,7 @@
 //! these parts leaves the most symbols for the parts after them, so no other index is tried.
 ghost use Rattle.std.specs.Prelude.{◌≡◌, ◌↔◌, ◌+◌, ◌≤◌, IfSome, IsTrue, map, length};
 ghost use Rattle.patterns.specs.Matches.{Matches};
-ghost use Rattle.patterns.specs.Segments.{part_view, is_many, segment_len, may_be, begins_with, IsFirstPlace};
+ghost use Rattle.patterns.specs.Segments.{part_view, is_any_sequence, segment_len, matches_symbol, matches_prefix, IsFirstMatch};
 
 use crate::part::Part;
 
@@ -21,14 +21,14 @@ pub(crate) fn is_in(parts: &[Part], symbols: &[&[u8]]) -> bool
         let (_, rest) = symbols.split_at(at);
         let len = segment_len(left);
         let (segment, _) = left.split_at(len);
-        let Some(place) = first_place(segment, rest) else {
+        let Some(index) = first_match(segment, rest) else {
             return false;
         };
         if len == left.len() {
             return true;
         }
         from += len + 1;
-        at += place + len;
+        at += index + len;
     }
 }
 
@@ -38,7 +38,7 @@ fn segment_len(parts: &[Part]) -> usize
     ensures within { result ≤ length parts.now }
 {
     for (i, part) in parts.iter().enumerate() {
-        if is_many(part) {
+        if is_any_sequence(part) {
             return i;
         }
     }
@@ -46,20 +46,20 @@ fn segment_len(parts: &[Part]) -> usize
 }
 
 /// Returns whether the part is `$*`.
-fn is_many(part: &Part) -> bool
-    ensures { result ≡ is_many part.now }
+fn is_any_sequence(part: &Part) -> bool
+    ensures { result ≡ is_any_sequence part.now }
 {
-    matches!(part, Part::Many)
+    matches!(part, Part::AnySequence)
 }
 
 /// Returns the first index from which the symbols match the parts of the segment, one symbol each.
-fn first_place(segment: &[Part], symbols: &[&[u8]]) -> Option<usize>
-    ensures first { IsFirstPlace segment.now (map (λ s. s.now) symbols.now) result }
-    ensures room { IfSome result (λ place. place + length segment.now ≤ length symbols.now) }
+fn first_match(segment: &[Part], symbols: &[&[u8]]) -> Option<usize>
+    ensures first { IsFirstMatch segment.now (map (λ s. s.now) symbols.now) result }
+    ensures within { IfSome result (λ index. index + length segment.now ≤ length symbols.now) }
 {
-    for place in 0..symbols.len() {
-        if begins_with(segment, symbols.split_at(place).1) {
-            return Some(place);
+    for index in 0..symbols.len() {
+        if matches_prefix(segment, symbols.split_at(index).1) {
+            return Some(index);
         }
     }
     if segment.is_empty() {
@@ -70,14 +70,14 @@ fn first_place(segment: &[Part], symbols: &[&[u8]]) -> Option<usize>
 }
 
 /// Returns whether the first symbols match the parts, one symbol each.
-fn begins_with(segment: &[Part], symbols: &[&[u8]]) -> bool
-    ensures { result ≡ begins_with segment.now (map (λ s. s.now) symbols.now) }
+fn matches_prefix(segment: &[Part], symbols: &[&[u8]]) -> bool
+    ensures { result ≡ matches_prefix segment.now (map (λ s. s.now) symbols.now) }
 {
     if segment.len() > symbols.len() {
         return false;
     }
     for (i, part) in segment.iter().enumerate() {
-        if !may_be(part, symbols[i]) {
+        if !matches_symbol(part, symbols[i]) {
             return false;
         }
     }
@@ -85,12 +85,12 @@ fn begins_with(segment: &[Part], symbols: &[&[u8]]) -> bool
 }
 
 /// Returns whether the part matches this one symbol.
-fn may_be(part: &Part, symbol: &[u8]) -> bool
-    ensures { result ≡ may_be part.now symbol.now }
+fn matches_symbol(part: &Part, symbol: &[u8]) -> bool
+    ensures { result ≡ matches_symbol part.now symbol.now }
 {
     match part {
-        Part::Symbol(own) => *own == symbol,
-        Part::One => true,
-        Part::Many => false,
+        Part::Symbol(name) => *name == symbol,
+        Part::AnySymbol => true,
+        Part::AnySequence => false,
     }
 }

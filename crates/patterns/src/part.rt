@@ -6,7 +6,7 @@ pub(crate) enum Part<'a> {
     /// This symbol.
     Symbol(&'a [u8]),
     /// `$?`: any one symbol.
-    One,
+    AnySymbol,
     /// `$*`: any number of symbols, including none.
-    Many,
+    AnySequence,
 }

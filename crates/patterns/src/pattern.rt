@@ -1,12 +1,12 @@
 //! Patterns of symbols.
 ghost use Rattle.std.specs.Prelude.{◌≡◌, ◌↔◌, map, IfErr, IfOk, IsTrue};
 ghost use Rattle.patterns.specs.Words.{words_in};
-ghost use Rattle.patterns.specs.Parsing.{ArePattern, IsRefusal};
+ghost use Rattle.patterns.specs.Parsing.{ArePattern, IsParseError};
 ghost use Rattle.patterns.specs.Matches.{Matches, part_of};
 
 use crate::matching::is_in;
 use crate::part::Part;
-use crate::words::{first_unknown, has_symbol, parts_of};
+use crate::words::{first_unknown_word, has_symbol, parts_of};
 use std::alloc::{AllocError, Global};
 use std::marker::Model;
 
@@ -14,7 +14,7 @@ use std::marker::Model;
 #[derive(Clone, Copy, Debug, Drop)]
 pub enum BadPattern<'a> {
     /// The first word that has a `$` and is neither `$?` nor `$*`.
-    Word(&'a [u8]),
+    UnknownWord(&'a [u8]),
     /// No word is a symbol.
     NoSymbol,
     /// An allocation failed.
@@ -41,16 +41,16 @@ impl<'a> Pattern<'a> {
     /// Parses a pattern: words separated by white space. `$?` matches any one symbol, `$*` any number of
     /// symbols, and any other word the symbol that it spells.
     ///
-    /// Errors: `Word` with the first word that has a `$` and is neither `$?` nor `$*`; else `NoSymbol`;
+    /// Errors: `UnknownWord` with the first word that has a `$` and is neither `$?` nor `$*`; else `NoSymbol`;
     /// both even if every allocation fails; else `Memory`. Cost: the size of the text. Source: `search` of the program metamath.
     pub fn parse(alloc: Global, text: &'a str) -> Result<Pattern<'a>, BadPattern<'a>>
         ensures parts { IfOk result (λ parts. parts ≡ map part_of (words_in text.now)) }
         ensures pattern { IfOk result (λ _. ArePattern (words_in text.now)) }
-        ensures refusal { IfErr result (λ fault. IsRefusal (words_in text.now) fault) }
+        ensures error { IfErr result (λ fault. IsParseError (words_in text.now) fault) }
     {
         let bytes = text.as_bytes();
-        if let Some(word) = first_unknown(bytes) {
-            return Err(BadPattern::Word(word));
+        if let Some(word) = first_unknown_word(bytes) {
+            return Err(BadPattern::UnknownWord(word));
         }
         if !has_symbol(bytes) {
             return Err(BadPattern::NoSymbol);

@@ -2,7 +2,7 @@
 ghost use Rattle.std.specs.Prelude.{◌≡◌, ◌↔◌, ◌≤◌, [], length, take, IsTrue, MatchOption};
 ghost use Rattle.std.specs.Str.{str_to_ascii_lowercase};
 ghost use Rattle.patterns.specs.Words.{words_in};
-ghost use Rattle.patterns.specs.Described.{HasPart, HasWords};
+ghost use Rattle.patterns.specs.DescriptionWords.{HasWord, HasWords};
 
 use crate::words::next_word;
 use std::marker::Model;
@@ -52,7 +52,7 @@ fn has_words(description: &[u8], text: &[u8]) -> bool
 {
     let mut at = 0;
     while let Some(found) = next_word(text, at) {
-        if !has_part(description, found.word) {
+        if !has_word(description, found.word) {
             return false;
         }
         at = found.end;
@@ -61,14 +61,14 @@ fn has_words(description: &[u8], text: &[u8]) -> bool
 }
 
 /// Returns whether the text contains the word, ignoring ASCII case.
-fn has_part(text: &[u8], word: &[u8]) -> bool
-    ensures { IsTrue result ↔ HasPart text.now word.now }
+fn has_word(text: &[u8], word: &[u8]) -> bool
+    ensures { IsTrue result ↔ HasWord text.now word.now }
 {
     if word.is_empty() {
         return true;
     }
-    for place in 0..text.len() {
-        if begins_alike(text.split_at(place).1, word) {
+    for index in 0..text.len() {
+        if starts_with_ignore_case(text.split_at(index).1, word) {
             return true;
         }
     }
@@ -76,7 +76,7 @@ fn has_part(text: &[u8], word: &[u8]) -> bool
 }
 
 /// Returns whether the text begins with the word, ignoring ASCII case.
-fn begins_alike(text: &[u8], word: &[u8]) -> bool
+fn starts_with_ignore_case(text: &[u8], word: &[u8]) -> bool
     ensures { IsTrue result ↔ (str_to_ascii_lowercase (take (length word.now) text.now)
         ≡ str_to_ascii_lowercase word.now) }
 {

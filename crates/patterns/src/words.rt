@@ -4,7 +4,7 @@ ghost use Rattle.std.specs.List.{find, list_any};
 ghost use Rattle.mm_lex.specs.Alphabet.{has_byte};
 ghost use Rattle.patterns.specs.Words.{words_in, words_after};
 ghost use Rattle.patterns.specs.Matches.{part_of};
-ghost use Rattle.patterns.specs.Parsing.{is_symbol_word, is_unknown};
+ghost use Rattle.patterns.specs.Parsing.{is_symbol_word, is_unknown_word};
 ghost use Rattle.patterns.specs.Segments.{part_view};
 
 use crate::part::Part;
@@ -13,13 +13,13 @@ use std::alloc::{AllocError, Global};
 
 /// A word of a text, and the offset after it.
 #[derive(Clone, Copy, Drop)]
-pub(crate) struct PlacedWord<'a> {
+pub(crate) struct NextWord<'a> {
     pub word: &'a [u8],
     pub end: usize,
 }
 
 /// Returns the first word that begins at or after `at`.
-pub(crate) fn next_word(text: &[u8], at: usize) -> Option<PlacedWord<'_>>
+pub(crate) fn next_word(text: &[u8], at: usize) -> Option<NextWord<'_>>
     requires { at ≤ length text.now }
     ensures first { MatchOption result (words_after text.now at ≡ [])
         (λ w. words_after text.now at ≡ w.word.now ∷ words_after text.now w.end) }
@@ -27,7 +27,7 @@ pub(crate) fn next_word(text: &[u8], at: usize) -> Option<PlacedWord<'_>>
     ensures within { IfSome result (λ w. w.end ≤ length text.now) }
 {
     match next_run(text, at) {
-        Some(span) => Some(PlacedWord {
+        Some(span) => Some(NextWord {
             word: &text[span.start..span.end],
             end: span.end,
         }),
@@ -36,12 +36,12 @@ pub(crate) fn next_word(text: &[u8], at: usize) -> Option<PlacedWord<'_>>
 }
 
 /// Returns the first word that has a `$` and is neither `$?` nor `$*`.
-pub(crate) fn first_unknown(text: &[u8]) -> Option<&[u8]>
-    ensures { option_map (λ w. w.now) result ≡ find is_unknown (words_in text.now) }
+pub(crate) fn first_unknown_word(text: &[u8]) -> Option<&[u8]>
+    ensures { option_map (λ w. w.now) result ≡ find is_unknown_word (words_in text.now) }
 {
     let mut at = 0;
     while let Some(found) = next_word(text, at) {
-        if is_unknown(found.word) {
+        if is_unknown_word(found.word) {
             return Some(found.word);
         }
         at = found.end;
@@ -81,17 +81,17 @@ fn part_of(word: &[u8]) -> Part<'_>
     ensures { part_view result ≡ part_of word.now }
 {
     if word == b"$?".as_slice() {
-        Part::One
+        Part::AnySymbol
     } else if word == b"$*".as_slice() {
-        Part::Many
+        Part::AnySequence
     } else {
         Part::Symbol(word)
     }
 }
 
 /// Returns whether a word has a `$` and is neither `$?` nor `$*`.
-fn is_unknown(word: &[u8]) -> bool
-    ensures { result ≡ is_unknown word.now }
+fn is_unknown_word(word: &[u8]) -> bool
+    ensures { result ≡ is_unknown_word word.now }
 {
     !is_symbol_word(word) && !(word == b"$?".as_slice() || word == b"$*".as_slice())
 }

@@ -1,5 +1,5 @@
 use Rattle.std.proofs.Common.{◌-◌, ◌≤◌, length}
-use Rattle.patterns.proofs.PartLemmas.{AreAllIf}
+use Rattle.patterns.proofs.HasWordLemmas.{AreAllIf}
 use Rattle.patterns.proofs.search_words.has_words.Given as goal
 
 abbrev pub invariant-loop-found : goal.invariant-loop-found

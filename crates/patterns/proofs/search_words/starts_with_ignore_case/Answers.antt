@@ -1,6 +1,6 @@
 use Rattle.patterns.proofs.Prelude.{◌∙◌, false, ap, sym, refl, map, str_to_ascii_lowercase, both_ways}
-use Rattle.patterns.proofs.PartLemmas.{too_short}
-use Rattle.patterns.proofs.search_words.begins_alike.Goals as goal
+use Rattle.patterns.proofs.HasWordLemmas.{too_short}
+use Rattle.patterns.proofs.search_words.starts_with_ignore_case.Goals as goal
 
 pub returns-then-word-text : goal.returns-then-word-text
 returns-then-word-text c = (

@@ -1,6 +1,6 @@
 use Rattle.patterns.proofs.Prelude.{◌≡◌, ◌<◌, ◌∙◌, ap, sym, arith, map, length, List, length-map, Name}
 use Rattle.patterns.proofs.SegmentLemmas.{too_few, begins_on, begins_not, begins_all}
-use Rattle.patterns.proofs.matching.begins_with.Goals as goal
+use Rattle.patterns.proofs.matching.matches_prefix.Goals as goal
 
 pub returns-then-segment-symbols : goal.returns-then-segment-symbols
 returns-then-segment-symbols c =
@@ -9,11 +9,11 @@ returns-then-segment-symbols c =
 
 pub loop-i-preserved : goal.loop-i-preserved
 loop-i-preserved c =
-    c.loop-i.invariant ∙ begins_on (λ s. s.now) c.args.segment.now c.args.symbols.now c.loop-i.i _ _ c.loop-i-test.true (omega arith) (sym c.if-not-may_be.ensures)
+    c.loop-i.invariant ∙ begins_on (λ s. s.now) c.args.segment.now c.args.symbols.now c.loop-i.i _ _ c.loop-i-test.true (omega arith) (sym c.if-not-matches_symbol.ensures)
 
-pub returns-then-not-may_be : goal.returns-then-not-may_be
-returns-then-not-may_be c =
-    sym (c.loop-i.invariant ∙ begins_not (λ s. s.now) c.args.segment.now c.args.symbols.now c.loop-i.i _ _ c.loop-i-test.true (omega arith) (sym c.if-not-may_be.ensures))
+pub returns-then-not-matches_symbol : goal.returns-then-not-matches_symbol
+returns-then-not-matches_symbol c =
+    sym (c.loop-i.invariant ∙ begins_not (λ s. s.now) c.args.segment.now c.args.symbols.now c.loop-i.i _ _ c.loop-i-test.true (omega arith) (sym c.if-not-matches_symbol.ensures))
 
 pub returns : goal.returns
 returns c = sym (c.loop-i.invariant ∙ begins_all c.args.segment.now c.loop-i.i (omega arith) _)

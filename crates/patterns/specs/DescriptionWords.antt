@@ -7,13 +7,13 @@ use Rattle.std.specs.Str.{str_to_ascii_lowercase}
 use Rattle.mm_lex.specs.Alphabet.{Name}
 
 -- the text contains the word, ignoring ASCII case
-pub record HasPart (text : List ℕ) (w : Name) : Type 0 where
+pub record HasWord (text : List ℕ) (w : Name) : Type 0 where
   pub before : List ℕ
-  pub part : List ℕ
+  pub slice : List ℕ
   pub after : List ℕ
-  pub whole : text ≡ before ++ (part ++ after)
-  pub same : str_to_ascii_lowercase part ≡ str_to_ascii_lowercase w
+  pub whole : text ≡ before ++ (slice ++ after)
+  pub same : str_to_ascii_lowercase slice ≡ str_to_ascii_lowercase w
 
 -- the text contains each of the words
 abbrev pub HasWords : List ℕ → List Name → Type 0
-HasWords text ws = AllByRecursion (HasPart text) ws
+HasWords text ws = AllByRecursion (HasWord text) ws
