@@ -6,7 +6,7 @@ ghost use Rattle.mm_lex.specs.Tokens.{IsWordAt};
 use crate::written_lines::{Page, token_in};
 use mm_lex::{LexFault, Span, tokens};
 use mm_read::{ReadFault, read};
-use places::statement_at;
+use places::statement_start;
 use std::alloc::Global;
 
 /// Writes the misplaced token, the tokens allowed in its place, and where its statement begins.
@@ -40,7 +40,7 @@ fn explain_token(page: &mut Page<'_>, text: &[u8], spans: &[Span], index: usize)
     requires words { All (IsWordAt text.now) spans.now }
     requires within { index ≤ length spans.now }
 {
-    let start = statement_at(text, spans, index);
+    let start = statement_start(text, spans, index);
     let expected = what_may_stand(text, &spans[start..index]);
     match spans.get(index) {
         Some(span) => {

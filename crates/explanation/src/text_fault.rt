@@ -40,8 +40,8 @@ fn explain_comment(page: &mut Page<'_>, text: &[u8], offset: usize)
 {
     page.push_place(text, offset);
     match comment_fault(text, offset) {
-        CommentFault::Stray => page.push(b": this $) closes no comment\n"),
-        CommentFault::Inside { outer } => {
+        CommentFault::StrayCloser => page.push(b": this $) closes no comment\n"),
+        CommentFault::Nested { outer } => {
             page.push(b": a comment begins inside a comment\n  which begins at ");
             page.push_place(text, outer);
             page.push(b"\n");

@@ -4,7 +4,7 @@ ghost use Rattle.std.specs.List.{All};
 ghost use Rattle.mm_lex.specs.Tokens.{IsWordAt};
 
 use mm_lex::{LexFault, Span, tokens};
-use places::place_within;
+use places::token_span_within;
 use std::alloc::Global;
 use std::marker::Model;
 
@@ -51,7 +51,7 @@ impl<'a> TextTokens<'a> {
         if statement == 0 || token == 0 {
             return self.text.len();
         }
-        match place_within(self.text, self.spans.as_slice(), statement, token) {
+        match token_span_within(self.text, self.spans.as_slice(), statement, token) {
             Some(span) => span.start,
             None => self.text.len(),
         }

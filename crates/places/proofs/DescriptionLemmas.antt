@@ -1,6 +1,6 @@
 -- The walk over the runs of a text finds the description of each statement.
-use Rattle.places.proofs.Words.{◌≡◌, ℕ, suc, ◌<◌, ◌≤◌, Bool, true, false, not, ◌&&◌, ◌||◌, cond, List, [], ◌∷◌, ◌++◌, length, drop, flat_map, Option, Some, None, codes, refl, sym, ◌∙◌, ap, arith, append_assoc, length-append, list_all, and_parts, and_from, both_ways, append-nil, map-append, length-map, length-drop, list_all-append, Span, Name, name_eq, runs, word, is_symbol, is_label, opener, closer, is_plain, AllPlain, Part, part_spans, IsPart, AreParts, Cuts, words, runs_after, name_same, Stmt, Open, Close, Const, Var, Disj, Float, Ess, Axiom, Prove, Database, is_shaped, AreShaped, are_symbols, has_two, stmt_tokens, tokens_of, Reads, symbols_of, Walk, Inside, Outside, ends, contents, comments_before, comments_in, comments_of, first_of, at_statements, AreDescriptions, at_start, after_run, begun, walk_over}
-use Rattle.places.proofs.TokenPlaceLemmas.{symbol_goes_on, label_goes_on}
+use Rattle.places.proofs.Words.{◌≡◌, ℕ, suc, ◌<◌, ◌≤◌, Bool, true, false, not, ◌&&◌, ◌||◌, cond, List, [], ◌∷◌, ◌++◌, length, drop, flat_map, Option, Some, None, codes, refl, sym, ◌∙◌, ap, arith, append_assoc, length-append, list_all, and_parts, and_from, both_ways, append-nil, map-append, length-map, length-drop, list_all-append, Span, Name, name_eq, runs, word, is_symbol, is_label, opener, closer, is_plain, AllPlain, Part, part_spans, IsPart, AreParts, Cuts, words, runs_after, name_same, Stmt, Open, Close, Const, Var, Disj, Float, Ess, Axiom, Prove, Database, is_shaped, AreShaped, are_symbols, has_two, stmt_tokens, tokens_of, Reads, symbols_of, Walk, Inside, Outside, ends_statement, contents, comments_before, comments_in, comments_of, first_of, statement_comments, AreDescriptions, at_start, after_run, begun_description, walk_over}
+use Rattle.places.proofs.TokenSpanLemmas.{symbol_goes_on, label_goes_on}
 
 -- ---- the loop
 
@@ -13,19 +13,19 @@ listed_none text list none = ap (λ l. l ++ walk_over text at_start (runs_after 
 
 pub listed_on : (text : List ℕ) (at : ℕ) (walk next : Walk) (run : Span) (w : Name) (old new : List (Option Span))
     → IsListed text at walk old → runs_after text at ≡ run ∷ runs_after text run.end → w ≡ word text run
-    → new ≡ old ++ begun walk w → next ≡ after_run walk w run → IsListed text run.end next new
+    → new ≡ old ++ begun_description walk w → next ≡ after_run walk w run → IsListed text run.end next new
 listed_on text at walk next run w old new is runs_are same added step =
     let rest = runs_after text run.end in
-    let here : walk_over text walk (run ∷ rest) ≡ begun walk w ++ walk_over text next rest
-    = ap (λ v. begun walk v ++ walk_over text (after_run walk v run) rest) (sym same) ∙ ap (λ k. begun walk w ++ walk_over text k rest) (sym step) in
+    let here : walk_over text walk (run ∷ rest) ≡ begun_description walk w ++ walk_over text next rest
+    = ap (λ v. begun_description walk v ++ walk_over text (after_run walk v run) rest) (sym same) ∙ ap (λ k. begun_description walk w ++ walk_over text k rest) (sym step) in
     ap (λ l. l ++ walk_over text next rest) added
-    ∙ (append_assoc old (begun walk w) (walk_over text next rest)
+    ∙ (append_assoc old (begun_description walk w) (walk_over text next rest)
     ∙ (ap (λ v. old ++ v) (sym here) ∙ (ap (λ r. old ++ walk_over text walk r) (sym runs_are) ∙ is)))
 
 pub listed_all : (text : List ℕ) (at : ℕ) (walk : Walk) (list : List (Option Span)) → IsListed text at walk list → runs_after text at ≡ [] → list ≡ walk_over text at_start (runs text)
 listed_all text at walk list is none = sym (append-nil list) ∙ (ap (λ r. list ++ walk_over text walk r) (sym none) ∙ is)
 
--- the walk goes on from a later place
+-- the walk goes on from a later offset
 pub listed_later : (text : List ℕ) (at later : ℕ) (walk : Walk) (list : List (Option Span)) → IsListed text at walk list
     → walk_over text walk (runs_after text at) ≡ walk_over text walk (runs_after text later) → IsListed text later walk list
 listed_later text at later walk list is same = ap (λ r. list ++ r) (sym same) ∙ is
@@ -38,7 +38,7 @@ kept begins comment = cond begins (comment ∷ []) []
 abbrev picked : Bool → List Name → List (Option Span) → List (Option Span)
 picked begins [] comments = []
 picked begins (w ∷ ws) [] = []
-picked begins (w ∷ ws) (comment ∷ comments) = kept begins comment ++ picked (ends w) ws comments
+picked begins (w ∷ ws) (comment ∷ comments) = kept begins comment ++ picked (ends_statement w) ws comments
 
 -- a plain word begins and ends no comment
 plain_parts : (a b : Bool) → not (a || b) ≡ true → (a ≡ false) × (b ≡ false)
@@ -60,9 +60,9 @@ module _ (text : List ℕ) where
       let w : Name = word text p in
       let both : (is_plain w ≡ true) × AllPlain text ps = and_parts (is_plain w) (list_all (λ s. is_plain (word text s)) ps) plain in
       let opens : name_eq w opener ≡ false = (plain_parts (name_eq w opener) (name_eq w closer) both.0).0 in
-      let more : walk_over text (Outside None (ends w)) (ps ++ rest) ≡ picked (ends w) (words text ps ++ ws) (comments_before None ps ++ comments)
-      = plain_walk ps rest ws comments both.1 on None (ends w) in
-      ap (λ b. cond b [] (kept begins last) ++ walk_over text (cond b (Inside p.end begins) (Outside None (ends w))) (ps ++ rest)) opens
+      let more : walk_over text (Outside None (ends_statement w)) (ps ++ rest) ≡ picked (ends_statement w) (words text ps ++ ws) (comments_before None ps ++ comments)
+      = plain_walk ps rest ws comments both.1 on None (ends_statement w) in
+      ap (λ b. cond b [] (kept begins last) ++ walk_over text (cond b (Inside p.end begins) (Outside None (ends_statement w))) (ps ++ rest)) opens
       ∙ ap (λ l. kept begins last ++ l) more
 
   -- a comment up to its end
@@ -92,7 +92,7 @@ module _ (text : List ℕ) where
       let opens : name_eq w opener ≡ true = ap (λ v. name_eq v opener) part.begins ∙ name_same opener in
       let whole : (p.inside ++ p.end ∷ p.after) ++ rest ≡ p.inside ++ (p.end ∷ (p.after ++ rest)) = append_assoc p.inside (p.end ∷ p.after) rest in
       let enter : walk_over text (Outside last begins) (p.begin ∷ ((p.inside ++ p.end ∷ p.after) ++ rest)) ≡ walk_over text (Inside p.begin.end begins) ((p.inside ++ p.end ∷ p.after) ++ rest)
-      = ap (λ b. cond b [] (kept begins last) ++ walk_over text (cond b (Inside p.begin.end begins) (Outside None (ends w))) ((p.inside ++ p.end ∷ p.after) ++ rest)) opens in
+      = ap (λ b. cond b [] (kept begins last) ++ walk_over text (cond b (Inside p.begin.end begins) (Outside None (ends_statement w))) ((p.inside ++ p.end ∷ p.after) ++ rest)) opens in
       let pass = inside_walk p.inside (p.after ++ rest) p.end p.begin.end begins part.inside part.ends in
       let walk_after = plain_walk p.after rest (words text (outer ps)) (flat_map comments_in ps) part.after (parts_walk ps are.1) (Some (contents p)) begins in
       let joined : words text (p.after ++ outer ps) ≡ words text p.after ++ words text (outer ps) = map-append (word text) p.after (outer ps) in
@@ -130,7 +130,7 @@ count_of first ps =
 -- ---- the first tokens of statements
 
 abbrev goes_on : Name → Bool
-goes_on w = not (ends w)
+goes_on w = not (ends_statement w)
 
 -- the tokens of a statement: none but the last ends one
 record IsOne (tokens : List Name) : Type 0 where
@@ -138,9 +138,9 @@ record IsOne (tokens : List Name) : Type 0 where
   last : Name
   whole : tokens ≡ front ++ last ∷ []
   on : list_all goes_on front ≡ true
-  end : ends last ≡ true
+  end : ends_statement last ≡ true
 
-module _ (last : Name) (ws : List Name) (end : ends last ≡ true) where
+module _ (last : Name) (ws : List Name) (end : ends_statement last ≡ true) where
   -- after its first token
   pass_rest : (front : List Name) (comments : List (Option Span)) → list_all goes_on front ≡ true → length front < length comments
       → picked false (front ++ (last ∷ ws)) comments ≡ picked true ws (drop (suc (length front)) comments)
@@ -149,7 +149,7 @@ module _ (last : Name) (ws : List Name) (end : ends last ≡ true) where
   pass_rest (w ∷ front) [] on room = absurd (omega (arith, room))
   pass_rest (w ∷ front) (c ∷ comments) on room =
       let both : (goes_on w ≡ true) × (list_all goes_on front ≡ true) = and_parts (goes_on w) (list_all goes_on front) on in
-      let stays : ends w ≡ false = not_true (ends w) both.0 in
+      let stays : ends_statement w ≡ false = not_true (ends_statement w) both.0 in
       ap (λ b. picked b (front ++ (last ∷ ws)) comments) stays ∙ pass_rest front comments both.1 (omega (arith, room))
 
   -- its first token has its description
@@ -160,11 +160,11 @@ module _ (last : Name) (ws : List Name) (end : ends last ≡ true) where
   pick_one (w ∷ front) [] on room = absurd (omega (arith, room))
   pick_one (w ∷ front) (c ∷ comments) on room =
       let both : (goes_on w ≡ true) × (list_all goes_on front ≡ true) = and_parts (goes_on w) (list_all goes_on front) on in
-      let stays : ends w ≡ false = not_true (ends w) both.0 in
+      let stays : ends_statement w ≡ false = not_true (ends_statement w) both.0 in
       ap (λ b. c ∷ picked b (front ++ (last ∷ ws)) comments) stays ∙ ap (λ l. c ∷ l) (pass_rest front comments both.1 (omega (arith, room)))
 
 -- symbols and labels end no statement
-on_of : (w : Name) → ends w ≡ false → goes_on w ≡ true
+on_of : (w : Name) → ends_statement w ≡ false → goes_on w ≡ true
 on_of w e = ap (λ b. not b) e
 
 symbols_on : (ws : List Name) → list_all is_symbol ws ≡ true → list_all goes_on ws ≡ true
@@ -211,7 +211,7 @@ one_of (Prove label expr proof) h =
     }
 
 -- the descriptions of statements are the comments of their first tokens
-statements_picked : (S : Database) (comments : List (Option Span)) → AreShaped S → length (tokens_of S) ≤ length comments → picked true (tokens_of S) comments ≡ at_statements S comments
+statements_picked : (S : Database) (comments : List (Option Span)) → AreShaped S → length (tokens_of S) ≤ length comments → picked true (tokens_of S) comments ≡ statement_comments S comments
 statements_picked [] comments h room = refl
 statements_picked (s ∷ S) comments h room =
     let both : (is_shaped s ≡ true) × AreShaped S = and_parts (is_shaped s) (list_all is_shaped S) h in

@@ -1,6 +1,6 @@
 pub mod Words
 pub mod BeginLemmas
-pub mod TokenPlaceLemmas
+pub mod TokenSpanLemmas
 pub mod DescriptionLemmas
-pub mod WaitingLemmas
+pub mod SkipLemmas
 mod Rows

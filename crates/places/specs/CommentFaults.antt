@@ -7,18 +7,18 @@ use Rattle.mm_lex.specs.Alphabet.{Name, runs}
 use Rattle.mm_lex.specs.Tokens.{AreTokens}
 use Rattle.mm_lex.specs.TextFaults.{IsStrayCloser, IsCommentFault}
 use Rattle.places.specs.declared.comments.CommentFault.{CommentFault}
-use Rattle.places.specs.declared.comments.CommentFault.TheVariants.{Stray, Inside, Unclosed}
-use Rattle.places.specs.Places.{ends}
+use Rattle.places.specs.declared.comments.CommentFault.TheVariants.{StrayCloser, Nested, Unclosed}
+use Rattle.places.specs.TokenSpans.{ends_statement}
 
 -- a `$)` outside a comment; a `$(` inside a comment that begins at `outer`; a `$(` outside comments
-abbrev pub IsCommentCase : List ℕ → ℕ → CommentFault → Type 0
-IsCommentCase text offset Stray = IsStrayCloser text (runs text) offset
-IsCommentCase text offset (Inside outer) = IsCommentFault (take offset text) outer
-IsCommentCase text offset Unclosed = (tokens : List Span) × AreTokens (take offset text) tokens
+abbrev pub IsCommentFaultKind : List ℕ → ℕ → CommentFault → Type 0
+IsCommentFaultKind text offset StrayCloser = IsStrayCloser text (runs text) offset
+IsCommentFaultKind text offset (Nested outer) = IsCommentFault (take offset text) outer
+IsCommentFaultKind text offset Unclosed = (tokens : List Span) × AreTokens (take offset text) tokens
 
 -- the statement of the token at this index begins at `start`: the first token or one after a token that ends a statement, and
 -- none of those between ends one
 pub record BeginsStatement (tokens : List Name) (token start : ℕ) : Type 0 where
   pub before : start ≤ token
-  pub after : 0 < start → IsTrue (ends (slice_index_or tokens (start - 1) []))
-  pub none : (k : ℕ) → start ≤ k → k < token → IsFalse (ends (slice_index_or tokens k []))
+  pub after : 0 < start → IsTrue (ends_statement (slice_index_or tokens (start - 1) []))
+  pub none : (k : ℕ) → start ≤ k → k < token → IsFalse (ends_statement (slice_index_or tokens k []))

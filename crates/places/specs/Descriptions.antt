@@ -30,10 +30,10 @@ first_of [] = None
 first_of (comment ∷ comments) = comment
 
 -- the comment before the first token of each statement
-abbrev pub at_statements : Database → List (Option Span) → List (Option Span)
-at_statements [] comments = []
-at_statements (s ∷ S) comments = first_of comments ∷ at_statements S (drop (length (stmt_tokens s)) comments)
+abbrev pub statement_comments : Database → List (Option Span) → List (Option Span)
+statement_comments [] comments = []
+statement_comments (s ∷ S) comments = first_of comments ∷ statement_comments S (drop (length (stmt_tokens s)) comments)
 
 -- the descriptions of the statements that the text writes
 abbrev pub AreDescriptions : List ℕ → Database → List (Option Span) → Type 0
-AreDescriptions text S list = (tokens : List Span) × (cut : Cuts text (runs text) tokens) × (list ≡ at_statements S (comments_of cut.first cut.parts))
+AreDescriptions text S list = (tokens : List Span) × (cut : Cuts text (runs text) tokens) × (list ≡ statement_comments S (comments_of cut.first cut.parts))

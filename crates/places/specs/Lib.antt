@@ -1,5 +1,5 @@
 pub mod Lines
-pub mod Places
+pub mod TokenSpans
 pub mod CommentFaults
 pub mod Descriptions
 pub mod Walk

@@ -7,7 +7,7 @@ use Rattle.mm_lex.specs.Comments.{runs_after}
 use Rattle.mm_lex.specs.Tokens.{opener, closer}
 use Rattle.places.specs.declared.description.Walk.{Walk}
 use Rattle.places.specs.declared.description.Walk.TheVariants.{Inside, Outside}
-use Rattle.places.specs.Places.{ends}
+use Rattle.places.specs.TokenSpans.{ends_statement}
 
 -- at the beginning of a text
 abbrev pub at_start : Walk
@@ -16,26 +16,26 @@ at_start = Outside None true
 -- after one more run
 abbrev pub after_run : Walk → Name → Span → Walk
 after_run (Inside start begins) w run = if name_eq w closer then Outside (Some (record { start = start; end = run.start })) begins else Inside start begins
-after_run (Outside last begins) w run = if name_eq w opener then Inside run.end begins else Outside None (ends w)
+after_run (Outside last begins) w run = if name_eq w opener then Inside run.end begins else Outside None (ends_statement w)
 
 -- the description of the statement that begins with the run, if one does
-abbrev pub begun : Walk → Name → List (Option Span)
-begun (Inside start begins) w = []
-begun (Outside last begins) w = if name_eq w opener then [] else if begins then last ∷ [] else []
+abbrev pub begun_description : Walk → Name → List (Option Span)
+begun_description (Inside start begins) w = []
+begun_description (Outside last begins) w = if name_eq w opener then [] else if begins then last ∷ [] else []
 
 -- the descriptions of all statements that begin with one of the runs
 abbrev pub walk_over : List ℕ → Walk → List Span → List (Option Span)
 walk_over text walk [] = []
-walk_over text walk (r ∷ spans) = begun walk (word text r) ++ walk_over text (after_run walk (word text r) r) spans
+walk_over text walk (r ∷ spans) = begun_description walk (word text r) ++ walk_over text (after_run walk (word text r) r) spans
 
 -- only a run that begins with `$` changes the walk or begins a statement
-abbrev pub IsWaiting : Walk → Type 0
-IsWaiting (Inside start begins) = Unit {0}
-IsWaiting (Outside None begins) = begins ≡ false
-IsWaiting (Outside (Some last) begins) = ⊥
+abbrev pub CanSkip : Walk → Type 0
+CanSkip (Inside start begins) = Unit {0}
+CanSkip (Outside None begins) = begins ≡ false
+CanSkip (Outside (Some last) begins) = ⊥
 
 -- a waiting walk finds the same descriptions from `later` on as from `at` on
-pub record PassesDull (text : List ℕ) (at later : ℕ) : Type 0 where
+pub record SkipsRuns (text : List ℕ) (at later : ℕ) : Type 0 where
   pub order : at ≤ later
   pub within : later ≤ length text
-  pub same : (walk : Walk) → IsWaiting walk → walk_over text walk (runs_after text at) ≡ walk_over text walk (runs_after text later)
+  pub same : (walk : Walk) → CanSkip walk → walk_over text walk (runs_after text at) ≡ walk_over text walk (runs_after text later)

@@ -1,6 +1,6 @@
 //! The kinds of comment faults.
 ghost use Rattle.mm_lex.specs.TextFaults.{IsCommentFault};
-ghost use Rattle.places.specs.CommentFaults.{IsCommentCase};
+ghost use Rattle.places.specs.CommentFaults.{IsCommentFaultKind};
 
 use mm_lex::{LexFault, count_tokens};
 
@@ -8,9 +8,9 @@ use mm_lex::{LexFault, count_tokens};
 #[derive(Clone, Copy, Debug, Drop, PartialEq, Eq)]
 pub enum CommentFault {
     /// A `$)` outside a comment.
-    Stray,
+    StrayCloser,
     /// A `$(` inside the comment that begins at the offset `outer`.
-    Inside { outer: usize },
+    Nested { outer: usize },
     /// A comment that is never closed.
     Unclosed,
 }
@@ -20,14 +20,14 @@ pub enum CommentFault {
 /// Does not allocate. Cost: the size of the text before the offset.
 pub fn comment_fault(text: &[u8], offset: usize) -> CommentFault
     requires { IsCommentFault text.now offset }
-    ensures { IsCommentCase text.now offset result }
+    ensures { IsCommentFaultKind text.now offset result }
 {
     if text[offset + 1] == b')' {
-        return CommentFault::Stray;
+        return CommentFault::StrayCloser;
     }
     match count_tokens(&text[..offset], 0) {
         Ok(_) => CommentFault::Unclosed,
-        Err(LexFault::Comment { offset: outer }) => CommentFault::Inside { outer },
+        Err(LexFault::Comment { offset: outer }) => CommentFault::Nested { outer },
         Err(_) => unreachable!(),
     }
 }

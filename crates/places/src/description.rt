@@ -6,9 +6,9 @@ ghost use Rattle.mm_lex.specs.Comments.{runs_after};
 ghost use Rattle.mm_read.specs.Statements.{Database};
 ghost use Rattle.mm_read.specs.Reads.{Reads};
 ghost use Rattle.places.specs.Descriptions.{AreDescriptions};
-ghost use Rattle.places.specs.Walk.{IsWaiting, PassesDull, after_run, begun, walk_over};
+ghost use Rattle.places.specs.Walk.{CanSkip, SkipsRuns, after_run, begun_description, walk_over};
 
-use crate::place::ends;
+use crate::statement_tokens::ends_statement;
 use memchr::memchr;
 use mm_lex::Span;
 use runs::next_run;
@@ -48,9 +48,9 @@ pub fn descriptions(alloc: Global, text: &[u8]) -> Result<Vec<Option<Span>>, All
         begins: true,
     };
     let mut at = 0;
-    while let Some(span) = next_run(text, goes_on_at(text, at, walk)) {
+    while let Some(span) = next_run(text, skip_runs(text, at, walk)) {
         let word = &text[span.start..span.end];
-        add_begun(&mut list, walk, word)?;
+        push_begun_description(&mut list, walk, word)?;
         walk = after_run(walk, word, span);
         at = span.end;
     }
@@ -60,22 +60,22 @@ pub fn descriptions(alloc: Global, text: &[u8]) -> Result<Vec<Option<Span>>, All
 /// Returns an offset from which the walk continues as from `at`: skips runs that do not change it.
 ///
 /// Does not allocate. Cost: the bytes up to the next `$`.
-fn goes_on_at(text: &[u8], at: usize, walk: Walk) -> usize
+fn skip_runs(text: &[u8], at: usize, walk: Walk) -> usize
     requires { at ≤ length text.now }
     ensures within { (at ≤ result) × (result ≤ length text.now) }
     ensures same { walk_over text.now walk (runs_after text.now at)
         ≡ walk_over text.now walk (runs_after text.now result) }
 {
-    if is_waiting(walk) {
-        dull_end(text, at)
+    if can_skip(walk) {
+        skip_to_dollar(text, at)
     } else {
         at
     }
 }
 
 /// Returns whether only a run that begins with `$` changes the walk or begins a statement.
-fn is_waiting(walk: Walk) -> bool
-    ensures { IsTrue result → IsWaiting walk }
+fn can_skip(walk: Walk) -> bool
+    ensures { IsTrue result → CanSkip walk }
 {
     match walk {
         Walk::Inside { .. } => true,
@@ -84,13 +84,13 @@ fn is_waiting(walk: Walk) -> bool
 }
 
 /// Returns the offset of the run that contains the next `$`, or of the last run if there is no `$`.
-fn dull_end(text: &[u8], at: usize) -> usize
+fn skip_to_dollar(text: &[u8], at: usize) -> usize
     requires { at ≤ length text.now }
-    ensures { PassesDull text.now at result }
+    ensures { SkipsRuns text.now at result }
 {
     let (_, rest) = text.split_at(at);
     let (plain, _) = rest.split_at(count_plain(rest));
-    at + white_end(plain)
+    at + after_last_white(plain)
 }
 
 /// Returns the number of bytes before the first `$`, or of all bytes if there is none.
@@ -105,7 +105,7 @@ fn count_plain(text: &[u8]) -> usize
 }
 
 /// Returns the offset after the last white byte, or 0 if there is none.
-fn white_end(text: &[u8]) -> usize
+fn after_last_white(text: &[u8]) -> usize
     ensures within { result ≤ length text.now }
     ensures white { 0 < result → IsTrue (is_white (slice_index text.now (result - 1))) }
 {
@@ -118,10 +118,14 @@ fn white_end(text: &[u8]) -> usize
 }
 
 /// Appends the description of the statement that begins with the run of this word, if one does.
-fn add_begun(list: &mut Vec<Option<Span>>, walk: Walk, word: &[u8]) -> Result<(), AllocError>
-    ensures { OnOk result (list.new.items ≡ list.old.items ++ begun walk word.now) }
+fn push_begun_description(
+    list: &mut Vec<Option<Span>>,
+    walk: Walk,
+    word: &[u8],
+) -> Result<(), AllocError>
+    ensures { OnOk result (list.new.items ≡ list.old.items ++ begun_description walk word.now) }
 {
-    match begun(walk, word) {
+    match begun_description(walk, word) {
         Some(description) => {
             list.push(description)?;
             Ok(())
@@ -131,8 +135,8 @@ fn add_begun(list: &mut Vec<Option<Span>>, walk: Walk, word: &[u8]) -> Result<()
 }
 
 /// Returns the description of the statement that begins with the run of this word, if one does.
-fn begun(walk: Walk, word: &[u8]) -> Option<Option<Span>>
-    ensures { option_to_list result ≡ begun walk word.now }
+fn begun_description(walk: Walk, word: &[u8]) -> Option<Option<Span>>
+    ensures { option_to_list result ≡ begun_description walk word.now }
 {
     match walk {
         Walk::Inside { .. } => None,
@@ -173,7 +177,7 @@ fn after_run(walk: Walk, word: &[u8], run: Span) -> Walk
             } else {
                 Walk::Outside {
                     last: None,
-                    begins: ends(word),
+                    begins: ends_statement(word),
                 }
             }
         }

@@ -1,17 +1,17 @@
 //! Finds lines, columns, tokens, comment faults and descriptions in a text.
 //!
-//! `line_and_column` returns the line and the column of an offset. `place_of` returns the span of a token of a statement in
-//! a text that reads as statements, `statement_at` the first token of the statement that contains a token. `comment_fault`
+//! `line_and_column` returns the line and the column of an offset. `token_span` returns the span of a token of a statement in
+//! a text that reads as statements, `statement_start` the first token of the statement that contains a token. `comment_fault`
 //! returns the kind of a comment fault. `descriptions` returns the span of the comment that describes each statement.
-//! Reading order: `lines_and_columns`, `place`, `comments`, `description`.
+//! Reading order: `lines_and_columns`, `statement_tokens`, `comments`, `description`.
 #![tactic(auto)]
 
 mod comments;
 mod description;
 mod lines_and_columns;
-mod place;
+mod statement_tokens;
 
 pub use comments::{CommentFault, comment_fault};
 pub use description::descriptions;
 pub use lines_and_columns::{Position, line_and_column};
-pub use place::{place_of, place_within, statement_at};
+pub use statement_tokens::{statement_start, token_span, token_span_within};

@@ -8,7 +8,7 @@ use explanation::{DatabaseFault, explain_after};
 use library::{Cause, Entry, Library, Verdict};
 use mm_read::{ReadFault, read};
 use numbers::push_number;
-use places::{line_and_column, place_of};
+use places::{line_and_column, token_span};
 use printed::push_counted;
 use std::alloc::{AllocError, Global};
 use std::collections::BTreeSet;
@@ -192,7 +192,7 @@ fn not_chartered(
 ) -> Result<Vec<u8>, AllocError> {
     let mut line = Vec::new(alloc);
     if let Cause::NotChartered { statement } = refused.cause
-        && let Ok(Some(span)) = place_of(alloc, text, statement, 1)
+        && let Ok(Some(span)) = token_span(alloc, text, statement, 1)
     {
         let place = line_and_column(text, span.start.min(text.len()));
         push_number(&mut line, place.line as u64)?;

@@ -14,7 +14,7 @@ pub fn next_run(text: &[u8], at: usize) -> Option<Span>
     requires { at ≤ length text.now }
     ensures run { MatchOption result (runs_after text.now at ≡ [])
         (λ s. runs_after text.now at ≡ s ∷ runs_after text.now s.end) }
-    ensures place { IfSome result (λ s. IsRunAt text.now s) }
+    ensures is_run { IfSome result (λ s. IsRunAt text.now s) }
     ensures later { IfSome result (λ s. at ≤ s.start) }
 {
     let (_, rest) = text.split_at(at);
@@ -22,12 +22,12 @@ pub fn next_run(text: &[u8], at: usize) -> Option<Span>
     if white == rest.len() {
         return None;
     }
-    let (_, shown) = rest.split_at(white);
-    let visible = count_visible(shown);
+    let (_, from_run) = rest.split_at(white);
+    let nonwhite = count_nonwhite(from_run);
     let start = at + white;
     Some(Span {
         start,
-        end: start + visible,
+        end: start + nonwhite,
     })
 }
 
@@ -36,17 +36,17 @@ fn count_white(text: &[u8]) -> usize
     ensures count { result ≡ position_or_len (λ b. not (is_white b)) text.now }
     ensures within { result ≤ length text.now }
 {
-    first_visible(text).unwrap_or(text.len())
+    first_nonwhite(text).unwrap_or(text.len())
 }
 
-fn first_visible(text: &[u8]) -> Option<usize>
+fn first_nonwhite(text: &[u8]) -> Option<usize>
     ensures { result ≡ position (λ b. not (is_white b)) text.now }
 {
     text.iter().position(|b| !b.is_ascii_whitespace())
 }
 
 /// Returns how many bytes at the start of a text are not white.
-fn count_visible(text: &[u8]) -> usize
+fn count_nonwhite(text: &[u8]) -> usize
     ensures count { result ≡ position_or_len is_white text.now }
     ensures within { result ≤ length text.now }
 {

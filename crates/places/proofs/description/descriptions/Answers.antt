@@ -7,14 +7,14 @@ loop-span-init c = record { within = omega arith; listed = listed_none c.args.te
 
 pub loop-span-preserved : goal.loop-span-preserved
 loop-span-preserved c = record {
-  within = c.in-Some.ensures.place.within;
-  listed = listed_on c.args.text.now c.goes_on_at.result c.loop-span.walk _ c.in-Some.span _ _ _
-      (listed_later c.args.text.now c.loop-span.at c.goes_on_at.result c.loop-span.walk _ c.loop-span.invariant.listed c.goes_on_at.ensures.same)
-      c.in-Some.ensures.run refl c.in_ok-add_begun.ensures c.after_run-walk.ensures;
+  within = c.in-Some.ensures.is_run.within;
+  listed = listed_on c.args.text.now c.skip_runs.result c.loop-span.walk _ c.in-Some.span _ _ _
+      (listed_later c.args.text.now c.loop-span.at c.skip_runs.result c.loop-span.walk _ c.loop-span.invariant.listed c.skip_runs.ensures.same)
+      c.in-Some.ensures.run refl c.in_ok-push_begun_description.ensures c.after_run-walk.ensures;
 }
 
 pub returns : goal.returns
 returns c = λ S reads.
     walk_describes c.args.text.now S c.loop-span.list.items reads
-    (listed_all c.args.text.now c.goes_on_at.result c.loop-span.walk c.loop-span.list.items
-    (listed_later c.args.text.now c.loop-span.at c.goes_on_at.result c.loop-span.walk _ c.loop-span.invariant.listed c.goes_on_at.ensures.same) c.in_default.ensures.run)
+    (listed_all c.args.text.now c.skip_runs.result c.loop-span.walk c.loop-span.list.items
+    (listed_later c.args.text.now c.loop-span.at c.skip_runs.result c.loop-span.walk _ c.loop-span.invariant.listed c.skip_runs.ensures.same) c.in_default.ensures.run)

@@ -6,4 +6,4 @@ use Rattle.runs.proofs.run.count_white.Goals as goal
 pub returns-clause-count : goal.returns-clause-count
 returns-clause-count c =
     let text = c.args.text.now in
-    c.unwrap_or.ensures ∙ (ap (λ o. unwrap_or o (length text)) c.first_visible.ensures ∙ unwrap_or-position is_shown text)
+    c.unwrap_or.ensures ∙ (ap (λ o. unwrap_or o (length text)) c.first_nonwhite.ensures ∙ unwrap_or-position is_shown text)

@@ -17,17 +17,17 @@ returns-clause-run c =
     let white = c.count_white-white.result in
     let back = c.split_at.ensures.back in
     let blanks = c.count_white-white.ensures.count ∙ ap (position_or_len is_shown) back in
-    let shown = c.count_visible-visible.ensures.count ∙ ap (position_or_len is_white) (c.split_at-2.ensures.back ∙ ap (drop white) back) in
+    let from_run = c.count_nonwhite-nonwhite.ensures.count ∙ ap (position_or_len is_white) (c.split_at-2.ensures.back ∙ ap (drop white) back) in
     let inside : white < length (drop at text) = omega (arith, ap length back) in
-    next_run-whole text at white c.count_visible-visible.result c.requires blanks shown inside
+    next_run-whole text at white c.count_nonwhite-nonwhite.result c.requires blanks from_run inside
 
-pub returns-clause-place : goal.returns-clause-place
-returns-clause-place c =
+pub returns-clause-is_run : goal.returns-clause-place
+returns-clause-is_run c =
     let text = c.args.text.now in
     let at = c.args.at in
     let white = c.count_white-white.result in
     let back = c.split_at.ensures.back in
     let blanks = c.count_white-white.ensures.count ∙ ap (position_or_len is_shown) back in
-    let shown = c.count_visible-visible.ensures.count ∙ ap (position_or_len is_white) (c.split_at-2.ensures.back ∙ ap (drop white) back) in
+    let from_run = c.count_nonwhite-nonwhite.ensures.count ∙ ap (position_or_len is_white) (c.split_at-2.ensures.back ∙ ap (drop white) back) in
     let inside : white < length (drop at text) = omega (arith, ap length back) in
-    next_run-place text at white c.count_visible-visible.result c.requires blanks shown inside
+    next_run-place text at white c.count_nonwhite-nonwhite.result c.requires blanks from_run inside

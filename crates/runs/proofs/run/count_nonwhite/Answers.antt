@@ -2,7 +2,7 @@ use Rattle.std.proofs.Common.{◌∙◌, ap, length}
 use Rattle.std.specs.Option.{unwrap_or}
 use Rattle.mm_lex.specs.Alphabet.{is_white}
 use Rattle.mm_lex.proofs.RunsLemmas.{unwrap_or-position}
-use Rattle.runs.proofs.run.count_visible.Goals as goal
+use Rattle.runs.proofs.run.count_nonwhite.Goals as goal
 
 pub returns-clause-count : goal.returns-clause-count
 returns-clause-count c =

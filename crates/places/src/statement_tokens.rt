@@ -5,7 +5,7 @@ ghost use Rattle.mm_lex.specs.Alphabet.{word};
 ghost use Rattle.mm_lex.specs.Tokens.{AreTokens, IsWordAt, words};
 ghost use Rattle.mm_read.specs.Statements.{Database};
 ghost use Rattle.mm_read.specs.Reads.{Reads};
-ghost use Rattle.places.specs.Places.{HasToken, IsPlaceOf, after_ends, ends};
+ghost use Rattle.places.specs.TokenSpans.{HasToken, IsTokenSpan, index_after_ends, ends_statement};
 ghost use Rattle.places.specs.CommentFaults.{BeginsStatement};
 
 use mm_lex::{LexFault, Span, tokens};
@@ -15,30 +15,35 @@ use std::alloc::Global;
 /// too few tokens.
 ///
 /// Errors: those of `mm_lex::tokens`. Cost: the size of the text.
-pub fn place_of(
+pub fn token_span(
     alloc: Global,
     text: &[u8],
     statement: usize,
     token: usize,
 ) -> Result<Option<Span>, LexFault>
     ensures { (S : Database) → Reads text.now S → HasToken S statement token
-        → IfOk result (λ place. IsSomeAnd place (IsPlaceOf text.now S statement token)) }
+        → IfOk result (λ span. IsSomeAnd span (IsTokenSpan text.now S statement token)) }
 {
     let spans = tokens(alloc, text)?;
     if statement == 0 || token == 0 {
         return Ok(None);
     }
-    Ok(place_within(text, spans.as_slice(), statement, token))
+    Ok(token_span_within(text, spans.as_slice(), statement, token))
 }
 
 /// Returns the span of a token of a statement, both counted from 1, or `None` if there are too few tokens. `spans` are those
 /// of the text's tokens.
 ///
 /// Cost: the number of tokens before it.
-pub fn place_within(text: &[u8], spans: &[Span], statement: usize, token: usize) -> Option<Span>
+pub fn token_span_within(
+    text: &[u8],
+    spans: &[Span],
+    statement: usize,
+    token: usize,
+) -> Option<Span>
     requires words { All (IsWordAt text.now) spans.now }
     requires some { (1 ≤ statement) × (1 ≤ token) }
-    ensures { result ≡ slice_get spans.now (after_ends (statement - 1) (words text.now spans.now) + (token - 1)) }
+    ensures { result ≡ slice_get spans.now (index_after_ends (statement - 1) (words text.now spans.now) + (token - 1)) }
 {
     let first = first_token(text, spans, statement);
     let rest = &spans[first..];
@@ -52,7 +57,7 @@ pub fn place_within(text: &[u8], spans: &[Span], statement: usize, token: usize)
 pub(crate) fn first_token(text: &[u8], spans: &[Span], statement: usize) -> usize
     requires words { All (IsWordAt text.now) spans.now }
     requires some { 1 ≤ statement }
-    ensures first { result ≡ after_ends (statement - 1) (words text.now spans.now) }
+    ensures first { result ≡ index_after_ends (statement - 1) (words text.now spans.now) }
     ensures within { result ≤ length spans.now }
 {
     let mut left = statement - 1;
@@ -60,7 +65,7 @@ pub(crate) fn first_token(text: &[u8], spans: &[Span], statement: usize) -> usiz
         if left == 0 {
             return i;
         }
-        if ends(&text[span.start..span.end]) {
+        if ends_statement(&text[span.start..span.end]) {
             left -= 1;
         }
     }
@@ -68,8 +73,8 @@ pub(crate) fn first_token(text: &[u8], spans: &[Span], statement: usize) -> usiz
 }
 
 /// Returns whether this token ends a statement.
-pub(crate) fn ends(word: &[u8]) -> bool
-    ensures { result ≡ ends word.now }
+pub(crate) fn ends_statement(word: &[u8]) -> bool
+    ensures { result ≡ ends_statement word.now }
 {
     word == b"$.".as_slice() || word == b"${".as_slice() || word == b"$}".as_slice()
 }
@@ -77,14 +82,14 @@ pub(crate) fn ends(word: &[u8]) -> bool
 /// Returns the index in `spans` of the first token of the statement that contains the token at index `token`.
 ///
 /// Cost: the number of tokens before that.
-pub fn statement_at(text: &[u8], spans: &[Span], token: usize) -> usize
+pub fn statement_start(text: &[u8], spans: &[Span], token: usize) -> usize
     requires words { All (IsWordAt text.now) spans.now }
     requires within { token ≤ length spans.now }
     ensures { BeginsStatement (words text.now spans.now) token result }
 {
     let mut start = 0;
     for (i, span) in spans[..token].iter().enumerate() {
-        if ends(&text[span.start..span.end]) {
+        if ends_statement(&text[span.start..span.end]) {
             start = i + 1;
         }
     }

@@ -17,22 +17,22 @@ pub record HasToken (S : Database) (statement token : ℕ) : Type 0 where
   pub within : token ≤ length (stmt_tokens stmt)
 
 -- the index of that token in the text: the tokens of the earlier statements precede it
-abbrev pub index_of : Database → ℕ → ℕ → ℕ
-index_of S statement token = length (tokens_of (take (statement - 1) S)) + (token - 1)
+abbrev pub token_index : Database → ℕ → ℕ → ℕ
+token_index S statement token = length (tokens_of (take (statement - 1) S)) + (token - 1)
 
 -- the token of the statement has this span
-pub record IsPlaceOf (text : List ℕ) (S : Database) (statement token : ℕ) (place : Span) : Type 0 where
+pub record IsTokenSpan (text : List ℕ) (S : Database) (statement token : ℕ) (span : Span) : Type 0 where
   pub tokens : List Span
   pub are : AreTokens text tokens
   pub written : words text tokens ≡ tokens_of S
-  pub here : slice_get tokens (index_of S statement token) ≡ Some place
+  pub here : slice_get tokens (token_index S statement token) ≡ Some span
 
 -- this token ends a statement
-abbrev pub ends : Name → Bool
-ends w = name_eq w (codes "$.") || name_eq w (codes "${") || name_eq w (codes "$}")
+abbrev pub ends_statement : Name → Bool
+ends_statement w = name_eq w (codes "$.") || name_eq w (codes "${") || name_eq w (codes "$}")
 
 -- the index of the first token after n tokens that end a statement
-abbrev pub after_ends : ℕ → List Name → ℕ
-after_ends zero ws = 0
-after_ends (suc n) [] = 0
-after_ends (suc n) (w ∷ ws) = suc (after_ends (if ends w then n else suc n) ws)
+abbrev pub index_after_ends : ℕ → List Name → ℕ
+index_after_ends zero ws = 0
+index_after_ends (suc n) [] = 0
+index_after_ends (suc n) (w ∷ ws) = suc (index_after_ends (if ends_statement w then n else suc n) ws)

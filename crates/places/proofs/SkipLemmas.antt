@@ -1,5 +1,5 @@
 -- A walk that waits for a `$` passes runs that begin with another byte.
-use Rattle.places.proofs.Words.{◌≡◌, ℕ, zero, suc, ◌+◌, ◌-◌, ◌<◌, ◌≤◌, Bool, true, false, cond, List, [], ◌∷◌, ◌++◌, length, take, drop, Some, None, refl, ◌∙◌, ap, arith, eqb, get_or, sym, drop-drop, get_or-drop, get_or-take, length-drop, take-append-drop, Span, Name, is_white, name_eq, runs_from, starts_white, with_byte, word, runs_after, closer, opener, Walk, Inside, Outside, ends, IsWaiting, PassesDull, walk_over}
+use Rattle.places.proofs.Words.{◌≡◌, ℕ, zero, suc, ◌+◌, ◌-◌, ◌<◌, ◌≤◌, Bool, true, false, cond, List, [], ◌∷◌, ◌++◌, length, take, drop, Some, None, refl, ◌∙◌, ap, arith, eqb, get_or, sym, drop-drop, get_or-drop, get_or-take, length-drop, take-append-drop, Span, Name, is_white, name_eq, runs_from, starts_white, with_byte, word, runs_after, closer, opener, Walk, Inside, Outside, ends_statement, CanSkip, SkipsRuns, walk_over}
 use Rattle.std.proofs.lemmas.List.{length-take}
 
 -- ---- words that do not begin with `$`
@@ -26,15 +26,15 @@ module _ (w : Name) (differs : get_or w 0 0 ≡ 36 → ⊥) where
       by [] d = refl
       by (b ∷ v) d = rw (no_dollar b d) refl
 
-  no_end : ends w ≡ false
+  no_end : ends_statement w ≡ false
   no_end = by w differs
     where
-      by : (v : Name) → (get_or v 0 0 ≡ 36 → ⊥) → ends v ≡ false
+      by : (v : Name) → (get_or v 0 0 ≡ 36 → ⊥) → ends_statement v ≡ false
       by [] d = refl
       by (b ∷ v) d = rw (no_dollar b d) refl
 
 module _ (text : List ℕ) where
-  -- the word of a span begins with the byte at its place
+  -- the word of a span begins with the byte at its start
   first_byte : (s : Span) → (get_or text s.start 0 ≡ 36 → ⊥) → get_or (word text s) 0 0 ≡ 36 → ⊥
   first_byte s differs = by (s.end - s.start)
     where
@@ -46,14 +46,14 @@ module _ (text : List ℕ) where
           differs (ap (λ k. get_or text k 0) (sym same) ∙ (sym (get_or-drop s.start text 0 0) ∙ (sym (get_or-take (suc n) (drop s.start text) 0 0 some) ∙ e)))
 
   -- one run that begins with another byte
-  pass_run : (walk : Walk) → IsWaiting walk → (s : Span) (spans : List Span) → (get_or text s.start 0 ≡ 36 → ⊥) → walk_over text walk (s ∷ spans) ≡ walk_over text walk spans
+  pass_run : (walk : Walk) → CanSkip walk → (s : Span) (spans : List Span) → (get_or text s.start 0 ≡ 36 → ⊥) → walk_over text walk (s ∷ spans) ≡ walk_over text walk spans
   pass_run (Inside start begins) waits s spans differs =
       ap (λ b. walk_over text (cond b (Outside (Some (record { start = start; end = s.start })) begins) (Inside start begins)) spans) (no_closer (word text s) (first_byte s differs))
   pass_run (Outside None begins) waits s spans differs =
       let d = first_byte s differs in
       let w : Name = word text s in
-      ap (λ b. cond b [] (cond begins (None ∷ []) []) ++ walk_over text (cond b (Inside s.end begins) (Outside None (ends w))) spans) (no_opener w d)
-      ∙ (ap (λ c. cond c (None ∷ []) [] ++ walk_over text (Outside None (ends w)) spans) waits
+      ap (λ b. cond b [] (cond begins (None ∷ []) []) ++ walk_over text (cond b (Inside s.end begins) (Outside None (ends_statement w))) spans) (no_opener w d)
+      ∙ (ap (λ c. cond c (None ∷ []) [] ++ walk_over text (Outside None (ends_statement w)) spans) waits
       ∙ ap (λ c. walk_over text (Outside None c) spans) (no_end w d ∙ sym waits))
   pass_run (Outside (Some last) begins) waits s spans differs = absurd waits
 
@@ -80,7 +80,7 @@ begins_with at true spans = refl
 begins_with at false [] = refl
 begins_with at false (s ∷ spans) = refl
 
-module _ (text : List ℕ) (walk : Walk) (waits : IsWaiting walk) where
+module _ (text : List ℕ) (walk : Walk) (waits : CanSkip walk) where
   -- a visible byte before runs that begin with the next byte is passed with the first of them
   pass_byte : (at : ℕ) (t : Bool) (spans : List Span) → (get_or text at 0 ≡ 36 → ⊥) → (t ≡ false → BeginsAt (at + 1) spans) → (get_or text (at + 1) 0 ≡ 36 → t ≡ false → ⊥)
       → walk_over text walk (with_byte at t spans) ≡ walk_over text walk spans
@@ -118,15 +118,15 @@ module _ (text : List ℕ) (walk : Walk) (waits : IsWaiting walk) where
       pass_step at b c front rest (is_white b) refl none
       (pass_bytes (at + 1) (c ∷ front) rest white (λ k low high. none k (omega (arith, low)) (omega (arith, high))))
 
--- ---- the place that the code finds
+-- ---- the offset that the code finds
 
 module _ (text : List ℕ) (at : ℕ) (start : at ≤ length text) where
-  passes_none : PassesDull text at (at + 0)
-  passes_none =
+  skips_none : SkipsRuns text at (at + 0)
+  skips_none =
       let same : at ≡ at + 0 = omega arith in
       record { order = omega arith; within = omega (arith, start); same = λ walk waits. ap (λ n. walk_over text walk (runs_after text n)) same }
 
-  passes_some : (i : ℕ) → at + suc i ≤ length text → is_white (get_or text (at + i) 0) ≡ true → ((k : ℕ) → at ≤ k → k < at + suc i → get_or text k 0 ≡ 36 → ⊥) → PassesDull text at (at + suc i)
+  passes_some : (i : ℕ) → at + suc i ≤ length text → is_white (get_or text (at + i) 0) ≡ true → ((k : ℕ) → at ≤ k → k < at + suc i → get_or text k 0 ≡ 36 → ⊥) → SkipsRuns text at (at + suc i)
   passes_some i within white none =
       let rest = drop at text in
       let long : length rest + at ≡ length text = omega (arith, length-drop at text, start) in
@@ -144,10 +144,10 @@ module _ (text : List ℕ) (at : ℕ) (start : at ≤ length text) where
       }
 
   -- up to the last white byte before which no `$` stands
-  pub passes_dull : (n plain : ℕ) (rest part : List ℕ) → rest ≡ drop at text → part ≡ take plain rest → plain ≤ length rest → ((k : ℕ) → k < plain → get_or rest k 0 ≡ 36 → ⊥)
-      → n ≤ length part → (0 < n → is_white (get_or part (n - 1) 0) ≡ true) → PassesDull text at (at + n)
-  passes_dull zero plain rest part whole front few none within white = passes_none
-  passes_dull (suc i) plain rest part whole front few none within white =
+  pub skips_runs : (n plain : ℕ) (rest part : List ℕ) → rest ≡ drop at text → part ≡ take plain rest → plain ≤ length rest → ((k : ℕ) → k < plain → get_or rest k 0 ≡ 36 → ⊥)
+      → n ≤ length part → (0 < n → is_white (get_or part (n - 1) 0) ≡ true) → SkipsRuns text at (at + n)
+  skips_runs zero plain rest part whole front few none within white = skips_none
+  skips_runs (suc i) plain rest part whole front few none within white =
       let long : length rest + at ≡ length text = omega (arith, length-drop at text, ap length whole, start) in
       let wide : length part ≡ plain = omega (arith, ap length front, length-take plain rest, few) in
       let same : suc i - 1 ≡ i = omega arith in
