@@ -1,4 +1,4 @@
--- A walk that waits for a `$` passes runs that begin with another byte.
+-- A walk that can skip passes runs that begin with another byte.
 use Rattle.places.proofs.Words.{◌≡◌, ℕ, zero, suc, ◌+◌, ◌-◌, ◌<◌, ◌≤◌, Bool, true, false, cond, List, [], ◌∷◌, ◌++◌, length, take, drop, Some, None, refl, ◌∙◌, ap, arith, eqb, get_or, sym, drop-drop, get_or-drop, get_or-take, length-drop, take-append-drop, Span, Name, is_white, name_eq, runs_from, starts_white, with_byte, word, runs_after, closer, opener, Walk, Inside, Outside, ends_statement, CanSkip, SkipsRuns, walk_over}
 use Rattle.std.proofs.lemmas.List.{length-take}
 
@@ -47,15 +47,15 @@ module _ (text : List ℕ) where
 
   -- one run that begins with another byte
   pass_run : (walk : Walk) → CanSkip walk → (s : Span) (spans : List Span) → (get_or text s.start 0 ≡ 36 → ⊥) → walk_over text walk (s ∷ spans) ≡ walk_over text walk spans
-  pass_run (Inside start begins) waits s spans differs =
+  pass_run (Inside start begins) skips s spans differs =
       ap (λ b. walk_over text (cond b (Outside (Some (record { start = start; end = s.start })) begins) (Inside start begins)) spans) (no_closer (word text s) (first_byte s differs))
-  pass_run (Outside None begins) waits s spans differs =
+  pass_run (Outside None begins) skips s spans differs =
       let d = first_byte s differs in
       let w : Name = word text s in
       ap (λ b. cond b [] (cond begins (None ∷ []) []) ++ walk_over text (cond b (Inside s.end begins) (Outside None (ends_statement w))) spans) (no_opener w d)
-      ∙ (ap (λ c. cond c (None ∷ []) [] ++ walk_over text (Outside None (ends_statement w)) spans) waits
-      ∙ ap (λ c. walk_over text (Outside None c) spans) (no_end w d ∙ sym waits))
-  pass_run (Outside (Some last) begins) waits s spans differs = absurd waits
+      ∙ (ap (λ c. cond c (None ∷ []) [] ++ walk_over text (Outside None (ends_statement w)) spans) skips
+      ∙ ap (λ c. walk_over text (Outside None c) spans) (no_end w d ∙ sym skips))
+  pass_run (Outside (Some last) begins) skips s spans differs = absurd skips
 
 -- ---- runs up to a white byte
 
@@ -80,15 +80,15 @@ begins_with at true spans = refl
 begins_with at false [] = refl
 begins_with at false (s ∷ spans) = refl
 
-module _ (text : List ℕ) (walk : Walk) (waits : CanSkip walk) where
+module _ (text : List ℕ) (walk : Walk) (skips : CanSkip walk) where
   -- a visible byte before runs that begin with the next byte is passed with the first of them
   pass_byte : (at : ℕ) (t : Bool) (spans : List Span) → (get_or text at 0 ≡ 36 → ⊥) → (t ≡ false → BeginsAt (at + 1) spans) → (get_or text (at + 1) 0 ≡ 36 → t ≡ false → ⊥)
       → walk_over text walk (with_byte at t spans) ≡ walk_over text walk spans
-  pass_byte at true spans differs first next = pass_run text walk waits (record { start = at; end = at + 1 }) spans differs
+  pass_byte at true spans differs first next = pass_run text walk skips (record { start = at; end = at + 1 }) spans differs
   pass_byte at false [] differs first next = absurd (first refl)
   pass_byte at false (s ∷ spans) differs first next =
-      pass_run text walk waits (record { start = at; end = s.end }) spans differs
-      ∙ sym (pass_run text walk waits s spans (λ e. next (ap (λ k. get_or text k 0) (sym (first refl)) ∙ e) refl))
+      pass_run text walk skips (record { start = at; end = s.end }) spans differs
+      ∙ sym (pass_run text walk skips s spans (λ e. next (ap (λ k. get_or text k 0) (sym (first refl)) ∙ e) refl))
 
   abbrev NoDollar : ℕ → ℕ → Type 0
   NoDollar low high = (k : ℕ) → low ≤ k → k < high → get_or text k 0 ≡ 36 → ⊥
@@ -124,7 +124,7 @@ module _ (text : List ℕ) (at : ℕ) (start : at ≤ length text) where
   skips_none : SkipsRuns text at (at + 0)
   skips_none =
       let same : at ≡ at + 0 = omega arith in
-      record { order = omega arith; within = omega (arith, start); same = λ walk waits. ap (λ n. walk_over text walk (runs_after text n)) same }
+      record { order = omega arith; within = omega (arith, start); same = λ walk skips. ap (λ n. walk_over text walk (runs_after text n)) same }
 
   passes_some : (i : ℕ) → at + suc i ≤ length text → is_white (get_or text (at + i) 0) ≡ true → ((k : ℕ) → at ≤ k → k < at + suc i → get_or text k 0 ≡ 36 → ⊥) → SkipsRuns text at (at + suc i)
   passes_some i within white none =
@@ -136,9 +136,9 @@ module _ (text : List ℕ) (at : ℕ) (start : at ≤ length text) where
       record {
         order = omega arith;
         within = within;
-        same = λ walk waits.
+        same = λ walk skips.
             ap (λ bytes. walk_over text walk (runs_from at bytes)) (sym (take-append-drop (suc i) rest))
-            ∙ (pass_bytes text walk waits at front (drop (suc i) rest) (ends_white i rest (omega (arith, long, within)) last) (λ k low high. none k low (omega (arith, high, wide)))
+            ∙ (pass_bytes text walk skips at front (drop (suc i) rest) (ends_white i rest (omega (arith, long, within)) last) (λ k low high. none k low (omega (arith, high, wide)))
             ∙ (ap (λ n. walk_over text walk (runs_from (at + n) (drop (suc i) rest))) wide
             ∙ ap (λ bytes. walk_over text walk (runs_from (at + suc i) bytes)) (drop-drop (suc i) at text)));
       }

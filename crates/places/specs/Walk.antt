@@ -34,7 +34,7 @@ CanSkip (Inside start begins) = Unit {0}
 CanSkip (Outside None begins) = begins ≡ false
 CanSkip (Outside (Some last) begins) = ⊥
 
--- a waiting walk finds the same descriptions from `later` on as from `at` on
+-- a walk that can skip finds the same descriptions from `later` on as from `at` on
 pub record SkipsRuns (text : List ℕ) (at later : ℕ) : Type 0 where
   pub order : at ≤ later
   pub within : later ≤ length text

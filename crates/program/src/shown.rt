@@ -5,7 +5,7 @@ use library::{AskFault, Library};
 use memchr::memchr_iter;
 use mm_lex::{Span, tokens};
 use places::{Position, descriptions, line_and_column};
-use statement_blocks::{Shown, push_block};
+use statement_blocks::{BlockInput, push_block};
 use std::alloc::{AllocError, Global};
 
 /// A text, and the ends of its statements.
@@ -109,19 +109,19 @@ fn push_shown(
     let begin = begin(written, at);
     let part = part(written, begin, at);
     let descriptions = descriptions(alloc, part)?;
-    let shown = Shown {
+    let input = BlockInput {
         statements,
         frames: library.frames(),
         statement: &statements[at - 1],
-        at,
-        place: position(alloc, written, begin, part)?,
+        position: at,
+        line_and_column: position(alloc, written, begin, part)?,
         description: first_description(part, descriptions.as_slice()),
     };
     if let Some(name) = written.name {
         blocks.extend_from_slice(name.as_bytes())?;
         blocks.push(b':')?;
     }
-    push_block(alloc, blocks, &shown)
+    push_block(alloc, blocks, &input)
 }
 
 /// Returns the offset at which the statement before the one at a position ends; 0 for the first.

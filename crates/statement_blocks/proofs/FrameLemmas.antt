@@ -1,5 +1,5 @@
 -- The frame of an assertion by its statement without its proof.
-use Rattle.statement_blocks.proofs.Words.{◌≡◌, ℕ, zero, suc, ◌+◌, ◌≤◌, List, [], ◌∷◌, ◌++◌, length, take, map, codes, refl, ap, sym, ◌∙◌, append_assoc, arith, Option, Some, None, slice_get, true, flat_map, option_map, Result, Ok, Err, OnOk, append-nil, take_all, Name, Stmt, Prove, Database, decode, bare, bares, before, stmt_at, is_assertion, stmt_at-bares, hypotheses, mandatory_groups, HasAssertion, line_at, after_space, group_line, number_text, numbers_line, frame_lines}
+use Rattle.statement_blocks.proofs.Words.{◌≡◌, ℕ, zero, suc, ◌+◌, ◌≤◌, List, [], ◌∷◌, ◌++◌, length, take, map, codes, refl, ap, sym, ◌∙◌, append_assoc, arith, Option, Some, None, slice_get, true, flat_map, option_map, Result, Ok, Err, OnOk, append-nil, take_all, Name, Stmt, Prove, Database, decode, bare, bares, before, stmt_at, is_assertion, stmt_at-bares, hypotheses, mandatory_groups, HasAssertion, line_at, after_space, group_line, symbol_text, group_line_of_numbers, frame_lines}
 
 -- a frame looks at no proof
 pub hypotheses-bare : (S : Database) (s : Stmt) → hypotheses S (bare s) ≡ hypotheses S s
@@ -42,17 +42,17 @@ module _ {A : Type 0} (f : A → List ℕ) where
 
 -- ---- groups by their numbers
 
-variables_by : (names : List Name) (group : List ℕ) → flat_map (number_text names) group ≡ flat_map after_space (decode names group)
+variables_by : (names : List Name) (group : List ℕ) → flat_map (symbol_text names) group ≡ flat_map after_space (decode names group)
 variables_by names [] = refl
-variables_by names (n ∷ group) = ap (λ l. number_text names n ++ l) (variables_by names group)
+variables_by names (n ∷ group) = ap (λ l. symbol_text names n ++ l) (variables_by names group)
 
-line_by : (names : List Name) (group : List ℕ) → numbers_line names group ≡ group_line (decode names group)
+line_by : (names : List Name) (group : List ℕ) → group_line_of_numbers names group ≡ group_line (decode names group)
 line_by names group = ap (λ l. codes "$d" ++ l ++ codes "\n") (variables_by names group)
 
-lines_by : (names : List Name) (groups : List (List ℕ)) → flat_map (numbers_line names) groups ≡ flat_map group_line (map (decode names) groups)
+lines_by : (names : List Name) (groups : List (List ℕ)) → flat_map (group_line_of_numbers names) groups ≡ flat_map group_line (map (decode names) groups)
 lines_by names [] = refl
 lines_by names (g ∷ groups) =
-    ap (λ l. l ++ flat_map (numbers_line names) groups) (line_by names g) ∙ ap (λ l. group_line (decode names g) ++ l) (lines_by names groups)
+    ap (λ l. l ++ flat_map (group_line_of_numbers names) groups) (line_by names g) ∙ ap (λ l. group_line (decode names g) ++ l) (lines_by names groups)
 
 module _ (S F : Database) (at : ℕ) (s : Stmt) (same : F ≡ bares S) (stands : stmt_at S at ≡ Some s) where
   -- the statement that the frames have there
@@ -72,7 +72,7 @@ module _ (S F : Database) (at : ℕ) (s : Stmt) (same : F ≡ bares S) (stands :
       ∙ ap (λ ps. old ++ (flat_map (line_at S) ps ++ flat_map group_line (mandatory_groups (before (bares S) at) s))) listed))
 
   pub groups_are : (names : List Name) (groups : List (List ℕ)) (old new : List ℕ) → map (decode names) groups ≡ mandatory_groups (before F at) (bare s)
-      → new ≡ old ++ flat_map (numbers_line names) groups → new ≡ old ++ flat_map group_line (mandatory_groups (before (bares S) at) s)
+      → new ≡ old ++ flat_map (group_line_of_numbers names) groups → new ≡ old ++ flat_map group_line (mandatory_groups (before (bares S) at) s)
   groups_are names groups old new are e =
       let grouped : mandatory_groups (before F at) (bare s) ≡ mandatory_groups (before (bares S) at) s = groups-bare (before F at) s ∙ ap (λ T. mandatory_groups (before T at) s) same in
       e ∙ (ap (λ l. old ++ l) (lines_by names groups) ∙ ap (λ gs. old ++ flat_map group_line gs) (are ∙ grouped))

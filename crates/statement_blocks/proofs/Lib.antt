@@ -1,4 +1,4 @@
 pub mod Words
-pub mod FilledLemmas
+pub mod WrappedLemmas
 pub mod FrameLemmas
 mod Rows

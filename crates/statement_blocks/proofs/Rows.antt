@@ -1,5 +1,5 @@
 -- Blocks of small statements.
-use Rattle.statement_blocks.proofs.Words.{◌≡◌, List, [], ◌∷◌, codes, refl, arith, Some, None, decimal, decimal_digit, Const, Var, Disj, Float, Ess, Axiom, Prove, Open, Close, Database, filled, block_text}
+use Rattle.statement_blocks.proofs.Words.{◌≡◌, List, [], ◌∷◌, codes, refl, arith, Some, None, decimal, decimal_digit, Const, Var, Disj, Float, Ess, Axiom, Prove, Open, Close, Database, wrapped, block_text}
 
 -- the digits of small numbers
 one : decimal 1 ≡ codes "1"
@@ -17,11 +17,11 @@ alone : block_text (Float (codes "wph") (codes "wff") (codes "ph") ∷ []) 1 (Fl
 alone = rw (one, three, five) refl
 
 -- words in lines of at most 78 bytes
-short : filled (codes "a" ∷ codes "description" ∷ []) ≡ codes "a description\n"
+short : wrapped (codes "a" ∷ codes "description" ∷ []) ≡ codes "a description\n"
 short = refl
 
-two_lines : filled (codes "123456789012345678901234567890123456789" ∷ codes "12345678901234567890123456789012345678" ∷ codes "x" ∷ []) ≡ codes "123456789012345678901234567890123456789 12345678901234567890123456789012345678\nx\n"
+two_lines : wrapped (codes "123456789012345678901234567890123456789" ∷ codes "12345678901234567890123456789012345678" ∷ codes "x" ∷ []) ≡ codes "123456789012345678901234567890123456789 12345678901234567890123456789012345678\nx\n"
 two_lines = refl
 
-empty : filled [] ≡ []
+empty : wrapped [] ≡ []
 empty = refl

@@ -10,8 +10,8 @@ pub use Rattle.names.specs.Codes.{decode}
 pub use Rattle.scope.proofs.StatementPlaces.{stmt_at-bares}
 pub use Rattle.scope.specs.Active.{bare, bares, before, is_assertion, stmt_at}
 pub use Rattle.statement_blocks.specs.Blocks.{block_text}
-pub use Rattle.statement_blocks.specs.Filled.{column_after, filled, filled_from, gap}
-pub use Rattle.statement_blocks.specs.Lines.{after_space, frame_lines, group_line, line_at, number_text, numbers_line}
+pub use Rattle.statement_blocks.specs.Wrapped.{column_after, wrapped, wrapped_from, separator}
+pub use Rattle.statement_blocks.specs.Lines.{after_space, frame_lines, group_line, line_at, symbol_text, group_line_of_numbers}
 pub use Rattle.std.proofs.Common.{List, None, Option, Some, [], ap, append_assoc, arith, codes, length, map, refl, slice_get, suc, sym, take, true, zero, ℕ, ◌++◌, ◌+◌, ◌∙◌, ◌∷◌, ◌≡◌, ◌≤◌}
 pub use Rattle.std.proofs.lemmas.Fmt.{decimal_digit}
 pub use Rattle.std.proofs.lemmas.List.{append-nil, take_all}

@@ -6,21 +6,21 @@ use Rattle.mm_lex.specs.Alphabet.{runs, word}
 use Rattle.mm_read.specs.declared.stmt.Stmt.{Stmt}
 use Rattle.mm_read.specs.Statements.{Database}
 use Rattle.places.specs.declared.lines_and_columns.Position.{Position}
-use Rattle.statement_blocks.specs.Filled.{filled}
+use Rattle.statement_blocks.specs.Wrapped.{wrapped}
 use Rattle.statement_blocks.specs.Lines.{statement_line, frame_if}
 
 -- line and column, as LINE:COLUMN
-abbrev pub place_text : Position → List ℕ
-place_text place = decimal place.line ++ codes ":" ++ decimal place.column
+abbrev pub line_and_column_text : Position → List ℕ
+line_and_column_text line_and_column = decimal line_and_column.line ++ codes ":" ++ decimal line_and_column.column
 
--- a line with that place and the number of the statement
-abbrev pub place_line : Position → ℕ → List ℕ
-place_line place at = place_text place ++ codes ": " ++ decimal at ++ codes "\n"
+-- a line with the line, the column and the number of the statement
+abbrev pub heading : Position → ℕ → List ℕ
+heading line_and_column at = line_and_column_text line_and_column ++ codes ": " ++ decimal at ++ codes "\n"
 
 -- the words of the description, if there is one
 abbrev pub description_lines : Option (List ℕ) → List ℕ
 description_lines None = []
-description_lines (Some text) = filled (map (word text) (runs text))
+description_lines (Some text) = wrapped (map (word text) (runs text))
 
 abbrev pub block_text : Database → ℕ → Stmt → Position → Option (List ℕ) → List ℕ
-block_text S at s place description = place_line place at ++ description_lines description ++ frame_if S at s ++ statement_line s
+block_text S at s line_and_column description = heading line_and_column at ++ description_lines description ++ frame_if S at s ++ statement_line s

@@ -1,4 +1,4 @@
 pub mod Lines
-pub mod Filled
+pub mod Wrapped
 pub mod Blocks
-pub mod Shows
+pub mod BlockInputs

@@ -49,11 +49,11 @@ frame_lines S at s =
     flat_map (line_at S) (hypotheses (before (bares S) at) s) ++ flat_map group_line (mandatory_groups (before (bares S) at) s)
 
 -- a variable of a group, given by its symbol number; for the private functions of `frame_lines`
-abbrev pub number_text : List Name → ℕ → List ℕ
-number_text names n = codes " " ++ name_at names n
+abbrev pub symbol_text : List Name → ℕ → List ℕ
+symbol_text names n = codes " " ++ name_at names n
 
-abbrev pub numbers_line : List Name → List ℕ → List ℕ
-numbers_line names group = codes "$d" ++ flat_map (number_text names) group ++ codes "\n"
+abbrev pub group_line_of_numbers : List Name → List ℕ → List ℕ
+group_line_of_numbers names group = codes "$d" ++ flat_map (symbol_text names) group ++ codes "\n"
 
 -- the frame of an assertion; nothing for any other statement
 abbrev pub frame_if : Database → ℕ → Stmt → List ℕ

@@ -1,13 +1,13 @@
 //! The block of a statement.
 ghost use Rattle.std.specs.Prelude.{◌≡◌, ◌++◌, option_map, OnOk};
 ghost use Rattle.statement_blocks.specs.Lines.{frame_if};
-ghost use Rattle.statement_blocks.specs.Blocks.{place_text, place_line, description_lines, block_text};
-ghost use Rattle.statement_blocks.specs.Shows.{IsShown};
+ghost use Rattle.statement_blocks.specs.Blocks.{line_and_column_text, heading, description_lines, block_text};
+ghost use Rattle.statement_blocks.specs.BlockInputs.{IsBlockInput};
 
-use crate::filling::push_filled;
+use crate::block_input::BlockInput;
 use crate::frame_lines::push_frame;
-use crate::shown::Shown;
 use crate::statement_line::push_statement;
+use crate::wrapping::push_wrapped;
 use frame::is_assertion;
 use numbers::push_number;
 use places::Position;
@@ -18,35 +18,39 @@ use std::alloc::{AllocError, Global};
 ///
 /// Errors: an allocation fails. Cost: the size of the block and of the description, and of the active
 /// `$d` if there are many.
-pub fn push_block(alloc: Global, text: &mut Vec<u8>, shown: &Shown<'_>) -> Result<(), AllocError>
-    requires { IsShown shown.now }
-    ensures { OnOk result (text.new.items ≡ text.old.items ++ block_text shown.now.statements.now
-        shown.now.at shown.now.statement.now shown.now.place
-        (option_map (λ d. d.now) shown.now.description)) }
+pub fn push_block(
+    alloc: Global,
+    text: &mut Vec<u8>,
+    input: &BlockInput<'_>,
+) -> Result<(), AllocError>
+    requires { IsBlockInput input.now }
+    ensures { OnOk result (text.new.items ≡ text.old.items ++ block_text input.now.statements.now
+        input.now.position input.now.statement.now input.now.line_and_column
+        (option_map (λ d. d.now) input.now.description)) }
 {
-    push_place(text, shown.place, shown.at)?;
-    push_description(text, shown.description)?;
-    push_frame_if(alloc, text, shown)?;
-    push_statement(text, shown.statement)
+    push_heading(text, input.line_and_column, input.position)?;
+    push_description(text, input.description)?;
+    push_frame_if(alloc, text, input)?;
+    push_statement(text, input.statement)
 }
 
 /// Appends the line, the column and the number of a statement.
-fn push_place(text: &mut Vec<u8>, place: Position, at: usize) -> Result<(), AllocError>
-    ensures { OnOk result (text.new.items ≡ text.old.items ++ place_line place at) }
+fn push_heading(text: &mut Vec<u8>, line_and_column: Position, at: usize) -> Result<(), AllocError>
+    ensures { OnOk result (text.new.items ≡ text.old.items ++ heading line_and_column at) }
 {
-    push_position(text, place)?;
+    push_line_and_column(text, line_and_column)?;
     text.extend_from_slice(b": ")?;
     push_number(text, at as u64)?;
     text.extend_from_slice(b"\n")
 }
 
 /// Appends a line and a column.
-fn push_position(text: &mut Vec<u8>, place: Position) -> Result<(), AllocError>
-    ensures { OnOk result (text.new.items ≡ text.old.items ++ place_text place) }
+fn push_line_and_column(text: &mut Vec<u8>, line_and_column: Position) -> Result<(), AllocError>
+    ensures { OnOk result (text.new.items ≡ text.old.items ++ line_and_column_text line_and_column) }
 {
-    push_number(text, place.line as u64)?;
+    push_number(text, line_and_column.line as u64)?;
     text.extend_from_slice(b":")?;
-    push_number(text, place.column as u64)
+    push_number(text, line_and_column.column as u64)
 }
 
 /// Appends the words of a description, if there is one.
@@ -55,19 +59,23 @@ fn push_description(text: &mut Vec<u8>, description: Option<&[u8]>) -> Result<()
         ≡ text.old.items ++ description_lines (option_map (λ d. d.now) description.entry)) }
 {
     match description {
-        Some(description) => push_filled(text, description),
+        Some(description) => push_wrapped(text, description),
         None => Ok(()),
     }
 }
 
 /// Appends the frame of a statement, if it is an assertion.
-fn push_frame_if(alloc: Global, text: &mut Vec<u8>, shown: &Shown<'_>) -> Result<(), AllocError>
-    requires { IsShown shown.now }
+fn push_frame_if(
+    alloc: Global,
+    text: &mut Vec<u8>,
+    input: &BlockInput<'_>,
+) -> Result<(), AllocError>
+    requires { IsBlockInput input.now }
     ensures { OnOk result (text.new.items ≡ text.old.items
-        ++ frame_if shown.now.statements.now shown.now.at shown.now.statement.now) }
+        ++ frame_if input.now.statements.now input.now.position input.now.statement.now) }
 {
-    if is_assertion(shown.statement) {
-        push_frame(alloc, text, shown)
+    if is_assertion(input.statement) {
+        push_frame(alloc, text, input)
     } else {
         Ok(())
     }

@@ -2,10 +2,10 @@
 ghost use Rattle.std.specs.Prelude.{◌≡◌, ◌++◌, flat_map, IsTrue, OnOk};
 ghost use Rattle.scope.specs.Active.{bares, before, is_assertion};
 ghost use Rattle.frame.specs.FrameOf.{mandatory_groups};
-ghost use Rattle.statement_blocks.specs.Lines.{line_at, group_line, number_text, numbers_line, frame_lines};
-ghost use Rattle.statement_blocks.specs.Shows.{IsShown};
+ghost use Rattle.statement_blocks.specs.Lines.{line_at, group_line, symbol_text, group_line_of_numbers, frame_lines};
+ghost use Rattle.statement_blocks.specs.BlockInputs.{IsBlockInput};
 
-use crate::shown::Shown;
+use crate::block_input::BlockInput;
 use crate::statement_line::push_statement;
 use entries::Groups;
 use frame::{FrameBuffers, Frames};
@@ -18,17 +18,17 @@ use std::alloc::{AllocError, Global};
 pub(crate) fn push_frame(
     alloc: Global,
     text: &mut Vec<u8>,
-    shown: &Shown<'_>,
+    input: &BlockInput<'_>,
 ) -> Result<(), AllocError>
-    requires shown { IsShown shown.now }
-    requires assertion { IsTrue (is_assertion shown.now.statement.now) }
+    requires input { IsBlockInput input.now }
+    requires assertion { IsTrue (is_assertion input.now.statement.now) }
     ensures { OnOk result (text.new.items ≡ text.old.items
-        ++ frame_lines shown.now.statements.now shown.now.at shown.now.statement.now) }
+        ++ frame_lines input.now.statements.now input.now.position input.now.statement.now) }
 {
     let mut positions = Vec::new(alloc);
-    shown.frames.mandatory(shown.at, &mut positions)?;
-    push_hypotheses(text, shown.statements, positions.as_slice())?;
-    push_disjoint(alloc, text, shown)
+    input.frames.mandatory(input.position, &mut positions)?;
+    push_hypotheses(text, input.statements, positions.as_slice())?;
+    push_disjoint(alloc, text, input)
 }
 
 /// Appends the statements at these positions.
@@ -57,26 +57,32 @@ fn push_at(text: &mut Vec<u8>, statements: &[Stmt], position: usize) -> Result<(
 }
 
 /// Appends the mandatory variables of each active `$d` at an assertion.
-fn push_disjoint(alloc: Global, text: &mut Vec<u8>, shown: &Shown<'_>) -> Result<(), AllocError>
-    requires shown { IsShown shown.now }
-    requires assertion { IsTrue (is_assertion shown.now.statement.now) }
+fn push_disjoint(
+    alloc: Global,
+    text: &mut Vec<u8>,
+    input: &BlockInput<'_>,
+) -> Result<(), AllocError>
+    requires input { IsBlockInput input.now }
+    requires assertion { IsTrue (is_assertion input.now.statement.now) }
     ensures { OnOk result (text.new.items ≡ text.old.items ++ flat_map group_line
-        (mandatory_groups (before (bares shown.now.statements.now) shown.now.at)
-        shown.now.statement.now)) }
+        (mandatory_groups (before (bares input.now.statements.now) input.now.position)
+        input.now.statement.now)) }
 {
-    if let Some(cited) = shown.frames.cited(shown.at) {
-        return push_groups(text, shown.frames, &cited.groups);
+    if let Some(cited) = input.frames.cited(input.position) {
+        return push_groups(text, input.frames, &cited.groups);
     }
     let mut frame_buffers = FrameBuffers::new(alloc);
-    shown.frames.fill_buffers(shown.at, &mut frame_buffers)?;
-    let whole = shown.frames.cited_from(shown.at, &frame_buffers);
-    push_groups(text, shown.frames, &whole.groups)
+    input
+        .frames
+        .fill_buffers(input.position, &mut frame_buffers)?;
+    let whole = input.frames.cited_from(input.position, &frame_buffers);
+    push_groups(text, input.frames, &whole.groups)
 }
 
 /// Appends a line for each group of variables.
 fn push_groups(text: &mut Vec<u8>, frames: &Frames, groups: &Groups<'_>) -> Result<(), AllocError>
     ensures { OnOk result (text.new.items
-        ≡ text.old.items ++ flat_map (numbers_line frames.now.names) groups.now) }
+        ≡ text.old.items ++ flat_map (group_line_of_numbers frames.now.names) groups.now) }
 {
     for index in 0..groups.len() {
         push_group(text, frames, groups.get(index))?;
@@ -87,7 +93,7 @@ fn push_groups(text: &mut Vec<u8>, frames: &Frames, groups: &Groups<'_>) -> Resu
 /// Appends the line of a group of variables.
 fn push_group(text: &mut Vec<u8>, frames: &Frames, group: &[u32]) -> Result<(), AllocError>
     ensures { OnOk result (text.new.items
-        ≡ text.old.items ++ numbers_line frames.now.names group.now) }
+        ≡ text.old.items ++ group_line_of_numbers frames.now.names group.now) }
 {
     text.extend_from_slice(b"$d")?;
     push_variables(text, frames, group)?;
@@ -97,7 +103,7 @@ fn push_group(text: &mut Vec<u8>, frames: &Frames, group: &[u32]) -> Result<(), 
 /// Appends variables, each after a space.
 fn push_variables(text: &mut Vec<u8>, frames: &Frames, group: &[u32]) -> Result<(), AllocError>
     ensures { OnOk result (text.new.items
-        ≡ text.old.items ++ flat_map (number_text frames.now.names) group.now) }
+        ≡ text.old.items ++ flat_map (symbol_text frames.now.names) group.now) }
 {
     for number in group {
         push_variable(text, frames, *number)?;
@@ -106,7 +112,7 @@ fn push_variables(text: &mut Vec<u8>, frames: &Frames, group: &[u32]) -> Result<
 }
 
 fn push_variable(text: &mut Vec<u8>, frames: &Frames, number: u32) -> Result<(), AllocError>
-    ensures { OnOk result (text.new.items ≡ text.old.items ++ number_text frames.now.names number) }
+    ensures { OnOk result (text.new.items ≡ text.old.items ++ symbol_text frames.now.names number) }
 {
     text.extend_from_slice(b" ")?;
     text.extend_from_slice(frames.symbol(number))

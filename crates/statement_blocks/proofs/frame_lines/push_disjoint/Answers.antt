@@ -4,31 +4,31 @@ use Rattle.statement_blocks.proofs.frame_lines.push_disjoint.Goals as goal
 
 pub cited-requires : goal.cited-requires
 cited-requires c =
-    let s = c.args.shown.now in
-    (bare s.statement.now, has_assertion s.statements.now s.frames.now.statements s.at s.statement.now c.requires.shown.same c.requires.shown.stands c.requires.assertion)
+    let s = c.args.input.now in
+    (bare s.statement.now, has_assertion s.statements.now s.frames.now.statements s.position s.statement.now c.requires.input.same c.requires.input.stands c.requires.assertion)
 
 pub fill_buffers-requires : goal.fill_buffers-requires
 fill_buffers-requires c =
-    let s = c.args.shown.now in
-    (bare s.statement.now, has_assertion s.statements.now s.frames.now.statements s.at s.statement.now c.requires.shown.same c.requires.shown.stands c.requires.assertion)
+    let s = c.args.input.now in
+    (bare s.statement.now, has_assertion s.statements.now s.frames.now.statements s.position s.statement.now c.requires.input.same c.requires.input.stands c.requires.assertion)
 
 pub cited_from-whole-requires-clause-assertion : goal.cited_from-whole-requires-clause-assertion
 cited_from-whole-requires-clause-assertion c =
-    let s = c.args.shown.now in
-    (bare s.statement.now, has_assertion s.statements.now s.frames.now.statements s.at s.statement.now c.requires.shown.same c.requires.shown.stands c.requires.assertion)
+    let s = c.args.input.now in
+    (bare s.statement.now, has_assertion s.statements.now s.frames.now.statements s.position s.statement.now c.requires.input.same c.requires.input.stands c.requires.assertion)
 
 pub returns-in-Some : goal.returns-in-Some
 returns-in-Some c =
-    let s = c.args.shown.now in
-    let there = stands_bare s.statements.now s.frames.now.statements s.at s.statement.now c.requires.shown.same c.requires.shown.stands in
+    let s = c.args.input.now in
+    let there = stands_bare s.statements.now s.frames.now.statements s.position s.statement.now c.requires.input.same c.requires.input.stands in
     on_ok c.push_groups.result
-    (groups_are s.statements.now s.frames.now.statements s.at s.statement.now c.requires.shown.same c.requires.shown.stands s.frames.now.names _ _ _ (c.in-Some.ensures (bare s.statement.now) there).groups)
+    (groups_are s.statements.now s.frames.now.statements s.position s.statement.now c.requires.input.same c.requires.input.stands s.frames.now.names _ _ _ (c.in-Some.ensures (bare s.statement.now) there).groups)
     c.push_groups.ensures
 
 pub returns : goal.returns
 returns c =
-    let s = c.args.shown.now in
-    let there = stands_bare s.statements.now s.frames.now.statements s.at s.statement.now c.requires.shown.same c.requires.shown.stands in
+    let s = c.args.input.now in
+    let there = stands_bare s.statements.now s.frames.now.statements s.position s.statement.now c.requires.input.same c.requires.input.stands in
     on_ok c.push_groups-2.result
-    (groups_are s.statements.now s.frames.now.statements s.at s.statement.now c.requires.shown.same c.requires.shown.stands s.frames.now.names _ _ _ (c.cited_from-whole.ensures (bare s.statement.now) there).groups)
+    (groups_are s.statements.now s.frames.now.statements s.position s.statement.now c.requires.input.same c.requires.input.stands s.frames.now.names _ _ _ (c.cited_from-whole.ensures (bare s.statement.now) there).groups)
     c.push_groups-2.ensures

@@ -4,14 +4,14 @@ use Rattle.statement_blocks.proofs.frame_lines.push_frame.Goals as goal
 
 pub mandatory-requires-clause-assertion : goal.mandatory-requires-clause-assertion
 mandatory-requires-clause-assertion c =
-    let s = c.args.shown.now in
-    (bare s.statement.now, has_assertion s.statements.now s.frames.now.statements s.at s.statement.now c.requires.shown.same c.requires.shown.stands c.requires.assertion)
+    let s = c.args.input.now in
+    (bare s.statement.now, has_assertion s.statements.now s.frames.now.statements s.position s.statement.now c.requires.input.same c.requires.input.stands c.requires.assertion)
 
 pub returns : goal.returns
 returns c =
-    let s = c.args.shown.now in
-    let there = stands_bare s.statements.now s.frames.now.statements s.at s.statement.now c.requires.shown.same c.requires.shown.stands in
+    let s = c.args.input.now in
+    let there = stands_bare s.statements.now s.frames.now.statements s.position s.statement.now c.requires.input.same c.requires.input.stands in
     on_ok c.push_disjoint.result
-    (frame_is s.statements.now s.frames.now.statements s.at s.statement.now c.requires.shown.same c.requires.shown.stands _ _ _ _
+    (frame_is s.statements.now s.frames.now.statements s.position s.statement.now c.requires.input.same c.requires.input.stands _ _ _ _
     (c.as_slice.ensures.value ∙ c.in_ok-mandatory.ensures.listed (bare s.statement.now) there) c.in_ok-push_hypotheses.ensures)
     c.push_disjoint.ensures

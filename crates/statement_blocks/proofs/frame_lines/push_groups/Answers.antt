@@ -1,10 +1,10 @@
-use Rattle.statement_blocks.proofs.Words.{◌≤◌, ◌∙◌, ap, arith, length, numbers_line}
+use Rattle.statement_blocks.proofs.Words.{◌≤◌, ◌∙◌, ap, arith, length, group_line_of_numbers}
 use Rattle.statement_blocks.proofs.FrameLemmas.{more_items, all_items}
 use Rattle.statement_blocks.proofs.frame_lines.push_groups.Goals as goal
 
 pub loop-index-preserved : goal.loop-index-preserved
 loop-index-preserved c =
-    more_items (numbers_line c.args.frames.now.names) c.args.groups.now c.loop-index.index _ _ _ _ c.loop-index.invariant c.get.ensures c.in_ok-push_group.ensures
+    more_items (group_line_of_numbers c.args.frames.now.names) c.args.groups.now c.loop-index.index _ _ _ _ c.loop-index.invariant c.get.ensures c.in_ok-push_group.ensures
 
 pub returns : goal.returns
-returns c = all_items (numbers_line c.args.frames.now.names) c.args.groups.now c.loop-index.index _ _ (omega arith) c.loop-index.invariant
+returns c = all_items (group_line_of_numbers c.args.frames.now.names) c.args.groups.now c.loop-index.index _ _ (omega arith) c.loop-index.invariant

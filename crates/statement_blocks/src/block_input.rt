@@ -5,7 +5,7 @@ use places::Position;
 
 /// A statement to show, with everything that its block is made of.
 #[derive(Drop)]
-pub struct Shown<'a> {
+pub struct BlockInput<'a> {
     /// All statements of the database.
     pub statements: &'a [Stmt],
     /// Their frames.
@@ -13,9 +13,9 @@ pub struct Shown<'a> {
     /// The statement.
     pub statement: &'a Stmt,
     /// Its position among all statements, from 1.
-    pub at: usize,
+    pub position: usize,
     /// Its line and column in the text.
-    pub place: Position,
+    pub line_and_column: Position,
     /// Its description: the contents of a comment.
     pub description: Option<&'a [u8]>,
 }

@@ -1,7 +1,7 @@
 //! Wraps words into lines.
 ghost use Rattle.std.specs.Prelude.{◌≡◌, ◌++◌, [], map, OnOk};
 ghost use Rattle.mm_lex.specs.Alphabet.{runs, word};
-ghost use Rattle.statement_blocks.specs.Filled.{fits, gap, column_after, filled, filled_from};
+ghost use Rattle.statement_blocks.specs.Wrapped.{fits, separator, column_after, wrapped, wrapped_from};
 
 use runs::next_run;
 use std::alloc::AllocError;
@@ -12,25 +12,25 @@ pub(crate) const WIDTH: usize = 78;
 /// Appends the words of a text, wrapped into lines of at most 78 bytes; a longer word has its own line.
 ///
 /// Cost: the size of the text.
-pub(crate) fn push_filled(lines: &mut Vec<u8>, text: &[u8]) -> Result<(), AllocError>
+pub(crate) fn push_wrapped(lines: &mut Vec<u8>, text: &[u8]) -> Result<(), AllocError>
     ensures { OnOk result (lines.new.items
-        ≡ lines.old.items ++ filled (map (word text.now) (runs text.now))) }
+        ≡ lines.old.items ++ wrapped (map (word text.now) (runs text.now))) }
 {
     let mut column = 0;
     let mut at = 0;
     while let Some(span) = next_run(text, at) {
         let word = &text[span.start..span.end];
-        push_gap(lines, column, word)?;
+        push_separator(lines, column, word)?;
         lines.extend_from_slice(word)?;
         column = column_after(column, word);
         at = span.end;
     }
-    push_end(lines, column)
+    push_line_feed(lines, column)
 }
 
 /// Appends a line feed after a line of `column` bytes, unless the line is empty.
-fn push_end(lines: &mut Vec<u8>, column: usize) -> Result<(), AllocError>
-    ensures { OnOk result (lines.new.items ≡ lines.old.items ++ filled_from column []) }
+fn push_line_feed(lines: &mut Vec<u8>, column: usize) -> Result<(), AllocError>
+    ensures { OnOk result (lines.new.items ≡ lines.old.items ++ wrapped_from column []) }
 {
     if column == 0 {
         Ok(())
@@ -40,8 +40,8 @@ fn push_end(lines: &mut Vec<u8>, column: usize) -> Result<(), AllocError>
 }
 
 /// Appends the space or the line feed that precedes a word, in a line of `column` bytes.
-fn push_gap(lines: &mut Vec<u8>, column: usize, word: &[u8]) -> Result<(), AllocError>
-    ensures { OnOk result (lines.new.items ≡ lines.old.items ++ gap column word.now) }
+fn push_separator(lines: &mut Vec<u8>, column: usize, word: &[u8]) -> Result<(), AllocError>
+    ensures { OnOk result (lines.new.items ≡ lines.old.items ++ separator column word.now) }
 {
     if column == 0 {
         Ok(())

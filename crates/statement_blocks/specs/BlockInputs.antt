@@ -3,9 +3,9 @@
 -- The code receives both the statement and its position.
 use Rattle.std.specs.Prelude.{◌≡◌, Some}
 use Rattle.scope.specs.Active.{bares, stmt_at}
-use Rattle.statement_blocks.specs.declared.shown.Shown.{Shown}
+use Rattle.statement_blocks.specs.declared.block_input.BlockInput.{BlockInput}
 
 -- the frames are those of the statements, and the statement is the one at the position
-pub record IsShown (shown : Shown) : Type 0 where
-  pub same : shown.frames.now.statements ≡ bares shown.statements.now
-  pub stands : stmt_at shown.statements.now shown.at ≡ Some shown.statement.now
+pub record IsBlockInput (input : BlockInput) : Type 0 where
+  pub same : input.frames.now.statements ≡ bares input.statements.now
+  pub stands : stmt_at input.statements.now input.position ≡ Some input.statement.now
