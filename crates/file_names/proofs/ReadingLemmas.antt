@@ -10,7 +10,7 @@ use Rattle.std.proofs.lemmas.Fmt.{decimal_injective, decimal_is_IsNumeral}
 use Rattle.std.proofs.lemmas.List.{append_cancel_left, append_cancel_right}
 use Rattle.std.proofs.lemmas.List.Folds.{list_all-append}
 use Rattle.mm_lex.specs.Alphabet.{Name, has_name, is_empty, is_label, is_label_byte}
-use Rattle.file_names.specs.FileNames.{escaped_byte, escaped, reserved, mark, is_spelled, spelled, numbered}
+use Rattle.file_names.specs.FileNames.{escaped_byte, escaped, reserved, plus_if_reserved, is_spelled, spelled, numbered}
 use Rattle.file_names.specs.Laws as laws
 use Rattle.file_names.specs.Laws.{is_name_byte, is_empty_or_begins_with_dot}
 
@@ -51,9 +51,9 @@ read-escaped (b ∷ label) rest h =
     ap (read_by false) (append_assoc (escaped_byte b) (escaped label) rest)
     ∙ (read-byte b (escaped label ++ rest) parts.0 ∙ ap (λ l. b ∷ l) (read-escaped label rest parts.1))
 
-read-mark : (label : Name) → read_by false (mark label) ≡ []
+read-plus_if_reserved : (label : Name) → read_by false (plus_if_reserved label) ≡ []
 unfolding read_by
-read-mark label = by (has_name label reserved)
+read-plus_if_reserved label = by (has_name label reserved)
   where
     by : (t : Bool) → read_by false (if t then codes "+" else []) ≡ []
     by true = refl
@@ -63,7 +63,7 @@ label-bytes : (label : Name) → is_spelled label ≡ true → (not (is_empty la
 label-bytes label h = and_parts (not (is_empty label)) (list_all is_label_byte label) (and_parts (nat_le (length label) 100) (is_label label) h).1
 
 read-spelled : (label : Name) → is_spelled label ≡ true → read_by false (spelled label) ≡ label
-read-spelled label h = read-escaped label (mark label) (label-bytes label h).1 ∙ (ap (λ l. label ++ l) (read-mark label) ∙ append-nil label)
+read-spelled label h = read-escaped label (plus_if_reserved label) (label-bytes label h).1 ∙ (ap (λ l. label ++ l) (read-plus_if_reserved label) ∙ append-nil label)
 
 -- ---- digits
 
@@ -112,16 +112,16 @@ spelled-numbered label p h fits same =
     let parts = and_parts (is_label_byte (if d.first == 46 then d.first else d.first - 32)) (list_all is_label_byte (read_by false d.rest)) all in
     true≢false (sym parts.0 ∙ no_label_byte d.first first)
 
-fronts-differ : (one other : Name) (p q : ℕ) → p < 2 ^ 64 → q < 2 ^ 64 → (t : Bool) → is_spelled one ≡ t → (u : Bool) → is_spelled other ≡ u
+stems-differ : (one other : Name) (p q : ℕ) → p < 2 ^ 64 → q < 2 ^ 64 → (t : Bool) → is_spelled one ≡ t → (u : Bool) → is_spelled other ≡ u
     → (if t then spelled one else numbered p) ≡ (if u then spelled other else numbered q) → (one ≡ other) ⊎ (p ≡ q)
-fronts-differ one other p q pf qf true e true f same = inl (sym (read-spelled one e) ∙ (ap (read_by false) same ∙ read-spelled other f))
-fronts-differ one other p q pf qf true e false f same = absurd (spelled-numbered one q e qf same)
-fronts-differ one other p q pf qf false e true f same = absurd (spelled-numbered other p f pf (sym same))
-fronts-differ one other p q pf qf false e false f same = inr (decimal_injective p q pf qf (append_cancel_left (codes "+") (decimal p) (decimal q) same))
+stems-differ one other p q pf qf true e true f same = inl (sym (read-spelled one e) ∙ (ap (read_by false) same ∙ read-spelled other f))
+stems-differ one other p q pf qf true e false f same = absurd (spelled-numbered one q e qf same)
+stems-differ one other p q pf qf false e true f same = absurd (spelled-numbered other p f pf (sym same))
+stems-differ one other p q pf qf false e false f same = inr (decimal_injective p q pf qf (append_cancel_left (codes "+") (decimal p) (decimal q) same))
 
 pub names-differ : laws.NamesDiffer
 names-differ one other p q pf qf same =
-    fronts-differ one other p q pf qf (is_spelled one) refl (is_spelled other) refl
+    stems-differ one other p q pf qf (is_spelled one) refl (is_spelled other) refl
     (append_cancel_right (if is_spelled one then spelled one else numbered p) (if is_spelled other then spelled other else numbered q) (codes ".html") same)
 
 -- ---- names stay in a folder
@@ -153,8 +153,8 @@ escaped_bytes (b ∷ label) h =
     let parts = and_parts (is_label_byte b) (list_all is_label_byte label) h in
     joined_bytes (escaped_byte b) (escaped label) (name_bytes b parts.0) (escaped_bytes label parts.1)
 
-mark_bytes : (label : Name) → list_all is_name_byte (mark label) ≡ true
-mark_bytes label = by (has_name label reserved)
+plus_bytes : (label : Name) → list_all is_name_byte (plus_if_reserved label) ≡ true
+plus_bytes label = by (has_name label reserved)
   where
     by : (t : Bool) → list_all is_name_byte (if t then codes "+" else []) ≡ true
     by true = refl
@@ -167,14 +167,14 @@ digits_in_names (c ∷ cs) h =
     and_from _ _ (let d = parts.0 in let named : is_name_byte c ≡ true = grind (arith, nat_tests, d) in named) (digits_in_names cs parts.1)
 
 -- the bytes of a name without its ending, the first of them no dot
-record IsFront (text : List ℕ) : Type 0 where
+record IsStem (text : List ℕ) : Type 0 where
   pub bytes : list_all is_name_byte text ≡ true
   pub undotted : (rest : List ℕ) → is_empty_or_begins_with_dot (text ++ rest) ≡ false
 
-spelled-front : (label : Name) → is_spelled label ≡ true → IsFront (spelled label)
-spelled-front label h =
+spelled-stem : (label : Name) → is_spelled label ≡ true → IsStem (spelled label)
+spelled-stem label h =
     let parts = label-bytes label h in
-    record { bytes = joined_bytes (escaped label) (mark label) (escaped_bytes label parts.1) (mark_bytes label); undotted = λ rest. first label parts.0 rest }
+    record { bytes = joined_bytes (escaped label) (plus_if_reserved label) (escaped_bytes label parts.1) (plus_bytes label); undotted = λ rest. first label parts.0 rest }
   where
     byte : (b : ℕ) (rest : List ℕ) → is_empty_or_begins_with_dot (escaped_byte b ++ rest) ≡ false
     byte b rest = by (is_ascii_uppercase b) (b == 46) refl
@@ -184,17 +184,17 @@ spelled-front label h =
         by false true f = refl
         by false false f = f
 
-    first : (l : Name) → not (is_empty l) ≡ true → (rest : List ℕ) → is_empty_or_begins_with_dot ((escaped l ++ mark label) ++ rest) ≡ false
+    first : (l : Name) → not (is_empty l) ≡ true → (rest : List ℕ) → is_empty_or_begins_with_dot ((escaped l ++ plus_if_reserved label) ++ rest) ≡ false
     first [] some rest = absurd (let e = some in cc)
     first (b ∷ l) some rest =
-        ap is_empty_or_begins_with_dot (append_assoc (escaped_byte b ++ escaped l) (mark label) rest ∙ append_assoc (escaped_byte b) (escaped l) (mark label ++ rest))
-        ∙ byte b (escaped l ++ (mark label ++ rest))
+        ap is_empty_or_begins_with_dot (append_assoc (escaped_byte b ++ escaped l) (plus_if_reserved label) rest ∙ append_assoc (escaped_byte b) (escaped l) (plus_if_reserved label ++ rest))
+        ∙ byte b (escaped l ++ (plus_if_reserved label ++ rest))
 
-front : (label : Name) (p : ℕ) → p < 2 ^ 64 → (t : Bool) → is_spelled label ≡ t → IsFront (if t then spelled label else numbered p)
-front label p fits true e = spelled-front label e
-front label p fits false e = record { bytes = joined_bytes (codes "+") (decimal p) refl (digits_in_names (decimal p) (decimal-digits p fits).digits); undotted = λ rest. refl }
+stem : (label : Name) (p : ℕ) → p < 2 ^ 64 → (t : Bool) → is_spelled label ≡ t → IsStem (if t then spelled label else numbered p)
+stem label p fits true e = spelled-stem label e
+stem label p fits false e = record { bytes = joined_bytes (codes "+") (decimal p) refl (digits_in_names (decimal p) (decimal-digits p fits).digits); undotted = λ rest. refl }
 
-pub names-stay : laws.NamesStay
+pub names-stay : laws.NamesStayInAFolder
 names-stay label p fits =
-    let f = front label p fits (is_spelled label) refl in
+    let f = stem label p fits (is_spelled label) refl in
     (joined_bytes (if is_spelled label then spelled label else numbered p) (codes ".html") f.bytes refl, f.undotted (codes ".html"))

@@ -5,7 +5,7 @@ use Rattle.std.specs.Prelude.{ℕ, ◌+◌, ◌==◌, nat_le, Bool, ◌&&◌, if
 use Rattle.std.specs.Char.{is_ascii_uppercase}
 use Rattle.mm_lex.specs.Alphabet.{Name, has_name, is_label}
 
--- a capital letter as `+` and its small letter, a dot as `+.`, another byte as it stands
+-- an uppercase letter as `+` and its lowercase letter, a dot as `+.`, another byte as it stands
 abbrev pub escaped_byte : ℕ → List ℕ
 escaped_byte b = if is_ascii_uppercase b then 43 ∷ (b + 32) ∷ [] else if b == 46 then 43 ∷ b ∷ [] else b ∷ []
 
@@ -18,16 +18,16 @@ reserved = codes "index" ∷ codes "con" ∷ codes "prn" ∷ codes "aux" ∷ cod
     ∷ codes "com5" ∷ codes "com6" ∷ codes "com7" ∷ codes "com8" ∷ codes "com9" ∷ codes "lpt0" ∷ codes "lpt1" ∷ codes "lpt2" ∷ codes "lpt3" ∷ codes "lpt4"
     ∷ codes "lpt5" ∷ codes "lpt6" ∷ codes "lpt7" ∷ codes "lpt8" ∷ codes "lpt9" ∷ []
 
--- a `+` after one of them
-abbrev pub mark : Name → List ℕ
-mark label = if has_name label reserved then codes "+" else []
+-- a `+` if the label is reserved, else nothing
+abbrev pub plus_if_reserved : Name → List ℕ
+plus_if_reserved label = if has_name label reserved then codes "+" else []
 
 -- the name spells it: a label of at most 100 bytes
 abbrev pub is_spelled : Name → Bool
 is_spelled label = nat_le (length label) 100 && is_label label
 
 abbrev pub spelled : Name → List ℕ
-spelled label = escaped label ++ mark label
+spelled label = escaped label ++ plus_if_reserved label
 
 abbrev pub numbered : ℕ → List ℕ
 numbered position = codes "+" ++ decimal position

@@ -7,7 +7,7 @@ use Rattle.std.specs.Char.{is_ascii_lowercase, is_ascii_digit}
 use Rattle.mm_lex.specs.Alphabet.{Name, has_byte}
 use Rattle.file_names.specs.FileNames.{file_name}
 
--- a small letter, a digit, `.`, `-`, `_` or `+`
+-- a lowercase letter, a digit, `.`, `-`, `_` or `+`
 abbrev pub is_name_byte : ℕ → Bool
 is_name_byte b = is_ascii_lowercase b || (is_ascii_digit b || has_byte b (codes ".-_+"))
 
@@ -20,5 +20,5 @@ abbrev pub NamesDiffer : Type 0
 NamesDiffer = (one other : Name) (p q : ℕ) → p < 2 ^ 64 → q < 2 ^ 64 → file_name one p ≡ file_name other q → (one ≡ other) ⊎ (p ≡ q)
 
 -- all bytes of a name are of these; it is not empty, and its first byte is no dot
-abbrev pub NamesStay : Type 0
-NamesStay = (label : Name) (p : ℕ) → p < 2 ^ 64 → (list_all is_name_byte (file_name label p) ≡ true) × (is_empty_or_begins_with_dot (file_name label p) ≡ false)
+abbrev pub NamesStayInAFolder : Type 0
+NamesStayInAFolder = (label : Name) (p : ℕ) → p < 2 ^ 64 → (list_all is_name_byte (file_name label p) ≡ true) × (is_empty_or_begins_with_dot (file_name label p) ≡ false)

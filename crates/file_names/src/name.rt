@@ -2,7 +2,7 @@
 ghost use Rattle.std.specs.Prelude.{◌≡◌, ◌++◌, if◌then◌else◌, OnOk};
 ghost use Rattle.std.specs.List.{list_any};
 ghost use Rattle.mm_lex.specs.Alphabet.{has_name, name_eq};
-ghost use Rattle.file_names.specs.FileNames.{escaped_byte, escaped, reserved, mark, is_spelled, spelled, numbered, file_name};
+ghost use Rattle.file_names.specs.FileNames.{escaped_byte, escaped, reserved, plus_if_reserved, is_spelled, spelled, numbered, file_name};
 
 use mm_lex::is_label;
 use numbers::push_number;
@@ -14,8 +14,8 @@ pub const INDEX: &str = "index.html";
 /// The name of the style sheet.
 pub const STYLE: &str = "style.css";
 
-/// The largest length in bytes of a label that stands in a name; a longer one is named by its position.
-const LONGEST: usize = 100;
+/// The largest length in bytes of a label that a name spells; a longer one is named by its position.
+const MAX_SPELLED_LEN: usize = 100;
 
 /// The labels that would name a device of Windows or the index.
 const RESERVED: [&[u8]; 25] = [
@@ -25,20 +25,20 @@ const RESERVED: [&[u8]; 25] = [
 ];
 
 /// Appends the name of the file of the assertion with a label at a position. A label of at most 100
-/// bytes is spelled: `+` stands before each dot, each capital letter becomes `+` and its lowercase
+/// bytes is spelled: `+` stands before each dot, each uppercase letter becomes `+` and its lowercase
 /// letter, and `+` follows a reserved label. Anything else is named by `+` and the position.
 ///
-/// Errors: an allocation fails; what is in the text then is not specified. Cost: the length of the
+/// Errors: an allocation fails; the text is then unspecified. Cost: the length of the
 /// label. Source: this project's own form; the names of devices are those of Windows.
 pub fn push_file_name(text: &mut Vec<u8>, label: &[u8], position: usize) -> Result<(), AllocError>
     ensures { OnOk result (text.new.items ≡ text.old.items ++ file_name label.now position) }
 {
-    push_front(text, label, position)?;
+    push_stem(text, label, position)?;
     text.extend_from_slice(b".html")
 }
 
-/// Appends the name without `.html`.
-fn push_front(text: &mut Vec<u8>, label: &[u8], position: usize) -> Result<(), AllocError>
+/// Appends the stem of a name: the name without `.html`.
+fn push_stem(text: &mut Vec<u8>, label: &[u8], position: usize) -> Result<(), AllocError>
     ensures { OnOk result (text.new.items
         ≡ text.old.items ++ (if is_spelled label.now then spelled label.now else numbered position)) }
 {
@@ -49,11 +49,11 @@ fn push_front(text: &mut Vec<u8>, label: &[u8], position: usize) -> Result<(), A
     }
 }
 
-/// Tells whether the name spells the label.
+/// Returns whether the name spells the label.
 fn is_spelled(label: &[u8]) -> bool
     ensures { result ≡ is_spelled label.now }
 {
-    label.len() <= LONGEST && is_label(label)
+    label.len() <= MAX_SPELLED_LEN && is_label(label)
 }
 
 /// Appends the name that spells a label.
@@ -61,19 +61,19 @@ fn push_spelled(text: &mut Vec<u8>, label: &[u8]) -> Result<(), AllocError>
     ensures { OnOk result (text.new.items ≡ text.old.items ++ spelled label.now) }
 {
     push_escaped(text, label)?;
-    push_mark(text, label)
+    push_plus_if_reserved(text, label)
 }
 
 fn push_escaped(text: &mut Vec<u8>, label: &[u8]) -> Result<(), AllocError>
     ensures { OnOk result (text.new.items ≡ text.old.items ++ escaped label.now) }
 {
     for byte in label {
-        push_byte(text, *byte)?;
+        push_escaped_byte(text, *byte)?;
     }
     Ok(())
 }
 
-fn push_byte(text: &mut Vec<u8>, byte: u8) -> Result<(), AllocError>
+fn push_escaped_byte(text: &mut Vec<u8>, byte: u8) -> Result<(), AllocError>
     ensures { OnOk result (text.new.items ≡ text.old.items ++ escaped_byte byte) }
 {
     if byte.is_ascii_uppercase() {
@@ -85,8 +85,8 @@ fn push_byte(text: &mut Vec<u8>, byte: u8) -> Result<(), AllocError>
     }
 }
 
-fn push_mark(text: &mut Vec<u8>, label: &[u8]) -> Result<(), AllocError>
-    ensures { OnOk result (text.new.items ≡ text.old.items ++ mark label.now) }
+fn push_plus_if_reserved(text: &mut Vec<u8>, label: &[u8]) -> Result<(), AllocError>
+    ensures { OnOk result (text.new.items ≡ text.old.items ++ plus_if_reserved label.now) }
 {
     if is_reserved(label) {
         text.extend_from_slice(b"+")
@@ -101,7 +101,7 @@ fn is_reserved(label: &[u8]) -> bool
     is_one_of(label, &RESERVED)
 }
 
-/// Tells whether the label is one of the names.
+/// Returns whether the label is one of the names.
 fn is_one_of(label: &[u8], names: &[&[u8]]) -> bool
     ensures { result ≡ list_any (λ name. name_eq label.now name.now) names.now }
 {

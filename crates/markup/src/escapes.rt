@@ -37,21 +37,21 @@ fn push_html_byte(page: &mut Vec<u8>, byte: u8) -> Result<(), AllocError>
 /// Appends the bytes as the inside of a quoted string of the DOT language: with a `\` before each `"` and `\`.
 ///
 /// Errors: an allocation fails. Cost: the number of bytes.
-pub fn push_quoted(picture: &mut Vec<u8>, bytes: &[u8]) -> Result<(), AllocError>
-    ensures { OnOk result (picture.new.items ≡ picture.old.items ++ quoted_text bytes.now) }
+pub fn push_quoted(text: &mut Vec<u8>, bytes: &[u8]) -> Result<(), AllocError>
+    ensures { OnOk result (text.new.items ≡ text.old.items ++ quoted_text bytes.now) }
 {
     for byte in bytes {
-        push_quoted_byte(picture, *byte)?;
+        push_quoted_byte(text, *byte)?;
     }
     Ok(())
 }
 
-fn push_quoted_byte(picture: &mut Vec<u8>, byte: u8) -> Result<(), AllocError>
-    ensures { OnOk result (picture.new.items ≡ picture.old.items ++ quoted_byte byte) }
+fn push_quoted_byte(text: &mut Vec<u8>, byte: u8) -> Result<(), AllocError>
+    ensures { OnOk result (text.new.items ≡ text.old.items ++ quoted_byte byte) }
 {
     if byte == b'"' || byte == b'\\' {
-        picture.extend_from_slice(&[b'\\', byte])
+        text.extend_from_slice(&[b'\\', byte])
     } else {
-        picture.extend_from_slice(&[byte])
+        text.extend_from_slice(&[byte])
     }
 }

@@ -17,7 +17,7 @@ pub fn parse_number(word: &[u8]) -> Option<u64>
     }
     let mut value = 0u64;
     for digit in word {
-        let Some(longer) = with_digit(value, *digit) else {
+        let Some(longer) = append_digit(value, *digit) else {
             return None;
         };
         value = longer;
@@ -26,7 +26,7 @@ pub fn parse_number(word: &[u8]) -> Option<u64>
 }
 
 /// Returns ten times a value plus a digit, or `None` if the byte is no digit or the result exceeds `u64`.
-fn with_digit(value: u64, digit: u8) -> Option<u64>
+fn append_digit(value: u64, digit: u8) -> Option<u64>
     ensures { MatchOption result
         (is_ascii_digit digit ≡ true → 2 ^ 64 ≤ value * 10 + (digit - 48))
         (λ longer. (is_ascii_digit digit ≡ true)
