@@ -49,10 +49,10 @@ fn push_position_if(
 ///
 /// Cost: the number of positions removed, and a constant.
 pub(crate) fn trim_to_active(frames: &Frames, at: usize, positions: &mut Vec<usize>) -> bool
-    requires place { (1 ≤ at) × (at ≤ length frames.now.statements) }
+    requires position { (1 ≤ at) × (at ≤ length frames.now.statements) }
     ensures left { IsTrimmedLength frames.now.statements at positions.old.items
         (length positions.new.items) }
-    ensures front { positions.new.items
+    ensures prefix { positions.new.items
         ≡ take (length positions.new.items) positions.old.items }
     ensures some { IsTrue result ↔ 0 < length positions.new.items }
 {
@@ -64,7 +64,7 @@ pub(crate) fn trim_to_active(frames: &Frames, at: usize, positions: &mut Vec<usi
 /// Returns how many positions are left once those at the end that are not of hypotheses active at
 /// `at` are removed.
 fn count_left(frames: &Frames, at: usize, positions: &[usize]) -> usize
-    requires place { (1 ≤ at) × (at ≤ length frames.now.statements) }
+    requires position { (1 ≤ at) × (at ≤ length frames.now.statements) }
     ensures { IsTrimmedLength frames.now.statements at positions.now result }
 {
     let mut left = positions.len();
@@ -79,7 +79,7 @@ fn count_left(frames: &Frames, at: usize, positions: &[usize]) -> usize
 
 /// Returns whether the statement at `position` is a hypothesis that is active at `at`.
 fn is_active(frames: &Frames, at: usize, position: usize) -> bool
-    requires place { (1 ≤ at) × (at ≤ length frames.now.statements) }
+    requires position { (1 ≤ at) × (at ≤ length frames.now.statements) }
     ensures { IsTrue result ↔ IsActiveHypothesis frames.now.statements at position }
 {
     match frames.meaning(at, position) {

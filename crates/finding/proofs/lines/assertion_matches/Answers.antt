@@ -19,9 +19,9 @@ returns-else-expr_matches c =
     let kept : AreMatchingEssentials p S c.args.index old = subst (λ query. AreRecorded query S c.args.index old) c.in-WithHypotheses.is c.requires.recorded in
     let left : IsTrimmedLength (bares S) (c.args.index + 1) old (length new) = subst (λ F. IsTrimmedLength F (c.args.index + 1) old (length new)) c.requires.same c.trim_to_active.ensures.left in
     let own = subst (λ expr. IsTrue c.in_ok-expr_matches-in-WithHypotheses.expr_matches ↔ HasPattern p expr) c.assertion_expr-in-WithHypotheses.ensures c.in_ok-expr_matches-in-WithHypotheses.ensures in
-    let some = some-left p S c.args.index (c.args.index + 1) refl old new left c.trim_to_active.ensures.front c.args.statement.now c.trim_to_active.result kept c.trim_to_active.ensures.some in
+    let some = some-left p S c.args.index (c.args.index + 1) refl old new left c.trim_to_active.ensures.prefix c.args.statement.now c.trim_to_active.result kept c.trim_to_active.ensures.some in
     record {
       matches = subst (λ query. IsTrue c.trim_to_active.result ↔ AssertionMatches s.text.now S s.descriptions.now query c.args.index c.args.statement.now) (sym c.in-WithHypotheses.is)
           (either_later _ _ c.in_ok-expr_matches-in-WithHypotheses.expr_matches c.trim_to_active.result c.if-expr_matches.false own some);
-      recorded = subst (λ query. AreRecorded query S c.args.index new) (sym c.in-WithHypotheses.is) (kept-left p S c.args.index (c.args.index + 1) refl old new left c.trim_to_active.ensures.front kept);
+      recorded = subst (λ query. AreRecorded query S c.args.index new) (sym c.in-WithHypotheses.is) (kept-left p S c.args.index (c.args.index + 1) refl old new left c.trim_to_active.ensures.prefix kept);
     }

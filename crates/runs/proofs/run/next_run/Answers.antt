@@ -21,7 +21,7 @@ returns-clause-run c =
     let inside : white < length (drop at text) = omega (arith, ap length back) in
     next_run-whole text at white c.count_nonwhite-nonwhite.result c.requires blanks from_run inside
 
-pub returns-clause-is_run : goal.returns-clause-place
+pub returns-clause-is_run : goal.returns-clause-is_run
 returns-clause-is_run c =
     let text = c.args.text.now in
     let at = c.args.at in
