@@ -3,7 +3,7 @@ use Rattle.cross_references.proofs.Words.{◌≡◌, ◌⊎◌, ℕ, zero, suc, 
 
 -- ---- the positions that numbers stand for
 
-module _ (S : Database) (labels : List Name) (places : List (Option ℕ)) (are : ArePositions S labels places) (once : HasLabelsOnce S) where
+module _ (S : Database) (labels : List Name) (positions : List (Option ℕ)) (are : ArePositions S labels positions) (once : HasLabelsOnce S) where
   -- an item that cites a statement
   record CitesOne (item : Item) (a : ℕ) : Type 0 where
     pub label : Name
@@ -11,22 +11,22 @@ module _ (S : Database) (labels : List Name) (places : List (Option ℕ)) (are :
     pub cites : item ≡ Cite label
     pub carries : Carries S a cited label
 
-  place-sound : (number a : ℕ) → place_of places number ≡ Some a → CitesOne (item_of labels number) a
-  place-sound zero a e = absurd (let f = e in cc)
-  place-sound (suc n) a e = elim (cases_lt n (length labels)) [
+  position-sound : (number a : ℕ) → place_of positions number ≡ Some a → CitesOne (item_of labels number) a
+  position-sound zero a e = absurd (let f = e in cc)
+  position-sound (suc n) a e = elim (cases_lt n (length labels)) [
     | inl less ↦ (
         let p = subst (IsPosition S (get_or labels n [])) e (are.each n less) in
         record { label = get_or labels n []; cited = p.0; cites = item-cite labels (suc n) n refl less; carries = p.1 })
-    | inr more ↦ absurd (let c = are.count in let f : None ≡ Some a = sym (get_or_past places n None (omega (arith, more, c))) ∙ e in cc)
+    | inr more ↦ absurd (let c = are.count in let f : None ≡ Some a = sym (get_or_past positions n None (omega (arith, more, c))) ∙ e in cc)
   ]
 
-  place-whole : (number a : ℕ) → CitesOne (item_of labels number) a → place_of places number ≡ Some a
-  place-whole zero a c = absurd (let e = c.cites in cc)
-  place-whole (suc n) a c = elim (cases_lt n (length labels)) [
+  position-whole : (number a : ℕ) → CitesOne (item_of labels number) a → place_of positions number ≡ Some a
+  position-whole zero a c = absurd (let e = c.cites in cc)
+  position-whole (suc n) a c = elim (cases_lt n (length labels)) [
     | inl less ↦ (
         let e : Cite (get_or labels n []) ≡ Cite c.label = sym (item-cite labels (suc n) n refl less) ∙ c.cites in
         let same : get_or labels n [] ≡ c.label = cc in
-        position-is S (get_or labels n []) (get_or places n None) a c.cited once (are.each n less) (subst (Carries S a c.cited) (sym same) c.carries))
+        position-is S (get_or labels n []) (get_or positions n None) a c.cited once (are.each n less) (subst (Carries S a c.cited) (sym same) c.carries))
     | inr more ↦ absurd (let e : Recall (suc (n - length labels)) ≡ Cite c.label = sym (item-recall labels (suc n) n refl more) ∙ c.cites in cc)
   ]
 
@@ -35,46 +35,46 @@ module _ (S : Database) (labels : List Name) (places : List (Option ℕ)) (are :
     pub place : ℕ
     pub number : ℕ
     pub there : slice_get numbers place ≡ Some number
-    pub stands : place_of places number ≡ Some a
+    pub stands : place_of positions number ≡ Some a
 
   later : (n : ℕ) (ns : List ℕ) (a : ℕ) → HasNumber ns a → HasNumber (n ∷ ns) a
   later n ns a h = record { place = suc h.place; number = h.number; there = h.there; stands = h.stands }
 
-  in-number : (numbers : List ℕ) (a : ℕ) → In a (filter_map (place_of places) numbers) → HasNumber numbers a
+  in-number : (numbers : List ℕ) (a : ℕ) → In a (filter_map (place_of positions) numbers) → HasNumber numbers a
   in-number [] a i = absurd i
-  in-number (n ∷ ns) a i = by (place_of places n) refl (λ j. later n ns a (in-number ns a j)) i
+  in-number (n ∷ ns) a i = by (place_of positions n) refl (λ j. later n ns a (in-number ns a j)) i
     where
-      by : (o : Option ℕ) → place_of places n ≡ o → (In a (filter_map (place_of places) ns) → HasNumber (n ∷ ns) a) → In a (cons_option o (filter_map (place_of places) ns)) → HasNumber (n ∷ ns) a
+      by : (o : Option ℕ) → place_of positions n ≡ o → (In a (filter_map (place_of positions) ns) → HasNumber (n ∷ ns) a) → In a (cons_option o (filter_map (place_of positions) ns)) → HasNumber (n ∷ ns) a
       by None e go j = go j
       by (Some p) e go (inl same) = record { place = 0; number = n; there = refl; stands = e ∙ ap Some (sym same) }
       by (Some p) e go (inr j) = go j
 
-  number-in : (numbers : List ℕ) (a k n : ℕ) → slice_get numbers k ≡ Some n → place_of places n ≡ Some a → In a (filter_map (place_of places) numbers)
+  number-in : (numbers : List ℕ) (a k n : ℕ) → slice_get numbers k ≡ Some n → place_of positions n ≡ Some a → In a (filter_map (place_of positions) numbers)
   number-in [] a k n e at = absurd (let f = e in cc)
   number-in (m ∷ ns) a zero n e at =
       let same : m ≡ n = (let f = e in cc) in
-      subst (λ o. In a (cons_option o (filter_map (place_of places) ns))) (sym (ap (place_of places) same ∙ at)) (inl refl)
-  number-in (m ∷ ns) a (suc k) n e at = kept (place_of places m) (number-in ns a k n e at)
+      subst (λ o. In a (cons_option o (filter_map (place_of positions) ns))) (sym (ap (place_of positions) same ∙ at)) (inl refl)
+  number-in (m ∷ ns) a (suc k) n e at = kept (place_of positions m) (number-in ns a k n e at)
     where
-      kept : (o : Option ℕ) → In a (filter_map (place_of places) ns) → In a (cons_option o (filter_map (place_of places) ns))
+      kept : (o : Option ℕ) → In a (filter_map (place_of positions) ns) → In a (cons_option o (filter_map (place_of positions) ns))
       kept None i = i
       kept (Some p) i = inr i
 
   pub those-cited : (numbers : List ℕ) (items : List Item) (list : List ℕ) → items_of labels numbers ≡ items
-      → AreThose (λ p. In p (filter_map (place_of places) numbers)) list → AreThose (ItemsCite S items) list
+      → AreThose (λ p. In p (filter_map (place_of positions) numbers)) list → AreThose (ItemsCite S items) list
   those-cited numbers items list same those =
       subst (λ is. AreThose (ItemsCite S is) list) same (those-by those cites back)
     where
-      cites : (a : ℕ) → In a (filter_map (place_of places) numbers) → ItemsCite S (items_of labels numbers) a
+      cites : (a : ℕ) → In a (filter_map (place_of positions) numbers) → ItemsCite S (items_of labels numbers) a
       cites a i =
           let h = in-number numbers a i in
-          let c = place-sound h.number a h.stands in
+          let c = position-sound h.number a h.stands in
           record { place = h.place; label = c.label; cited = c.cited; cites = slice_get-map (item_of labels) numbers h.place ∙ (ap (option_map (item_of labels)) h.there ∙ ap Some c.cites); carries = c.carries }
 
-      back : (a : ℕ) → ItemsCite S (items_of labels numbers) a → In a (filter_map (place_of places) numbers)
+      back : (a : ℕ) → ItemsCite S (items_of labels numbers) a → In a (filter_map (place_of positions) numbers)
       back a c =
           let m = map-back (item_of labels) numbers c.place (Cite c.label) c.cites in
-          number-in numbers a c.place m.0 m.1 (place-whole m.0 a (record { label = c.label; cited = c.cited; cites = sym m.2; carries = c.carries }))
+          number-in numbers a c.place m.0 m.1 (position-whole m.0 a (record { label = c.label; cited = c.cited; cites = sym m.2; carries = c.carries }))
 
 -- ---- the proof at an index
 
@@ -97,24 +97,24 @@ cites-nothing S at s stands other = record {
   only = λ p i. absurd i;
 }
 
--- the places of one number more
-pub places-more : (places : List (Option ℕ)) (numbers : List ℕ) (i : ℕ) → i < length numbers
-    → filter_map (place_of places) (take (i + 1) numbers) ≡ filter_map (place_of places) (take i numbers) ++ position_list (place_of places (get_or numbers i 0))
-places-more places numbers i h =
-    ap (filter_map (place_of places)) (take_more numbers i 0 h)
-    ∙ (filter_map-append (place_of places) (take i numbers) (get_or numbers i 0 ∷ [])
-    ∙ ap (λ l. filter_map (place_of places) (take i numbers) ++ l) (one (place_of places (get_or numbers i 0))))
+-- the positions of one number more
+pub positions-more : (positions : List (Option ℕ)) (numbers : List ℕ) (i : ℕ) → i < length numbers
+    → filter_map (place_of positions) (take (i + 1) numbers) ≡ filter_map (place_of positions) (take i numbers) ++ position_list (place_of positions (get_or numbers i 0))
+positions-more positions numbers i h =
+    ap (filter_map (place_of positions)) (take_more numbers i 0 h)
+    ∙ (filter_map-append (place_of positions) (take i numbers) (get_or numbers i 0 ∷ [])
+    ∙ ap (λ l. filter_map (place_of positions) (take i numbers) ++ l) (one (place_of positions (get_or numbers i 0))))
   where
     one : (o : Option ℕ) → cons_option o [] ≡ position_list o
     one None = refl
     one (Some p) = refl
 
-pub places-pushed : (places : List (Option ℕ)) (numbers : List ℕ) (i : ℕ) (start old new : List ℕ) (o : Option ℕ) → i < length numbers
-    → old ≡ start ++ filter_map (place_of places) (take i numbers) → o ≡ place_of places (get_or numbers i 0) → new ≡ old ++ position_list o → new ≡ start ++ filter_map (place_of places) (take (i + 1) numbers)
-places-pushed places numbers i start old new o h before is after =
-    let front = filter_map (place_of places) (take i numbers) in
-    let last = place_of places (get_or numbers i 0) in
+pub positions-pushed : (positions : List (Option ℕ)) (numbers : List ℕ) (i : ℕ) (start old new : List ℕ) (o : Option ℕ) → i < length numbers
+    → old ≡ start ++ filter_map (place_of positions) (take i numbers) → o ≡ place_of positions (get_or numbers i 0) → new ≡ old ++ position_list o → new ≡ start ++ filter_map (place_of positions) (take (i + 1) numbers)
+positions-pushed positions numbers i start old new o h before is after =
+    let front = filter_map (place_of positions) (take i numbers) in
+    let last = place_of positions (get_or numbers i 0) in
     after
     ∙ (ap (λ l. l ++ position_list o) before
     ∙ (ap (λ q. (start ++ front) ++ position_list q) is
-    ∙ (append_assoc start front (position_list last) ∙ ap (λ l. start ++ l) (sym (places-more places numbers i h)))))
+    ∙ (append_assoc start front (position_list last) ∙ ap (λ l. start ++ l) (sym (positions-more positions numbers i h)))))

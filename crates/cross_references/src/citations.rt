@@ -35,9 +35,9 @@ fn cited_positions(alloc: Global, frames: &Frames, items: &Items) -> Result<Vec<
     ensures { IfOk result (λ list. AreThose (ItemsCite frames.now.statements items.now) list.items) }
 {
     let parts = items.parts();
-    let places = frames.positions(parts.labels)?;
+    let positions = frames.positions(parts.labels)?;
     let mut cited = Vec::new(alloc);
-    push_positions(&mut cited, places.as_slice(), parts.numbers)?;
+    push_positions(&mut cited, positions.as_slice(), parts.numbers)?;
     sort_dedup(&mut cited);
     Ok(cited)
 }
@@ -45,33 +45,33 @@ fn cited_positions(alloc: Global, frames: &Frames, items: &Items) -> Result<Vec<
 /// Appends the positions that the numbers of items cite.
 fn push_positions(
     cited: &mut Vec<usize>,
-    places: &[Option<usize>],
+    positions: &[Option<usize>],
     numbers: &[u32],
 ) -> Result<(), AllocError>
-    ensures { OnOk result (cited.new.items ≡ cited.old.items ++ filter_map (place_of places.now) numbers.now) }
+    ensures { OnOk result (cited.new.items ≡ cited.old.items ++ filter_map (place_of positions.now) numbers.now) }
 {
     for number in numbers {
-        push_place(cited, place_of(places, *number))?;
+        push_if_some(cited, cited_position(positions, *number))?;
     }
     Ok(())
 }
 
 /// Appends a position, if there is one.
-fn push_place(cited: &mut Vec<usize>, place: Option<usize>) -> Result<(), AllocError>
-    ensures { OnOk result (cited.new.items ≡ cited.old.items ++ position_list place) }
+fn push_if_some(cited: &mut Vec<usize>, position: Option<usize>) -> Result<(), AllocError>
+    ensures { OnOk result (cited.new.items ≡ cited.old.items ++ position_list position) }
 {
-    if let Some(position) = place {
+    if let Some(position) = position {
         cited.push(position)?;
     }
     Ok(())
 }
 
 /// Returns the position that the item with a number cites, if it cites one.
-fn place_of(places: &[Option<usize>], number: u32) -> Option<usize>
-    ensures { result ≡ place_of places.now number }
+fn cited_position(positions: &[Option<usize>], number: u32) -> Option<usize>
+    ensures { result ≡ place_of positions.now number }
 {
     let index = (number as usize).checked_sub(1)?;
-    *places.get(index)?
+    *positions.get(index)?
 }
 
 /// Sorts positions in ascending order and removes repetitions.

@@ -5,7 +5,7 @@ use Rattle.cross_references.proofs.citations.cited_positions.Goals as goal
 pub returns : goal.returns
 returns c =
     let numbers = c.parts-parts.result.numbers.now in
-    those-cited c.args.frames.now.statements c.parts-parts.result.labels.now c.in_ok-places.places.items c.in_ok-places.ensures.found c.requires numbers c.args.items.now c.sort_dedup.new.list.items c.parts-parts.ensures
+    those-cited c.args.frames.now.statements c.parts-parts.result.labels.now c.in_ok-positions.positions.items c.in_ok-positions.ensures.found c.requires numbers c.args.items.now c.sort_dedup.new.list.items c.parts-parts.ensures
     (subst (λ (l : List ℕ). AreThose (λ p. In p l) c.sort_dedup.new.list.items)
     (c.in_ok-push_positions.ensures
     ∙ (ap (λ (l : List ℕ). l ++ filter_map (place_of c.as_slice.result.now) numbers) c.new-cited.ensures.items
