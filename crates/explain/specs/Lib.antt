@@ -3,7 +3,7 @@ pub mod Breaks
 pub mod LettersBefore
 pub mod Why
 pub mod ReadImages
-pub mod ImagePlaces
+pub mod ImageIndexes
 pub mod VariableLists
 pub mod DisjointViolations
 pub mod CitationFaults

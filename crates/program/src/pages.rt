@@ -15,7 +15,7 @@ use std::alloc::{AllocError, Global};
 use std::io::{Read, Write};
 use std::mem::forget;
 use std::thread::Threads;
-use unproved::Entered;
+use unproved::LegalDatabase;
 
 /// Writes a site into the folder of the request: a page for each assertion of a database, a list of
 /// them and a style sheet; returns the exit status. The reason for a refusal goes to `faults`, and
@@ -83,8 +83,8 @@ fn print_refused<R: AllocGlobal + Threads + Sync, O: Write, F: Write, S: Folder>
 ) -> Result<u8, Fault> {
     let is_unproved = matches!(cause, Cause::Proof { .. } | Cause::Unfinished { .. });
     if is_unproved && asked.assumes {
-        if let Some(entered) = enter_text(rt, text)? {
-            return assume_and_print(rt, asked, text, entered, streams, folder);
+        if let Some(database) = enter_text(rt, text)? {
+            return assume_and_print(rt, asked, text, database, streams, folder);
         }
     }
     let Streams { output, faults } = streams;
@@ -96,12 +96,12 @@ fn assume_and_print<R: AllocGlobal + Threads + Sync, O: Write, F: Write, S: Fold
     rt: &R,
     asked: SiteQuestion<'_>,
     text: NamedText<'_>,
-    entered: Entered,
+    database: LegalDatabase,
     streams: Streams<'_, O, F>,
     folder: &mut S,
 ) -> Result<u8, Fault> {
     let Streams { output, faults } = streams;
-    let library = assume_unproved(rt, entered, faults)?;
+    let library = assume_unproved(rt, database, faults)?;
     let streams = Streams { output, faults };
     let answered = print_site(
         rt.alloc(),
