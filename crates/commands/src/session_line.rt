@@ -16,7 +16,7 @@ pub enum SessionLine {
 }
 
 impl Line for SessionLine {
-    ghost said = { session_line_of };
+    ghost by_definition = { session_line_of };
 
     fn parse<'a>(
         alloc: Global,

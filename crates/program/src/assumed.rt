@@ -4,7 +4,7 @@ use crate::databases::answer_good;
 use crate::fault::Fault;
 use crate::named_text::NamedText;
 use crate::streams::print;
-use commands::Asked;
+use commands::DatabaseQuestion;
 use library::Library;
 use mm_read::Stmt;
 use numbers::push_number;
@@ -24,7 +24,7 @@ const MOST_NAMED: usize = 10;
 /// The library is leaked: the end of the process frees all of it at once.
 pub fn answer_assuming<R: AllocGlobal + Threads + Sync, O: Write, F: Write>(
     rt: &R,
-    asked: &Asked<'_>,
+    asked: &DatabaseQuestion<'_>,
     text: NamedText<'_>,
     database: LegalDatabase,
     output: &mut O,

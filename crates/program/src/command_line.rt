@@ -6,7 +6,7 @@ use crate::pictured::print_picture;
 use crate::play::play;
 use crate::serve::serve;
 use crate::streams::print;
-use commands::{Request, VERSION, WordsFault, parse_words};
+use commands::{Request, VERSION, CommandLineFault, parse_command_line};
 use folders::Folder;
 use std::alloc::AllocError;
 use std::io::{Read, Write};
@@ -27,10 +27,10 @@ pub fn run<
     F: Write,
     S: Folder,
 >(rt: &R, words: &[&str], input: &mut I, output: &mut O, faults: &mut F, folder: &mut S) -> u8 {
-    let answered = match parse_words(rt.alloc(), words) {
+    let answered = match parse_command_line(rt.alloc(), words) {
         Ok(request) => answer(rt, request, input, output, faults, folder),
-        Err(WordsFault::Memory) => Err(Fault::from(AllocError)),
-        Err(WordsFault::Bad { text }) => print(faults, text.as_bytes()).map(|()| 2),
+        Err(CommandLineFault::Memory) => Err(Fault::from(AllocError)),
+        Err(CommandLineFault::Bad { text }) => print(faults, text.as_bytes()).map(|()| 2),
     };
     match answered {
         Ok(status) => status,

@@ -7,7 +7,7 @@ use crate::refused_questions::print_refused;
 use crate::refused_texts::{print_outline_reason, print_refusal};
 use crate::streams::{print, read_text};
 use bytes::Bytes;
-use commands::{Asked, Question};
+use commands::{DatabaseQuestion, Question};
 use library::{Cause, Entry, Library, MOST_BYTES, Submission, Verdict};
 use printed::outline_text;
 use std::alloc::{AllocError, Global};
@@ -48,7 +48,7 @@ pub fn print_outline<I: Read, O: Write, F: Write>(
 /// number. The library is leaked: the end of the process frees all of it at once.
 pub fn ask<R: AllocGlobal + Threads + Sync, I: Read, O: Write, F: Write>(
     rt: &R,
-    asked: &Asked<'_>,
+    asked: &DatabaseQuestion<'_>,
     input: &mut I,
     output: &mut O,
     faults: &mut F,
@@ -63,7 +63,7 @@ pub fn ask<R: AllocGlobal + Threads + Sync, I: Read, O: Write, F: Write>(
 /// Adds a text to an empty library, and prints the answer about the library.
 fn ask_library<R: AllocGlobal + Threads + Sync, O: Write, F: Write>(
     rt: &R,
-    asked: &Asked<'_>,
+    asked: &DatabaseQuestion<'_>,
     bytes: &Bytes,
     library: &mut Library,
     output: &mut O,
@@ -130,7 +130,7 @@ fn note_emptiness<F: Write>(library: &Library, question: &Question<'_>, faults: 
 /// question is answered even then.
 fn answer_refused<R: AllocGlobal + Threads + Sync, O: Write, F: Write>(
     rt: &R,
-    asked: &Asked<'_>,
+    asked: &DatabaseQuestion<'_>,
     text: NamedText<'_>,
     cause: Cause,
     output: &mut O,

@@ -16,7 +16,7 @@ use crate::node_answers::{ahead_line, label_answer};
 use crate::served_nodes::NodesDesk;
 use crate::why::{Decision, decided, push_why};
 use cluster::NodeCell;
-use commands::{EntryAt, NodePair, NodeQuestion};
+use commands::{NodeEntryId, NodePair, NodeQuestion};
 use event_lines::push_events;
 use printed::{push_export, push_learned, push_state};
 use std::alloc::{AllocError, Global};
@@ -78,7 +78,7 @@ impl<R: Wait> AnsweringDesk<'_, R> {
     }
 
     /// Appends why a node refused an entry.
-    pub fn push_why(&self, at: EntryAt, text: &mut Vec<u8>) -> Result<(), Fault> {
+    pub fn push_why(&self, at: NodeEntryId, text: &mut Vec<u8>) -> Result<(), Fault> {
         let alloc = self.alloc;
         let decision = self
             .desk
@@ -103,7 +103,7 @@ impl<R: Wait> AnsweringDesk<'_, R> {
 }
 
 /// Returns what a cell decided on an entry.
-fn decision_at(alloc: Global, cell: &NodeCell, at: EntryAt) -> Result<Decision, AllocError> {
+fn decision_at(alloc: Global, cell: &NodeCell, at: NodeEntryId) -> Result<Decision, AllocError> {
     let mut entries = Vec::new(alloc);
     for entry in cell.entries().iter().take(cell.applied() as usize) {
         match entry {

@@ -8,7 +8,7 @@ use crate::assumed::answer_assuming;
 use crate::fault::Fault;
 use crate::named_text::NamedText;
 use crate::streams::print;
-use commands::{Asked, Question};
+use commands::{DatabaseQuestion, Question};
 use explanation::{TextTokens, explain_unproved};
 use library::{MOST_BYTES, Verdict};
 use memchr::memchr2_iter;
@@ -26,7 +26,7 @@ use verify_pool::Workers;
 const MOST_EXPLAINED: usize = 100;
 
 /// Returns whether a question is answered even if some `$p` are not proved.
-pub fn allows_unproved(asked: &Asked<'_>) -> bool {
+pub fn allows_unproved(asked: &DatabaseQuestion<'_>) -> bool {
     asked.assumes || matches!(asked.question, Question::CheckEach)
 }
 
@@ -52,7 +52,7 @@ pub fn may_be_unfinished(text: &[u8]) -> bool {
 /// or `None` if the text is too long, cannot be parsed or breaks a rule.
 pub fn answer_unproved<R: AllocGlobal + Threads + Sync, O: Write, F: Write>(
     rt: &R,
-    asked: &Asked<'_>,
+    asked: &DatabaseQuestion<'_>,
     text: NamedText<'_>,
     output: &mut O,
     faults: &mut F,

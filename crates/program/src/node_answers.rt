@@ -87,7 +87,7 @@ fn written_answer(
     library: &Library,
     asked: &NodeQuestion,
 ) -> Result<Vec<u8>, Fault> {
-    let question = asked.kind.about(alloc, asked.label.as_slice())?;
+    let question = asked.kind.database_question(alloc, asked.label.as_slice())?;
     let text = text_of(alloc, library, asked.kind)?;
     let text = NamedText {
         name: None,

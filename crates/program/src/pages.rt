@@ -7,7 +7,7 @@ use crate::named_text::NamedText;
 use crate::refused_texts::print_refusal;
 use crate::streams::{print, read_text};
 use bytes::Bytes;
-use commands::SiteQuestion;
+use commands::SiteRequest;
 use folders::Folder;
 use library::{Cause, Library, Verdict};
 use sites::{Site, SiteFault, write_site};
@@ -24,7 +24,7 @@ use unproved::LegalDatabase;
 /// The library is leaked: the end of the process frees all of it at once.
 pub fn print_pages<R: AllocGlobal + Threads + Sync, I: Read, O: Write, F: Write, S: Folder>(
     rt: &R,
-    asked: SiteQuestion<'_>,
+    asked: SiteRequest<'_>,
     input: &mut I,
     output: &mut O,
     faults: &mut F,
@@ -48,7 +48,7 @@ struct Streams<'a, O, F> {
 /// Adds a text to an empty library, and writes the pages of the library.
 fn judge_and_print<R: AllocGlobal + Threads + Sync, O: Write, F: Write, S: Folder>(
     rt: &R,
-    asked: SiteQuestion<'_>,
+    asked: SiteRequest<'_>,
     bytes: &Bytes,
     library: &mut Library,
     streams: Streams<'_, O, F>,
@@ -75,7 +75,7 @@ fn judge_and_print<R: AllocGlobal + Threads + Sync, O: Write, F: Write, S: Folde
 /// that is asked for; else prints the refusal.
 fn print_refused<R: AllocGlobal + Threads + Sync, O: Write, F: Write, S: Folder>(
     rt: &R,
-    asked: SiteQuestion<'_>,
+    asked: SiteRequest<'_>,
     text: NamedText<'_>,
     cause: Cause,
     streams: Streams<'_, O, F>,
@@ -94,7 +94,7 @@ fn print_refused<R: AllocGlobal + Threads + Sync, O: Write, F: Write, S: Folder>
 /// Writes the pages of the statements of a text, each `$p` that is not proved taken as a `$a`.
 fn assume_and_print<R: AllocGlobal + Threads + Sync, O: Write, F: Write, S: Folder>(
     rt: &R,
-    asked: SiteQuestion<'_>,
+    asked: SiteRequest<'_>,
     text: NamedText<'_>,
     database: LegalDatabase,
     streams: Streams<'_, O, F>,

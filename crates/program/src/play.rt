@@ -6,7 +6,7 @@ use crate::fault::Fault;
 use crate::node_answers::{ahead_line, ahead_of, label_answer};
 use crate::scripts::{Answers, answer_lines, read_script};
 use crate::why::{decided, push_why};
-use commands::{EntryAt, NodeLine, PlayLine};
+use commands::{NodeEntryId, NodeLine, PlayLine};
 use event_lines::push_events;
 use library::Entry;
 use net::Event;
@@ -79,7 +79,7 @@ fn answer_node_line(world: &mut World, line: NodeLine, text: &mut Vec<u8>) -> Re
 }
 
 /// Appends why the node refused an entry.
-fn push_decision(world: &World, at: EntryAt, text: &mut Vec<u8>) -> Result<(), Fault> {
+fn push_decision(world: &World, at: NodeEntryId, text: &mut Vec<u8>) -> Result<(), Fault> {
     let alloc = *text.allocator();
     let mut entries = world.log(at.node)?;
     entries.truncate(world.applied(at.node)? as usize);

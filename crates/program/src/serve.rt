@@ -13,7 +13,7 @@ use crate::served_nodes::{Nodes, NodesDesk, start_nodes, stop_nodes};
 use crate::session::{Script, ServedLine, Session};
 use crate::streams::print;
 use commands::{
-    EntryAt, LINE_FEED, NodeLine, Offered, SERVE_LINES, ServeLine, Serving, SessionLine,
+    NodeEntryId, LINE_FEED, NodeLine, OfferedEntry, SERVE_LINES, ServeLine, ServeOptions, SessionLine,
 };
 use library::Verdict;
 use net::StepFault;
@@ -36,7 +36,7 @@ pub fn serve<
     R: AllocGlobal + Threads + Wait + Copy + Send + Sync + Drop + 'static,
     I: Read,
     O: Write,
->(rt: &R, serving: Serving, input: &mut I, output: &mut O) -> Result<u8, Fault> {
+>(rt: &R, serving: ServeOptions, input: &mut I, output: &mut O) -> Result<u8, Fault> {
     if serving.is_live {
         let mut session = Session::new(rt.alloc(), input)?;
         return serve_lines(rt, &serving, &mut session, output);
@@ -51,7 +51,7 @@ fn serve_lines<
     R: AllocGlobal + Threads + Wait + Copy + Send + Sync + Drop + 'static,
     S: Source<ServedLine>,
     O: Write,
->(rt: &R, serving: &Serving, lines: &mut S, output: &mut O) -> Result<u8, Fault> {
+>(rt: &R, serving: &ServeOptions, lines: &mut S, output: &mut O) -> Result<u8, Fault> {
     let mut nodes = start_nodes(
         rt,
         rt.alloc(),
@@ -124,7 +124,7 @@ fn answer_serve_line<R: Wait>(
 
 /// Submits an entry at a node until its verdict is known there, and returns the verdict, or `None`
 /// if it is not known after the tries of `Desk::add`.
-fn added<R: Wait>(rt: &R, desk: &NodesDesk, offered: &Offered) -> Result<Option<Verdict>, StepFault>
+fn added<R: Wait>(rt: &R, desk: &NodesDesk, offered: &OfferedEntry) -> Result<Option<Verdict>, StepFault>
     ensures outcome { IfOk result (IsOutcome offered.now.node offered.now.entry) }
     ensures no_node { desk.now ≤ offered.now.node → IsErr result }
 {
@@ -174,7 +174,7 @@ fn push_node_list<R: Wait>(
 }
 
 /// Returns the verdict of the node's library on the entry, or `None` if it is not decided there.
-fn status<R: Wait>(rt: &R, desk: &NodesDesk, at: EntryAt) -> Result<Option<Verdict>, StepFault>
+fn status<R: Wait>(rt: &R, desk: &NodesDesk, at: NodeEntryId) -> Result<Option<Verdict>, StepFault>
     ensures status { IfOk result (IsStatus at.node at.author at.serial) }
     ensures no_node { desk.now ≤ at.node → result ≡ Err NoNode }
     ensures only_apart { at.node < desk.now → IsOkUnless result Apart }
@@ -184,7 +184,7 @@ fn status<R: Wait>(rt: &R, desk: &NodesDesk, at: EntryAt) -> Result<Option<Verdi
 
 /// Returns the verdict as soon as it is known, or `None` if it is not known after `MOST_TURNS`
 /// turns.
-fn settled<R: Wait>(rt: &R, desk: &NodesDesk, at: EntryAt) -> Result<Option<Verdict>, StepFault>
+fn settled<R: Wait>(rt: &R, desk: &NodesDesk, at: NodeEntryId) -> Result<Option<Verdict>, StepFault>
     ensures status { IfOk result (IsStatus at.node at.author at.serial) }
     ensures no_node { desk.now ≤ at.node → result ≡ Err NoNode }
     ensures only_apart { at.node < desk.now → IsOkUnless result Apart }

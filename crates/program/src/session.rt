@@ -5,7 +5,7 @@ use crate::fault::Fault;
 use crate::scripts::{Source, read_script};
 use commands::{
     LINE_FEED, ScriptFault, ServeLine, SessionLine, TextEnd, first_word, parse_script, text_end,
-    wanted_line,
+    expected_form,
 };
 use std::alloc::{AllocError, Global};
 use std::io::{BufRead, BufReader, ErrorKind, Read};
@@ -106,7 +106,7 @@ impl<'a, I: Read> Session<'a, I> {
             Err(ScriptFault::Memory) => Err(Fault::Memory(AllocError)),
             Err(ScriptFault::BadLine { .. }) => Err(Fault::NoLine {
                 number,
-                wanted: wanted_line(first_word(first_line(self.text.as_slice()))),
+                wanted: expected_form(first_word(first_line(self.text.as_slice()))),
             }),
         }
     }

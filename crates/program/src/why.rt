@@ -3,7 +3,7 @@
 use crate::fault::Fault;
 use crate::refused_texts::fault_of;
 use bytes::Bytes;
-use commands::EntryAt;
+use commands::NodeEntryId;
 use explanation::{DatabaseFault, explain_after};
 use library::{Cause, Entry, Library, Verdict};
 use mm_read::{ReadFault, read};
@@ -42,7 +42,7 @@ pub fn decided(
     alloc: Global,
     library: &Library,
     entries: &[Option<Entry>],
-    at: EntryAt,
+    at: NodeEntryId,
 ) -> Result<Decision, AllocError> {
     let cause = match library.status(at.author, at.serial) {
         None => return Ok(Decision::Unknown),

@@ -5,15 +5,15 @@ use Rattle.std.specs.Prelude.{ℕ, ◌+◌, Bool, true, ◌&&◌, nat_lt, List, 
 use Rattle.library.specs.declared.charter.TheConstants.{MOST_NAMES}
 use Rattle.library.specs.declared.entry.Entry.TheVariants.{Text, Charter}
 use Rattle.library.specs.Charters.{is_rising}
-use Rattle.commands.specs.declared.offered.Offered.{Offered}
+use Rattle.commands.specs.declared.offered_entry.OfferedEntry.{OfferedEntry}
 use Rattle.commands.specs.declared.text_form.TextForm.{TextForm}
 use Rattle.numbers.specs.Numbers.{number_of}
 use Rattle.commands.specs.LineWords.{◌>>=◌, Words, entry_at}
 use Rattle.commands.specs.Texts.{text_at}
 
 -- K AUTHOR SERIAL and a text, and how many of the lines that follow are the text
-abbrev pub text_offered : TextForm → Words → List (List ℕ) → Option (Offered × ℕ)
-text_offered form ws lines = do
+abbrev pub text_offer : TextForm → Words → List (List ℕ) → Option (OfferedEntry × ℕ)
+text_offer form ws lines = do
   e ← entry_at ws
   t ← text_at form e.1 lines
   Some (record { node = (e.0).node; entry = Text (record { author = (e.0).author; serial = (e.0).serial; text = t.0 }) }, t.1)
@@ -42,8 +42,8 @@ names_of ws = do
   if are_names names then Some names else None
 
 -- K AUTHOR SERIAL NAME ..
-abbrev pub charter_offered : Words → Option Offered
-charter_offered ws = do
+abbrev pub charter_offer : Words → Option OfferedEntry
+charter_offer ws = do
   e ← entry_at ws
   names ← names_of e.1
   Some (record { node = (e.0).node; entry = Charter (e.0).author (e.0).serial names })

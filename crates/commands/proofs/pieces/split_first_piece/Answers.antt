@@ -1,6 +1,6 @@
 use Rattle.std.proofs.Common.{sym}
 use Rattle.commands.proofs.PiecesLemmas.{split_found, split_whole}
-use Rattle.commands.proofs.pieces.cut.Goals as goal
+use Rattle.commands.proofs.pieces.split_first_piece.Goals as goal
 
 pub returns-in-Some : goal.returns-in-Some
 returns-in-Some c = split_found c.args.separator c.args.bytes.now c.in-Some.end (sym c.in-Some.ensures)

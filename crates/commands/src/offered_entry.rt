@@ -2,8 +2,8 @@
 ghost use Rattle.std.specs.Prelude.{◌≡◌, Some, None, MatchResult, is_some};
 ghost use Rattle.commands.specs.declared.script.LineFault.TheVariants.{Bad};
 ghost use Rattle.commands.specs.Scripts.{Parses, ParsesLine};
-ghost use Rattle.commands.specs.Offered.{text_offered, charter_offered, names_of};
-ghost use Rattle.commands.specs.Offered.{numbers_of, rises};
+ghost use Rattle.commands.specs.OfferedEntry.{text_offer, charter_offer, names_of};
+ghost use Rattle.commands.specs.OfferedEntry.{numbers_of, rises};
 
 use crate::line_words::Words;
 use crate::lines::Lines;
@@ -16,7 +16,7 @@ use std::alloc::{AllocError, Global};
 
 /// An entry, and the node at which it is offered.
 #[derive(Drop)]
-pub struct Offered {
+pub struct OfferedEntry {
     pub node: u8,
     pub entry: Entry,
 }
@@ -27,8 +27,8 @@ pub(crate) fn parse_text<'a>(
     form: TextForm,
     mut words: Words<'a>,
     lines: &mut Lines<'a>,
-) -> Result<Offered, LineFault>
-    ensures { ParsesLine (text_offered form words.entry lines.old.lines)
+) -> Result<OfferedEntry, LineFault>
+    ensures { ParsesLine (text_offer form words.entry lines.old.lines)
         lines.old lines.new result }
 {
     let at = words.entry().ok_or(LineFault::Bad)?;
@@ -36,7 +36,7 @@ pub(crate) fn parse_text<'a>(
     let Ok(text) = Bytes::copy_from_slice(alloc, text) else {
         return Err(LineFault::Memory);
     };
-    Ok(Offered {
+    Ok(OfferedEntry {
         node: at.node,
         entry: Entry::Text(Submission {
             author: at.author,
@@ -47,15 +47,15 @@ pub(crate) fn parse_text<'a>(
 }
 
 /// Parses `K AUTHOR SERIAL NAME ..`, with the names of a charter.
-pub(crate) fn parse_charter(alloc: Global, mut words: Words<'_>) -> Result<Offered, LineFault>
-    ensures { Parses (charter_offered words.entry) result }
+pub(crate) fn parse_charter(alloc: Global, mut words: Words<'_>) -> Result<OfferedEntry, LineFault>
+    ensures { Parses (charter_offer words.entry) result }
 {
     let at = words.entry().ok_or(LineFault::Bad)?;
     if !are_names(words.copy()) {
         return Err(LineFault::Bad);
     }
     let names = Names::new(numbers(alloc, words)?).ok_or(LineFault::Bad)?;
-    Ok(Offered {
+    Ok(OfferedEntry {
         node: at.node,
         entry: Entry::Charter {
             author: at.author,

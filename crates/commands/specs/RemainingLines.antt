@@ -4,11 +4,11 @@
 use Rattle.std.specs.Prelude.{◌≡◌, ℕ, ◌+◌, List, drop}
 
 -- the number of the last line taken, and the lines after it
-pub record Remaining : Type 0 where
+pub record RemainingLines : Type 0 where
   pub number : ℕ
   pub lines : List (List ℕ)
 
 -- `count` more lines are taken
-pub record IsPast (count : ℕ) (old new : Remaining) : Type 0 where
+pub record IsAdvanced (count : ℕ) (old new : RemainingLines) : Type 0 where
   pub number : new.number ≡ old.number + count
   pub lines : new.lines ≡ drop count old.lines

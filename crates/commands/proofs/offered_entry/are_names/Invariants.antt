@@ -1,6 +1,6 @@
 use Rattle.commands.proofs.Words.{◌≡◌, ◌≤◌, is_some, length, MOST_NAMES, names_of}
 use Rattle.commands.proofs.CharterNameLemmas.{are_names_after}
-use Rattle.commands.proofs.offered.are_names.Given as goal
+use Rattle.commands.proofs.offered_entry.are_names.Given as goal
 
 abbrev pub decreases-loop-word : goal.decreases-loop-word
 decreases-loop-word l = length l.words
