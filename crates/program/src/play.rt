@@ -11,7 +11,7 @@ use event_lines::push_events;
 use library::Entry;
 use net::Event;
 use printed::{
-    push_decided, push_export, push_library, push_log, push_ok, push_packet, push_state,
+    push_verdict_line, push_export, push_library, push_log, push_ok, push_packet, push_state,
 };
 use std::alloc::{AllocError, Global};
 use std::io::{Read, Write};
@@ -36,7 +36,7 @@ impl Answers<PlayLine> for World {
         match line {
             PlayLine::Node(line) => answer_node_line(self, line, text),
             PlayLine::Deliver { packet } => push_step(self, Event::Deliver(packet), text),
-            PlayLine::Apply { node } => Ok(push_decided(text, self.apply_next(node)?, b"none")?),
+            PlayLine::Apply { node } => Ok(push_verdict_line(text, self.apply_next(node)?, b"none")?),
             PlayLine::Show { packet } => {
                 push_packet(text, self.packet(packet)?)?;
                 Ok(text.extend_from_slice(b"\n")?)
@@ -56,7 +56,7 @@ fn answer_node_line(world: &mut World, line: NodeLine, text: &mut Vec<u8>) -> Re
         NodeLine::List { node } => Ok(push_library(text, world.library(node)?)?),
         NodeLine::Status(at) => {
             let verdict = world.library(at.node)?.status(at.author, at.serial);
-            Ok(push_decided(text, verdict, b"unknown")?)
+            Ok(push_verdict_line(text, verdict, b"unknown")?)
         }
         NodeLine::Export { node } => Ok(push_export(text, world.library(node)?)?),
         NodeLine::Log { node } => Ok(push_log(text, world.log(node)?.as_slice())?),

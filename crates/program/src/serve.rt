@@ -17,7 +17,7 @@ use commands::{
 };
 use library::Verdict;
 use net::StepFault;
-use printed::{push_counted, push_decided, push_list};
+use printed::{push_counted, push_verdict_line, push_list};
 use std::alloc::Global;
 use std::io::{Read, Write};
 use std::sync::Wait;
@@ -113,11 +113,11 @@ fn answer_serve_line<R: Wait>(
     match line {
         ServeLine::Node(line) => answer_node_line(answering, line, text),
         ServeLine::Settle(at) => {
-            Ok(push_decided(text, settled(answering.rt, answering.desk, at)?, b"unknown")?)
+            Ok(push_verdict_line(text, settled(answering.rt, answering.desk, at)?, b"unknown")?)
         }
         ServeLine::Add(offered) => {
             let outcome = added(answering.rt, answering.desk, &offered)?;
-            Ok(push_decided(text, outcome, b"unknown")?)
+            Ok(push_verdict_line(text, outcome, b"unknown")?)
         }
     }
 }
@@ -144,7 +144,7 @@ fn answer_node_line<R: Wait>(
         NodeLine::Restart { node } => desk.restart(rt, node)?,
         NodeLine::List { node } => return Ok(push_node_list(rt, desk, node, text)?),
         NodeLine::Status(at) => {
-            return Ok(push_decided(text, status(rt, desk, at)?, b"unknown")?);
+            return Ok(push_verdict_line(text, status(rt, desk, at)?, b"unknown")?);
         }
         NodeLine::Export { node } => return answering.push_export(node, text),
         NodeLine::Log { node } => return answering.push_log(node, text),
