@@ -1,6 +1,6 @@
 //! Questions about a database in which each `$p` that is not proved is taken as a `$a`.
 
-use crate::databases::answer_good;
+use crate::databases::answer_accepted;
 use crate::fault::Fault;
 use crate::named_text::NamedText;
 use crate::streams::print;
@@ -24,14 +24,21 @@ const MOST_NAMED: usize = 10;
 /// The library is leaked: the end of the process frees all of it at once.
 pub fn answer_assuming<R: AllocGlobal + Threads + Sync, O: Write, F: Write>(
     rt: &R,
-    asked: &DatabaseQuestion<'_>,
+    request: &DatabaseQuestion<'_>,
     text: NamedText<'_>,
     database: LegalDatabase,
     output: &mut O,
     faults: &mut F,
 ) -> Result<u8, Fault> {
     let library = assume_unproved(rt, database, faults)?;
-    let answered = answer_good(rt.alloc(), &library, text, &asked.question, output, faults);
+    let answered = answer_accepted(
+        rt.alloc(),
+        &library,
+        text,
+        &request.question,
+        output,
+        faults,
+    );
     forget(library);
     answered
 }
@@ -44,13 +51,18 @@ pub fn assume_unproved<R: AllocGlobal + Threads + Sync, F: Write>(
     faults: &mut F,
 ) -> Result<Library, AllocError> {
     let unproved = database.unproved(rt, Workers::offered(rt))?;
-    tell_assumed(rt.alloc(), &database, unproved.as_slice(), faults);
+    print_assumed(rt.alloc(), &database, unproved.as_slice(), faults);
     database.assume(unproved.as_slice())
 }
 
 /// Prints how many theorems are taken as axioms and the labels of the first, if there are any and
 /// if allocation succeeds.
-fn tell_assumed<F: Write>(alloc: Global, database: &LegalDatabase, unproved: &[usize], faults: &mut F) {
+fn print_assumed<F: Write>(
+    alloc: Global,
+    database: &LegalDatabase,
+    unproved: &[usize],
+    faults: &mut F,
+) {
     if unproved.is_empty() {
         return;
     }

@@ -26,8 +26,8 @@ use verify_pool::Workers;
 const MOST_EXPLAINED: usize = 100;
 
 /// Returns whether a question is answered even if some `$p` are not proved.
-pub fn allows_unproved(asked: &DatabaseQuestion<'_>) -> bool {
-    asked.assumes || matches!(asked.question, Question::CheckEach)
+pub fn allows_unproved(request: &DatabaseQuestion<'_>) -> bool {
+    request.assumes || matches!(request.question, Question::CheckEach)
 }
 
 /// Returns whether a text has a byte `?` outside its comments, so that a proof may be unfinished.
@@ -52,24 +52,24 @@ pub fn may_be_unfinished(text: &[u8]) -> bool {
 /// or `None` if the text is too long, cannot be parsed or breaks a rule.
 pub fn answer_unproved<R: AllocGlobal + Threads + Sync, O: Write, F: Write>(
     rt: &R,
-    asked: &DatabaseQuestion<'_>,
+    request: &DatabaseQuestion<'_>,
     text: NamedText<'_>,
     output: &mut O,
     faults: &mut F,
 ) -> Result<Option<u8>, Fault> {
-    let Some(database) = enter_text(rt, text)? else {
+    let Some(database) = read_legal_database(rt, text)? else {
         return Ok(None);
     };
-    let status = match asked.question {
+    let status = match request.question {
         Question::CheckEach => print_each(rt, text, database, output, faults)?,
-        _ => answer_assuming(rt, asked, text, database, output, faults)?,
+        _ => answer_assuming(rt, request, text, database, output, faults)?,
     };
     Ok(Some(status))
 }
 
 /// Returns the statements of a text with their frames, or `None` if it is too long, cannot be
 /// parsed or breaks a rule.
-pub fn enter_text<R: AllocGlobal + Threads + Sync>(
+pub fn read_legal_database<R: AllocGlobal + Threads + Sync>(
     rt: &R,
     text: NamedText<'_>,
 ) -> Result<Option<LegalDatabase>, AllocError> {
