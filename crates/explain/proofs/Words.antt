@@ -4,7 +4,7 @@ pub use Rattle.entries.specs.declared.assertion_view.Hypothesis.TheVariants.{Ess
 pub use Rattle.explain.specs.Breaks.{AreLettersBroken, BeginsWith, Breaks, IsAllowed, IsEnd, IsFirst, IsLetterBreak, IsListing, IsNotLabel, IsOver, fails, joined, marks_in, fault_index}
 pub use Rattle.explain.specs.CitationFaults.{AllMatch, HasOtherTypecode, IsFloat, IsMismatchFault, IsFirstMismatch, HasOtherTypecodeThan, IsFaultOfResult, HasOtherTypecodeNumber, required_result}
 pub use Rattle.explain.specs.DisjointViolations.{AreUnpairedIn, IsViolation, IsViolationIn, IsViolationWith, is_permitted_pair, is_other_disjoint}
-pub use Rattle.explain.specs.Explained.{Gives, named_after, of_assertion, of_hypothesis}
+pub use Rattle.explain.specs.CitationResults.{Gives, named_after, of_assertion, of_hypothesis}
 pub use Rattle.explain.specs.FirstFault.{Fails, FailsAt, FailsCited, IsFirstFault, RunsWell}
 pub use Rattle.explain.specs.ImageIndexes.{IsImageIndex}
 pub use Rattle.explain.specs.LettersBefore.{IsReadTo, zeros}

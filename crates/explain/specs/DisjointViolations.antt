@@ -33,14 +33,14 @@ is_other_disjoint S σ x y = name_eq x y || are_disjoint S (image σ x) (image �
 -- two variables that are together in a group, with unpaired variables of their images
 pub record IsViolation (S : Database) (names : List Name) (σ : Images) (groups : List (List Name)) (c : DisjointViolation) : Type 0 where
   pub together : IsTrue (together groups (name_at names c.first) (name_at names c.second))
-  pub unpaired : AreUnpairedIn S (name_at names c.one) (name_at names c.other) (image σ (name_at names c.first)) (image σ (name_at names c.second))
+  pub unpaired : AreUnpairedIn S (name_at names c.in_first_image) (name_at names c.in_second_image) (image σ (name_at names c.first)) (image σ (name_at names c.second))
 
 -- .. in this group, the first of them being x
 pub record IsViolationWith (S : Database) (names : List Name) (σ : Images) (x : Name) (group : List Name) (c : DisjointViolation) : Type 0 where
   pub first : name_at names c.first ≡ x
   pub second : IsTrue (has_name (name_at names c.second) group)
   pub differ : IsFalse (name_eq x (name_at names c.second))
-  pub unpaired : AreUnpairedIn S (name_at names c.one) (name_at names c.other) (image σ x) (image σ (name_at names c.second))
+  pub unpaired : AreUnpairedIn S (name_at names c.in_first_image) (name_at names c.in_second_image) (image σ x) (image σ (name_at names c.second))
 
 -- .. both in this group
 pub record IsViolationIn (S : Database) (names : List Name) (σ : Images) (group : List Name) (c : DisjointViolation) : Type 0 where

@@ -7,7 +7,7 @@ use Rattle.explain.specs.declared.reason.Fault.{Fault}
 use Rattle.explain.specs.declared.reason.Fault.TheVariants.{UnknownLabel, Inactive, NotEarlier, TooFewResults, OtherTypecode, OtherExpression, NotDisjoint, TooManySymbols, NoMarkedResult}
 use Rattle.explain.specs.declared.reason.Reason.{Reason}
 use Rattle.explain.specs.declared.reason.Reason.TheVariants as reason
-use Rattle.explain.specs.Explained.{Gives}
+use Rattle.explain.specs.CitationResults.{Gives}
 use Rattle.explain.specs.WrongResults.{IsResultsFault}
 
 -- the last results on the stack, one for each mandatory hypothesis of the earlier assertion s at a, are wrong

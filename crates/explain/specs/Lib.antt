@@ -8,6 +8,6 @@ pub mod VariableLists
 pub mod DisjointViolations
 pub mod CitationFaults
 pub mod WrongResults
-pub mod Explained
+pub mod CitationResults
 pub mod FirstFault
 pub mod Stored

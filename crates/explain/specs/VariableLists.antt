@@ -27,6 +27,6 @@ pub record IsAdded (S : Database) (names : List Name) (old new : VariableList) (
   pub seen : AreSeen names new
   pub below : AreBelow (length names) old.list.items → AreBelow (length names) new.list.items
   pub kept : (v : Name) → IsTrue (has_name v (decode names old.list.items)) → IsTrue (has_name v (decode names new.list.items))
-  pub noted : IsTrue (is_variable S (name_at names code)) → IsTrue (has_name (name_at names code) (decode names new.list.items))
+  pub listed : IsTrue (is_variable S (name_at names code)) → IsTrue (has_name (name_at names code) (decode names new.list.items))
   pub only : (e : Expr) → ((v : Name) → IsTrue (has_name v (decode names old.list.items)) → IsTrue (has_name v e)) → IsTrue (has_name (name_at names code) e)
       → (v : Name) → IsTrue (has_name v (decode names new.list.items)) → IsTrue (has_name v e)

@@ -29,5 +29,5 @@ IsResultsFault S names at a s rs (OtherTypecode b p actual) = IsMismatchFault S 
 IsResultsFault S names at a s rs (OtherExpression b p required actual) = IsMismatchFault S names a s rs (OtherExpression b p required actual)
 IsResultsFault S names at a s rs (NotDisjoint b x y u v) =
     (b ≡ a) × ResultsMatch S a s rs
-    × IsViolation (before S at) names (images_of S a s rs) (mandatory_groups (before S a) s) (record { first = x; second = y; one = u; other = v })
+    × IsViolation (before S at) names (images_of S a s rs) (mandatory_groups (before S a) s) (record { first = x; second = y; in_first_image = u; in_second_image = v })
 IsResultsFault S names at a s rs fault = ⊥

@@ -8,7 +8,7 @@ ghost use Rattle.frame.specs.AtPosition.{AreLegal};
 ghost use Rattle.explain.specs.Stored.Vectors.{AreSymbols, AreImages, CountIs, codes, named_expressions};
 ghost use Rattle.explain.specs.CitationFaults.{IsFaultOfResult, IsMismatchFault, NumberedResultsMatch, AreImagesOfResults};
 ghost use Rattle.scope.specs.Active.{before, stmt_at};
-ghost use Rattle.explain.specs.Explained.{CannotCite, named_after};
+ghost use Rattle.explain.specs.CitationResults.{CannotCite, named_after};
 ghost use Rattle.explain.specs.FirstFault.{FailsAt};
 ghost use Rattle.explain.specs.WrongResults.{AreCorrect, IsResultsFault};
 ghost use Rattle.subst.specs.declared.buffer.TheConstants.{SYMBOLS_LIMIT};
@@ -161,8 +161,8 @@ fn results_fault(
             assertion: a,
             first: violation.first,
             second: violation.second,
-            one: violation.one,
-            other: violation.other,
+            in_first_image: violation.in_first_image,
+            in_second_image: violation.in_second_image,
         }));
     }
     Ok(None)

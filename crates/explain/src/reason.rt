@@ -43,14 +43,14 @@ pub enum Fault {
         required: Vec<u32>,
         result: Vec<u32>,
     },
-    /// The variables `first` and `second` of the assertion must be disjoint, but `one` occurs in the image of `first`, `other`
-    /// in that of `second`, and `one` and `other` are the same variable or no active `$d` has both.
+    /// The variables `first` and `second` of the assertion must be disjoint, but `in_first_image` occurs in the image of `first`
+    /// and `in_second_image` in that of `second`, and these two are the same variable or no active `$d` has both.
     NotDisjoint {
         assertion: usize,
         first: u32,
         second: u32,
-        one: u32,
-        other: u32,
+        in_first_image: u32,
+        in_second_image: u32,
     },
     /// The lengths of all results, with that of this item, add up to more than the limit.
     TooManySymbols,

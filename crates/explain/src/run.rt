@@ -3,7 +3,7 @@ ghost use Rattle.std.specs.Prelude.{◌≡◌, ◌-◌, ◌<◌, ◌≤◌, leng
 ghost use Rattle.mm_read.specs.declared.stmt.Stmt.{Stmt as Statement};
 ghost use Rattle.scope.specs.Active.{stmt_at};
 ghost use Rattle.proof_code.specs.declared.item.Item.{Item};
-ghost use Rattle.explain.specs.Explained.{named_after};
+ghost use Rattle.explain.specs.CitationResults.{named_after};
 ghost use Rattle.explain.specs.FirstFault.{Fails, IsEnd, IsFirstFault};
 ghost use Rattle.explain.specs.declared.reason.Fault.TheVariants.{TooManySymbols, NoMarkedResult};
 ghost use Rattle.verify.specs.Right.{IsProvable, IsRight};

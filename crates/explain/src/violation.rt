@@ -23,8 +23,8 @@ use std::alloc::{AllocError, Global};
 pub struct DisjointViolation {
     pub first: u32,
     pub second: u32,
-    pub one: u32,
-    pub other: u32,
+    pub in_first_image: u32,
+    pub in_second_image: u32,
 }
 
 /// Returns the first violation by the images of two variables that are in one of the groups.
@@ -168,8 +168,8 @@ fn violation_with(
                 return Some(DisjointViolation {
                     first,
                     second: code,
-                    one,
-                    other,
+                    in_first_image: one,
+                    in_second_image: other,
                 });
             }
         }

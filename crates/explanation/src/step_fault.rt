@@ -46,10 +46,15 @@ pub(crate) fn push_fault(
         Fault::NotDisjoint {
             first,
             second,
-            one,
-            other,
+            in_first_image,
+            in_second_image,
             ..
-        } => push_not_disjoint(lines, frames, [*first, *second], [*one, *other]),
+        } => push_not_disjoint(
+            lines,
+            frames,
+            [*first, *second],
+            [*in_first_image, *in_second_image],
+        ),
         Fault::TooManySymbols => lines.push(
             b"  its results have more than 67108864 symbols, all together\n",
         ),
@@ -133,10 +138,10 @@ fn push_not_disjoint(
     lines: &mut Lines<'_>,
     frames: &Frames,
     variables: [u32; 2],
-    images: [u32; 2],
+    variables_of_images: [u32; 2],
 ) {
     let [first, second] = variables;
-    let [one, other] = images;
+    let [one, other] = variables_of_images;
     lines.push(b"  its variables ");
     lines.push(frames.symbol(first));
     lines.push(b" and ");
