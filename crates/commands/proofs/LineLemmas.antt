@@ -1,4 +1,4 @@
--- A line that alone says something, and one that offers a text.
+-- A line without a text on the lines that follow, and one that offers a text.
 use Rattle.commands.proofs.Words.{◌≡◌, ℕ, ◌+◌, Bool, true, false, List, drop, Option, Some, None, option_map, option_and_then, Result, Ok, Err, IsSome, IsErrAnd, ◌∷◌, refl, ◌∙◌, ap, sym, subst, arith, false≢true, Text, NodeEntryId, OfferedEntry, LineFault, ServeLine, SessionLine, Serve, Help, TextForm, split_at, SPACE, Words, by_first_word, line_by_first_word, entry_at, text_at, text_offer, RemainingLines, IsAdvanced, Parses, ParsesLine, without_text, text_line_or_else, help_or_line}
 use Rattle.commands.specs.declared.script.LineFault.TheVariants.{Bad, Memory as NoMemory}
 
@@ -6,12 +6,12 @@ use Rattle.commands.specs.declared.script.LineFault.TheVariants.{Bad, Memory as 
 pub advanced_none : (lines : RemainingLines) → IsAdvanced 0 lines lines
 advanced_none lines = record { number = omega arith; lines = refl }
 
--- an allocation failed for what a line alone says
+-- an allocation failed for a line without a text
 without_text_unparsed : {L : Type 0} (expected : Option L) (lines : RemainingLines) → IsSome expected → ParsesLine (without_text expected) lines lines (Err NoMemory)
 without_text_unparsed None lines h = absurd (false≢true h)
 without_text_unparsed (Some x) lines h = ((x, 0), refl, advanced_none lines)
 
--- what a line alone says takes no other line
+-- a line without a text takes no other line
 pub without_text_parsed : {L : Type 0} (expected : Option L) (lines : RemainingLines) (r : Result L LineFault) → Parses expected r → ParsesLine (without_text expected) lines lines r
 without_text_parsed expected lines (Ok x) h = (0, ap without_text h, advanced_none lines)
 without_text_parsed expected lines (Err Bad) h = ap without_text h

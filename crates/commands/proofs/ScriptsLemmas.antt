@@ -2,7 +2,7 @@
 use Rattle.commands.proofs.Words.{◌≡◌, ℕ, zero, suc, ◌+◌, ◌<◌, Bool, false, List, [], ◌∷◌, ◌++◌, drop, Option, Some, None, Result, Ok, Err, IsTrue, ◌||◌, not, true, refl, sym, ◌∙◌, ap, subst, arith, length, append_assoc, append-nil, length-drop, ◌-◌, LineFault, LINE_FEED, split_at, RemainingLines, IsAdvanced, ParsesLine, script_of, script_from, with_line, prepended}
 use Rattle.commands.specs.declared.script.LineFault.TheVariants.{Memory as NoMemory}
 
--- what lines say that follow these
+-- the result of parsing lines, after these
 abbrev pub preceded_by : {L : Type 0} → List L → Result (List L) ℕ → Result (List L) ℕ
 preceded_by front (Ok lines) = Ok (front ++ lines)
 preceded_by front (Err bad) = Err bad
@@ -52,7 +52,7 @@ preceded_by-line front x (Err bad) = refl
 module _ {L : Type 0} {expected : List ℕ → List (List ℕ) → Option (L × ℕ)} {script : List ℕ} {kept : List L} {no_memory : Bool} {rest : RemainingLines}
     (so : IsRead expected script kept no_memory rest) (line : List ℕ) (next : RemainingLines)
     (is : rest.lines ≡ line ∷ next.lines) (counted : next.number ≡ rest.number + 1) where
-  -- what the script says, by the next line and those after it
+  -- the result for the script, by the next line and those after it
   says_so : script_of expected script ≡ preceded_by so.front (script_from expected next.number 0 (line ∷ next.lines))
   says_so = so.says ∙ (ap (λ r. preceded_by so.front (script_from expected (rest.number + 1) 0 r)) is
       ∙ ap (λ n. preceded_by so.front (script_from expected n 0 (line ∷ next.lines))) (sym counted))
@@ -73,7 +73,7 @@ module _ {L : Type 0} {expected : List ℕ → List (List ℕ) → Option (L × 
       by [] e = absurd (omega arith)
       by (c ∷ cs) e = refl
 
-  -- what the script says, if the line says this
+  -- the result for the script, if the line is parsed as this
   says_line : (found : Option (L × ℕ)) → 0 < length line → expected line next.lines ≡ found
       → script_of expected script ≡ preceded_by so.front (with_line next.number found (λ count. script_from expected (next.number + 1) count next.lines))
   says_line found some says = says_so ∙ ap (preceded_by so.front)
@@ -100,7 +100,7 @@ module _ {L : Type 0} {expected : List ℕ → List (List ℕ) → Option (L × 
         ∙ (ap (λ n. script_from expected n 0 (drop found.1 next.lines)) number
         ∙ ap (script_from expected (after.number + 1) 0) (sym past.lines))
 
-    -- a line that says something
+    -- a line that is parsed
     pub is_read_more : (now : List L) (no_memory_now : Bool) → (no_memory_now ≡ false → (no_memory ≡ false) × (now ≡ kept ++ found.0 ∷ []))
         → IsRead expected script now no_memory_now after
     is_read_more now no_memory_now keeps = record {
@@ -111,12 +111,12 @@ module _ {L : Type 0} {expected : List ℕ → List (List ℕ) → Option (L × 
       whole = λ e. let k = keeps e in k.1 ∙ ap (λ f. f ++ found.0 ∷ []) (so.whole k.0);
     }
 
-    -- a line that says something, and is appended if allocation succeeds
+    -- a line that is parsed, and is appended if allocation succeeds
     pub is_read_added : (now : List L) (added : Bool) → (IsTrue added → now ≡ kept ++ found.0 ∷ [])
         → IsRead expected script now (no_memory || not added) after
     is_read_added now added h = is_read_more now (no_memory || not added) (pushed_each_time no_memory added (now ≡ kept ++ found.0 ∷ []) h)
 
-    -- a line that says something, for which an allocation failed
+    -- a line that is parsed, for which an allocation failed
     pub is_read_without_memory : IsRead expected script kept true after
     is_read_without_memory = is_read_more kept true (λ never. absurd (cc))
 

@@ -6,7 +6,7 @@ abbrev pub with_feeds : List (List ℕ) → List ℕ
 with_feeds [] = []
 with_feeds (line ∷ lines) = line ++ LINE_FEED ∷ with_feeds lines
 
--- what is found after lines that are passed
+-- the text found after lines that are passed
 abbrev pub passed_by : List (List ℕ) → Option (List ℕ × ℕ) → Option (List ℕ × ℕ)
 passed_by front found = option_map (λ t. (with_feeds front ++ t.0, t.1 + length front)) found
 

@@ -5,12 +5,12 @@
 //! `specs/ServeLines`, `specs/SessionLines`), or the number of the first bad line. No other crate
 //! depends on `clap`.
 //!
-//! Reading order: `request` (what a command line asks for), `weights` (numbers of a command line),
+//! Reading order: `request` (the request of a command line), `weights` (numbers of a command line),
 //! `grammar` (its commands and options) with `script_help`, `hints` (on files among the words),
 //! `pictured`, `command_line`; `pieces` (a text between separators), `line_words` (the words of a
 //! line), `lines` (the lines of a script), `text_form` (a text on the line or on those that
 //! follow), `offered_entry`, `node_question` (labels), `node_line`, `play_line`, `serve_line`
-//! and `session_line` (what a line asks for), `session_texts` (where a text ends), `script` (all
+//! and `session_line` (the request of a line), `session_texts` (where a text ends), `script` (all
 //! lines).
 #![tactic(auto)]
 

@@ -11,7 +11,7 @@ use std::alloc::Global;
 pub enum SessionLine {
     /// A line that scripts have too.
     Serve(ServeLine),
-    /// `help`: the lines of a session, and what each asks for.
+    /// `help`: the lines of a session, and the request that each makes.
     Help,
 }
 

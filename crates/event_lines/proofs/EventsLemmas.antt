@@ -5,7 +5,7 @@ use Rattle.event_lines.proofs.DecimalLemmas.{without-decimal}
 use Rattle.event_lines.proofs.WordsLemmas.{Without, without-append, without-spaced, split_before}
 use Rattle.event_lines.proofs.LinesLemmas.{begin_says, restart_says, deliver_says, offer_says, bytes_say, charter_says}
 
--- the lines of a text, and what a script says that begins with them
+-- the lines of a text, and the result of parsing a script that begins with them
 abbrev lines_say : ℕ → List ℕ → Result (List PlayLine) ℕ
 lines_say number bytes = script_from play_line_of number 0 (split_at 10 bytes)
 
@@ -24,7 +24,7 @@ module _ (line : List ℕ) (free : Without 10 line) (some : 0 < length line) whe
       by [] none = absurd (omega arith)
       by (c ∷ cs) more = refl
 
-  -- a line that alone says something
+  -- a line without a text
   read_without_text : (x : PlayLine) → ((lines : List (List ℕ)) → play_line_of line lines ≡ Some (x, 0)) → IsRead (line ++ codes "\n") x
   read_without_text x says = λ number rest. (
     number + 1,

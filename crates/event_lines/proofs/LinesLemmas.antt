@@ -1,4 +1,4 @@
--- What the line of an event says to `play`.
+-- The line of an event, as `play` parses it.
 use Rattle.event_lines.proofs.Words.{◌≡◌, ℕ, ◌+◌, ◌^◌, ◌<◌, ◌≤◌, ◌==◌, nat_lt, Bool, true, false, ◌&&◌, List, [], ◌∷◌, ◌++◌, codes, decimal, map, Option, Some, None, option_map, option_and_then, if◌then◌else◌, refl, AllByRecursion, join_with_byte, ◌∙◌, ap, arith, length, lt-ltb, join_with_byte-slice_split, MOST_NAMES, Text, Charter, AreNames, is_rising, NodeEntryId, OfferedEntry, TextForm, Rest, Bytes, PlayLine, Node, split_at, Words, last_value, by_first_word, node_of, number_at, one_node, one_number, entry_at, without_text, are_names, names_of, numbers_of, line_or_node_line, play_line_by, play_line_of, bytes_before, text_at, spaced, entry_words}
 use Rattle.commands.specs.declared.node_line.NodeLine.TheVariants.{Offer, Begin, Restart}
 use Rattle.commands.specs.declared.play_line.PlayLine.TheVariants.{Deliver}
@@ -35,7 +35,7 @@ entry_at-words k a s ws node author serial =
     ∙ (ap (λ o. after_serial k a o ws) (number_of-decimal s serial)
     ∙ ap (λ n. Some (record { node = n; author = a; serial = s }, ws)) (node_of-small k node)))
 
--- what a line says, by its words
+-- the meaning of a line, by its words
 parsed_by : (line : List ℕ) (lines : List (List ℕ)) (words : Words) (x : Option (PlayLine × ℕ))
     → split_at 32 line ≡ words → by_first_word (play_line_by lines) words ≡ x → play_line_of line lines ≡ x
 parsed_by line lines words x is says = ap (by_first_word (play_line_by lines)) is ∙ says

@@ -5,7 +5,7 @@ use Rattle.event_lines.proofs.Words.{◌≡◌, ℕ, ◌==◌, Bool, true, false
 abbrev pub Without : ℕ → List ℕ → Type 0
 Without c bytes = list_any (λ b. b == c) bytes ≡ false
 
--- of two tests neither passes
+-- neither of two tests passes
 neither : (a b : Bool) → (a || b) ≡ false → (a ≡ false) × (b ≡ false)
 neither true b h = absurd (cc)
 neither false b h = (refl, h)

@@ -50,7 +50,7 @@ module _ (all : List Image) (i : ℕ) (d : Image) (inside : i < length all) (x :
 pub there-is : (all list : List Image) (i : ℕ) (image d : Image) → list ≡ all → slice_get all i ≡ Some image → (get_or list i d).symbols.now ≡ image.symbols.now
 there-is all list i image d same there = ap (λ y. y.symbols.now) (ap (λ l. get_or l i d) same ∙ get_or_from_slice_get all i image d there)
 
--- what holds of a value holds of a result that is that value
+-- a property of a value holds for a result that is that value
 pub ok_is : {A E : Type 0} (P : A → Type 0) (x : A) (r : Result A E) → IfOk r (λ y. y ≡ x) → P x → IfOk r P
 ok_is P x (Ok y) e h = subst P (sym e) h
 ok_is P x (Err y) e h = tt

@@ -1,4 +1,4 @@
--- What a citation gives, and what wrong results are.
+-- The result that a citation gives, and the fault of wrong results.
 use Rattle.explain.proofs.Words.{◌≡◌, ℕ, zero, suc, ◌+◌, ◌-◌, ◌<◌, Bool, true, List, [], ◌∷◌, ◌++◌, length, refl, sym, ◌∙◌, ap, subst, Some, None, Option, slice_get, ◌&&◌, IsTrue, list_all, same_Some, Name, Stmt, Database, Expr, stmt_at, before, expr_of, is_variable, is_assertion, decode, hypotheses, HasAssertion, IsHypothesis, Fault, UnknownLabel, Inactive, NotEarlier, TooFewResults, OtherTypecode, OtherExpression, NotDisjoint, TooManySymbols, NoMarkedResult, image_at, images_read, AreCorrect, images_of, IsResultsFault, Gives, of_assertion, State, FailsAt}
 use Rattle.mm_read.specs.declared.stmt.Stmt.TheVariants as stmt
 use Rattle.frame.specs.Substitution.{apply as applied}

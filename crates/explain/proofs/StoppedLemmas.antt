@@ -88,7 +88,7 @@ module _ (labels : List Name) (numbers : List ℕ) (items : List Item) (k : ℕ)
   cite_there less some within =
       item_there less ∙ ap Some (item-cite labels (get_or numbers k 0) (get_or numbers k 0 - 1) (omega (arith, some)) (omega (arith, some, within)))
 
--- what the label of an index names, by its position
+-- the statement that the label at an index names, by its position
 pub position_at : (S : Database) (labels : List Name) (positions : List (Option ℕ)) (k : ℕ) (d o : Option ℕ) → ArePositions S labels positions → k < length positions → o ≡ get_or positions k d → IsPosition S (get_or labels k []) o
 position_at S labels positions k d o are less is = subst (IsPosition S (get_or labels k [])) (get_or_default positions k None d less ∙ sym is) (found-at S labels positions k are less)
 
